@@ -1,0 +1,7 @@
+pub mod Kind
+pub mod Name
+pub mod NameOrder
+pub mod Refusal
+pub mod Sets
+pub mod SortedSet
+pub mod Stream

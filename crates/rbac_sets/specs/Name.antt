@@ -1,0 +1,16 @@
+-- What a name is.
+use Rattle.std.specs.Prelude.{ℕ, Bool, not, ◌&&◌, ◌==◌, nat_le, List, length}
+use Rattle.std.specs.List.{list_all}
+use Rattle.std.specs.Str.{is_utf8}
+
+-- a byte that is no control character of ASCII
+abbrev pub is_printable : ℕ → Bool
+is_printable byte = nat_le 32 byte && not (byte == 127)
+
+-- 1 to 64 bytes
+abbrev pub has_name_length : List ℕ → Bool
+has_name_length text = nat_le 1 (length text) && nat_le (length text) 64
+
+-- whether a text is a name: UTF-8 of 1 to 64 bytes, none of them a control character of ASCII
+abbrev pub is_name : List ℕ → Bool
+is_name text = has_name_length text && (list_all is_printable text && is_utf8 text)

@@ -1,0 +1,151 @@
+//! Names of users, roles, objects, operations, sessions and separation of duty sets.
+ghost use Rattle.std.specs.Prelude.{◌≡◌, ◌⊎◌, ◌&&◌, true, false, IfOk, IfErr, nat_le, length};
+ghost use Rattle.std.specs.List.{list_all};
+ghost use Rattle.rbac_sets.specs.Name.{has_name_length, is_name, is_printable};
+
+use crate::refusal::Refusal;
+use std::alloc::Global;
+use std::cmp::Ordering;
+use std::marker::Model;
+
+/// The most bytes of a name.
+const LONGEST_NAME: usize = 64;
+
+/// The name of a user, a role, an object, an operation, a session or a separation of duty set:
+/// UTF-8 of 1 to 64 bytes, with no byte below 0x20 and no 0x7F.
+///
+/// Names are equal where their bytes are, and are ordered byte by byte; there is no
+/// normalisation and no case folding. A contract sees a name as its bytes.
+#[derive(Drop)]
+pub struct Name {
+    text: String,
+}
+
+impl Model for Name {
+    ghost use Rattle.std.specs.Prelude.{◌≡◌, true, List, ℕ, string_bytes};
+    ghost use Rattle.rbac_sets.specs.Name.{is_name};
+
+    ghost Value = { List ℕ };
+
+    ghost view = { λ name. string_bytes name.text };
+
+    ghost invariant = { λ name. is_name (string_bytes name.text) ≡ true };
+}
+
+impl Name {
+    /// The name with this text, which may be any.
+    ///
+    /// # Errors
+    ///
+    /// `BadName` where the text is no name: it is empty, longer than 64 bytes, or has a byte
+    /// below 0x20 or a 0x7F. `Memory` where memory for the text was refused.
+    pub fn new(alloc: Global, text: &str) -> Result<Name, Refusal>
+        ensures ok { IfOk result (λ name. (name ≡ text.now) × (is_name text.now ≡ true)) }
+        ensures err { IfErr result (λ refusal. (refusal ≡ Refusal.Memory) ⊎ ((refusal ≡ Refusal.BadName) × (is_name text.now ≡ false))) }
+    {
+        if !is_name(text) {
+            return Err(Refusal::BadName);
+        }
+        let text = String::from_str(alloc, text)?;
+        Ok(Name { text })
+    }
+
+    /// The name's text.
+    pub fn as_str(&self) -> &str
+        ensures text { result.now ≡ self.now }
+        ensures is_name { is_name self.now ≡ true }
+    {
+        self.text.as_str()
+    }
+
+    /// The same name, in memory of its own.
+    ///
+    /// # Errors
+    ///
+    /// `Memory` where memory for the text was refused.
+    pub fn copy(&self, alloc: Global) -> Result<Name, Refusal>
+        ensures ok { IfOk result (λ name. name ≡ self.now) }
+        ensures cause { IfErr result (λ refusal. refusal ≡ Refusal.Memory) }
+    {
+        let text = String::from_str(alloc, self.text.as_str())?;
+        Ok(Name { text })
+    }
+}
+
+impl PartialEq for Name {
+    ghost use Rattle.std.specs.Prelude.{nat_eq};
+    ghost use Rattle.std.specs.Cmp.{partial_equiv_from_equiv};
+    ghost use Rattle.std.specs.Cmp.Lexicographic.{pointwise, nat_list_eq_equiv};
+
+    ghost eq = { pointwise nat_eq };
+
+    ghost laws = { partial_equiv_from_equiv nat_list_eq_equiv };
+
+    fn eq(&self, other: &Name) -> bool {
+        self.as_str() == other.as_str()
+    }
+}
+
+impl Eq for Name {
+    ghost use Rattle.std.specs.Cmp.Lexicographic.{nat_list_eq_equiv};
+
+    ghost laws = { nat_list_eq_equiv };
+}
+
+impl PartialOrd for Name {
+    ghost use Rattle.std.specs.Prelude.{Some};
+    ghost use Rattle.std.specs.Ordering.{nat_cmp};
+    ghost use Rattle.std.specs.Cmp.Lexicographic.{slice_cmp, texts_po};
+
+    ghost partial_cmp = { λ x y. Some (slice_cmp nat_cmp x y) };
+
+    ghost laws = { texts_po };
+
+    fn partial_cmp(&self, other: &Name) -> Option<Ordering> {
+        Some(self.cmp(other))
+    }
+}
+
+/// Byte by byte.
+impl Ord for Name {
+    ghost use Rattle.std.specs.Prelude.{refl};
+    ghost use Rattle.std.specs.Ordering.{nat_cmp};
+    ghost use Rattle.std.specs.Cmp.Lexicographic.{slice_cmp, nat_list_cmp_total, texts_ties};
+
+    ghost cmp = { slice_cmp nat_cmp };
+
+    ghost total = { nat_list_cmp_total };
+
+    ghost matches_partial_cmp = { λ _ _. refl };
+
+    ghost matches_eq = { texts_ties };
+
+    fn cmp(&self, other: &Name) -> Ordering {
+        self.as_str().cmp(&other.as_str())
+    }
+}
+
+// Whether the text is a name. It is UTF-8 already, as every `&str`.
+fn is_name(text: &str) -> bool
+    ensures { result ≡ is_name text.now }
+{
+    let bytes = text.as_bytes();
+    if !has_name_length(bytes) {
+        return false;
+    }
+    is_printable(bytes)
+}
+
+// Whether there is a byte and no more than a name may have.
+fn has_name_length(bytes: &[u8]) -> bool
+    ensures { result ≡ has_name_length bytes.now }
+{
+    !bytes.is_empty() && bytes.len() <= LONGEST_NAME
+}
+
+// Whether no byte is a control character of ASCII.
+fn is_printable(bytes: &[u8]) -> bool
+    ensures { result ≡ list_all is_printable bytes.now }
+{
+    bytes.iter().all(|byte| *byte >= 0x20 && *byte != 0x7f)
+}

@@ -1,0 +1,146 @@
+//! The sets of names, of pairs, of triples, and of names with a number.
+ghost use Rattle.std.specs.Prelude.{◌≡◌, IfOk, IfErr};
+
+use crate::name::Name;
+use crate::refusal::Refusal;
+use crate::sorted_set::{Entry, Prefix, Probe, SortedSet};
+use std::alloc::Global;
+use std::cmp::Ordering;
+
+/// A set of names, such as the users of an office.
+pub type NameSet = SortedSet<Name>;
+
+/// A set of pairs of names, such as the assignments (user, role), by the first name first.
+pub type PairSet = SortedSet<(Name, Name)>;
+
+/// A set of triples of names, such as the grants (object, operation, role), by the first name
+/// first.
+pub type GrantSet = SortedSet<(Name, Name, Name)>;
+
+/// A set of names with a number, such as the cardinalities of separation of duty sets, by the name
+/// first.
+pub type CountSet = SortedSet<(Name, u32)>;
+
+impl Entry for Name {
+    ghost use Rattle.rbac_sets.specs.NameOrder.{name_exact};
+
+    fn copy(&self, alloc: Global) -> Result<Name, Refusal> {
+        Name::copy(self, alloc)
+    }
+
+    ghost exact = { name_exact };
+}
+
+impl Entry for (Name, Name) {
+    ghost use Rattle.rbac_sets.specs.NameOrder.{pair_exact};
+
+    fn copy(&self, alloc: Global) -> Result<(Name, Name), Refusal> {
+        Ok((self.0.copy(alloc)?, self.1.copy(alloc)?))
+    }
+
+    ghost exact = { pair_exact };
+}
+
+impl Entry for (Name, Name, Name) {
+    ghost use Rattle.rbac_sets.specs.NameOrder.{triple_exact};
+
+    fn copy(&self, alloc: Global) -> Result<(Name, Name, Name), Refusal> {
+        Ok((
+            self.0.copy(alloc)?,
+            self.1.copy(alloc)?,
+            self.2.copy(alloc)?,
+        ))
+    }
+
+    ghost exact = { triple_exact };
+}
+
+impl Entry for (Name, u32) {
+    ghost use Rattle.rbac_sets.specs.NameOrder.{cardinality_exact};
+
+    fn copy(&self, alloc: Global) -> Result<(Name, u32), Refusal> {
+        Ok((self.0.copy(alloc)?, self.1))
+    }
+
+    ghost exact = { cardinality_exact };
+}
+
+impl Probe<(Name, Name)> for (&Name, &Name) {
+    ghost entry = { λ probe. (probe.0.now, probe.1.now) };
+
+    fn compare(&self, other: &(Name, Name)) -> Ordering {
+        other.0.cmp(self.0).then(other.1.cmp(self.1))
+    }
+}
+
+impl Probe<(Name, Name, Name)> for (&Name, &Name, &Name) {
+    ghost entry = { λ probe. (probe.0.now, probe.1.now, probe.2.now) };
+
+    fn compare(&self, other: &(Name, Name, Name)) -> Ordering {
+        other
+            .0
+            .cmp(self.0)
+            .then(other.1.cmp(self.1))
+            .then(other.2.cmp(self.2))
+    }
+}
+
+impl Probe<(Name, u32)> for (&Name, u32) {
+    ghost entry = { λ probe. (probe.0.now, probe.1) };
+
+    fn compare(&self, other: &(Name, u32)) -> Ordering {
+        other.0.cmp(self.0).then(other.1.cmp(&self.1))
+    }
+}
+
+impl Prefix<(Name, Name)> for &Name {
+    ghost use Rattle.rbac_sets.specs.Sets.{name_cmp};
+    ghost use Rattle.rbac_sets.specs.NameOrder.{firsts_rise};
+
+    ghost place = { λ first pair. name_cmp pair.0 first.now };
+
+    fn compare(&self, other: &(Name, Name)) -> Ordering {
+        other.0.cmp(*self)
+    }
+
+    ghost rises = { λ first x y below. firsts_rise x y first.now below };
+}
+
+impl Prefix<(Name, Name, Name)> for &Name {
+    ghost use Rattle.rbac_sets.specs.Sets.{name_cmp};
+    ghost use Rattle.rbac_sets.specs.NameOrder.{triple_firsts_rise};
+
+    ghost place = { λ first triple. name_cmp triple.0 first.now };
+
+    fn compare(&self, other: &(Name, Name, Name)) -> Ordering {
+        other.0.cmp(*self)
+    }
+
+    ghost rises = { λ first x y below. triple_firsts_rise x y first.now below };
+}
+
+impl Prefix<(Name, Name, Name)> for (&Name, &Name) {
+    ghost use Rattle.rbac_sets.specs.Sets.{pair_cmp};
+    ghost use Rattle.rbac_sets.specs.NameOrder.{first_pairs_rise};
+
+    ghost place = { λ parts triple. pair_cmp (triple.0, triple.1) (parts.0.now, parts.1.now) };
+
+    fn compare(&self, other: &(Name, Name, Name)) -> Ordering {
+        other.0.cmp(self.0).then(other.1.cmp(self.1))
+    }
+
+    ghost rises = { λ parts x y below. first_pairs_rise x y (parts.0.now, parts.1.now) below };
+}
+
+impl Prefix<(Name, u32)> for &Name {
+    ghost use Rattle.rbac_sets.specs.Sets.{name_cmp};
+    ghost use Rattle.rbac_sets.specs.NameOrder.{cardinality_firsts_rise};
+
+    ghost place = { λ first entry. name_cmp entry.0 first.now };
+
+    fn compare(&self, other: &(Name, u32)) -> Ordering {
+        other.0.cmp(*self)
+    }
+
+    ghost rises = { λ first x y below. cardinality_firsts_rise x y first.now below };
+}

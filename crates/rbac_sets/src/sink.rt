@@ -1,0 +1,131 @@
+//! Where bytes go.
+ghost use Rattle.std.specs.Prelude.{◌≡◌, ◌≤◌, ◌<◌, ℕ, Bool, true, List, [], Option, length, IfOk};
+ghost use Rattle.std.specs.Io.KnownBytes.{WriteAppends};
+ghost use Rattle.rbac_sets.specs.Stream.{failures_after};
+
+use crate::source::Fault;
+use std::alloc::Global;
+use std::io;
+
+/// Where bytes are written to.
+///
+/// A contract speaks of the bytes that were written where they are known, as in memory.
+pub trait Sink {
+    // The bytes that were written, where they are known.
+    ghost written: { Self → Option (List ℕ) };
+
+    // How many calls failed.
+    ghost failed: { Self → ℕ };
+
+    // Whether a write that succeeds takes a byte where there is one.
+    ghost takes_some: { Bool };
+
+    /// Writes bytes from the front of `piece`, which may have any length, and gives how many.
+    ///
+    /// # Errors
+    ///
+    /// `Fault` where the write failed. No byte was taken then.
+    fn write(&mut self, piece: &[u8]) -> Result<usize, Fault>
+        ensures bound { IfOk result (λ count. count ≤ length piece.now) }
+        ensures bytes { WriteAppends (written self.old) (written self.new) result piece.now }
+        ensures failures { failed self.new ≡ failures_after (failed self.old) result }
+        ensures progress { takes_some ≡ true → 0 < length piece.now → IfOk result (λ count. 0 < count) };
+
+    /// How many calls of `write` failed. At its greatest value it stays.
+    fn failures(&self) -> u64
+        ensures { result ≡ failed self.now };
+}
+
+/// A sink that keeps the bytes in memory. A write of it fails where memory was refused.
+#[derive(Drop)]
+pub struct MemorySink {
+    bytes: Vec<u8>,
+    failures: u64,
+}
+
+impl MemorySink {
+    /// A sink without bytes. It takes no memory yet.
+    pub fn new(alloc: Global) -> MemorySink
+        ensures bytes { result.bytes.items ≡ [] }
+        ensures failures { result.failures ≡ 0 }
+    {
+        MemorySink {
+            bytes: Vec::new(alloc),
+            failures: 0,
+        }
+    }
+
+    /// The bytes that were written.
+    pub fn as_slice(&self) -> &[u8]
+        ensures { result.now ≡ self.now.bytes.items }
+    {
+        &self.bytes
+    }
+}
+
+impl Sink for MemorySink {
+    ghost use Rattle.std.specs.Prelude.{Some, true};
+
+    ghost written = { λ s. Some s.bytes.items };
+
+    ghost failed = { λ s. s.failures };
+
+    ghost takes_some = { true };
+
+    fn write(&mut self, piece: &[u8]) -> Result<usize, Fault> {
+        match self.bytes.extend_from_slice(piece) {
+            Ok(()) => Ok(piece.len()),
+            Err(_) => {
+                self.failures = self.failures.saturating_add(1);
+                Err(Fault)
+            }
+        }
+    }
+
+    fn failures(&self) -> u64 {
+        self.failures
+    }
+}
+
+/// A sink over any writer of std.
+///
+/// A write that takes no byte of a piece that has some is a failure here, as in `write_all` of std.
+#[derive(Drop)]
+pub struct Writer<W> {
+    inner: W,
+    failures: u64,
+}
+
+impl<W: io::Write> Writer<W> {
+    /// The sink that writes to `inner`, of which no call has failed yet.
+    pub fn new(inner: W) -> Writer<W>
+        ensures inner { result.inner ≡ inner }
+        ensures failures { result.failures ≡ 0 }
+    {
+        Writer { inner, failures: 0 }
+    }
+}
+
+impl<W: io::Write> Sink for Writer<W> {
+    ghost use Rattle.std.specs.Prelude.{true};
+
+    ghost written = { λ s. W.contents s.inner };
+
+    ghost failed = { λ s. s.failures };
+
+    ghost takes_some = { true };
+
+    fn write(&mut self, piece: &[u8]) -> Result<usize, Fault> {
+        match self.inner.write(piece) {
+            Ok(count) if count > 0 || piece.is_empty() => Ok(count),
+            _ => {
+                self.failures = self.failures.saturating_add(1);
+                Err(Fault)
+            }
+        }
+    }
+
+    fn failures(&self) -> u64 {
+        self.failures
+    }
+}

@@ -1,0 +1,339 @@
+//! Sets as lists in order, which take a new entry without memory once room was made for it.
+ghost use Rattle.std.specs.Prelude.{◌≡◌, ◌+◌, ◌<◌, ◌≤◌, ◌↔◌, length, vec_len, vec_capacity, true, false, not, IsTrue, filter, OnOk, IfOk, IfErr};
+ghost use Rattle.std.specs.List.{HoldsAt, list_all};
+ghost use Rattle.std.specs.Slice.Iter.{iter_rest};
+ghost use Rattle.std.specs.List.Sorted.{IsStrictlySortedBy, IsPartitionPoint};
+ghost use Rattle.std.specs.declared.cmp.Ordering.{Ordering};
+ghost use Rattle.std.specs.declared.cmp.Ordering.TheVariants.{Less, Equal, Greater};
+ghost use Rattle.std.specs.Ordering.{is_eq, ordering_index};
+ghost use Rattle.std.specs.FinMap.{IsAntisymmetric};
+ghost use Rattle.rbac_sets.specs.Sets.{IsDisjoint, empty, contains, insert, remove, union, difference, from_list, len, members};
+ghost use Rattle.rbac_sets.specs.SortedSet.{set_of};
+
+use crate::refusal::Refusal;
+use std::alloc::Global;
+use std::cmp::Ordering;
+use std::collections::VecDeque;
+use std::marker::Model;
+use std::mem;
+use std::slice::Iter;
+
+/// What a set may hold: values with a total order in which only equal ones tie.
+pub trait Entry: Ord + Drop {
+    /// The same entry, in memory of its own.
+    ///
+    /// # Errors
+    ///
+    /// `Memory` where memory for the copy was refused.
+    fn copy(&self, alloc: Global) -> Result<Self, Refusal>
+        ensures ok { IfOk result (λ entry. entry ≡ self.now) }
+        ensures cause { IfErr result (λ refusal. refusal ≡ Refusal.Memory) };
+
+    // Only equal entries tie.
+    ghost exact: { IsAntisymmetric Self.cmp };
+}
+
+/// References to the parts of an entry, by which it is looked for: `&entry` itself, or a tuple of
+/// references to its parts, so that nothing has to be copied to look for it.
+pub trait Probe<K: Ord>: Copy {
+    // The entry of these parts.
+    ghost entry: { Self → K };
+
+    /// How `other` compares with the entry of these parts.
+    fn compare(&self, other: &K) -> Ordering
+        ensures { result ≡ K.cmp other.now (entry self.now) };
+}
+
+/// References to the first parts of an entry, by which the entries that begin so are found: a name,
+/// or a pair of references to names for triples.
+pub trait Prefix<K: Ord>: Copy {
+    // How the first parts of an entry compare with these.
+    ghost place: { Self → K → Ordering };
+
+    /// How the first parts of `other` compare with these.
+    fn compare(&self, other: &K) -> Ordering
+        ensures { result ≡ place self.now other.now };
+
+    // The first parts rise with the entries.
+    ghost rises: { (prefix : Self) (x y : K) → K.cmp x y ≡ Less → ordering_index (place prefix x) ≤ ordering_index (place prefix y) };
+}
+
+/// A set of entries, kept in their order in one piece of memory.
+///
+/// An entry is found by binary search. Memory is taken by `reserve` and `copy` alone: once room was
+/// made, entries are put without memory, and so without a refusal. A contract sees the entries in
+/// their order and the room for more; `set_of` is the set of the entries.
+#[derive(Drop)]
+pub struct SortedSet<K: Entry> {
+    entries: Vec<K>,
+}
+
+impl<K: Entry> Model for SortedSet<K> {
+    ghost use Rattle.std.specs.Prelude.{vec_len, vec_capacity, ◌-◌};
+    ghost use Rattle.std.specs.List.Sorted.{IsStrictlySortedBy};
+    ghost use Rattle.rbac_sets.specs.SortedSet.{Stored, stored_code};
+
+    ghost Value = { Stored K };
+
+    ghost coded = { stored_code K.code };
+
+    ghost view = { λ s. record { in_order = s.entries.items; room = vec_capacity s.entries - vec_len s.entries } };
+
+    ghost invariant = { λ s. IsStrictlySortedBy K.cmp s.entries.items };
+}
+
+impl<K: Entry> SortedSet<K> {
+    /// The set without entries. It takes no memory yet.
+    pub fn new(alloc: Global) -> SortedSet<K>
+        ensures { set_of K.cmp result ≡ empty }
+    {
+        SortedSet {
+            entries: Vec::new(alloc),
+        }
+    }
+
+    /// How many entries there are.
+    pub fn len(&self) -> usize
+        ensures { result ≡ len (set_of K.cmp self.now) }
+    {
+        self.entries.len()
+    }
+
+    /// Whether there is no entry.
+    pub fn is_empty(&self) -> bool
+        ensures { IsTrue result ↔ (len (set_of K.cmp self.now) ≡ 0) }
+    {
+        self.len() == 0
+    }
+
+    /// How many more entries can be put without memory.
+    pub fn room(&self) -> usize
+        ensures { result ≡ self.now.room }
+    {
+        self.entries.capacity() - self.entries.len()
+    }
+
+    /// Whether the entry that `probe` looks for is there.
+    pub fn contains<P: Probe<K>>(&self, probe: P) -> bool
+        ensures { result ≡ contains (set_of K.cmp self.now) (P.entry probe) }
+    {
+        place(&self.entries, probe).is_ok()
+    }
+
+    /// Whether no entry is in both sets.
+    pub fn is_disjoint(&self, other: &SortedSet<K>) -> bool
+        ensures { IsTrue result ↔ IsDisjoint (set_of K.cmp self.now) (set_of K.cmp other.now) }
+    {
+        has_none_of(&self.entries, other)
+    }
+
+    /// Makes room for `count` more entries, or for more than that.
+    ///
+    /// # Errors
+    ///
+    /// `Memory` where memory for them was refused. The entries are kept in any case.
+    pub fn reserve(&mut self, count: usize) -> Result<(), Refusal>
+        ensures ok { OnOk result (count ≤ self.new.room) }
+        ensures keeps { set_of K.cmp self.new ≡ set_of K.cmp self.old }
+        ensures room { self.old.room ≤ self.new.room }
+        ensures cause { IfErr result (λ refusal. refusal ≡ Refusal.Memory) }
+    {
+        self.entries.reserve(count)?;
+        Ok(())
+    }
+
+    /// Puts an entry that is not there, in the room that was made.
+    ///
+    /// It takes no memory and can't fail.
+    pub fn insert_reserved(&mut self, entry: K)
+        requires absent { contains (set_of K.cmp self.old) entry ≡ false }
+        requires room { 1 ≤ self.old.room }
+        ensures inserted { set_of K.cmp self.new ≡ insert (set_of K.cmp self.old) entry }
+        ensures room { self.old.room ≤ self.new.room + 1 }
+    {
+        let gap = place(&self.entries, &entry).unwrap_err();
+        self.entries.insert(gap, entry).unwrap();
+    }
+
+    /// Takes the entry that `probe` looks for, and says whether it was there.
+    pub fn remove<P: Probe<K>>(&mut self, probe: P) -> bool
+        ensures was_there { result ≡ contains (set_of K.cmp self.old) (P.entry probe) }
+        ensures removed { set_of K.cmp self.new ≡ remove (set_of K.cmp self.old) (P.entry probe) }
+        ensures room { self.old.room ≤ self.new.room }
+    {
+        match place(&self.entries, probe) {
+            Ok(at) => {
+                self.entries.remove(at);
+                true
+            }
+            Err(_) => false,
+        }
+    }
+
+    /// The entries in their order.
+    pub fn as_slice(&self) -> &[K]
+        ensures { result.now ≡ members (set_of K.cmp self.now) }
+    {
+        &self.entries
+    }
+
+    /// The entries one by one, in their order.
+    pub fn iter(&self) -> Iter<'_, K>
+        ensures { iter_rest result ≡ members (set_of K.cmp self.now) }
+    {
+        self.as_slice().iter()
+    }
+
+    /// The entries that begin with the parts of `prefix`, in their order.
+    pub fn with_first<P: Prefix<K>>(&self, prefix: P) -> &[K]
+        ensures { result.now ≡ filter (λ entry. is_eq (P.place prefix entry)) (members (set_of K.cmp self.now)) }
+    {
+        run(&self.entries, prefix)
+    }
+
+    /// Puts an entry above all that are there, in the room that was made, without a search.
+    pub fn push_last(&mut self, entry: K)
+        requires above { (x : K) → contains (set_of K.cmp self.old) x ≡ true → K.cmp x entry ≡ Less }
+        requires room { 1 ≤ self.old.room }
+        ensures inserted { set_of K.cmp self.new ≡ insert (set_of K.cmp self.old) entry }
+        ensures room { self.old.room ≤ self.new.room + 1 }
+    {
+        self.entries.push(entry).unwrap();
+    }
+
+    /// Puts all entries of `other`, none of which is there, in the room that was made.
+    ///
+    /// It goes once through both sets, takes no memory and can't fail.
+    pub fn merge_reserved(&mut self, other: SortedSet<K>)
+        requires disjoint { IsDisjoint (set_of K.cmp self.old) (set_of K.cmp other) }
+        requires room { len (set_of K.cmp other) ≤ self.old.room }
+        ensures merged { set_of K.cmp self.new ≡ union (set_of K.cmp self.old) (set_of K.cmp other) }
+        ensures room { self.old.room ≤ self.new.room + len (set_of K.cmp other) }
+    {
+        let nothing = Vec::new(*self.entries.allocator());
+        let entries = mem::replace(&mut self.entries, nothing);
+        self.entries = merge(entries, other.entries);
+    }
+
+    /// Takes each entry of `other` that is there.
+    ///
+    /// It goes once through both sets.
+    pub fn take_all(&mut self, other: &SortedSet<K>)
+        ensures taken { set_of K.cmp self.new ≡ difference (set_of K.cmp self.old) (set_of K.cmp other.now) }
+        ensures room { self.old.room ≤ self.new.room }
+    {
+        let nothing = Vec::new(*self.entries.allocator());
+        let entries = mem::replace(&mut self.entries, nothing);
+        self.entries = without(entries, &other.entries);
+    }
+
+    /// The same set, in memory of its own.
+    ///
+    /// # Errors
+    ///
+    /// `Memory` where memory for the copy was refused.
+    pub fn copy(&self, alloc: Global) -> Result<SortedSet<K>, Refusal>
+        ensures ok { IfOk result (λ copy. set_of K.cmp copy ≡ set_of K.cmp self.now) }
+        ensures cause { IfErr result (λ refusal. refusal ≡ Refusal.Memory) }
+    {
+        let mut entries = Vec::new(alloc);
+        entries.reserve(self.entries.len())?;
+        for entry in &self.entries {
+            entries.push(entry.copy(alloc)?)?;
+        }
+        Ok(SortedSet { entries })
+    }
+}
+
+impl<K: Entry> Probe<K> for &K {
+    ghost entry = { λ r. r.now };
+
+    fn compare(&self, other: &K) -> Ordering {
+        other.cmp(*self)
+    }
+}
+
+// Where the entry is, or else where it would stand.
+fn place<K: Entry, P: Probe<K>>(entries: &[K], probe: P) -> Result<usize, usize>
+    requires { IsStrictlySortedBy K.cmp entries.now }
+    ensures found { IfOk result (λ i. (i < length entries.now) × HoldsAt (λ y. K.cmp y (P.entry probe) ≡ Equal) entries.now i) }
+    ensures gap { IfErr result (λ i. (i ≤ length entries.now)
+        × IsPartitionPoint (λ y. K.cmp y (P.entry probe) ≡ Less) (λ y. K.cmp y (P.entry probe) ≡ Greater) entries.now i) }
+{
+    entries.binary_search_by(|entry| probe.compare(entry))
+}
+
+// Whether none of the entries is in the set.
+fn has_none_of<K: Entry>(entries: &[K], set: &SortedSet<K>) -> bool
+    ensures { result ≡ list_all (λ entry. not (contains (set_of K.cmp set.now) entry)) entries.now }
+{
+    entries.iter().all(|entry| !set.contains(entry))
+}
+
+// The entries that begin with these parts.
+fn run<K: Entry, P: Prefix<K>>(entries: &[K], prefix: P) -> &[K]
+    requires { IsStrictlySortedBy K.cmp entries.now }
+    ensures { result.now ≡ filter (λ entry. is_eq (P.place prefix entry)) entries.now }
+{
+    let start = entries.partition_point(|entry| prefix.compare(entry).is_lt());
+    let rest = &entries[start..];
+    let count = rest.partition_point(|entry| prefix.compare(entry).is_eq());
+    &rest[..count]
+}
+
+// The entries of both, in order, in the room of the first. They go round: what is placed stands behind what is left.
+fn merge<K: Entry>(entries: Vec<K>, others: Vec<K>) -> Vec<K>
+    requires sorted { IsStrictlySortedBy K.cmp entries.items }
+    requires others_sorted { IsStrictlySortedBy K.cmp others.items }
+    requires disjoint { IsDisjoint (from_list {R = K.cmp} entries.items) (from_list {R = K.cmp} others.items) }
+    requires room { vec_len entries + vec_len others ≤ vec_capacity entries }
+    ensures sorted { IsStrictlySortedBy K.cmp result.items }
+    ensures both { from_list {R = K.cmp} result.items ≡ union (from_list entries.items) (from_list others.items) }
+    ensures len { vec_len result ≡ vec_len entries + vec_len others }
+    ensures capacity { vec_capacity entries ≤ vec_capacity result }
+{
+    let mut ring = VecDeque::from_vec(entries);
+    let mut others = VecDeque::from_vec(others);
+    let mut left = ring.len();
+    while left > 0 && !others.is_empty() {
+        if ring[0].cmp(&others[0]).is_lt() {
+            ring.rotate_left(1);
+            left -= 1;
+        } else {
+            let other = others.pop_front().unwrap();
+            ring.push_back(other).unwrap();
+        }
+    }
+    ring.rotate_left(left);
+    ring.append(&mut others).unwrap();
+    ring.into_vec()
+}
+
+// The entries that are none of the others. They go round, as in `merge`.
+fn without<K: Entry>(entries: Vec<K>, others: &[K]) -> Vec<K>
+    requires sorted { IsStrictlySortedBy K.cmp entries.items }
+    requires others_sorted { IsStrictlySortedBy K.cmp others.now }
+    ensures sorted { IsStrictlySortedBy K.cmp result.items }
+    ensures rest { from_list {R = K.cmp} result.items ≡ difference (from_list entries.items) (from_list others.now) }
+    ensures len { vec_len result ≤ vec_len entries }
+    ensures capacity { vec_capacity result ≡ vec_capacity entries }
+{
+    let mut ring = VecDeque::from_vec(entries);
+    let mut left = ring.len();
+    let mut at = 0;
+    while left > 0 && at < others.len() {
+        match ring[0].cmp(&others[at]) {
+            Ordering::Less => {
+                ring.rotate_left(1);
+                left -= 1;
+            }
+            Ordering::Equal => {
+                ring.pop_front();
+                left -= 1;
+            }
+            Ordering::Greater => at += 1,
+        }
+    }
+    ring.rotate_left(left);
+    ring.into_vec()
+}

@@ -1,0 +1,113 @@
+//! Where bytes come from.
+ghost use Rattle.std.specs.Prelude.{◌≡◌, ◌≤◌, ◌<◌, ℕ, List, Option, length, IfOk};
+ghost use Rattle.std.specs.Io.KnownBytes.{ReadConsumes};
+ghost use Rattle.rbac_sets.specs.Stream.{failures_after};
+
+use std::io;
+use thiserror::Error;
+
+/// A read or a write failed. Why is not told: `failures` of the source or sink counts it.
+#[derive(Clone, Copy, Debug, PartialEq, Eq, Error)]
+#[error("a read or a write failed")]
+pub struct Fault;
+
+/// Where bytes are read from.
+///
+/// A contract speaks of the bytes that are left where they are known, as in memory; of a file or a
+/// socket it says nothing but that what was read is no longer left.
+pub trait Source {
+    // The bytes that are left, where they are known.
+    ghost remaining: { Self → Option (List ℕ) };
+
+    // How many calls failed.
+    ghost failed: { Self → ℕ };
+
+    /// Reads into the front of `buffer`, which may have any length, and gives how many bytes were
+    /// read: 0 at the end alone, or where the buffer has no place.
+    ///
+    /// # Errors
+    ///
+    /// `Fault` where the read failed. No byte was taken then.
+    fn read(&mut self, buffer: &mut [u8]) -> Result<usize, Fault>
+        ensures bound { IfOk result (λ count. count ≤ length buffer.new) }
+        ensures bytes { ReadConsumes (remaining self.old) (remaining self.new) result buffer.new }
+        ensures failures { failed self.new ≡ failures_after (failed self.old) result };
+
+    /// How many calls of `read` failed. At its greatest value it stays.
+    fn failures(&self) -> u64
+        ensures { result ≡ failed self.now };
+}
+
+/// A source over bytes in memory. No read of it fails.
+#[derive(Drop)]
+pub struct MemorySource<'a> {
+    bytes: &'a [u8],
+}
+
+impl<'a> MemorySource<'a> {
+    ghost use Rattle.rbac_sets.specs.Stream.{left_in_memory};
+
+    /// The source that gives these bytes, from the first to the last.
+    pub fn new(bytes: &'a [u8]) -> MemorySource<'a>
+        ensures { left_in_memory result ≡ bytes.now }
+    {
+        MemorySource { bytes }
+    }
+}
+
+impl Source for MemorySource<'_> {
+    ghost use Rattle.std.specs.Prelude.{Some};
+
+    ghost remaining = { λ s. Some s.bytes.now };
+
+    ghost failed = { λ _. 0 };
+
+    fn read(&mut self, buffer: &mut [u8]) -> Result<usize, Fault> {
+        let count = buffer.len().min(self.bytes.len());
+        let (front, back) = self.bytes.split_at(count);
+        buffer[..count].copy_from_slice(front);
+        self.bytes = back;
+        Ok(count)
+    }
+
+    fn failures(&self) -> u64 {
+        0
+    }
+}
+
+/// A source over any reader of std.
+#[derive(Drop)]
+pub struct Reader<R> {
+    inner: R,
+    failures: u64,
+}
+
+impl<R: io::Read> Reader<R> {
+    /// The source that reads from `inner`, of which no call has failed yet.
+    pub fn new(inner: R) -> Reader<R>
+        ensures inner { result.inner ≡ inner }
+        ensures failures { result.failures ≡ 0 }
+    {
+        Reader { inner, failures: 0 }
+    }
+}
+
+impl<R: io::Read> Source for Reader<R> {
+    ghost remaining = { λ s. R.remaining s.inner };
+
+    ghost failed = { λ s. s.failures };
+
+    fn read(&mut self, buffer: &mut [u8]) -> Result<usize, Fault> {
+        match self.inner.read(buffer) {
+            Ok(count) => Ok(count),
+            Err(_) => {
+                self.failures = self.failures.saturating_add(1);
+                Err(Fault)
+            }
+        }
+    }
+
+    fn failures(&self) -> u64 {
+        self.failures
+    }
+}
