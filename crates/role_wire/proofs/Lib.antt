@@ -1,0 +1,5 @@
+pub mod Answering
+pub mod Known
+pub mod ReadSoFar
+pub mod Splitting
+pub mod Stopping

@@ -1,0 +1,44 @@
+-- The lines of an input.
+use Rattle.std.specs.Prelude.{ℕ, Bool, not, ◌||◌, ◌==◌, List, [], ◌∷◌, ◌++◌, if◌then◌else◌}
+use Rattle.std.specs.List.{list_all, filter}
+
+-- the most bytes of a line, its LF not counted
+abbrev pub longest_line : ℕ
+longest_line = 65536
+
+-- the byte that ends a line
+abbrev pub line_feed : ℕ
+line_feed = 10
+
+-- the byte before the first line, which it makes where there is none
+abbrev before_lines : ℕ → List (List ℕ) → List (List ℕ)
+before_lines byte [] = (byte ∷ []) ∷ []
+before_lines byte (line ∷ lines) = (byte ∷ line) ∷ lines
+
+-- the lines of an input: each ends before LF or at the end, and an input that ends with LF has no further line
+abbrev pub split_lines : List ℕ → List (List ℕ)
+split_lines [] = []
+split_lines (byte ∷ bytes) = if byte == line_feed then [] ∷ split_lines bytes else before_lines byte (split_lines bytes)
+
+-- the byte before the first line, where there is one
+abbrev before_ended : ℕ → List (List ℕ) → List (List ℕ)
+before_ended byte [] = []
+before_ended byte (line ∷ lines) = (byte ∷ line) ∷ lines
+
+-- the lines that LF ends: all lines but a last one without LF
+abbrev pub ended_lines : List ℕ → List (List ℕ)
+ended_lines [] = []
+ended_lines (byte ∷ bytes) = if byte == line_feed then [] ∷ ended_lines bytes else before_ended byte (ended_lines bytes)
+
+-- a line of spaces, tabs and CR alone
+abbrev pub is_blank : List ℕ → Bool
+is_blank line = list_all (λ byte. byte == 32 || (byte == 9 || byte == 13)) line
+
+-- the lines that ask for an answer: those that are not blank
+unfoldable pub asking : List (List ℕ) → List (List ℕ)
+asking lines = filter (λ line. not (is_blank line)) lines
+
+-- the texts, each with LF
+unfoldable pub with_line_feeds : List (List ℕ) → List ℕ
+with_line_feeds [] = []
+with_line_feeds (text ∷ texts) = (text ++ line_feed ∷ []) ++ with_line_feeds texts
