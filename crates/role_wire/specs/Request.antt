@@ -18,7 +18,7 @@ use Rattle.role_wire.specs.declared.request.Request.TheVariants.{AddUser, AddRol
 abbrev pub longest_line : ℕ
 longest_line = 65536
 
--- the JSON value of a line: UTF-8 of at most 65,536 bytes that is a JSON text
+-- the JSON value of a line: UTF-8 of at most 65,536 bytes that is a JSON text. Of a key that comes more than once the last counts
 unfoldable pub json_of : List ℕ → Result Data Refusal
 json_of line = or_refuse BadRequest (if nat_le (length line) longest_line && is_utf8 line then read line else None)
 

@@ -37,12 +37,13 @@ pub enum Request {
 ///
 /// These are judged one after another:
 ///
-/// - `BadRequest` where the line is longer, is no JSON text, is no object or has no text at `fn`;
+/// - `BadRequest` where the line is longer, is no JSON text (or one whose lists and objects nest
+///   more than 127 deep), is no object or has no text at `fn`;
 /// - `UnknownFunction` where no function has the name at `fn`;
 /// - `BadRequest` where an argument's key is missing or holds no text;
 /// - `BadName` where an argument is no name.
 ///
-/// `Memory` where memory was refused before that.
+/// `Memory` where memory was refused before the line was judged; the same line may be read again.
 #[tactic(auto, unfolding(crate::specs::Request::request))]
 pub fn read_request(alloc: Global, line: &[u8]) -> Result<Request, Refusal>
     ensures ok { IfOk result (λ read. request line.now ≡ Ok read) }
