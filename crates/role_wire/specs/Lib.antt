@@ -1,3 +1,7 @@
+pub mod Answer
+pub mod Function
 pub mod Lines
 pub mod Reading
 pub mod Replay
+pub mod Request
+pub mod Steps

@@ -11,7 +11,7 @@ use rbac_sets::{Sink, Source};
 use std::alloc::Global;
 
 /// The most bytes of a line, its LF not counted.
-const LONGEST_LINE: usize = 65_536;
+pub const LONGEST_LINE: usize = 65_536;
 
 /// The most bytes of one read.
 const PIECE: usize = 8_192;
