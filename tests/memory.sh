@@ -48,8 +48,9 @@ check_row() {
     while [ "$number" -lt "$most" ]; do
         number=$((number + 1))
         rm -f "$work/refused"
-        REFUSE=$number REFUSED=$work/refused LD_PRELOAD=$work/refuse.so "$program" \
-            replay --memory <"$tests/rows/$1.jsonl" >"$work/stdout" 2>"$work/stderr"
+        # `env` gives the shim to the program alone, and not to `timeout`.
+        timeout 60 env REFUSE="$number" REFUSED="$work/refused" LD_PRELOAD="$work/refuse.so" \
+            "$program" replay --memory <"$tests/rows/$1.jsonl" >"$work/stdout" 2>"$work/stderr"
         status=$?
         wrong=$(check_run "$1")
         if [ -n "$wrong" ]; then

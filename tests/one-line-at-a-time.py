@@ -1,9 +1,9 @@
 #!/usr/bin/env python3
 """Each answer is written before the next line is judged, and in one piece.
 
-The program's streams are pipes. A line is sent only once the answer to the line before has come,
-and each read of the pipe has to give one whole answer line, since the program has written no more
-than that and writes it at once.
+The program's streams are pipes, and a line is sent only once the answer to the line before has come.
+The pipe that takes the answers keeps each write apart, so that each read of it has to give one whole
+answer.
 """
 
 import os
@@ -29,15 +29,12 @@ def read_piece(output):
     return os.read(output, 1 << 20)
 
 
-def converse(process, lines, answers):
-    """Sends the lines one by one, and takes each answer before the next line is sent."""
-    source, output = process.stdin.fileno(), process.stdout.fileno()
+def converse(process, output, lines, answers):
+    """Sends the lines one by one, and takes each answer from `output` before the next line is sent."""
     answers = iter(answers)
     for line in lines:
-        # The whole line is there before the program can have answered it, but for its end.
-        rest = memoryview(line)
-        while rest:
-            rest = rest[os.write(source, rest) :]
+        process.stdin.write(line)
+        process.stdin.flush()
         if not line.strip(b" \t\r\n"):
             continue
         wanted = next(answers)
@@ -60,14 +57,12 @@ def lines_of(name):
 
 def check(row):
     """Returns whether the row's lines are answered one at a time."""
-    process = subprocess.Popen(
-        [PROGRAM, "replay", "--memory"],
-        stdin=subprocess.PIPE,
-        stdout=subprocess.PIPE,
-        bufsize=0,
-    )
+    output, sink = os.pipe2(os.O_DIRECT | os.O_CLOEXEC)
+    words = [PROGRAM, "replay", "--memory"]
+    process = subprocess.Popen(words, stdin=subprocess.PIPE, stdout=sink)
+    os.close(sink)
     try:
-        converse(process, lines_of(f"{row}.jsonl"), lines_of(f"{row}.answers"))
+        converse(process, output, lines_of(f"{row}.jsonl"), lines_of(f"{row}.answers"))
         return True
     except (Wrong, OSError, StopIteration, subprocess.TimeoutExpired) as error:
         print(f"FAILED: {row}: {error!r}")
@@ -75,6 +70,7 @@ def check(row):
     finally:
         process.kill()
         process.wait()
+        os.close(output)
 
 
 def main():

@@ -52,6 +52,19 @@ timeout 60 "$program" replay --memory <"$first" >&- 2>"$work/stderr"
 status=$?
 ends "a closed standard output" 1 "rbac: stop Write after 0"
 
+# The reader of the pipe is gone before the program starts.
+mkfifo "$work/gone"
+{
+    read -r _ <"$work/gone"
+    timeout 60 "$program" replay --memory <"$first" 2>"$work/stderr"
+    echo $? >"$work/status"
+} | {
+    exec <&-
+    echo gone >"$work/gone"
+}
+status=$(cat "$work/status")
+ends "a pipe without a reader" 1 "rbac: stop Write after 0"
+
 # Where there is nothing to read there is nothing to write either.
 timeout 60 "$program" replay --memory </dev/null >&- 2>"$work/stderr"
 status=$?
