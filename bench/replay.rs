@@ -55,7 +55,13 @@ struct State {
 }
 
 impl State {
-    fn add(set: &mut Vec<String>, name: &str, most: usize, kind: &'static str, exists: Refusal) -> Answer {
+    fn add(
+        set: &mut Vec<String>,
+        name: &str,
+        most: usize,
+        kind: &'static str,
+        exists: Refusal,
+    ) -> Answer {
         let Err(gap) = set.binary_search_by(|entry| entry.as_str().cmp(name)) else {
             return Err(exists);
         };
@@ -67,7 +73,8 @@ impl State {
     }
 
     fn has(set: &[String], name: &str) -> bool {
-        set.binary_search_by(|entry| entry.as_str().cmp(name)).is_ok()
+        set.binary_search_by(|entry| entry.as_str().cmp(name))
+            .is_ok()
     }
 
     fn place(&self, user: &str, role: &str) -> Result<Result<usize, usize>, Refusal> {
@@ -89,7 +96,8 @@ impl State {
         if self.assignments.len() >= MOST_ASSIGNMENTS {
             return Err(Refusal::TooMany("assignment"));
         }
-        self.assignments.insert(gap, (user.to_owned(), role.to_owned()));
+        self.assignments
+            .insert(gap, (user.to_owned(), role.to_owned()));
         Ok(None)
     }
 
@@ -111,7 +119,10 @@ impl State {
 }
 
 fn text<'a>(object: &'a Map<String, Value>, key: &str) -> Result<&'a str, Refusal> {
-    object.get(key).and_then(Value::as_str).ok_or(Refusal::BadRequest)
+    object
+        .get(key)
+        .and_then(Value::as_str)
+        .ok_or(Refusal::BadRequest)
 }
 
 fn name(text: &str) -> Result<&str, Refusal> {
@@ -129,11 +140,23 @@ fn judge(state: &mut State, line: &[u8]) -> Answer {
     match text(&object, "fn")? {
         "addUser" => {
             let user = name(text(&object, "user")?)?;
-            State::add(&mut state.users, user, MOST_USERS, "user", Refusal::UserExists)
+            State::add(
+                &mut state.users,
+                user,
+                MOST_USERS,
+                "user",
+                Refusal::UserExists,
+            )
         }
         "addRole" => {
             let role = name(text(&object, "role")?)?;
-            State::add(&mut state.roles, role, MOST_ROLES, "role", Refusal::RoleExists)
+            State::add(
+                &mut state.roles,
+                role,
+                MOST_ROLES,
+                "role",
+                Refusal::RoleExists,
+            )
         }
         function @ ("assignUser" | "deassignUser") => {
             let (user, role) = (text(&object, "user")?, text(&object, "role")?);

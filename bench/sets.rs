@@ -32,7 +32,11 @@ fn merge(entries: Vec<Pair>, others: Vec<Pair>) -> Vec<Pair> {
     let mut entries = entries.into_iter().peekable();
     let mut others = others.into_iter().peekable();
     while let (Some(entry), Some(other)) = (entries.peek(), others.peek()) {
-        let next = if entry < other { entries.next() } else { others.next() };
+        let next = if entry < other {
+            entries.next()
+        } else {
+            others.next()
+        };
         all.extend(next);
     }
     all.extend(entries);
@@ -46,7 +50,11 @@ fn time_merge(is_first: fn(usize, usize) -> bool, what: &str) {
     let mut number = 0;
     for first in 0..ROLES {
         for second in first + 1..ROLES {
-            let to = if is_first(first, number) { &mut set } else { &mut other };
+            let to = if is_first(first, number) {
+                &mut set
+            } else {
+                &mut other
+            };
             to.push((name_of(first), name_of(second)));
             number += 1;
         }

@@ -1,6 +1,8 @@
 #!/bin/sh
-# bin/rbac, started in any folder, passes the words, the streams and the status on as they are.
+# bin/rbac, started in any folder, passes the words, the streams and the status on as they are. It runs
+# the program that was built here, whatever RBAC_PROGRAM names.
 
+unset RBAC_PROGRAM
 . "$(dirname "$0")/common"
 start=$tests/../bin/rbac
 
