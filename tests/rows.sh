@@ -1,0 +1,31 @@
+#!/bin/sh
+# Gives each rows/NAME.jsonl to `replay --memory`, and compares what it writes with NAME.answers,
+# its exit status with NAME.status (0 without that file) and its standard error with NAME.stderr
+# (nothing without that file).
+
+. "$(dirname "$0")/common"
+
+# check_row NAME
+check_row() {
+    row=$tests/rows/$1
+    timeout 60 "$program" replay --memory <"$row.jsonl" >"$work/stdout" 2>"$work/stderr"
+    status=$?
+    wanted=0
+    [ ! -f "$row.status" ] || wanted=$(cat "$row.status")
+    messages=/dev/null
+    [ ! -f "$row.stderr" ] || messages=$row.stderr
+    if ! cmp "$row.answers" "$work/stdout"; then
+        fail "$1: the answers differ"
+    elif [ "$status" -ne "$wanted" ]; then
+        fail "$1: the status is $status and not $wanted"
+    elif ! cmp "$messages" "$work/stderr"; then
+        fail "$1: standard error differs: $(head -n 1 "$work/stderr")"
+    else
+        pass
+    fi
+}
+
+for lines in "$tests"/rows/*.jsonl; do
+    check_row "$(basename "$lines" .jsonl)"
+done
+finish
