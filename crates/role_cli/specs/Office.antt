@@ -14,6 +14,7 @@ pub record OfficeState : Type 0 where
   pub roles : Names
   pub assignments : Pairs
 
+-- a state as its three sets, one after another
 abbrev pub coded_office : Coded OfficeState
 coded_office =
     code_by (Names × (Names × Pairs)) (coded× (coded_set coded_name) (coded× (coded_set coded_name) (coded_set coded_pair)))
@@ -29,9 +30,11 @@ version = 2
 
 -- ---- refusals
 
+-- refused where the test holds
 abbrev pub refuse_if : Bool → Refusal → Option Refusal
 refuse_if test refusal = if test then Some refusal else None
 
+-- refused where the test fails
 abbrev pub refuse_unless : Bool → Refusal → Option Refusal
 refuse_unless test refusal = if test then None else Some refusal
 
@@ -46,24 +49,21 @@ abbrev pub too_many : Kind → ℕ → Option Refusal
 too_many kind number = refuse_if (nat_lt (limit_of kind version) number) (TooMany kind)
 
 module _ (S : OfficeState) where
-  -- ---- AddUser
-
+  -- AddUser: why it is refused, if it is, and what it leaves: USERS with the user
   abbrev pub add_user_refusal : Bytes → Option Refusal
   add_user_refusal user = first (refuse_if (contains S.users user) UserExists ∷ too_many User (len S.users + 1) ∷ [])
 
   abbrev pub after_add_user : Bytes → OfficeState
   after_add_user user = record S { users = insert S.users user }
 
-  -- ---- AddRole
-
+  -- AddRole: why it is refused, if it is, and what it leaves: ROLES with the role
   abbrev pub add_role_refusal : Bytes → Option Refusal
   add_role_refusal role = first (refuse_if (contains S.roles role) RoleExists ∷ too_many Role (len S.roles + 1) ∷ [])
 
   abbrev pub after_add_role : Bytes → OfficeState
   after_add_role role = record S { roles = insert S.roles role }
 
-  -- ---- AssignUser
-
+  -- AssignUser: why it is refused, if it is, and what it leaves: UA with the pair
   abbrev pub assign_user_refusal : Bytes → Bytes → Option Refusal
   assign_user_refusal user role =
       first
@@ -76,8 +76,7 @@ module _ (S : OfficeState) where
   abbrev pub after_assign_user : Bytes → Bytes → OfficeState
   after_assign_user user role = record S { assignments = insert S.assignments (user, role) }
 
-  -- ---- DeassignUser
-
+  -- DeassignUser: why it is refused, if it is, and what it leaves: UA without the pair
   abbrev pub deassign_user_refusal : Bytes → Bytes → Option Refusal
   deassign_user_refusal user role =
       first
@@ -89,7 +88,6 @@ module _ (S : OfficeState) where
   abbrev pub after_deassign_user : Bytes → Bytes → OfficeState
   after_deassign_user user role = record S { assignments = remove S.assignments (user, role) }
 
-  -- ---- assigned_users of a role
-
+  -- the users that are assigned to a role
   abbrev pub assigned_users : Bytes → Names
   assigned_users role = firsts S.assignments role
