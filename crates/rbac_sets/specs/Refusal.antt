@@ -1,5 +1,5 @@
 -- The numbers and the words of refusals.
-use Rattle.std.specs.Prelude.{ℕ, List, codes}
+use Rattle.std.specs.Prelude.{ℕ, Bool, true, false, List, codes}
 use Rattle.rbac_sets.specs.declared.refusal.Refusal.{Refusal}
 use Rattle.rbac_sets.specs.declared.refusal.Refusal.TheVariants.{BadName, NoUser, UserExists, NoRole, RoleExists, NoObject, ObjectExists, NoPermission, PermissionExists, AlreadyAssigned, NotAssigned, AlreadyGranted, NotGranted, EdgeExists, NoEdge, Cycle, RoleInUse, ObjectInUse, SetExists, NoSet, MemberExists, NoMember, BadCardinality, StaticSeparation, DynamicSeparation, NoSession, SessionExists, NotOwner, NotAuthorized, AlreadyActive, NotActive, TooMany, NoOperation, BadRequest, UnknownFunction, BadCsv, UserLocked, Memory, Store, Closed, NotAnOffice, Version, Damaged}
 
@@ -49,7 +49,12 @@ code_of NotAnOffice = 50
 code_of (Version _) = 51
 code_of (Damaged _) = 52
 
--- the word of a refusal
+-- memory was refused
+abbrev pub is_memory : Refusal → Bool
+is_memory Memory = true
+is_memory _ = false
+
+-- the name of a refusal
 abbrev pub name_of : Refusal → List ℕ
 name_of BadName = codes "BadName"
 name_of NoUser = codes "NoUser"

@@ -11,7 +11,7 @@ pub use name::Name;
 pub use refusal::Refusal;
 pub use row::{Change, Row};
 pub use sets::{CountSet, GrantSet, NameSet, PairSet};
-pub use sink::{MemorySink, Sink, Writer};
+pub use sink::{MemorySink, Sink, Writer, write_all};
 pub use sorted_set::{Entry, Prefix, Probe, SortedSet};
 pub use source::{Fault, MemorySource, Reader, Source};
 

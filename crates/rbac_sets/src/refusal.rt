@@ -1,6 +1,6 @@
 //! Why a call was refused.
 ghost use Rattle.std.specs.Prelude.{◌≡◌, codes};
-ghost use Rattle.rbac_sets.specs.Refusal.{code_of, name_of};
+ghost use Rattle.rbac_sets.specs.Refusal.{code_of, is_memory, name_of};
 
 use crate::kind::Kind;
 use crate::name::Name;
@@ -169,6 +169,13 @@ impl Refusal {
             Refusal::Version(_) => 51,
             Refusal::Damaged(_) => 52,
         }
+    }
+
+    /// Whether memory was refused, which is no verdict on what was asked.
+    pub fn is_memory(&self) -> bool
+        ensures { result ≡ is_memory self.now }
+    {
+        matches!(self, Refusal::Memory)
     }
 
     /// The name of the refusal, without what comes with it.

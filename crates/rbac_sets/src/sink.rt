@@ -1,7 +1,7 @@
 //! Where bytes go.
-ghost use Rattle.std.specs.Prelude.{◌≡◌, ◌≤◌, ◌<◌, ℕ, Bool, true, List, [], Option, length, IfOk};
-ghost use Rattle.std.specs.Io.KnownBytes.{WriteAppends};
-ghost use Rattle.rbac_sets.specs.Stream.{failures_after};
+ghost use Rattle.std.specs.Prelude.{◌≡◌, ◌≤◌, ◌<◌, ℕ, Bool, true, List, [], ◌++◌, Option, length, IfOk, OnOk, OnErr};
+ghost use Rattle.std.specs.Io.KnownBytes.{Appends, WriteAppends};
+ghost use Rattle.rbac_sets.specs.Stream.{failures_after, HasFailed};
 
 use crate::source::Fault;
 use std::alloc::Global;
@@ -128,4 +128,26 @@ impl<W: io::Write> Sink for Writer<W> {
     fn failures(&self) -> u64 {
         self.failures
     }
+}
+
+/// Writes the whole of `piece`, in as few writes as the sink lets it.
+///
+/// # Errors
+///
+/// `Fault` where a write failed, or took no byte though there was one. A part of the piece that is
+/// not the whole was written then.
+pub fn write_all<W: Sink>(sink: &mut W, piece: &[u8]) -> Result<(), Fault>
+    ensures ok { OnOk result (Appends (W.written sink.old) (W.written sink.new) piece.now) }
+    ensures part { OnErr result ((part rest : List ℕ) × (piece.now ≡ part ++ rest) × (1 ≤ length rest) × Appends (W.written sink.old) (W.written sink.new) part) }
+    ensures failures { W.failed sink.old ≤ W.failed sink.new }
+    ensures cause { OnErr result (W.takes_some ≡ true → HasFailed (W.failed sink.old) (W.failed sink.new)) }
+{
+    let mut rest = piece;
+    while !rest.is_empty() {
+        match sink.write(rest) {
+            Ok(0) | Err(_) => return Err(Fault),
+            Ok(count) => rest = &rest[count..],
+        }
+    }
+    Ok(())
 }

@@ -1,1 +1,3 @@
+pub mod AnsweredLines
 pub mod FirstsInOrder
+pub mod Judging

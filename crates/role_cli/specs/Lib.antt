@@ -1,1 +1,3 @@
+pub mod Machine
 pub mod Office
+pub mod Words

@@ -1,7 +1,6 @@
 pub mod Answering
 pub mod JsonReading
 pub mod JsonWriting
-pub mod Known
 pub mod ReadSoFar
 pub mod Splitting
 pub mod Stopping

@@ -6,7 +6,7 @@ use Rattle.std.specs.Io.KnownBytes.{Appends}
 use Rattle.role_wire.specs.Lines.{longest_line, line_feed, split_lines, ended_lines, is_blank, asking, with_line_feeds}
 use Rattle.role_wire.specs.Replay.{AreAnswered}
 use Rattle.role_wire.specs.Reading.{Place, HasNoLineFeed, IsOpenLine, IsRead, EndsLine}
-use Rattle.role_wire.proofs.Known.{Appends-none, Appends-more}
+use Rattle.rbac_sets.proofs.Known.{Appends-none, Appends-more}
 use Rattle.role_wire.proofs.Splitting.{split_lines-ended, ended_lines-ended, HasNoLineFeed-append}
 use Rattle.role_wire.proofs.Answering.{asking-append, with_line_feeds-append, AreAnswered-none, AreAnswered-append}
 

@@ -9,7 +9,7 @@ use Rattle.role_wire.specs.declared.lines.Unanswered.{Unanswered}
 use Rattle.role_wire.specs.Lines.{longest_line, line_feed, split_lines, ended_lines, is_blank, asking, with_line_feeds}
 use Rattle.role_wire.specs.Replay.{AreAnswered, IsReplayed, IsNext, LeavesLine, LeavesOff, IsStopped}
 use Rattle.role_wire.specs.Reading.{Place, HasNoLineFeed, IsOpenLine, IsRead, EndsLine, FailsLine, EndsHere, StopsReading, Halts}
-use Rattle.role_wire.proofs.Known.{Appends-none, Appends-more}
+use Rattle.rbac_sets.proofs.Known.{Appends-none, Appends-more}
 use Rattle.role_wire.proofs.Splitting.{split_lines-ended, ended_lines-ended, split_lines-last, ended_lines-last, split_lines-first, HasNoLineFeed-append}
 use Rattle.role_wire.proofs.Answering.{asking-append, with_line_feeds-append, AreAnswered-append}
 use Rattle.role_wire.proofs.ReadSoFar.{read_none, read_more}

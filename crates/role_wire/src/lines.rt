@@ -7,8 +7,10 @@ ghost use Rattle.role_wire.specs.Lines.{is_blank, longest_line, line_feed};
 ghost use Rattle.role_wire.specs.Reading.{place_of, IsOpenLine, IsRead, EndsLine, FailsLine, HasNoLineFeed, Halts};
 ghost use Rattle.role_wire.specs.Replay.{IsReplayed, IsStopped};
 
-use rbac_sets::{Sink, Source};
+use rbac_sets::{Fault, Sink, Source, write_all};
 use std::alloc::Global;
+use std::fmt;
+use std::fmt::{Display, Formatter, Write};
 
 /// The most bytes of a line, its LF not counted.
 pub const LONGEST_LINE: usize = 65_536;
@@ -77,6 +79,19 @@ pub enum Cause {
     Memory,
 }
 
+impl Display for Cause {
+    fn fmt<W: Write>(&self, f: &mut Formatter<W>) -> fmt::Result {
+        match self {
+            Cause::Read => f.write_str("Read"),
+            Cause::Write => f.write_str("Write"),
+            Cause::Line(number) => write!(f, "Line {number}"),
+            Cause::Store => f.write_str("Store"),
+            Cause::Closed => f.write_str("Closed"),
+            Cause::Memory => f.write_str("Memory"),
+        }
+    }
+}
+
 /// A replay that stopped before the end of its input.
 #[derive(Clone, Copy, Debug, PartialEq, Eq)]
 pub struct Stop {
@@ -84,6 +99,12 @@ pub struct Stop {
     pub cause: Cause,
     /// How many answer lines were written whole.
     pub answered: u64,
+}
+
+impl Display for Stop {
+    fn fmt<W: Write>(&self, f: &mut Formatter<W>) -> fmt::Result {
+        write!(f, "stop {} after {}", self.cause, self.answered)
+    }
 }
 
 /// A replay that came to the end of its input.
@@ -190,23 +211,6 @@ fn line_end(bytes: &[u8]) -> Option<usize>
     bytes.iter().position(|byte| *byte == b'\n')
 }
 
-// Writes the whole piece.
-fn write_all<W: Sink>(sink: &mut W, piece: &[u8]) -> Result<(), Cause>
-    ensures ok { OnOk result (Appends (W.written sink.old) (W.written sink.new) piece.now) }
-    ensures part { OnErr result ((part rest : List ℕ) × (piece.now ≡ part ++ rest) × (1 ≤ length rest) × Appends (W.written sink.old) (W.written sink.new) part) }
-    ensures failures { W.failed sink.old ≤ W.failed sink.new }
-    ensures cause { IfErr result (λ cause. (cause ≡ Cause.Write) × (W.takes_some ≡ true → HasFailed (W.failed sink.old) (W.failed sink.new))) }
-{
-    let mut rest = piece;
-    while !rest.is_empty() {
-        match sink.write(rest) {
-            Ok(0) | Err(_) => return Err(Cause::Write),
-            Ok(count) => rest = &rest[count..],
-        }
-    }
-    Ok(())
-}
-
 // The answer to the line, with LF.
 fn answer_with_line_feed<A: AnswerLines>(
     alloc: Global,
@@ -248,8 +252,10 @@ fn end_line<A: AnswerLines, W: Sink>(
             Err(Unanswered::Memory) => return Err(Cause::Memory),
             Err(Unanswered::Store) => return Err(Cause::Store),
         };
-        write_all(sink, answer.as_bytes())?;
-        progress.answered += 1;
+        match write_all(sink, answer.as_bytes()) {
+            Ok(()) => progress.answered += 1,
+            Err(Fault) => return Err(Cause::Write),
+        }
     }
     progress.line.clear();
     Ok(())

@@ -5,7 +5,7 @@ use Rattle.role_wire.specs.declared.lines.Cause.{Cause}
 use Rattle.role_wire.specs.declared.lines.Cause.TheVariants.{Read}
 use Rattle.role_wire.specs.Replay.{IsReplayed, IsStopped}
 use Rattle.role_wire.specs.Reading.{place_of, IsOpenLine, EndsLine, FailsLine}
-use Rattle.role_wire.proofs.Known.{Consumes-none, Consumes-kept, Consumes-more, Consumes-no_more}
+use Rattle.rbac_sets.proofs.Known.{Consumes-none, Consumes-kept, Consumes-more, Consumes-no_more}
 use Rattle.role_wire.proofs.ReadSoFar.{read_none, read_more}
 use Rattle.role_wire.proofs.Stopping.{finished, stopped, halts_read, halts_last, halts_within, halts_behind}
 use Rattle.role_wire.proofs.lines.read_input.Goals as goal

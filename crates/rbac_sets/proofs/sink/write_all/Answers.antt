@@ -1,8 +1,8 @@
 use Rattle.std.proofs.Common.{◌≡◌, ◌++◌, take, drop, length, ap, sym, ◌∙◌, append_assoc, arith}
 use Rattle.std.proofs.lemmas.Grind.{common_steps}
 use Rattle.std.proofs.lemmas.List.{take-append-drop}
-use Rattle.role_wire.proofs.Known.{Appends-more}
-use Rattle.role_wire.proofs.lines.write_all.Goals as goal
+use Rattle.rbac_sets.proofs.Known.{Appends-more}
+use Rattle.rbac_sets.proofs.sink.write_all.Goals as goal
 
 pub loop-rest-preserved : goal.loop-rest-preserved
 loop-rest-preserved g c =

@@ -1,6 +1,6 @@
 use Rattle.std.proofs.Common.{◌≡◌, ℕ, List, ◌++◌, ◌≤◌, length}
 use Rattle.std.specs.Io.KnownBytes.{Appends}
-use Rattle.role_wire.proofs.lines.write_all.Given as goal
+use Rattle.rbac_sets.proofs.sink.write_all.Given as goal
 
 abbrev pub invariant-loop-rest : goal.invariant-loop-rest
 invariant-loop-rest g l = (done : List ℕ) × Appends (g.W.Sink.written l.initial.sink) (g.W.Sink.written l.sink) done × (l.piece ≡ done ++ l.rest) × (g.W.Sink.failed l.initial.sink ≤ g.W.Sink.failed l.sink)

@@ -1,0 +1,42 @@
+//! The program `rbac`: hands its words and the standard streams to `role_cli::run`.
+#![tactic(auto)]
+
+use rbac_sets::{Reader, Writer, write_all};
+use std::env;
+use std::io::{self, ErrorKind};
+use std::process::ExitCode;
+
+fn main(rt: HostRuntime) -> ExitCode {
+    match run(&rt) {
+        Ok(status) => ExitCode::from(status),
+        Err(error) if error.kind() == ErrorKind::OutOfMemory => {
+            tell(&rt, b"rbac: {\"code\":40,\"error\":\"Memory\"}\n");
+            ExitCode::from(1)
+        }
+        Err(_) => {
+            tell(&rt, b"rbac: a word is not UTF-8\n");
+            ExitCode::from(2)
+        }
+    }
+}
+
+// Does what the program's words ask, and gives the exit status.
+fn run(rt: &HostRuntime) -> io::Result<u8> {
+    let mut words = Vec::new(rt.alloc());
+    for word in env::args(rt)? {
+        words.push(word)?;
+    }
+    let mut texts = Vec::new(rt.alloc());
+    for word in &words {
+        texts.push(word.as_str())?;
+    }
+    let mut source = Reader::new(rt.stdin());
+    let mut out = Writer::new(rt.stdout());
+    let mut err = Writer::new(rt.stderr());
+    Ok(role_cli::run(rt, &texts, &mut source, &mut out, &mut err))
+}
+
+// Writes a line to standard error. A fault of it changes nothing.
+fn tell(rt: &HostRuntime, line: &[u8]) {
+    let _ = write_all(&mut Writer::new(rt.stderr()), line);
+}
