@@ -68,7 +68,7 @@ impl Name {
         ensures ok { IfOk result (λ name. name ≡ self.now) }
         ensures cause { IfErr result (λ refusal. refusal ≡ Refusal.Memory) }
     {
-        let text = String::from_str(alloc, self.text.as_str())?;
+        let text = String::from_str(alloc, self.as_str())?;
         Ok(Name { text })
     }
 }
