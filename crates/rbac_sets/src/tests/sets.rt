@@ -210,3 +210,17 @@ fn merges_and_takes_whole_sets(rt: HostRuntime) -> Result<(), Fail> {
     );
     Ok(())
 }
+
+#[test]
+fn puts_entries_above_all_others(rt: HostRuntime) -> Result<(), Fail> {
+    let ann = Name::new(rt.alloc(), "ann")?;
+    let bob = Name::new(rt.alloc(), "bob")?;
+    let mut set = NameSet::new(rt.alloc());
+    set.reserve(2)?;
+    assert!(rt; set.room() >= 2);
+    assert!(rt; ann.cmp(&bob).is_lt());
+    set.push_last(ann);
+    set.push_last(bob);
+    assert!(rt; are_names(set.as_slice(), &["ann", "bob"]));
+    Ok(())
+}
