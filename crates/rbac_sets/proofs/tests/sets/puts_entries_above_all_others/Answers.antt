@@ -1,4 +1,4 @@
-use Rattle.std.proofs.Common.{◌∙◌, sym, ap}
+use Rattle.std.proofs.Common.{◌≡◌, true, sym, ap, ◌∙◌, rules}
 use Rattle.std.specs.Ordering.{is_lt}
 use Rattle.rbac_sets.specs.NameOrder.{name_total, name_exact}
 use Rattle.rbac_sets.proofs.InOrder.{above-empty, above-insert, less_of}
@@ -9,6 +9,7 @@ push_last-requires-clause-above g c = rw (c.reserve.ensures.keeps, c.new-set.ens
 
 pub push_last-requires-2-clause-above : goal.push_last-requires-2-clause-above
 push_last-requires-2-clause-above g c =
-    let less = less_of _ (sym (ap is_lt c.cmp.ensures) ∙ sym c.is_lt.ensures ∙ c.if-assert-2.false) in
+    let lower : c.is_lt.result ≡ true = search rules in
+    let less = less_of _ (sym (ap is_lt c.cmp.ensures) ∙ sym c.is_lt.ensures ∙ lower) in
     rw (c.push_last.ensures.inserted, c.reserve.ensures.keeps, c.new-set.ensures)
     (above-insert name_total name_exact _ c.in_ok-ann.ann c.in_ok-bob.bob (above-empty name_total name_exact c.in_ok-ann.ann) less)
