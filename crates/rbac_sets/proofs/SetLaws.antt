@@ -13,7 +13,8 @@ use Rattle.std.specs.FinSet.{FinSet}
 use Rattle.std.specs.List.{filter}
 use Rattle.std.proofs.lemmas.List.Elements.{filter-append}
 use Rattle.std.proofs.lemmas.List.{map-append, append-nil}
-use Rattle.std.proofs.lemmas.Bool.{or_cases, or_left, or_right, and_parts, and_from, true≢false}
+use Rattle.std.proofs.Math.Bool.{or_comm, or_assoc}
+use Rattle.std.proofs.lemmas.Bool.{or_cases, or_left, or_right, and_parts, and_from, not-true, true≢false}
 use Rattle.rbac_sets.specs.NameOrder.{name_total, name_exact, pair_total, pair_exact}
 use Rattle.rbac_sets.specs.Sets.{union, insert_all, difference, IsDisjoint, Bytes, Pair, Pairs, empty, contains, insert, remove, retain, members, from_list, any, all, image, seconds, same_name}
 
@@ -23,6 +24,11 @@ both_true : (a b : Bool) → (a ≡ true → b ≡ true) → (b ≡ true → a �
 both_true true b f g = sym (f refl)
 both_true false true f g = g refl
 both_true false false f g = refl
+
+pub or_turned : (a b c : Bool) → (a || (b || c)) ≡ (b || (a || c))
+or_turned true true c = refl
+or_turned true false c = refl
+or_turned false b c = refl
 
 some_or : (b : Bool) (x : Option (Unit {0})) → is_some (cond b (Some tt) x) ≡ (b || is_some x)
 some_or true x = refl
@@ -110,21 +116,11 @@ module _ {K : Type 0} {R : K → K → Ordering} (total : IsTotalOrder R) where
     insert_all-contains : (s : FinSet R) (xs : List K) (y : K) → contains (insert_all s xs) y ≡ (list_any (eq_by_cmp R y) xs || contains s y)
     unfolding insert_all
     insert_all-contains s [] y = refl
-    insert_all-contains s (x ∷ xs) y = contains-insert (insert_all s xs) x y ∙ ap (λ b. eq_by_cmp R y x || b) (insert_all-contains s xs y) ∙ either (eq_by_cmp R y x) _ _
-      where
-        either : (a b c : Bool) → (a || (b || c)) ≡ ((a || b) || c)
-        either true b c = refl
-        either false b c = refl
+    insert_all-contains s (x ∷ xs) y = contains-insert (insert_all s xs) x y ∙ ap (λ b. eq_by_cmp R y x || b) (insert_all-contains s xs y) ∙ sym (or_assoc (eq_by_cmp R y x) _ _)
 
     pub contains-union : (s t : FinSet R) (x : K) → contains (union s t) x ≡ (contains s x || contains t x)
     unfolding union
-    contains-union s t x = insert_all-contains s (members t) x ∙ ap (λ b. b || contains s x) (sym (contains-members t x)) ∙ turned (contains t x) (contains s x)
-      where
-        turned : (a b : Bool) → (a || b) ≡ (b || a)
-        turned true true = refl
-        turned true false = refl
-        turned false true = refl
-        turned false false = refl
+    contains-union s t x = insert_all-contains s (members t) x ∙ ap (λ b. b || contains s x) (sym (contains-members t x)) ∙ or_comm (contains t x) (contains s x)
 
     pub contains-difference : (s t : FinSet R) (x : K) → contains (difference s t) x ≡ (contains s x && not (contains t x))
     unfolding difference
@@ -173,14 +169,10 @@ module _ {K : Type 0} {R : K → K → Ordering} (total : IsTotalOrder R) where
       λ each. list_all-from p (members s) (λ x h. each x (contains-members s x ∙ h)),
     )
 
-    not_true : (b : Bool) → not b ≡ true → b ≡ false
-    not_true true h = sym h
-    not_true false h = refl
-
     -- no member of s is in t exactly where the two have none in common
     pub disjoint-Decides : (s t : FinSet R) → Decides (all (λ x. not (contains t x)) s) (IsDisjoint s t)
     disjoint-Decides s t = (
-      λ h x member. not_true (contains t x) ((all-Decides (λ y. not (contains t y)) s).0 h x member),
+      λ h x member. not-true (contains t x) ((all-Decides (λ y. not (contains t y)) s).0 h x member),
       λ apart. (all-Decides (λ y. not (contains t y)) s).1 (λ x member. ap not (apart x member)),
     )
 
@@ -209,12 +201,7 @@ same_bytes x y = one_answer (pointwise nat_eq x y) (same_name x y) (bytes_decide
 module _ {K : Type 0} {R : K → K → Ordering} (total : IsTotalOrder R) (exact : IsAntisymmetric R) where
   any-push : (p : K → Bool) (xs : List K) (x : K) → list_any p (xs ++ x ∷ []) ≡ (p x || list_any p xs)
   any-push p [] x = refl
-  any-push p (y ∷ ys) x = ap (λ b. p y || b) (any-push p ys x) ∙ swapped (p y) (p x) (list_any p ys)
-    where
-      swapped : (a b c : Bool) → (a || (b || c)) ≡ (b || (a || c))
-      swapped true true c = refl
-      swapped true false c = refl
-      swapped false b c = refl
+  any-push p (y ∷ ys) x = ap (λ b. p y || b) (any-push p ys x) ∙ or_turned (p y) (p x) (list_any p ys)
 
   pub from_list_push : (xs : List K) (x : K) → from_list {R = R} (xs ++ x ∷ []) ≡ insert (from_list xs) x
   from_list_push xs x = same_set total exact _ _ (λ y. contains-from_list total (xs ++ x ∷ []) y ∙ any-push (eq_by_cmp R y) xs x

@@ -11,7 +11,6 @@ use Rattle.std.specs.declared.cmp.Ordering.{Ordering}
 use Rattle.std.specs.Ordering.{nat_cmp, ordering_then, eq_by_cmp}
 use Rattle.std.specs.Cmp.Lexicographic.{slice_cmp}
 use Rattle.std.specs.FinMap as map
-use Rattle.std.specs.FinMap.{FinMap}
 use Rattle.std.specs.FinSet.{FinSet}
 use base.Stored.{coded_unit}
 use Rattle.std.specs.Coded.{Coded, coded_ℕ, coded_list, coded×, code_by}
@@ -58,10 +57,6 @@ Triples = FinSet triple_cmp
 
 abbrev pub Cardinalities : Type 0
 Cardinalities = FinSet cardinality_cmp
-
--- from names to values
-abbrev pub NameMap : Type 0 → Type 0
-NameMap V = FinMap name_cmp V
 
 module _ {K : Type 0} {R : K → K → Ordering} where
   unfoldable pub empty : FinSet R

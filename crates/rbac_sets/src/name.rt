@@ -1,5 +1,5 @@
 //! Names of users, roles, objects, operations, sessions and separation of duty sets.
-ghost use Rattle.std.specs.Prelude.{◌≡◌, ◌⊎◌, ◌&&◌, true, false, IfOk, IfErr, nat_le, length};
+ghost use Rattle.std.specs.Prelude.{◌≡◌, ◌⊎◌, ◌&&◌, true, false, Err, IfOk, IfErr, nat_le, length};
 ghost use Rattle.std.specs.List.{list_all};
 ghost use Rattle.rbac_sets.specs.Name.{has_name_length, is_name, is_printable};
 
@@ -16,7 +16,7 @@ const LONGEST_NAME: usize = 64;
 ///
 /// Names are equal where their bytes are, and are ordered byte by byte; there is no
 /// normalisation and no case folding. A contract sees a name as its bytes.
-#[derive(Drop)]
+#[derive(Debug, Drop)]
 pub struct Name {
     text: String,
 }
@@ -42,6 +42,7 @@ impl Name {
     pub fn new(alloc: Global, text: &str) -> Result<Name, Refusal>
         ensures ok { IfOk result (λ name. (name ≡ text.now) × (is_name text.now ≡ true)) }
         ensures err { IfErr result (λ refusal. (refusal ≡ Refusal.Memory) ⊎ ((refusal ≡ Refusal.BadName) × (is_name text.now ≡ false))) }
+        ensures bad_name { is_name text.now ≡ false → result ≡ Err Refusal.BadName }
     {
         if !is_name(text) {
             return Err(Refusal::BadName);
@@ -67,7 +68,7 @@ impl Name {
         ensures ok { IfOk result (λ name. name ≡ self.now) }
         ensures cause { IfErr result (λ refusal. refusal ≡ Refusal.Memory) }
     {
-        let text = String::from_str(alloc, self.text.as_str())?;
+        let text = String::from_str(alloc, self.as_str())?;
         Ok(Name { text })
     }
 }

@@ -7,7 +7,7 @@ use crate::name::Name;
 use std::alloc::{AllocError, AllocFailed};
 
 /// Why a call was refused. A refused call changes nothing, but for what `Store` says of an office.
-#[derive(Drop)]
+#[derive(Debug, Drop)]
 pub enum Refusal {
     /// 1: a text is no name.
     BadName,

@@ -68,28 +68,28 @@ impl Entry for (Name, u32) {
 impl Probe<(Name, Name)> for (&Name, &Name) {
     ghost entry = { λ probe. (probe.0.now, probe.1.now) };
 
-    fn compare(&self, other: &(Name, Name)) -> Ordering {
-        other.0.cmp(self.0).then(other.1.cmp(self.1))
+    fn compare(&self, pair: &(Name, Name)) -> Ordering {
+        pair.0.cmp(self.0).then(pair.1.cmp(self.1))
     }
 }
 
 impl Probe<(Name, Name, Name)> for (&Name, &Name, &Name) {
     ghost entry = { λ probe. (probe.0.now, probe.1.now, probe.2.now) };
 
-    fn compare(&self, other: &(Name, Name, Name)) -> Ordering {
-        other
+    fn compare(&self, triple: &(Name, Name, Name)) -> Ordering {
+        triple
             .0
             .cmp(self.0)
-            .then(other.1.cmp(self.1))
-            .then(other.2.cmp(self.2))
+            .then(triple.1.cmp(self.1))
+            .then(triple.2.cmp(self.2))
     }
 }
 
 impl Probe<(Name, u32)> for (&Name, u32) {
     ghost entry = { λ probe. (probe.0.now, probe.1) };
 
-    fn compare(&self, other: &(Name, u32)) -> Ordering {
-        other.0.cmp(self.0).then(other.1.cmp(&self.1))
+    fn compare(&self, entry: &(Name, u32)) -> Ordering {
+        entry.0.cmp(self.0).then(entry.1.cmp(&self.1))
     }
 }
 
@@ -99,8 +99,8 @@ impl Prefix<(Name, Name)> for &Name {
 
     ghost place = { λ first pair. name_cmp pair.0 first.now };
 
-    fn compare(&self, other: &(Name, Name)) -> Ordering {
-        other.0.cmp(*self)
+    fn compare(&self, pair: &(Name, Name)) -> Ordering {
+        pair.0.cmp(*self)
     }
 
     ghost rises = { λ first x y below. firsts_rise x y first.now below };
@@ -112,8 +112,8 @@ impl Prefix<(Name, Name, Name)> for &Name {
 
     ghost place = { λ first triple. name_cmp triple.0 first.now };
 
-    fn compare(&self, other: &(Name, Name, Name)) -> Ordering {
-        other.0.cmp(*self)
+    fn compare(&self, triple: &(Name, Name, Name)) -> Ordering {
+        triple.0.cmp(*self)
     }
 
     ghost rises = { λ first x y below. triple_firsts_rise x y first.now below };
@@ -125,8 +125,8 @@ impl Prefix<(Name, Name, Name)> for (&Name, &Name) {
 
     ghost place = { λ parts triple. pair_cmp (triple.0, triple.1) (parts.0.now, parts.1.now) };
 
-    fn compare(&self, other: &(Name, Name, Name)) -> Ordering {
-        other.0.cmp(self.0).then(other.1.cmp(self.1))
+    fn compare(&self, triple: &(Name, Name, Name)) -> Ordering {
+        triple.0.cmp(self.0).then(triple.1.cmp(self.1))
     }
 
     ghost rises = { λ parts x y below. first_pairs_rise x y (parts.0.now, parts.1.now) below };
@@ -138,8 +138,8 @@ impl Prefix<(Name, u32)> for &Name {
 
     ghost place = { λ first entry. name_cmp entry.0 first.now };
 
-    fn compare(&self, other: &(Name, u32)) -> Ordering {
-        other.0.cmp(*self)
+    fn compare(&self, entry: &(Name, u32)) -> Ordering {
+        entry.0.cmp(*self)
     }
 
     ghost rises = { λ first x y below. cardinality_firsts_rise x y first.now below };

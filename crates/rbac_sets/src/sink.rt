@@ -1,7 +1,7 @@
 //! Where bytes go.
 ghost use Rattle.std.specs.Prelude.{◌≡◌, ◌≤◌, ◌<◌, ℕ, Bool, true, List, [], ◌++◌, Option, length, IfOk, OnOk, OnErr};
 ghost use Rattle.std.specs.Io.KnownBytes.{Appends, WriteAppends};
-ghost use Rattle.rbac_sets.specs.Stream.{failures_after, HasFailed};
+ghost use Rattle.rbac_sets.specs.Stream.{failures_after, HasFailed, held_in_memory, failed_in_memory, writer_of, failed_writes};
 
 use crate::source::Fault;
 use std::alloc::Global;
@@ -46,8 +46,8 @@ pub struct MemorySink {
 impl MemorySink {
     /// A sink without bytes. It takes no memory yet.
     pub fn new(alloc: Global) -> MemorySink
-        ensures bytes { result.bytes.items ≡ [] }
-        ensures failures { result.failures ≡ 0 }
+        ensures bytes { held_in_memory result ≡ [] }
+        ensures failures { failed_in_memory result ≡ 0 }
     {
         MemorySink {
             bytes: Vec::new(alloc),
@@ -57,7 +57,7 @@ impl MemorySink {
 
     /// The bytes that were written.
     pub fn as_slice(&self) -> &[u8]
-        ensures { result.now ≡ self.now.bytes.items }
+        ensures { result.now ≡ held_in_memory self.now }
     {
         &self.bytes
     }
@@ -65,10 +65,11 @@ impl MemorySink {
 
 impl Sink for MemorySink {
     ghost use Rattle.std.specs.Prelude.{Some, true};
+    ghost use Rattle.rbac_sets.specs.Stream.{held_in_memory, failed_in_memory};
 
-    ghost written = { λ s. Some s.bytes.items };
+    ghost written = { λ s. Some (held_in_memory s) };
 
-    ghost failed = { λ s. s.failures };
+    ghost failed = { λ s. failed_in_memory s };
 
     ghost takes_some = { true };
 
@@ -99,8 +100,8 @@ pub struct Writer<W> {
 impl<W: io::Write> Writer<W> {
     /// The sink that writes to `inner`, of which no call has failed yet.
     pub fn new(inner: W) -> Writer<W>
-        ensures inner { result.inner ≡ inner }
-        ensures failures { result.failures ≡ 0 }
+        ensures inner { writer_of result ≡ inner }
+        ensures failures { failed_writes result ≡ 0 }
     {
         Writer { inner, failures: 0 }
     }
@@ -108,10 +109,11 @@ impl<W: io::Write> Writer<W> {
 
 impl<W: io::Write> Sink for Writer<W> {
     ghost use Rattle.std.specs.Prelude.{true};
+    ghost use Rattle.rbac_sets.specs.Stream.{writer_of, failed_writes};
 
-    ghost written = { λ s. W.contents s.inner };
+    ghost written = { λ s. W.contents (writer_of s) };
 
-    ghost failed = { λ s. s.failures };
+    ghost failed = { λ s. failed_writes s };
 
     ghost takes_some = { true };
 

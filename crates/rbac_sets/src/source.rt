@@ -1,7 +1,7 @@
 //! Where bytes come from.
 ghost use Rattle.std.specs.Prelude.{◌≡◌, ◌≤◌, ◌<◌, ℕ, List, Option, length, IfOk};
 ghost use Rattle.std.specs.Io.KnownBytes.{ReadConsumes};
-ghost use Rattle.rbac_sets.specs.Stream.{failures_after};
+ghost use Rattle.rbac_sets.specs.Stream.{failures_after, reader_of, failed_reads};
 
 use std::io;
 use thiserror::Error;
@@ -57,8 +57,9 @@ impl<'a> MemorySource<'a> {
 
 impl Source for MemorySource<'_> {
     ghost use Rattle.std.specs.Prelude.{Some};
+    ghost use Rattle.rbac_sets.specs.Stream.{left_in_memory};
 
-    ghost remaining = { λ s. Some s.bytes.now };
+    ghost remaining = { λ s. Some (left_in_memory s) };
 
     ghost failed = { λ _. 0 };
 
@@ -85,17 +86,19 @@ pub struct Reader<R> {
 impl<R: io::Read> Reader<R> {
     /// The source that reads from `inner`, of which no call has failed yet.
     pub fn new(inner: R) -> Reader<R>
-        ensures inner { result.inner ≡ inner }
-        ensures failures { result.failures ≡ 0 }
+        ensures inner { reader_of result ≡ inner }
+        ensures failures { failed_reads result ≡ 0 }
     {
         Reader { inner, failures: 0 }
     }
 }
 
 impl<R: io::Read> Source for Reader<R> {
-    ghost remaining = { λ s. R.remaining s.inner };
+    ghost use Rattle.rbac_sets.specs.Stream.{reader_of, failed_reads};
 
-    ghost failed = { λ s. s.failures };
+    ghost remaining = { λ s. R.remaining (reader_of s) };
+
+    ghost failed = { λ s. failed_reads s };
 
     fn read(&mut self, buffer: &mut [u8]) -> Result<usize, Fault> {
         match self.inner.read(buffer) {

@@ -1,0 +1,117 @@
+//! Streams over memory, over std's readers and writers, and over ones that fail.
+use crate::{Fault, MemorySink, MemorySource, Reader, Sink, Source, Writer};
+use std::io;
+use std::test::Fail;
+
+// Fails at its second call, and moves one byte at each other one.
+#[derive(Drop)]
+struct Failing {
+    calls: usize,
+}
+
+impl io::Read for Failing {
+    fn read(&mut self, buffer: &mut [u8]) -> io::Result<usize> {
+        self.calls = self.calls.saturating_add(1);
+        if self.calls == 2 {
+            return Err(io::Error::from(io::ErrorKind::BrokenPipe));
+        }
+        Ok(buffer.len().min(1))
+    }
+}
+
+impl io::Write for Failing {
+    fn write(&mut self, piece: &[u8]) -> io::Result<usize> {
+        self.calls = self.calls.saturating_add(1);
+        if self.calls == 2 {
+            return Err(io::Error::from(io::ErrorKind::BrokenPipe));
+        }
+        Ok(piece.len().min(1))
+    }
+
+    fn flush(&mut self) -> io::Result<()> {
+        Ok(())
+    }
+}
+
+// Takes no byte, and says that all is well.
+#[derive(Drop)]
+struct Full;
+
+impl io::Write for Full {
+    fn write(&mut self, _piece: &[u8]) -> io::Result<usize> {
+        Ok(0)
+    }
+
+    fn flush(&mut self) -> io::Result<()> {
+        Ok(())
+    }
+}
+
+// Whether the source gives `abcdefg` to buffers of three bytes, and then nothing more.
+fn gives_its_pieces(source: &mut impl Source) -> bool {
+    for piece in ["abc", "def", "g", "", ""] {
+        let mut buffer = [0; 3];
+        let count = match source.read(&mut buffer) {
+            Ok(count) => count,
+            Err(Fault) => return false,
+        };
+        if &buffer[..count] != piece.as_bytes() {
+            return false;
+        }
+    }
+    source.failures() == 0
+}
+
+// Whether the sink takes `ab`, nothing and `cde` whole.
+fn takes_its_pieces(sink: &mut impl Sink) -> bool {
+    for piece in ["ab", "", "cde"] {
+        if sink.write(piece.as_bytes()) != Ok(piece.len()) {
+            return false;
+        }
+    }
+    sink.failures() == 0
+}
+
+#[test]
+fn sources_are_read_to_their_end(rt: HostRuntime) {
+    assert!(rt; gives_its_pieces(&mut MemorySource::new(b"abcdefg")));
+    assert!(rt; gives_its_pieces(&mut Reader::new(b"abcdefg".as_slice())));
+    let mut source = MemorySource::new(b"ab");
+    assert_eq!(rt; source.read(&mut []), Ok(0));
+    let mut buffer = [0; 3];
+    assert_eq!(rt; source.read(&mut buffer), Ok(2));
+    assert_eq!(rt; buffer, *b"ab\0");
+}
+
+#[test]
+fn sinks_keep_what_was_written(rt: HostRuntime) {
+    let mut sink = MemorySink::new(rt.alloc());
+    assert!(rt; sink.as_slice().is_empty());
+    assert!(rt; takes_its_pieces(&mut sink));
+    assert_eq!(rt; sink.as_slice(), b"abcde".as_slice());
+    let mut bytes = Vec::new(rt.alloc());
+    assert!(rt; takes_its_pieces(&mut Writer::new(&mut bytes)));
+    assert_eq!(rt; bytes.as_slice(), b"abcde".as_slice());
+}
+
+#[test]
+fn a_failed_call_is_counted(rt: HostRuntime) {
+    let mut source = Reader::new(Failing { calls: 0 });
+    let mut sink = Writer::new(Failing { calls: 0 });
+    for (answer, failures) in [(Ok(1), 0), (Err(Fault), 1), (Ok(1), 1)] {
+        let mut buffer = [0; 3];
+        assert_eq!(rt; source.read(&mut buffer), answer);
+        assert_eq!(rt; source.failures(), failures);
+        assert_eq!(rt; sink.write(b"abc"), answer);
+        assert_eq!(rt; sink.failures(), failures);
+    }
+}
+
+#[test]
+fn a_write_that_takes_no_byte_has_failed(rt: HostRuntime) {
+    let mut sink = Writer::new(Full);
+    assert_eq!(rt; sink.write(b""), Ok(0));
+    assert_eq!(rt; sink.failures(), 0);
+    assert_eq!(rt; sink.write(b"a"), Err(Fault));
+    assert_eq!(rt; sink.failures(), 1);
+}
