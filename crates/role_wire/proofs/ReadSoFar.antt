@@ -10,7 +10,8 @@ use Rattle.rbac_sets.proofs.Known.{Appends-none, Appends-more}
 use Rattle.role_wire.proofs.Splitting.{split_lines-ended, ended_lines-ended, HasNoLineFeed-append}
 use Rattle.role_wire.proofs.Answering.{asking-append, with_line_feeds-append, AreAnswered-none, AreAnswered-append}
 
-all_append : {X : Type 0} (P : X → Type 0) (xs ys : List X) → AllByRecursion P xs → AllByRecursion P ys → AllByRecursion P (xs ++ ys)
+-- what holds along two lists holds along both
+pub all_append : {X : Type 0} (P : X → Type 0) (xs ys : List X) → AllByRecursion P xs → AllByRecursion P ys → AllByRecursion P (xs ++ ys)
 all_append P [] ys first later = later
 all_append P (x ∷ xs) ys first later = (first.0, all_append P xs ys first.1 later)
 

@@ -6,7 +6,7 @@ use borrow.Author.Tests.{eqb-true}
 use Rattle.std.proofs.lemmas.List.Quantifiers.{position-Some}
 use Rattle.std.proofs.lemmas.List.Sums.{fails_before_first}
 use Rattle.std.specs.List.{AllByRecursion, position, position_or_len}
-use Rattle.role_wire.specs.Lines.{line_feed, split_lines, ended_lines}
+use Rattle.role_wire.specs.Lines.{line_feed, split_lines, ended_lines, open_line, SplitsByPieces}
 use Rattle.role_wire.specs.Reading.{HasNoLineFeed}
 
 pub HasNoLineFeed-append : (xs ys : List ℕ) → HasNoLineFeed xs → HasNoLineFeed ys → HasNoLineFeed (xs ++ ys)
@@ -78,3 +78,16 @@ no_line_feed xs none =
     take_all : (l : List ℕ) → take (length l) l ≡ l
     take_all [] = refl
     take_all (x ∷ l) = ap (λ m. x ∷ m) (take_all l)
+
+-- ---- pieces
+
+-- an input in two pieces is the whole input
+pub splits_by_pieces : SplitsByPieces
+splits_by_pieces [] rest = refl
+splits_by_pieces (byte ∷ bytes) rest = step (byte == line_feed) refl (splits_by_pieces bytes rest) (ended_lines bytes) refl
+  where
+    step : (ends : Bool) → (byte == line_feed) ≡ ends → split_lines (bytes ++ rest) ≡ ended_lines bytes ++ split_lines (open_line bytes ++ rest) → (lines : List (List ℕ)) → ended_lines bytes ≡ lines
+        → split_lines ((byte ∷ bytes) ++ rest) ≡ ended_lines (byte ∷ bytes) ++ split_lines (open_line (byte ∷ bytes) ++ rest)
+    step true ends later lines is = rw (ends, later) refl
+    step false ends later [] is = rw (ends, later, is) (rw ends refl)
+    step false ends later (line ∷ lines) is = rw (ends, later, is) refl

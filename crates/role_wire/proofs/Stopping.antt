@@ -12,16 +12,12 @@ use Rattle.role_wire.specs.Reading.{Place, HasNoLineFeed, IsOpenLine, IsRead, En
 use Rattle.rbac_sets.proofs.Known.{Appends-none, Appends-more}
 use Rattle.role_wire.proofs.Splitting.{split_lines-ended, ended_lines-ended, split_lines-last, ended_lines-last, split_lines-first, HasNoLineFeed-append}
 use Rattle.role_wire.proofs.Answering.{asking-append, with_line_feeds-append, AreAnswered-append}
-use Rattle.role_wire.proofs.ReadSoFar.{read_none, read_more}
+use Rattle.role_wire.proofs.ReadSoFar.{all_append, read_none, read_more}
 
 all_at : {X : Type 0} (P : X → Type 0) (xs : List X) → AllByRecursion P xs → All P xs
 all_at P [] all k d within = absurd (omega arith)
 all_at P (x ∷ xs) all zero d within = all.0
 all_at P (x ∷ xs) all (suc k) d within = all_at P xs all.1 k d (omega arith)
-
-all_append : {X : Type 0} (P : X → Type 0) (xs ys : List X) → AllByRecursion P xs → AllByRecursion P ys → AllByRecursion P (xs ++ ys)
-all_append P [] ys first later = later
-all_append P (x ∷ xs) ys first later = (first.0, all_append P xs ys first.1 later)
 
 -- what begins without LF stands at the front of the first line, where there is some
 split-front : (front rest : List ℕ) → HasNoLineFeed front → 1 ≤ length front → (end : List ℕ) × ((after : List (List ℕ)) × (split_lines (front ++ rest) ≡ (front ++ end) ∷ after))

@@ -1,5 +1,5 @@
 -- The lines of an input.
-use Rattle.std.specs.Prelude.{ℕ, Bool, not, ◌||◌, ◌==◌, List, [], ◌∷◌, ◌++◌, if◌then◌else◌}
+use Rattle.std.specs.Prelude.{◌≡◌, ℕ, Bool, not, ◌||◌, ◌==◌, List, [], ◌∷◌, ◌++◌, if◌then◌else◌}
 use Rattle.std.specs.List.{list_all, filter}
 
 -- the most bytes of a line, its LF not counted
@@ -29,6 +29,20 @@ before_ended byte (line ∷ lines) = (byte ∷ line) ∷ lines
 abbrev pub ended_lines : List ℕ → List (List ℕ)
 ended_lines [] = []
 ended_lines (byte ∷ bytes) = if byte == line_feed then [] ∷ ended_lines bytes else before_ended byte (ended_lines bytes)
+
+-- the byte before the open line, where no line ended before
+abbrev before_open : ℕ → List (List ℕ) → List ℕ → List ℕ
+before_open byte [] open_bytes = byte ∷ open_bytes
+before_open byte (line ∷ lines) open_bytes = open_bytes
+
+-- the bytes behind the last LF, of a line that has not ended yet
+abbrev pub open_line : List ℕ → List ℕ
+open_line [] = []
+open_line (byte ∷ bytes) = if byte == line_feed then open_line bytes else before_open byte (ended_lines bytes) (open_line bytes)
+
+-- an input in two pieces falls into the lines that the first piece ends, and those of its open line with the second piece
+abbrev pub SplitsByPieces : Type 0
+SplitsByPieces = (front rest : List ℕ) → split_lines (front ++ rest) ≡ ended_lines front ++ split_lines (open_line front ++ rest)
 
 -- a line of spaces, tabs and CR alone
 abbrev pub is_blank : List ℕ → Bool

@@ -9,6 +9,7 @@ pub use request::{Request, read_request};
 
 pub mod answer;
 pub mod function;
+pub mod laws;
 pub mod lines;
 pub mod request;
 #[cfg(test)]
