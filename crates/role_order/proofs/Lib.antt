@@ -5,3 +5,6 @@ pub mod Members
 pub mod Planning
 pub mod Ranking
 pub mod Removing
+pub mod Runs
+pub mod StoredClosure
+pub mod Walks
