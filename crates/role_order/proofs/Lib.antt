@@ -1,5 +1,6 @@
 pub mod Closing
 pub mod Deciding
+pub mod Gathering
 pub mod Leading
 pub mod Members
 pub mod Planning

@@ -10,7 +10,7 @@ use Rattle.std.specs.Ordering.{ordering_then}
 use Rattle.std.specs.Cmp.{tied_itself}
 use Rattle.std.proofs.lemmas.Bool.{and_parts, and_from, true≢false}
 use Rattle.std.proofs.Math.Seq.{drop-cons}
-use Rattle.std.proofs.lemmas.List.{length-map, drop-drop}
+use Rattle.std.proofs.lemmas.List.{length-map, drop-drop, drop_all}
 use Rattle.rbac_sets.specs.Sets.{Bytes, Pair, Pairs, name_cmp, pair_cmp, same_name, contains, members, retain, image, from_list, seconds, len}
 use Rattle.rbac_sets.specs.NameOrder.{name_total, name_exact, pair_total, pair_exact}
 use Rattle.rbac_sets.proofs.SetLaws.{tie_Decides, contains-retain}
@@ -190,3 +190,19 @@ walk-end (p ∷ small) zero le = (λ e. absurd (true≢false (sym e)), λ e. abs
 walk-end (p ∷ small) (suc at) le =
     let rest = walk-end small at (omega (arith, le)) in
     (λ e. (let same = rest.0 e in omega (arith, same)), λ e. rest.1 (omega (arith, e)))
+
+pub next_within : (small : List Pair) (at : ℕ) (second : Bytes) → is_next (drop at small) second ≡ true → at < length small
+next_within [] zero second next = absurd (true≢false (sym next))
+next_within [] (suc at) second next = absurd (true≢false (sym next))
+next_within (p ∷ small) zero second next = omega arith
+next_within (p ∷ small) (suc at) second next = omega (arith, next_within small at second next)
+
+pub next-there : (small : List Pair) (at : ℕ) (p : Pair) (second : Bytes) → at < length small → p ≡ get_or small at p → is_next (drop at small) second ≡ same_name p.1 second
+next-there small at p second lt is = ap (λ (l : List Pair). is_next l second) (drop-cons small at p lt) ∙ ap (λ (q : Pair). same_name q.1 second) (sym is)
+
+pub next-past : (small : List Pair) (at : ℕ) (second : Bytes) → length small ≤ at → is_next (drop at small) second ≡ false
+next-past small at second past = ap (λ (l : List Pair). is_next l second) (drop_all at small past)
+
+pub has_first : (xs : List Pair) → (length xs ≡ 0 → ⊥) → (p : Pair) × Contains xs p
+has_first [] some = absurd (some refl)
+has_first (p ∷ xs) some = (p, contains_first p xs)
