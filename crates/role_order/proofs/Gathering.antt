@@ -6,10 +6,10 @@ use Rattle.std.specs.declared.cmp.Ordering.{Ordering}
 use Rattle.std.specs.declared.cmp.Ordering.TheVariants.{Less, Equal, Greater}
 use Rattle.std.specs.Ordering.{ordering_then}
 use Rattle.std.specs.Cmp.{tied_itself}
-use Rattle.rbac_sets.specs.Sets.{Bytes, Pair, Names, Pairs, name_cmp, pair_cmp, contains, insert, len}
+use Rattle.rbac_sets.specs.Sets.{Bytes, Pair, Names, Pairs, name_cmp, pair_cmp, empty, contains, insert, members, len}
 use Rattle.rbac_sets.specs.NameOrder.{name_total, name_exact, pair_total}
-use Rattle.rbac_sets.proofs.SetLaws.{contains-insert-Decides}
-use Rattle.rbac_sets.proofs.Members.{len-insert-le}
+use Rattle.rbac_sets.proofs.SetLaws.{contains-insert-Decides, members-empty}
+use Rattle.rbac_sets.proofs.Members.{len-members, len-insert-le}
 use Rattle.role_order.specs.Order.{HasPair}
 use Rattle.role_order.specs.Checked.{second_cmp, LeadsOn}
 use Rattle.role_order.proofs.Members.{Contains-take_more, passed_below, pair_parts, AddsPair-insert}
@@ -179,3 +179,6 @@ module _ (edges : Pairs) (xs : List Pair) (i : ℕ) (p : Pair) (kept : Pairs) (l
 
 pub len-put : (kept kept' : Pairs) (p : Pair) → kept' ≡ insert kept p → len kept' ≤ len kept + 1
 len-put kept kept' p put = subst (λ (s : Pairs). len s ≤ len kept + 1) (sym put) (len-insert-le pair_total kept p)
+
+pub len-none : (s : Pairs) → s ≡ empty → len s ≡ 0
+len-none s none = len-members s ∙ ap (λ (t : Pairs). length (members t)) none ∙ ap length (members-empty pair_cmp)

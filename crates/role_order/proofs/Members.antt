@@ -1,6 +1,7 @@
 -- What sets of names and of pairs contain, and their members as lists.
 use Rattle.std.proofs.Common.{◌≡◌, ◌≢◌, ◌↔◌, ◌⊎◌, inl, inr, ℕ, zero, suc, ◌+◌, ◌<◌, Bool, true, false, not, ◌&&◌, List, [], ◌∷◌, ◌++◌, length, get_or, take, map, refl, sym, ap, ◌∙◌, subst, add-one, arith, T}
 use Rattle.std.specs.Prelude.{IsTrue, Contains}
+use Rattle.std.specs.Bool.{one_answer}
 use Rattle.std.specs.List.{list_any, AllByRecursion}
 use Rattle.std.specs.List.Sorted.{IsStrictlySortedBy}
 use Rattle.std.specs.declared.cmp.Ordering.{Ordering}
@@ -152,3 +153,12 @@ HasPair-difference s t x y = (
 
 pub disjoint-from : (s t : Pairs) → ((x y : Bytes) → HasPair s x y → HasPair t x y → ⊥) → IsDisjoint s t
 disjoint-from s t apart p h = is_false (contains t p) (apart p.0 p.1 h)
+
+pub none_in : {K : Type 0} {R : K → K → Ordering} (s : FinSet R) → s ≡ empty → (x : K) → IsTrue (contains s x) → ⊥
+none_in {K} {R} s none x h = true≢false (sym h ∙ ap (λ (t : FinSet R). contains t x) none ∙ contains-empty R x)
+
+pub same_name-flips : (a b : Bytes) → same_name a b ≡ same_name b a
+same_name-flips a b =
+    let one = tie_Decides name_total name_exact a b in
+    let two = tie_Decides name_total name_exact b a in
+    one_answer (same_name a b) (same_name b a) one (λ e. sym (two.0 e), λ e. two.1 (sym e))
