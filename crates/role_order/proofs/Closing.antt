@@ -83,3 +83,9 @@ along_chain edges a (m ∷ names) b c = step c.0 (along_chain edges m names b c.
 
 pub chains_lead : ChainsLead
 chains_lead edges a b = (λ l. chain_of edges l, λ c. along_chain edges a c.0 b c.1)
+
+pub good_none : (edges pairs : Pairs) → edges ≡ empty → pairs ≡ empty → IsAcyclic edges × IsClosure edges pairs
+good_none edges pairs none nothing = (
+  subst IsAcyclic (sym none) IsAcyclic-none,
+  subst (λ (s : Pairs). IsClosure s pairs) (sym none) (subst (λ (t : Pairs). IsClosure empty t) (sym nothing) IsClosure-none),
+)

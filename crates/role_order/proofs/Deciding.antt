@@ -5,7 +5,7 @@ use Rattle.std.specs.Bool.{Decides}
 use Rattle.std.proofs.lemmas.Bool.{or_cases, or_left, or_right, and_parts, and_from, true≢false}
 use Rattle.rbac_sets.specs.Sets.{Bytes, Pair, Names, Pairs, contains, insert, members, from_list, image, retain, len, same_name}
 use Rattle.rbac_sets.specs.NameOrder.{name_total, name_exact, pair_total, pair_exact}
-use Rattle.rbac_sets.proofs.SetLaws.{tie_Decides, from_members, image-Decides, contains-retain, same_members}
+use Rattle.rbac_sets.proofs.SetLaws.{tie_Decides, from_members, image-Decides, contains-retain, contains-insert-Decides, same_members}
 use Rattle.role_order.specs.Order.{HasPair, Leads, Geq, geq_along, geq, seniors, juniors}
 use Rattle.role_order.specs.Laws.{CrossesAt, TestDecides}
 use Rattle.role_order.proofs.Members.{AddsPair-insert, same_or_other, is_false}
@@ -83,3 +83,25 @@ seniors-same edges r names are = same_members name_total name_exact names (senio
 
 pub juniors-same : (edges : Pairs) (r : Bytes) (names : Names) → ((q : Bytes) → IsTrue (contains names q) ↔ ((r ≢ q) × Geq edges r q)) → names ≡ juniors edges r
 juniors-same edges r names are = same_members name_total name_exact names (juniors edges r) (λ q. (λ h. (juniors-are edges r q).1 ((are q).0 h), λ h. (are q).1 ((juniors-are edges r q).0 h)))
+
+-- ---- with the role itself
+
+pub not_own_senior : (edges : Pairs) (r : Bytes) → contains (seniors edges r) r ≡ false
+not_own_senior edges r = is_false (contains (seniors edges r) r) (λ h. ((seniors-are edges r r).0 h).0 refl)
+
+pub not_own_junior : (edges : Pairs) (r : Bytes) → contains (juniors edges r) r ≡ false
+not_own_junior edges r = is_false (contains (juniors edges r) r) (λ h. ((juniors-are edges r r).0 h).0 refl)
+
+pub at_or_above-are : (edges : Pairs) (r : Bytes) (names : Names) → names ≡ insert (seniors edges r) r → (p : Bytes) → IsTrue (contains names p) ↔ Geq edges p r
+at_or_above-are edges r names are p =
+    let put = contains-insert-Decides name_total name_exact (seniors edges r) r p in (
+      λ h. elim (put.0 (subst (λ (s : Names). IsTrue (contains s p)) are h)) [ inl e ↦ Leads-from_eq e | inr k ↦ ((seniors-are edges r p).0 k).1 ],
+      λ l. subst (λ (s : Names). IsTrue (contains s p)) (sym are) (put.1 (elim (same_or_other p r) [ inl e ↦ inl e | inr n ↦ inr ((seniors-are edges r p).1 (n, l)) ])),
+    )
+
+pub at_or_below-are : (edges : Pairs) (r : Bytes) (names : Names) → names ≡ insert (juniors edges r) r → (q : Bytes) → IsTrue (contains names q) ↔ Geq edges r q
+at_or_below-are edges r names are q =
+    let put = contains-insert-Decides name_total name_exact (juniors edges r) r q in (
+      λ h. elim (put.0 (subst (λ (s : Names). IsTrue (contains s q)) are h)) [ inl e ↦ Leads-from_eq (sym e) | inr k ↦ ((juniors-are edges r q).0 k).1 ],
+      λ l. subst (λ (s : Names). IsTrue (contains s q)) (sym are) (put.1 (elim (same_or_other r q) [ inl e ↦ inl (sym e) | inr n ↦ inr ((juniors-are edges r q).1 (n, l)) ])),
+    )

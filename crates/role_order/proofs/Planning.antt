@@ -1,14 +1,15 @@
 -- What changes of the order where the edges change.
-use Rattle.std.proofs.Common.{◌≡◌, ◌≢◌, ◌↔◌, ◌⊎◌, inl, inr, Bool, true, false, cond, refl, sym, ◌∙◌, subst}
+use Rattle.std.proofs.Common.{◌≡◌, ◌≢◌, ◌↔◌, ◌⊎◌, inl, inr, ℕ, ◌+◌, ◌*◌, Bool, true, false, cond, refl, sym, ◌∙◌, ap, subst, arith}
 use Rattle.std.specs.Prelude.{IsTrue}
-use Rattle.rbac_sets.specs.Sets.{Bytes, Names, Pairs, empty, contains, insert, remove, union, difference}
-use Rattle.role_order.specs.Order.{HasPair, Leads, Geq, IsAcyclic, IsClosure, IsGained}
+use Rattle.rbac_sets.specs.Sets.{Bytes, Names, Pairs, empty, contains, insert, remove, union, difference, len}
+use Rattle.role_order.specs.Order.{HasPair, Leads, Geq, IsAcyclic, IsClosure, IsGained, seniors, juniors}
 use Rattle.role_order.specs.Laws.{CrossesAt}
-use Rattle.role_order.specs.Planned.{Plan, changed, Fits}
+use Rattle.role_order.specs.Planned.{Plan, changed, Fits, pairs_at}
 use Rattle.role_order.proofs.Members.{AddsPair-insert, TakesPair-remove, HasPair-none, HasPair-union, HasPair-difference, is_false}
 use Rattle.role_order.proofs.Leading.{Leads-from_eq, Leads-trans, Leads-mono}
 use Rattle.role_order.proofs.Closing.{crosses, IsAcyclic-added, IsAcyclic-subset}
-use Rattle.role_order.proofs.Deciding.{geq_or_not}
+use Rattle.role_order.proofs.Deciding.{geq_or_not, not_own_senior, not_own_junior}
+use Rattle.role_order.proofs.Ranking.{len-new}
 
 -- the stored pairs after a change
 pub IsClosure-after :
@@ -107,3 +108,14 @@ Fits-taken old asc desc plan kind same_asc same_desc none good takes =
       puts = subst (λ (edges : Pairs). IsGained old edges plan.puts) (sym is) gained;
       takes = subst (λ (edges : Pairs). IsGained edges old plan.takes) (sym is) takes;
     }
+
+-- how many pairs of a role of each there are
+pub judged_are : (edges : Pairs) (asc desc : Bytes) (above below : Names) → above ≡ insert (seniors edges asc) asc → below ≡ insert (juniors edges desc) desc
+    → len above * len below ≡ pairs_at edges asc desc
+judged_are edges asc desc above below ups downs =
+    let up : len above ≡ 1 + len (seniors edges asc) = ap len ups ∙ len-new (seniors edges asc) asc (not_own_senior edges asc) ∙ turned (len (seniors edges asc)) in
+    let down : len below ≡ 1 + len (juniors edges desc) = ap len downs ∙ len-new (juniors edges desc) desc (not_own_junior edges desc) ∙ turned (len (juniors edges desc)) in
+    λ i. up i * down i
+  where
+    turned : (n : ℕ) → n + 1 ≡ 1 + n
+    turned n = omega arith

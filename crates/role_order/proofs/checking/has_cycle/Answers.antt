@@ -1,4 +1,4 @@
-use Rattle.std.proofs.Common.{◌≡◌, ◌<◌, ◌∙◌, true, false, not, inl, inr, refl, sym, ap, arith}
+use Rattle.std.proofs.Common.{◌≡◌, ◌<◌, ◌∙◌, Bool, true, false, not, inl, inr, refl, sym, ap, arith}
 use Rattle.std.proofs.lemmas.Bool.{true≢false}
 use Rattle.rbac_sets.specs.Sets.{Pairs, pair_cmp, len}
 use Rattle.rbac_sets.specs.SortedSet.{set_of}
@@ -10,8 +10,12 @@ returns-then-all-clause-found c = λ t good.
     cycle_left (set_of pair_cmp c.loop-round.left) (c.in_ok-kept.ensures.all c.if-all.true)
     (λ none. true≢false (sym t ∙ ap not (c.is_empty.ensures.1 none))) (c.loop-round.invariant.down good)
 
+not_not : (b : Bool) → (not b ≡ true → ⊥) → b ≡ true
+not_not true n = refl
+not_not false n = absurd (n refl)
+
 pub returns-then-all-clause-none : goal.returns-then-all-clause-none
-returns-then-all-clause-none c = λ n. ?
+returns-then-all-clause-none c = λ n. c.loop-round.invariant.up (IsAcyclic-length_zero (set_of pair_cmp c.loop-round.left) (c.is_empty.ensures.0 (not_not c.is_empty.result n)))
 
 pub loop-round-preserved : goal.loop-round-preserved
 loop-round-preserved c =
