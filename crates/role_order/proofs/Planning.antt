@@ -119,3 +119,14 @@ judged_are edges asc desc above below ups downs =
   where
     turned : (n : ℕ) → n + 1 ≡ 1 + n
     turned n = omega arith
+
+-- an order stays one over a change that fits it
+pub good_after :
+    (old pairs : Pairs) (plan : Plan) (new pairs' : Pairs)
+    → Fits old plan → IsClosure old pairs → new ≡ changed old plan → pairs' ≡ difference (union pairs plan.puts) plan.takes
+    → IsAcyclic new × IsClosure new pairs'
+good_after old pairs plan new pairs' fits closed new_is pairs_are =
+    let after : IsClosure (changed old plan) (difference (union pairs plan.puts) plan.takes) = IsClosure-after old (changed old plan) pairs plan.puts plan.takes closed fits.puts fits.takes in (
+      subst IsAcyclic (sym new_is) fits.acyclic,
+      subst (λ (edges : Pairs). IsClosure edges pairs') (sym new_is) (subst (λ (s : Pairs). IsClosure (changed old plan) s) (sym pairs_are) after),
+    )
