@@ -1,7 +1,7 @@
 -- Edges without a cycle, their closure, and what one more edge makes of them.
-use Rattle.std.proofs.Common.{◌≡◌, ◌≢◌, ◌↔◌, ◌⊎◌, inl, inr, List, [], ◌∷◌, refl, sym, ◌∙◌, subst}
+use Rattle.std.proofs.Common.{◌≡◌, ◌↔◌, ◌⊎◌, inl, inr, List, [], ◌∷◌, refl, sym, ◌∙◌, subst}
 use Rattle.rbac_sets.specs.Sets.{Bytes, Pairs, empty, insert}
-use Rattle.role_order.specs.Order.{HasPair, Leads, here, step, Geq, IsAcyclic, IsClosure}
+use Rattle.role_order.specs.Order.{HasPair, here, step, Geq, IsAcyclic, IsClosure}
 use Rattle.role_order.specs.Laws.{CrossesAt, AddedEdgeCrosses, IsChain, ChainsLead}
 use Rattle.role_order.proofs.Members.{AddsPair, AddsPair-insert, HasPair-none, same_or_other}
 use Rattle.role_order.proofs.Leading.{Leads-from_eq, Leads-trans, Leads-once, Leads-mono, Leads-added}

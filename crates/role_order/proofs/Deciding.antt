@@ -1,12 +1,12 @@
 -- The test of the order, and the words for what stands above and below.
-use Rattle.std.proofs.Common.{◌≡◌, ◌≢◌, ◌↔◌, ◌⊎◌, inl, inr, Bool, true, false, not, ◌&&◌, ◌||◌, List, [], ◌∷◌, refl, sym, ◌∙◌, ap, subst}
+use Rattle.std.proofs.Common.{◌≡◌, ◌≢◌, ◌↔◌, ◌⊎◌, inl, inr, Bool, true, false, not, ◌&&◌, List, [], ◌∷◌, refl, sym, ◌∙◌, ap, subst}
 use Rattle.std.specs.Prelude.{IsTrue}
 use Rattle.std.specs.Bool.{Decides}
 use Rattle.std.proofs.lemmas.Bool.{or_cases, or_left, or_right, and_parts, and_from, true≢false}
-use Rattle.rbac_sets.specs.Sets.{Bytes, Pair, Names, Pairs, contains, insert, members, from_list, image, retain, len, same_name}
+use Rattle.rbac_sets.specs.Sets.{Bytes, Pair, Names, Pairs, contains, insert, members, from_list, image, same_name}
 use Rattle.rbac_sets.specs.NameOrder.{name_total, name_exact, pair_total, pair_exact}
 use Rattle.rbac_sets.proofs.SetLaws.{tie_Decides, from_members, image-Decides, contains-retain, contains-insert-Decides, same_members}
-use Rattle.role_order.specs.Order.{HasPair, Leads, Geq, geq_along, geq, seniors, juniors}
+use Rattle.role_order.specs.Order.{HasPair, Geq, geq_along, geq, seniors, juniors}
 use Rattle.role_order.specs.Laws.{CrossesAt, TestDecides}
 use Rattle.role_order.proofs.Members.{AddsPair-insert, same_or_other, is_false}
 use Rattle.role_order.proofs.Leading.{Leads-from_eq, first_step, last_step}
@@ -56,8 +56,8 @@ seniors-are edges r p =
     let starts = image-Decides pair_total pair_exact name_total name_exact (λ (edge : Pair). edge.0) edges p in
     let kept = contains-retain name_total name_exact (image (λ (edge : Pair). edge.0) edges) (λ name. geq edges name r && not (same_name name r)) p in (
       λ h.
-        let parts = and_parts (geq edges p r) (not (same_name p r)) (and_parts _ _ (sym kept ∙ h)).1 in
-        (is_apart p r parts.1, (geq-Decides edges p r).0 parts.0),
+          let parts = and_parts (geq edges p r) (not (same_name p r)) (and_parts _ _ (sym kept ∙ h)).1 in
+          (is_apart p r parts.1, (geq-Decides edges p r).0 parts.0),
       λ h. kept ∙ and_from _ _ (starts.1 (elim (first_step (HasPair edges) h.1) [
         | inl same ↦ absurd (h.0 same)
         | inr k ↦ ((p, k.0), k.1, refl)
@@ -70,8 +70,8 @@ juniors-are edges r q =
     let ends = image-Decides pair_total pair_exact name_total name_exact (λ (edge : Pair). edge.1) edges q in
     let kept = contains-retain name_total name_exact (image (λ (edge : Pair). edge.1) edges) (λ name. geq edges r name && not (same_name r name)) q in (
       λ h.
-        let parts = and_parts (geq edges r q) (not (same_name r q)) (and_parts _ _ (sym kept ∙ h)).1 in
-        (is_apart r q parts.1, (geq-Decides edges r q).0 parts.0),
+          let parts = and_parts (geq edges r q) (not (same_name r q)) (and_parts _ _ (sym kept ∙ h)).1 in
+          (is_apart r q parts.1, (geq-Decides edges r q).0 parts.0),
       λ h. kept ∙ and_from _ _ (ends.1 (elim (last_step (HasPair edges) h.1) [
         | inl same ↦ absurd (h.0 same)
         | inr k ↦ ((k.0, q), k.1, refl)

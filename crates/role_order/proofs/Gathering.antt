@@ -1,5 +1,5 @@
 -- Sets that a walk in byte order builds, each entry behind all that are there.
-use Rattle.std.proofs.Common.{◌≡◌, ◌≢◌, ◌↔◌, ◌⊎◌, inl, inr, ℕ, ◌+◌, ◌<◌, ◌≤◌, true, List, [], ◌∷◌, length, get_or, take, refl, sym, ◌∙◌, ap, subst, arith}
+use Rattle.std.proofs.Common.{◌≡◌, ◌≢◌, ◌↔◌, ◌⊎◌, inl, inr, ℕ, ◌+◌, ◌<◌, ◌≤◌, true, List, length, get_or, take, refl, sym, ◌∙◌, ap, subst}
 use Rattle.std.specs.Prelude.{IsTrue, Contains}
 use Rattle.std.specs.List.Sorted.{IsStrictlySortedBy}
 use Rattle.std.specs.declared.cmp.Ordering.{Ordering}
@@ -40,7 +40,7 @@ module _ (xs : List Pair) (i : ℕ) (p : Pair) (second : Bytes) (names : Names) 
     firsts_more names' put at x =
         let more = Contains-take_more xs i p (x, second) lt is in
         let both = subst (λ (s : Names). (IsTrue (contains s x) → (x ≡ p.0) ⊎ IsTrue (contains names x)) × ((x ≡ p.0) ⊎ IsTrue (contains names x) → IsTrue (contains s x))) (sym put)
-            (contains-insert-Decides name_total name_exact names p.0 x) in (
+        (contains-insert-Decides name_total name_exact names p.0 x) in (
           λ h. more.1 (elim (both.0 h) [ inl e ↦ inr ((pair_parts x second p.0 p.1).1 (e, sym at)) | inr o ↦ inl ((so_far x).0 o) ]),
           λ h. both.1 (elim (more.0 h) [ inl o ↦ inr ((so_far x).1 o) | inr e ↦ inl ((pair_parts x second p.0 p.1).0 e).0 ]),
         )
@@ -69,7 +69,7 @@ module _ (xs : List Pair) (i : ℕ) (p : Pair) (names : Names) (lt : i < length 
     pub seconds_more : (names' : Names) → names' ≡ insert names p.1 → (y : Bytes) → IsTrue (contains names' y) ↔ HasSecond (take (i + 1) xs) y
     seconds_more names' put y =
         let both = subst (λ (s : Names). (IsTrue (contains s y) → (y ≡ p.1) ⊎ IsTrue (contains names y)) × ((y ≡ p.1) ⊎ IsTrue (contains names y) → IsTrue (contains s y))) (sym put)
-            (contains-insert-Decides name_total name_exact names p.1 y) in (
+        (contains-insert-Decides name_total name_exact names p.1 y) in (
           λ h. elim (both.0 h) [
             | inl e ↦ (p, (Contains-take_more xs i p p lt is).1 (inr refl), sym e)
             | inr o ↦ let at = (so_far y).0 o in (at.0, (Contains-take_more xs i p at.0 lt is).1 (inl at.1), at.2)

@@ -1,5 +1,5 @@
 -- How far the steps of a relation lead, and what one more step changes.
-use Rattle.std.proofs.Common.{◌≡◌, ◌⊎◌, inl, inr, refl, sym, subst}
+use Rattle.std.proofs.Common.{◌≡◌, ◌⊎◌, inl, inr, refl, subst}
 use Rattle.rbac_sets.specs.Sets.{Bytes}
 use Rattle.role_order.specs.Order.{Leads, here, step}
 

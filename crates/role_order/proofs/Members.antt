@@ -1,5 +1,5 @@
 -- What sets of names and of pairs contain, and their members as lists.
-use Rattle.std.proofs.Common.{◌≡◌, ◌≢◌, ◌↔◌, ◌⊎◌, inl, inr, ℕ, zero, suc, ◌+◌, ◌<◌, Bool, true, false, not, ◌&&◌, List, [], ◌∷◌, ◌++◌, length, get_or, take, map, refl, sym, ap, ◌∙◌, subst, add-one, arith, T}
+use Rattle.std.proofs.Common.{◌≡◌, ◌≢◌, ◌↔◌, ◌⊎◌, inl, inr, ℕ, suc, ◌+◌, ◌<◌, Bool, true, false, not, ◌&&◌, List, [], ◌∷◌, ◌++◌, length, get_or, take, map, refl, sym, ap, ◌∙◌, subst, add-one, arith, T}
 use Rattle.std.specs.Prelude.{IsTrue, Contains}
 use Rattle.std.specs.Bool.{one_answer}
 use Rattle.std.specs.List.{list_any, AllByRecursion}
@@ -21,16 +21,16 @@ use Rattle.std.proofs.lemmas.Map.Keys.{Less-from_sorted}
 use Rattle.rbac_sets.specs.Sets.{Bytes, Pair, Pairs, pair_cmp, same_name, empty, contains, insert, remove, union, difference, members, IsDisjoint}
 use Rattle.rbac_sets.specs.NameOrder.{name_total, name_exact, pair_total, pair_exact}
 use Rattle.rbac_sets.proofs.SetLaws.{tie_Decides, contains-members, contains-empty, contains-insert-Decides, contains-remove, contains-union, contains-difference}
-use Rattle.rbac_sets.proofs.Members.{first_part, second_part}
 use Rattle.role_order.specs.Order.{HasPair}
 
 -- ---- lists
 
 -- the new elements are the old ones and x
 pub Contains-pushed : {X : Type 0} (xs : List X) (x y : X) → Contains (xs ++ x ∷ []) y ↔ (Contains xs y ⊎ (y ≡ x))
-Contains-pushed {X} xs x y =
-    (λ h. elim (Contains-push_cases xs x y h) [ inl k ↦ inl k | inr e ↦ inr (sym e) ],
-    λ s. elim s [ inl h ↦ Contains-append_left xs (x ∷ []) y h | inr e ↦ subst (λ (z : X). Contains (xs ++ x ∷ []) z) (sym e) (Contains-push xs x) ])
+Contains-pushed {X} xs x y = (
+  λ h. elim (Contains-push_cases xs x y h) [ inl k ↦ inl k | inr e ↦ inr (sym e) ],
+  λ s. elim s [ inl h ↦ Contains-append_left xs (x ∷ []) y h | inr e ↦ subst (λ (z : X). Contains (xs ++ x ∷ []) z) (sym e) (Contains-push xs x) ],
+)
 
 -- one more element of a walk
 pub Contains-take_more : {X : Type 0} (xs : List X) (i : ℕ) (x y : X) → i < length xs → x ≡ get_or xs i x → Contains (take (i + 1) xs) y ↔ (Contains (take i xs) y ⊎ (y ≡ x))
@@ -100,7 +100,7 @@ same_or_other a b = told (same_name a b) refl where
   told true e = inl ((tie_Decides name_total name_exact a b).0 (sym e))
   told false e = inr (λ same. true≢false (sym ((tie_Decides name_total name_exact a b).1 same) ∙ sym e))
 
-pub pair_parts : (x y a b : Bytes) → ◌≡◌ {A = Pair} (x , y) (a , b) ↔ ((x ≡ a) × (y ≡ b))
+pub pair_parts : (x y a b : Bytes) → ◌≡◌ {A = Pair} (x, y) (a, b) ↔ ((x ≡ a) × (y ≡ b))
 pair_parts x y a b = (λ e. (ap (λ (p : Pair). p.0) e, ap (λ (p : Pair). p.1) e), λ es. cc)
 
 pub HasPair-none : (a b : Bytes) → HasPair empty a b → ⊥
@@ -133,8 +133,8 @@ pub TakesPair-remove : (s : Pairs) (a b : Bytes) → TakesPair s (remove s (a, b
 TakesPair-remove s a b x y =
     let tie = tie_Decides pair_total pair_exact (x, y) (a, b) in (
       λ h.
-        let parts = and_parts (not (eq_by_cmp pair_cmp (x, y) (a, b))) (contains s (x, y)) (sym (contains-remove pair_total s (a, b) (x, y)) ∙ h) in
-        (parts.1, λ same. not_true (eq_by_cmp pair_cmp (x, y) (a, b)) parts.0 (tie.1 ((pair_parts x y a b).1 same))),
+          let parts = and_parts (not (eq_by_cmp pair_cmp (x, y) (a, b))) (contains s (x, y)) (sym (contains-remove pair_total s (a, b) (x, y)) ∙ h) in
+          (parts.1, λ same. not_true (eq_by_cmp pair_cmp (x, y) (a, b)) parts.0 (tie.1 ((pair_parts x y a b).1 same))),
       λ h. contains-remove pair_total s (a, b) (x, y) ∙ and_from _ _ (ap not (is_false (eq_by_cmp pair_cmp (x, y) (a, b)) (λ e. h.1 ((pair_parts x y a b).0 (tie.0 e))))) h.0,
     )
 

@@ -1,8 +1,8 @@
 -- What changes of the order where the edges change.
-use Rattle.std.proofs.Common.{◌≡◌, ◌≢◌, ◌↔◌, ◌⊎◌, inl, inr, ℕ, ◌+◌, ◌*◌, Bool, true, false, cond, refl, sym, ◌∙◌, ap, subst, arith}
+use Rattle.std.proofs.Common.{◌≡◌, ◌↔◌, inl, inr, ℕ, ◌+◌, ◌*◌, true, false, refl, sym, ◌∙◌, ap, subst, arith}
 use Rattle.std.specs.Prelude.{IsTrue}
 use Rattle.rbac_sets.specs.Sets.{Bytes, Names, Pairs, empty, contains, insert, remove, union, difference, len}
-use Rattle.role_order.specs.Order.{HasPair, Leads, Geq, IsAcyclic, IsClosure, IsGained, seniors, juniors}
+use Rattle.role_order.specs.Order.{HasPair, Geq, IsAcyclic, IsClosure, IsGained, seniors, juniors}
 use Rattle.role_order.specs.Laws.{CrossesAt}
 use Rattle.role_order.specs.Planned.{Plan, changed, Fits, pairs_at}
 use Rattle.role_order.proofs.Members.{AddsPair-insert, TakesPair-remove, HasPair-none, HasPair-union, HasPair-difference, is_false}

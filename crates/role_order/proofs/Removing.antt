@@ -1,14 +1,13 @@
 -- Which pairs an order loses where an edge goes, row by row.
-use Rattle.std.proofs.Common.{◌≡◌, ◌≢◌, ◌↔◌, ◌⊎◌, inl, inr, ℕ, ◌<◌, List, [], ◌∷◌, length, get_or, take, refl, sym, ◌∙◌, subst, arith, true, false}
+use Rattle.std.proofs.Common.{◌≡◌, ◌≢◌, ◌↔◌, ◌⊎◌, inl, inr, ℕ, ◌<◌, List, [], length, get_or, take, sym, ◌∙◌, subst, arith}
 use Rattle.std.specs.Prelude.{IsTrue, Contains}
-use Rattle.std.specs.List.{IsDistinct}
 use Rattle.std.proofs.lemmas.Bool.{true≢false}
-use Rattle.std.proofs.lemmas.List.{length-take, get_or-take, get_or_read}
+use Rattle.std.proofs.lemmas.List.{length-take, get_or-take}
 use Rattle.std.proofs.lemmas.Map.Keys.{apart_from_distinct}
-use Rattle.rbac_sets.specs.Sets.{Bytes, Names, Pairs, empty, contains, remove, union, same_name}
+use Rattle.rbac_sets.specs.Sets.{Bytes, Names, Pairs, empty, contains, union, same_name}
 use Rattle.rbac_sets.specs.NameOrder.{name_total, name_exact}
 use Rattle.rbac_sets.proofs.SetLaws.{tie_Decides}
-use Rattle.role_order.specs.Order.{HasPair, Leads, step, Geq, IsAcyclic, IsClosure, IsGained}
+use Rattle.role_order.specs.Order.{HasPair, step, Geq, IsClosure, IsGained}
 use Rattle.role_order.specs.Laws.{CrossesAt}
 use Rattle.role_order.specs.Removal.{HasWay, AreSuspects, AreLost}
 use Rattle.role_order.proofs.Members.{AddsPair, TakesPair, TakesPair-remove, HasPair-none, HasPair-union, same_or_other}
@@ -116,8 +115,8 @@ module _ (left pairs : Pairs) (above : List Bytes) (below : Names) (s : AreSuspe
   pub AreLost-from_rows : (takes : Pairs) → RowsLost left above below takes → AreLost left pairs takes
   AreLost-from_rows takes rows p q = (
     λ h.
-      let k = (rows p q).0 h in
-      ((s.closed p q).1 (suspects_differ p q k.0 k.1.0, Leads-trans ((s.at_or_above p).0 k.0) (step s.edge ((s.at_or_below q).0 k.1.0))), k.1.1),
+        let k = (rows p q).0 h in
+        ((s.closed p q).1 (suspects_differ p q k.0 k.1.0, Leads-trans ((s.at_or_above p).0 k.0) (step s.edge ((s.at_or_below q).0 k.1.0))), k.1.1),
     λ h. let k = lost_suspect p q ((s.closed p q).0 h.0).1 h.1 in (rows p q).1 (k.0, (k.1, h.1)),
   )
 

@@ -5,13 +5,13 @@ use Rattle.std.specs.Bool.{Decides}
 use Rattle.std.specs.List.{filter, AllByRecursion}
 use Rattle.std.specs.List.Sorted.{IsStrictlySortedBy}
 use Rattle.std.specs.declared.cmp.Ordering.{Ordering}
-use Rattle.std.specs.declared.cmp.Ordering.TheVariants.{Less, Equal, Greater}
+use Rattle.std.specs.declared.cmp.Ordering.TheVariants.{Less, Equal}
 use Rattle.std.specs.Ordering.{ordering_then}
 use Rattle.std.specs.Cmp.{tied_itself}
 use Rattle.std.proofs.lemmas.Bool.{and_parts, and_from, true≢false}
 use Rattle.std.proofs.Math.Seq.{drop-cons}
 use Rattle.std.proofs.lemmas.List.{length-map, drop-drop, drop_all}
-use Rattle.rbac_sets.specs.Sets.{Bytes, Pair, Pairs, name_cmp, pair_cmp, same_name, contains, members, retain, image, from_list, seconds, len}
+use Rattle.rbac_sets.specs.Sets.{Bytes, Pair, Pairs, name_cmp, pair_cmp, same_name, contains, members, retain, image, seconds}
 use Rattle.rbac_sets.specs.NameOrder.{name_total, name_exact, pair_total, pair_exact}
 use Rattle.rbac_sets.proofs.SetLaws.{tie_Decides, contains-retain}
 use Rattle.rbac_sets.proofs.Members.{members-retain}
@@ -53,8 +53,8 @@ run-members pairs a p =
     let kept = Contains-members pair_total pair_exact (retain pairs (begins a)) p in
     let both = contains-retain pair_total pair_exact pairs (begins a) p in (
       λ h.
-        let parts = and_parts (contains pairs p) (begins a p) (sym both ∙ kept.0 (subst (λ (xs : List Pair). Contains xs p) (run-kept pairs a) h)) in
-        (parts.0, tie.0 parts.1),
+          let parts = and_parts (contains pairs p) (begins a p) (sym both ∙ kept.0 (subst (λ (xs : List Pair). Contains xs p) (run-kept pairs a) h)) in
+          (parts.0, tie.0 parts.1),
       λ h. subst (λ (xs : List Pair). Contains xs p) (sym (run-kept pairs a)) (kept.1 (both ∙ and_from _ _ h.0 (tie.1 h.1))),
     )
 
@@ -125,35 +125,35 @@ module _ (p q : Pair) (ps qs : List Pair) (below_p : AllByRecursion (λ r. secon
       | inr k ↦ let found = has r k in (found.0, contains_later q qs found.0 found.1, found.2)
     ],
     λ has r h.
-      let found = has r (contains_later p ps r h) in
-      elim (contains_cases q qs found.0 found.1) [
-        | inl e ↦ absurd (not_below_itself p.1 r.1 (all_at (λ (x : Pair). second_cmp p x ≡ Less) ps below_p r h) (same ∙ ap (λ (x : Pair). x.1) (sym e) ∙ found.2))
-        | inr k ↦ (found.0, k, found.2)
-      ],
+        let found = has r (contains_later p ps r h) in
+        elim (contains_cases q qs found.0 found.1) [
+          | inl e ↦ absurd (not_below_itself p.1 r.1 (all_at (λ (x : Pair). second_cmp p x ≡ Less) ps below_p r h) (same ∙ ap (λ (x : Pair). x.1) (sym e) ∙ found.2))
+          | inr k ↦ (found.0, k, found.2)
+        ],
   )
 
   one_on : (p.1 ≢ q.1) → HasSecondsOf qs (p ∷ ps) ↔ HasSecondsOf (q ∷ qs) (p ∷ ps)
   one_on other = (
     λ has r h. (let found = has r h in (found.0, contains_later q qs found.0 found.1, found.2)),
     λ has r h.
-      let first = has p (contains_first p ps) in
-      elim (contains_cases q qs first.0 first.1) [
-        | inl e ↦ absurd (other (sym first.2 ∙ ap (λ (x : Pair). x.1) e))
-        | inr k ↦
-            let above_q : name_cmp q.1 p.1 ≡ Less = subst (λ (x : Bytes). name_cmp q.1 x ≡ Less) first.2 (all_at (λ (x : Pair). second_cmp q x ≡ Less) qs below_q first.0 k) in
-            elim (contains_cases p ps r h) [
-              | inl same ↦ (first.0, k, first.2 ∙ ap (λ (x : Pair). x.1) (sym same))
-              | inr later ↦
-                  let found = has r h in
-                  elim (contains_cases q qs found.0 found.1) [
-                    | inr l ↦ (found.0, l, found.2)
-                    | inl e ↦
-                        let above_p : name_cmp p.1 r.1 ≡ Less = all_at (λ (x : Pair). second_cmp p x ≡ Less) ps below_p r later in
-                        let round : name_cmp q.1 r.1 ≡ Less = name_total.trans q.1 p.1 r.1 above_q above_p in
-                        absurd (not_below_itself q.1 r.1 round (ap (λ (x : Pair). x.1) (sym e) ∙ found.2))
-                  ]
-            ]
-      ],
+        let first = has p (contains_first p ps) in
+        elim (contains_cases q qs first.0 first.1) [
+          | inl e ↦ absurd (other (sym first.2 ∙ ap (λ (x : Pair). x.1) e))
+          | inr k ↦
+              let above_q : name_cmp q.1 p.1 ≡ Less = subst (λ (x : Bytes). name_cmp q.1 x ≡ Less) first.2 (all_at (λ (x : Pair). second_cmp q x ≡ Less) qs below_q first.0 k) in
+              elim (contains_cases p ps r h) [
+                | inl same ↦ (first.0, k, first.2 ∙ ap (λ (x : Pair). x.1) (sym same))
+                | inr later ↦
+                    let found = has r h in
+                    elim (contains_cases q qs found.0 found.1) [
+                      | inr l ↦ (found.0, l, found.2)
+                      | inl e ↦
+                          let above_p : name_cmp p.1 r.1 ≡ Less = all_at (λ (x : Pair). second_cmp p x ≡ Less) ps below_p r later in
+                          let round : name_cmp q.1 r.1 ≡ Less = name_total.trans q.1 p.1 r.1 above_q above_p in
+                          absurd (not_below_itself q.1 r.1 round (ap (λ (x : Pair). x.1) (sym e) ∙ found.2))
+                    ]
+              ]
+        ],
   )
 
 -- the walk tells whether all second names are there

@@ -1,12 +1,11 @@
 -- What tells a closure without walking far, and what tells a cycle.
-use Rattle.std.proofs.Common.{◌≡◌, ◌≢◌, ◌↔◌, ◌⊎◌, inl, inr, ℕ, zero, suc, ◌<◌, ◌≤◌, List, [], ◌∷◌, length, refl, sym, ◌∙◌, ap, subst, arith, true, false}
-use Rattle.std.specs.Prelude.{IsTrue, Contains}
-use Rattle.rbac_sets.specs.Sets.{Bytes, Pair, Pairs, empty, contains, insert, from_list, members, len}
+use Rattle.std.proofs.Common.{◌≡◌, ◌↔◌, ◌⊎◌, inl, inr, ℕ, zero, suc, ◌<◌, List, [], ◌∷◌, length, refl, sym, ap, subst, arith}
+use Rattle.rbac_sets.specs.Sets.{Bytes, Pair, Pairs, insert, from_list, members, len}
 use Rattle.rbac_sets.specs.NameOrder.{pair_total, pair_exact}
 use Rattle.rbac_sets.proofs.SetLaws.{from_members}
 use Rattle.rbac_sets.proofs.Members.{len-members, a_member}
-use Rattle.role_order.specs.Order.{HasPair, Leads, here, step, Geq, IsAcyclic, IsClosure}
-use Rattle.role_order.specs.Checked.{HasFirstStep, HasRowOf, IsClosedUnder, LeadsOn, AllLeadOn}
+use Rattle.role_order.specs.Order.{HasPair, here, step, Geq, IsAcyclic, IsClosure}
+use Rattle.role_order.specs.Checked.{IsClosedUnder, LeadsOn, AllLeadOn}
 use Rattle.role_order.specs.Removal.{junior_count}
 use Rattle.role_order.proofs.Members.{AddsPair-insert, HasPair-none, same_or_other}
 use Rattle.role_order.proofs.Leading.{Leads-from_eq, Leads-trans, Leads-once, Leads-mono, first_step, last_step}
@@ -66,8 +65,8 @@ check_passes edges pairs good closed = record {
   goes_on = λ a m e. (
     (closed a m).1 ((λ same. good.no_loop a (subst (λ (z : Bytes). HasPair edges a z) (sym same) e)), Leads-once e),
     λ b h.
-      let down = ((closed m b).0 h).1 in
-      (closed a b).1 ((λ same. no_way_back edges good a m e (subst (λ (z : Bytes). Geq edges m z) (sym same) down)), step e down),
+        let down = ((closed m b).0 h).1 in
+        (closed a b).1 ((λ same. no_way_back edges good a m e (subst (λ (z : Bytes). Geq edges m z) (sym same) down)), step e down),
   );
   begins = λ a b h.
       let at = (closed a b).0 h in

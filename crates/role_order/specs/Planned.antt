@@ -1,7 +1,7 @@
 -- A change of one edge, with the pairs of the closure that it puts and takes.
 use Rattle.std.specs.Prelude.{◌≡◌, ◌+◌, ◌*◌, ◌≤◌, ℕ, Bool, true, false, cond, refl}
 use Rattle.std.specs.Coded.{Coded, code_by, coded×, coded_ℕ, coded_bool}
-use Rattle.rbac_sets.specs.Sets.{Bytes, Pair, Pairs, contains, insert, remove, len, coded_set, coded_name, coded_pair}
+use Rattle.rbac_sets.specs.Sets.{Bytes, Pairs, contains, insert, remove, len, coded_set, coded_name, coded_pair}
 use Rattle.role_order.specs.Order.{IsAcyclic, IsGained, seniors, juniors}
 
 -- the edges of an order, and how many more edges and pairs it can take without memory

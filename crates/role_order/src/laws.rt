@@ -6,18 +6,15 @@ ghost use Rattle.role_order.specs.Laws.{AddedEdgeCrosses, ChainsLead, TestDecide
 /// below it, and it has no cycle.
 pub fn added()
     ensures { AddedEdgeCrosses }
-{
-}
+{}
 
 /// A role is above another, or is it, exactly if a nonempty list of names leads from the one to the
 /// other in which each neighbouring pair is an edge.
 pub fn chains()
     ensures { ChainsLead }
-{
-}
+{}
 
 /// The test of the order, by which other definitions compute, decides it.
 pub fn decided()
     ensures { TestDecides }
-{
-}
+{}

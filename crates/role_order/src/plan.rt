@@ -31,12 +31,12 @@ impl Model for OrderPlan {
     ghost coded = { coded_plan };
 
     ghost view = { λ p. record {
-        adds = p.adds;
-        asc = p.asc;
-        desc = p.desc;
-        puts = set_of pair_cmp p.puts;
-        takes = set_of pair_cmp p.takes;
-        judged = p.judged;
+      adds = p.adds;
+      asc = p.asc;
+      desc = p.desc;
+      puts = set_of pair_cmp p.puts;
+      takes = set_of pair_cmp p.takes;
+      judged = p.judged;
     } };
 }
 

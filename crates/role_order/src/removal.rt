@@ -20,13 +20,7 @@ fn goes_on(pairs: &PairSet, takes: &PairSet, z: &Name, b: &Name) -> bool
 }
 
 // Whether one of the edges that are left leads from `a` to `b`, or to a name with a pair to `b` that is not taken.
-fn has_way(
-    left: &PairSet,
-    pairs: &PairSet,
-    takes: &PairSet,
-    a: &Name,
-    b: &Name,
-) -> bool
+fn has_way(left: &PairSet, pairs: &PairSet, takes: &PairSet, a: &Name, b: &Name) -> bool
     ensures { IsTrue result ↔ HasWay (set_of pair_cmp left.now) (set_of pair_cmp pairs.now) (set_of pair_cmp takes.now) a.now b.now }
 {
     for edge in run(left, a) {
@@ -102,11 +96,7 @@ fn names_of(alloc: Global, names: &NameSet) -> Result<Vec<Name>, Refusal>
 }
 
 // The names in the order of how many names each has a pair with.
-pub fn juniors_first(
-    alloc: Global,
-    pairs: &PairSet,
-    names: &NameSet,
-) -> Result<Vec<Name>, Refusal>
+pub fn juniors_first(alloc: Global, pairs: &PairSet, names: &NameSet) -> Result<Vec<Name>, Refusal>
     ensures same { IfOk result (λ ordered. (x : Bytes) → Contains ordered.items x ↔ IsTrue (contains (set_of name_cmp names.now) x)) }
     ensures rising { IfOk result (λ ordered. IsNonDecreasingBy (junior_count (set_of pair_cmp pairs.now)) ordered.items) }
     ensures distinct { IfOk result (λ ordered. IsDistinct same_name ordered.items) }

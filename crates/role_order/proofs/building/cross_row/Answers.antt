@@ -1,8 +1,7 @@
-use Rattle.std.proofs.Common.{◌≡◌, ◌↔◌, ◌⊎◌, inl, inr, refl, sym, ap, ◌∙◌, subst, arith, List, true, false}
-use Rattle.std.specs.Prelude.{Contains}
+use Rattle.std.proofs.Common.{inl, inr, sym, ◌∙◌, subst}
 use Rattle.std.specs.List.Sorted.{IsStrictlySortedBy}
 use Rattle.std.proofs.lemmas.Bool.{true≢false}
-use Rattle.rbac_sets.specs.Sets.{Bytes, Pair, name_cmp, pair_cmp, insert, members}
+use Rattle.rbac_sets.specs.Sets.{name_cmp, pair_cmp, insert}
 use Rattle.rbac_sets.specs.SortedSet.{set_of}
 use Rattle.rbac_sets.specs.NameOrder.{name_total, name_exact}
 use Rattle.role_order.specs.Order.{HasPair}

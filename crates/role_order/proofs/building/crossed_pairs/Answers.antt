@@ -1,6 +1,6 @@
-use Rattle.std.proofs.Common.{◌≡◌, ◌↔◌, refl, sym, ap, ◌∙◌, subst, arith, List, get_or}
+use Rattle.std.proofs.Common.{sym, subst, arith}
 use Rattle.std.specs.List.Sorted.{IsStrictlySortedBy}
-use Rattle.rbac_sets.specs.Sets.{Bytes, Pair, name_cmp, pair_cmp, members}
+use Rattle.rbac_sets.specs.Sets.{name_cmp, pair_cmp}
 use Rattle.rbac_sets.specs.SortedSet.{set_of}
 use Rattle.rbac_sets.specs.NameOrder.{name_total, name_exact}
 use Rattle.role_order.proofs.Members.{none_in, members-rise, passed_below}

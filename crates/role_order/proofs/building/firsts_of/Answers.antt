@@ -1,6 +1,6 @@
-use Rattle.std.proofs.Common.{◌≡◌, ◌↔◌, refl, sym, ap, ◌∙◌, subst, arith, List}
+use Rattle.std.proofs.Common.{refl, sym, ap, ◌∙◌, subst, arith}
 use Rattle.std.specs.List.Sorted.{IsStrictlySortedBy}
-use Rattle.rbac_sets.specs.Sets.{Bytes, Pair, name_cmp, pair_cmp, insert, members}
+use Rattle.rbac_sets.specs.Sets.{name_cmp, pair_cmp, insert}
 use Rattle.rbac_sets.specs.SortedSet.{set_of}
 use Rattle.rbac_sets.specs.NameOrder.{pair_total, pair_exact}
 use Rattle.role_order.proofs.Members.{none_in, members-rise}

@@ -1,5 +1,5 @@
-use Rattle.std.proofs.Common.{◌≡◌, ◌↔◌, refl, sym, ap, ◌∙◌, subst, arith, List, take}
-use Rattle.std.specs.Prelude.{IsTrue, Contains}
+use Rattle.std.proofs.Common.{◌↔◌, refl, ap, ◌∙◌, subst, arith, List}
+use Rattle.std.specs.Prelude.{IsTrue}
 use Rattle.std.proofs.lemmas.List.{take_all}
 use Rattle.rbac_sets.specs.Sets.{Bytes, Pair, name_cmp, pair_cmp, insert, contains}
 use Rattle.rbac_sets.specs.SortedSet.{set_of}
@@ -26,9 +26,9 @@ returns-clause-names c = λ y.
     let all = take_all c.loop-pair.pair-index c.run-pair-items.result.now c.loop-pair-test.false in
     let inv = subst (λ (xs : List Pair). IsTrue (contains (set_of name_cmp c.loop-pair.names) y) ↔ HasSecond xs y) all (c.loop-pair.invariant y) in (
       λ h.
-        let found = inv.0 h in
-        let at = (c.run-pair-items.ensures.members found.0).0 found.1 in
-        subst (λ (z : Bytes). HasPair (set_of pair_cmp c.args.pairs.now) c.args.first.now z) found.2
-        (subst (λ (x : Bytes). HasPair (set_of pair_cmp c.args.pairs.now) x found.0.1) at.1 at.0),
+          let found = inv.0 h in
+          let at = (c.run-pair-items.ensures.members found.0).0 found.1 in
+          subst (λ (z : Bytes). HasPair (set_of pair_cmp c.args.pairs.now) c.args.first.now z) found.2
+          (subst (λ (x : Bytes). HasPair (set_of pair_cmp c.args.pairs.now) x found.0.1) at.1 at.0),
       λ h. inv.1 ((c.args.first.now, y), (c.run-pair-items.ensures.members (c.args.first.now, y)).1 (h, refl), refl),
     )

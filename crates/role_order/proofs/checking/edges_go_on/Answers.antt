@@ -11,7 +11,7 @@ returns-then-not-has_row_of c = (
   λ t. cc,
   λ all.
       let row = all c.loop-a-item.result.0 c.loop-a-item.result.1
-          (member_at pair_total pair_exact _ c.as_slice-a-items.result.now c.as_slice-a-items.ensures c.loop-a.a-index c.loop-a-item.result c.loop-a-test.true c.loop-a-item.is) in
+      (member_at pair_total pair_exact _ c.as_slice-a-items.result.now c.as_slice-a-items.ensures c.loop-a.a-index c.loop-a-item.result c.loop-a-test.true c.loop-a-item.is) in
       let t = c.if-not-has_row_of.ensures.1 row in cc,
 )
 

@@ -1,6 +1,6 @@
-use Rattle.std.proofs.Common.{◌≡◌, ◌<◌, ◌∙◌, Bool, true, false, not, inl, inr, refl, sym, ap, arith}
+use Rattle.std.proofs.Common.{◌≡◌, ◌∙◌, Bool, true, false, not, inl, inr, refl, sym, ap, arith}
 use Rattle.std.proofs.lemmas.Bool.{true≢false}
-use Rattle.rbac_sets.specs.Sets.{Pairs, pair_cmp, len}
+use Rattle.rbac_sets.specs.Sets.{Pairs, pair_cmp}
 use Rattle.rbac_sets.specs.SortedSet.{set_of}
 use Rattle.role_order.proofs.StoredClosure.{cycle_left, IsAcyclic-from_kept, IsAcyclic-into_kept, IsAcyclic-length_zero}
 use Rattle.role_order.proofs.checking.has_cycle.Goals as goal

@@ -16,7 +16,7 @@ returns c =
     let edges : Pairs = set_of pair_cmp c.args.edges.now in
     let pairs : Pairs = set_of pair_cmp c.args.pairs.now in (
       λ t.
-        let closed : IsClosedUnder edges pairs = record { irreflexive = c.if-not-is_irreflexive.ensures.0 refl; goes_on = c.if-not-edges_go_on.ensures.0 refl; begins = c.pairs_begin.ensures.0 t } in
-        (IsAcyclic-from_check edges pairs closed, IsClosure-from_check edges pairs closed),
+          let closed : IsClosedUnder edges pairs = record { irreflexive = c.if-not-is_irreflexive.ensures.0 refl; goes_on = c.if-not-edges_go_on.ensures.0 refl; begins = c.pairs_begin.ensures.0 t } in
+          (IsAcyclic-from_check edges pairs closed, IsClosure-from_check edges pairs closed),
       λ good. c.pairs_begin.ensures.1 (check_passes edges pairs good.0 good.1).begins,
     )

@@ -1,4 +1,4 @@
-use Rattle.std.proofs.Common.{◌≡◌, sym, ◌∙◌}
+use Rattle.std.proofs.Common.{sym, ◌∙◌}
 use Rattle.rbac_sets.proofs.SetLaws.{same_bytes}
 use Rattle.role_order.proofs.Runs.{next-there, next-past}
 use Rattle.role_order.proofs.checking.is_next_at.Goals as goal

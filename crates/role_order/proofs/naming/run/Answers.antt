@@ -1,8 +1,4 @@
-use Rattle.std.proofs.Common.{◌≡◌, List, length, sym, subst, ap, ◌∙◌}
-use Rattle.std.specs.Prelude.{Contains}
-use Rattle.std.specs.List.Sorted.{IsStrictlySortedBy}
-use Rattle.rbac_sets.specs.Sets.{Pair}
-use Rattle.role_order.specs.Checked.{second_cmp}
+use Rattle.std.proofs.Common.{length, ap, ◌∙◌}
 use Rattle.role_order.proofs.Runs.{run-members, run-rises, run-count}
 use Rattle.role_order.proofs.naming.run.Goals as goal
 

@@ -1,9 +1,9 @@
-use Rattle.std.proofs.Common.{◌≡◌, ◌↔◌, List, rules, subst, sym}
+use Rattle.std.proofs.Common.{List, rules, subst, sym}
 use Rattle.std.specs.Prelude.{Contains}
 use Rattle.std.specs.List.{IsDistinct}
 use Rattle.std.proofs.lemmas.List.Sorted.{IsNonDecreasingBy-from_sort_by_key, IsPermutation-sym, Contains-permutation}
 use Rattle.std.proofs.lemmas.Map.Keys.{IsDistinct-from_sorted, IsDistinct-IsPermutation}
-use Rattle.rbac_sets.specs.Sets.{Bytes, name_cmp, pair_cmp, members, same_name}
+use Rattle.rbac_sets.specs.Sets.{Bytes, name_cmp, pair_cmp, same_name}
 use Rattle.rbac_sets.specs.SortedSet.{set_of}
 use Rattle.rbac_sets.specs.NameOrder.{name_total, name_exact}
 use Rattle.role_order.specs.Removal.{junior_count}

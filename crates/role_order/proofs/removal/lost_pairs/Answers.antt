@@ -1,9 +1,8 @@
-use Rattle.std.proofs.Common.{◌≡◌, ◌↔◌, refl, sym, ap, ◌∙◌, subst, arith, List, take, get_or}
+use Rattle.std.proofs.Common.{sym, ap, ◌∙◌, subst, List, take}
 use Rattle.std.specs.Prelude.{Contains}
 use Rattle.std.proofs.lemmas.List.{take_all}
 use Rattle.rbac_sets.specs.Sets.{Bytes, Names, Pairs, name_cmp, pair_cmp, union, IsDisjoint}
 use Rattle.rbac_sets.specs.SortedSet.{set_of}
-use Rattle.role_order.specs.Removal.{AreSuspects}
 use Rattle.role_order.proofs.Members.{Contains-take_more, disjoint-from}
 use Rattle.role_order.proofs.Walks.{item_in}
 use Rattle.role_order.proofs.Removing.{RowsLost, RowsLost-none, RowsLost-more, AreLost-from_rows, new_name}
@@ -20,10 +19,10 @@ merge_reserved-requires-clause-disjoint c =
     let lost : Pairs = set_of pair_cmp c.in_ok-lost.lost in
     subst (λ (s : Pairs). IsDisjoint s lost) (sym c.in_ok-reserve.ensures.keeps)
     (disjoint-from takes lost (λ x y h k.
-      let same = ((c.in_ok-lost.ensures.lost x y).0 k).0 in
-      let done = ((c.loop-a.invariant x y).0 h).0 in
-      new_name left pairs c.args.above.now (set_of name_cmp c.args.below.now) c.requires c.loop-a.a-index c.a-item.result c.loop-a-test.true c.a-item.is
-      (subst (λ (z : Bytes). Contains (take c.loop-a.a-index c.args.above.now) z) same done)))
+    let same = ((c.in_ok-lost.ensures.lost x y).0 k).0 in
+    let done = ((c.loop-a.invariant x y).0 h).0 in
+    new_name left pairs c.args.above.now (set_of name_cmp c.args.below.now) c.requires c.loop-a.a-index c.a-item.result c.loop-a-test.true c.a-item.is
+    (subst (λ (z : Bytes). Contains (take c.loop-a.a-index c.args.above.now) z) same done)))
 
 pub loop-a-preserved : goal.loop-a-preserved
 loop-a-preserved c =

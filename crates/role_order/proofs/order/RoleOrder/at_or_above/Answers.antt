@@ -1,5 +1,5 @@
-use Rattle.std.proofs.Common.{◌≡◌, ◌↔◌, ◌∙◌, ap, sym, subst}
-use Rattle.rbac_sets.specs.Sets.{Names, name_cmp, contains, insert}
+use Rattle.std.proofs.Common.{◌≡◌, ◌∙◌}
+use Rattle.rbac_sets.specs.Sets.{name_cmp, contains, insert}
 use Rattle.rbac_sets.specs.SortedSet.{set_of}
 use Rattle.role_order.specs.Order.{seniors}
 use Rattle.role_order.proofs.Deciding.{not_own_senior, at_or_above-are}

@@ -1,9 +1,8 @@
-use Rattle.std.proofs.Common.{◌≡◌, ◌↔◌, subst}
-use Rattle.std.specs.Prelude.{IsTrue}
+use Rattle.std.proofs.Common.{subst}
 use Rattle.std.specs.Bool.{one_answer}
 use Rattle.rbac_sets.specs.Sets.{pair_cmp}
 use Rattle.rbac_sets.specs.SortedSet.{set_of}
-use Rattle.role_order.specs.Order.{Geq, geq, IsClosure}
+use Rattle.role_order.specs.Order.{geq, IsClosure}
 use Rattle.role_order.specs.Planned.{Order}
 use Rattle.role_order.proofs.Closing.{Geq-by_pairs}
 use Rattle.role_order.proofs.Deciding.{geq-Decides}

@@ -1,6 +1,6 @@
-use Rattle.std.proofs.Common.{◌≡◌, ◌↔◌, ◌∙◌, ◌*◌, ◌+◌, ℕ, true, refl, sym, ap, subst}
+use Rattle.std.proofs.Common.{◌∙◌, refl, sym, subst}
 use Rattle.std.proofs.lemmas.Bool.{true≢false}
-use Rattle.rbac_sets.specs.Sets.{pair_cmp, name_cmp, len}
+use Rattle.rbac_sets.specs.Sets.{pair_cmp, name_cmp}
 use Rattle.rbac_sets.specs.SortedSet.{set_of}
 use Rattle.role_order.specs.Order.{IsAcyclic, IsClosure}
 use Rattle.role_order.specs.Planned.{Order}

@@ -1,12 +1,11 @@
-use Rattle.std.proofs.Common.{◌≡◌, ◌↔◌, ◌∙◌, List, true, false, refl, sym, ap, subst}
-use Rattle.std.specs.Prelude.{IsTrue, Contains}
+use Rattle.std.proofs.Common.{◌≡◌, ◌∙◌, List, refl, sym, ap, subst}
+use Rattle.std.specs.Prelude.{Contains}
 use Rattle.std.specs.List.{IsDistinct}
-use Rattle.std.specs.List.Sorted.{IsNonDecreasingBy}
-use Rattle.rbac_sets.specs.Sets.{Bytes, Pairs, pair_cmp, name_cmp, remove, same_name}
+use Rattle.rbac_sets.specs.Sets.{Bytes, Pairs, pair_cmp, remove, same_name}
 use Rattle.rbac_sets.specs.SortedSet.{set_of}
 use Rattle.role_order.specs.Order.{IsAcyclic, IsClosure, IsGained}
 use Rattle.role_order.specs.Planned.{Order}
-use Rattle.role_order.specs.Removal.{AreSuspects, AreJuniorsFirst, junior_count}
+use Rattle.role_order.specs.Removal.{AreJuniorsFirst}
 use Rattle.role_order.proofs.Planning.{Fits-taken, judged_are}
 use Rattle.role_order.proofs.Removing.{IsGained-lost}
 use Rattle.role_order.proofs.Ranking.{AreJuniorsFirst-from_counts}
