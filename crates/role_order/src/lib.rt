@@ -17,3 +17,7 @@ mod naming;
 pub mod order;
 pub mod plan;
 mod removal;
+#[cfg(test)]
+mod random_tests;
+#[cfg(test)]
+mod tests;
