@@ -16,8 +16,8 @@ pub mod laws;
 mod naming;
 pub mod order;
 pub mod plan;
-mod removal;
 #[cfg(test)]
 mod random_tests;
+mod removal;
 #[cfg(test)]
 mod tests;

@@ -1,5 +1,6 @@
+use crate::tests::make;
 use crate::{OrderPlan, RoleOrder};
-use rbac_sets::{Name, PairSet};
+use rbac_sets::{Name, PairSet, Refusal};
 use std::alloc::Global;
 use std::test::Fail;
 
@@ -60,17 +61,17 @@ fn at(names: &[Name], number: usize) -> Result<&Name, Fail> {
 }
 
 // Whether the set has the pairs of the relation, and no others.
-fn is_relation(set: &PairSet, names: &[Name], relation: &Relation) -> Result<bool, Fail> {
+fn is_relation(set: &PairSet, names: &[Name], relation: &Relation) -> bool {
     let mut size: u64 = 0;
-    for from in 0..ROLES {
-        size = size.wrapping_add(count(&relation[from]));
-        for to in 0..ROLES {
-            if set.contains((at(names, from)?, at(names, to)?)) != relation[from][to] {
-                return Ok(false);
+    for (from, row) in names.iter().zip(relation.iter()) {
+        size = size.wrapping_add(count(row));
+        for (to, related) in names.iter().zip(row.iter()) {
+            if set.contains((from, to)) != *related {
+                return false;
             }
         }
     }
-    Ok(set.len() as u64 == size)
+    names.len() == ROLES && set.len() as u64 == size
 }
 
 // How many roles are above a role of a closure.
@@ -111,19 +112,44 @@ fn shows(
             }
         }
     }
-    is_relation(order.pairs(), names, closed)
+    Ok(is_relation(order.pairs(), names, closed))
 }
 
 // Whether the plan puts and takes what the closure gains and loses.
-fn is_plan_of(
-    plan: &OrderPlan,
+fn is_plan_of(plan: &OrderPlan, names: &[Name], closures: (&Relation, &Relation)) -> bool {
+    let (old, new) = closures;
+    is_relation(plan.puts(), names, &less(new, old))
+        && is_relation(plan.takes(), names, &less(old, new))
+}
+
+// Puts the edge, and says whether the plan was right.
+fn adds(
+    alloc: Global,
+    order: &mut RoleOrder,
+    edge: (&Name, &Name),
     names: &[Name],
-    old: &Relation,
-    new: &Relation,
-) -> Result<bool, Fail> {
-    let puts = is_relation(plan.puts(), names, &less(new, old))?;
-    let takes = is_relation(plan.takes(), names, &less(old, new))?;
-    Ok(puts && takes)
+    closures: (&Relation, &Relation),
+    judged: u64,
+) -> Result<bool, Refusal> {
+    let plan = order.plan_add(alloc, edge.0, edge.1)?;
+    let right = is_plan_of(&plan, names, closures) && plan.judged() == judged;
+    make(order, plan)?;
+    Ok(right)
+}
+
+// Takes the edge, and says whether the plan was right.
+fn removes(
+    alloc: Global,
+    order: &mut RoleOrder,
+    edge: (&Name, &Name),
+    names: &[Name],
+    closures: (&Relation, &Relation),
+    judged: u64,
+) -> Result<bool, Refusal> {
+    let plan = order.plan_remove(alloc, edge.0, edge.1)?;
+    let right = is_plan_of(&plan, names, closures) && plan.judged() == judged;
+    make(order, plan)?;
+    Ok(right)
 }
 
 // Puts an edge that would make no cycle or takes one that is there, and says whether all is right.
@@ -147,18 +173,15 @@ fn change(
     }
     edges[from][to] = !there;
     let new = naive_closure(edges);
-    let plan = if there {
-        order.plan_remove(alloc, asc, desc).ok().ok_or("remove")?
-    } else {
-        order.plan_add(alloc, asc, desc).ok().ok_or("add")?
-    };
     let above = count_above(&old, from).wrapping_add(1);
     let below = count(&old[to]).wrapping_add(1);
-    let judged = plan.judged() == above.wrapping_mul(below);
-    let planned = is_plan_of(&plan, names, &old, &new)?;
-    order.make_room(&plan).ok().ok_or("room")?;
-    order.commit(plan);
-    Ok(judged && planned && shows(alloc, order, names, &new)?)
+    let judged = above.wrapping_mul(below);
+    let right = if there {
+        removes(alloc, order, (asc, desc), names, (&old, &new), judged)
+    } else {
+        adds(alloc, order, (asc, desc), names, (&old, &new), judged)
+    };
+    Ok(right.ok().ok_or("change")? && shows(alloc, order, names, &new)?)
 }
 
 #[test]

@@ -1,3 +1,5 @@
+ghost use Rattle.role_order.specs.Planned.{Fits};
+
 use super::*;
 use rbac_sets::{Name, NameSet, PairSet, Refusal};
 use std::alloc::Global;
@@ -28,12 +30,9 @@ fn put(set: &mut PairSet, first: Name, second: Name) -> Result<(), Fail> {
 // Whether the set has these pairs, which are in byte order, and no others.
 fn has(set: &PairSet, entries: &[(&str, &str)]) -> bool {
     set.len() == entries.len()
-        && set
-            .iter()
-            .zip(entries.iter())
-            .all(|(pair, (first, second))| {
-                pair.0.as_str() == *first && pair.1.as_str() == *second
-            })
+        && set.iter().zip(entries.iter()).all(|(pair, (first, second))| {
+            pair.0.as_str() == *first && pair.1.as_str() == *second
+        })
 }
 
 // Whether the set has these names, which are in byte order, and no others.
@@ -46,17 +45,32 @@ fn has_names(set: &NameSet, names: &[&str]) -> bool {
 }
 
 // Makes the change of a plan, and gives how many pairs it puts and takes, and how many were judged.
+pub fn make(order: &mut RoleOrder, plan: OrderPlan) -> Result<(usize, usize, u64), Refusal>
+    requires { Fits order.old.edges plan }
+{
+    let counts = (plan.puts().len(), plan.takes().len(), plan.judged());
+    order.make_room(&plan)?;
+    order.commit(plan);
+    Ok(counts)
+}
+
 fn add(
     alloc: Global,
     order: &mut RoleOrder,
     asc: &Name,
     desc: &Name,
 ) -> Result<(usize, usize, u64), Fail> {
-    let plan = order.plan_add(alloc, asc, desc).ok().ok_or("add")?;
-    let counts = (plan.puts().len(), plan.takes().len(), plan.judged());
-    order.make_room(&plan).ok().ok_or("room")?;
-    order.commit(plan);
-    Ok(counts)
+    Ok(added(alloc, order, asc, desc).ok().ok_or("add")?)
+}
+
+fn added(
+    alloc: Global,
+    order: &mut RoleOrder,
+    asc: &Name,
+    desc: &Name,
+) -> Result<(usize, usize, u64), Refusal> {
+    let plan = order.plan_add(alloc, asc, desc)?;
+    make(order, plan)
 }
 
 fn remove(
@@ -65,11 +79,17 @@ fn remove(
     asc: &Name,
     desc: &Name,
 ) -> Result<(usize, usize, u64), Fail> {
-    let plan = order.plan_remove(alloc, asc, desc).ok().ok_or("remove")?;
-    let counts = (plan.puts().len(), plan.takes().len(), plan.judged());
-    order.make_room(&plan).ok().ok_or("room")?;
-    order.commit(plan);
-    Ok(counts)
+    Ok(removed(alloc, order, asc, desc).ok().ok_or("remove")?)
+}
+
+fn removed(
+    alloc: Global,
+    order: &mut RoleOrder,
+    asc: &Name,
+    desc: &Name,
+) -> Result<(usize, usize, u64), Refusal> {
+    let plan = order.plan_remove(alloc, asc, desc)?;
+    make(order, plan)
 }
 
 // The order of these edges, put one by one.
@@ -116,14 +136,16 @@ fn keeps_the_other_side_of_a_diamond(rt: HostRuntime) -> Result<(), Fail> {
     let b = name(alloc, "b")?;
     let d = name(alloc, "d")?;
     let mut order = order_of(alloc, &[("a", "b"), ("b", "d"), ("a", "c"), ("c", "d")])?;
-    let plan = order
-        .plan_remove(alloc, &b, &d)
-        .ok()
-        .ok_or("remove")?;
+    let plan = order.plan_remove(alloc, &b, &d).ok().ok_or("remove")?;
     assert!(rt; has(plan.takes(), &[("b", "d")]));
     assert!(rt; has(plan.puts(), &[]));
     remove(alloc, &mut order, &b, &d)?;
-    assert!(rt; has(order.pairs(), &[("a", "b"), ("a", "c"), ("a", "d"), ("c", "d")]));
+    assert!(rt;
+        has(
+            order.pairs(),
+            &[("a", "b"), ("a", "c"), ("a", "d"), ("c", "d")]
+        )
+    );
     assert!(rt; has(order.edges(), &[("a", "b"), ("a", "c"), ("c", "d")]));
     let juniors = order.juniors(alloc, &a).ok().ok_or("juniors")?;
     assert!(rt; has_names(&juniors, &["b", "c", "d"]));
@@ -180,10 +202,7 @@ fn joins_two_short_chains(rt: HostRuntime) -> Result<(), Fail> {
     assert!(rt; add(alloc, &mut order, &r3, &r6)? == (0, 0, 9));
     assert_eq!(rt; order.edges().len(), 8);
     assert_eq!(rt; order.pairs().len(), 28);
-    let plan = order
-        .plan_remove(alloc, &r4, &r5)
-        .ok()
-        .ok_or("remove")?;
+    let plan = order.plan_remove(alloc, &r4, &r5).ok().ok_or("remove")?;
     assert_eq!(rt; plan.judged(), 16);
     let lost = [
         ("r1", "r5"),
@@ -212,23 +231,25 @@ fn refuses_rows_that_are_no_order(rt: HostRuntime) -> Result<(), Fail> {
         ("b", "d"),
         ("c", "d"),
     ];
-    let gap = [
-        ("a", "b"),
-        ("a", "c"),
-        ("a", "d"),
-        ("b", "c"),
-        ("c", "d"),
-    ];
+    let gap = [("a", "b"), ("a", "c"), ("a", "d"), ("b", "c"), ("c", "d")];
     let good = damage(alloc, pairs(alloc, &chain)?, pairs(alloc, &closed)?);
     assert!(rt; good == (0, 0));
-    let round = damage(alloc, pairs(alloc, &[("a", "b"), ("b", "a")])?, pairs(alloc, &[])?);
+    let round = damage(
+        alloc,
+        pairs(alloc, &[("a", "b"), ("b", "a")])?,
+        pairs(alloc, &[])?,
+    );
     assert!(rt; round == (52, 5));
     let mirrored = pairs(alloc, &[("a", "b"), ("b", "a")])?;
     let round = damage(alloc, pairs(alloc, &[("a", "b"), ("b", "a")])?, mirrored);
     assert!(rt; round == (52, 5));
     let own = damage(alloc, pairs(alloc, &[("a", "a")])?, pairs(alloc, &[])?);
     assert!(rt; own == (52, 5));
-    let open = damage(alloc, pairs(alloc, &[("a", "b"), ("b", "c")])?, pairs(alloc, &[("a", "b"), ("b", "c")])?);
+    let open = damage(
+        alloc,
+        pairs(alloc, &[("a", "b"), ("b", "c")])?,
+        pairs(alloc, &[("a", "b"), ("b", "c")])?,
+    );
     assert!(rt; open == (52, 6));
     let missing = damage(alloc, pairs(alloc, &chain)?, pairs(alloc, &gap)?);
     assert!(rt; missing == (52, 6));
@@ -249,7 +270,11 @@ fn finds_a_long_cycle(rt: HostRuntime) -> Result<(), Fail> {
     let alloc = rt.alloc();
     let mut edges = PairSet::new(alloc);
     for number in 0..300 {
-        put(&mut edges, role(alloc, number)?, role(alloc, (number + 1) % 300)?)?;
+        put(
+            &mut edges,
+            role(alloc, number)?,
+            role(alloc, (number + 1) % 300)?,
+        )?;
     }
     assert_eq!(rt; edges.len(), 300);
     let same = edges.copy(alloc).ok().ok_or("copy")?;
