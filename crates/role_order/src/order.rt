@@ -16,8 +16,9 @@ use rbac_sets::{Name, NameSet, PairSet, Refusal};
 use std::alloc::Global;
 use std::marker::Model;
 
-/// The hierarchy of roles: a set of edges (ascendant, descendant) without a cycle, with its closure,
-/// all pairs of two different roles of which the first is above the second.
+/// The hierarchy of roles, the relation RH of the standard's general role hierarchies: a set of edges
+/// (ascendant, descendant), its immediate inheritances, without a cycle, with its closure, all pairs
+/// of two different roles of which the first is above the second.
 ///
 /// A role r is above q where edges lead from r to q, and `r >= q` holds where r is q or above it. The
 /// closure is stored and kept up edge by edge, so that `geq` is one search. A change of an edge takes
@@ -87,7 +88,8 @@ impl RoleOrder {
 
     /// Whether `a >= b`: `a` is `b`, or edges lead from `a` to `b`, so that `a` inherits from `b`.
     ///
-    /// It takes no memory. The names may be any, also of no role of an edge.
+    /// This is the order of the standard's role hierarchy. It takes no memory. The names may be any,
+    /// also of no role of an edge.
     pub fn geq(&self, a: &Name, b: &Name) -> bool
         ensures reaches { IsTrue result ↔ Geq self.now.edges a.now b.now }
         ensures test { result ≡ geq self.now.edges a.now b.now }
@@ -95,7 +97,7 @@ impl RoleOrder {
         is_geq(&self.pairs, a, b)
     }
 
-    /// The roles below `r`, without `r` itself.
+    /// The descendants of `r`: the roles below it, without `r` itself.
     ///
     /// # Errors
     ///
@@ -109,7 +111,7 @@ impl RoleOrder {
         Ok(names)
     }
 
-    /// The roles above `r`, without `r` itself.
+    /// The ascendants of `r`: the roles above it, without `r` itself.
     ///
     /// # Errors
     ///
@@ -147,7 +149,8 @@ impl RoleOrder {
         Ok(names)
     }
 
-    /// The plan to put the edge from `asc` to `desc`, which need not be roles of other edges.
+    /// The plan to put the edge from `asc` to `desc`, which need not be roles of other edges: what
+    /// AddInheritance of the standard changes of the hierarchy.
     ///
     /// Its `puts` are the pairs of `asc` or a role above it and `desc` or a role below it that the
     /// order hasn't yet, and its `takes` are empty.
@@ -185,7 +188,8 @@ impl RoleOrder {
         })
     }
 
-    /// The plan to take the edge from `asc` to `desc`.
+    /// The plan to take the edge from `asc` to `desc`: what DeleteInheritance of the standard changes
+    /// of the hierarchy.
     ///
     /// Its `takes` are the pairs of `asc` or a role above it and `desc` or a role below it between
     /// which no other edges lead, and its `puts` are empty.
