@@ -13,6 +13,9 @@ use role_wire::{Count, Stop, replay};
 use std::alloc::Global;
 use std::io::{Cursor, Write};
 
+#[cfg(test)]
+mod tests;
+
 /// The status of a program that did what it was asked.
 const DONE: u8 = 0;
 
