@@ -9,6 +9,10 @@ use Rattle.role_wire.specs.declared.lines.Unanswered.{Unanswered}
 use Rattle.role_wire.specs.declared.lines.Unanswered.TheVariants as unanswered
 use Rattle.role_wire.specs.Lines.{longest_line, line_feed, split_lines, ended_lines, asking, with_line_feeds}
 
+-- the most reads of one replay
+abbrev pub most_reads : ℕ
+most_reads = 1000000000
+
 module _ {S : Type 0} (answers : S → List ℕ → List ℕ → S → Type 0) where
   -- the lines are answered by the texts, one after the other, which leads from old to new
   unfoldable pub AreAnswered : S → List (List ℕ) → List (List ℕ) → S → Type 0
