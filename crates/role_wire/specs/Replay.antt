@@ -1,10 +1,10 @@
 -- What a replay of an input writes and leaves, whether it ends or stops.
 --     answers old line text new       what answers lines is old, answers the line by the text, and is new then
 --     fails old line unanswered new   the line gets no answer for this reason
-use Rattle.std.specs.Prelude.{◌≡◌, ◌⊎◌, ℕ, ◌+◌, ◌<◌, ◌≤◌, Bool, true, List, [], ◌∷◌, ◌++◌, length, Option, All}
+use Rattle.std.specs.Prelude.{◌≡◌, ◌⊎◌, ℕ, ◌+◌, ◌<◌, ◌≤◌, List, [], ◌∷◌, ◌++◌, length, Option, All}
 use Rattle.std.specs.Io.KnownBytes.{Appends}
 use Rattle.role_wire.specs.declared.lines.Cause.{Cause}
-use Rattle.role_wire.specs.declared.lines.Cause.TheVariants.{Read, Write, Line, Store, Closed, Memory}
+use Rattle.role_wire.specs.declared.lines.Cause.TheVariants.{Read, Write, Line, Store, Memory}
 use Rattle.role_wire.specs.declared.lines.Unanswered.{Unanswered}
 use Rattle.role_wire.specs.declared.lines.Unanswered.TheVariants as unanswered
 use Rattle.role_wire.specs.Lines.{longest_line, line_feed, split_lines, ended_lines, asking, with_line_feeds}

@@ -149,7 +149,8 @@ fn tells_a_stop(rt: HostRuntime) -> Result<(), Fail> {
 fn does_a_line_whose_answer_is_not_taken(rt: HostRuntime) -> Result<(), Fail> {
     let alloc = rt.alloc();
     let whole = input(alloc, 4)?;
-    let asks = b"{\"fn\":\"addUser\",\"user\":\"ann\"}\n{\"fn\":\"assignedUsers\",\"role\":\"clerk\"}";
+    let asks =
+        b"{\"fn\":\"addUser\",\"user\":\"ann\"}\n{\"fn\":\"assignedUsers\",\"role\":\"clerk\"}";
     for (writes, left) in [
         (0, "{\"code\":4,\"error\":\"NoRole\"}"),
         (1, "{\"ok\":true,\"value\":[]}"),

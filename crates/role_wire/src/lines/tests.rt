@@ -252,8 +252,16 @@ fn stops_at_a_write(rt: HostRuntime) -> Result<(), Fail> {
         let mut source = MemorySource::new(b"one\n\ntwo\n");
         let mut sink = Narrow::new(alloc, most, writes);
         let replayed = replay(alloc, &mut Echo::new(), &mut source, &mut sink);
-        assert_eq!(rt; end(alloc, replayed)?.as_str(), ended, "at {most}, {writes}");
-        assert_eq!(rt; sink.bytes.as_slice(), want.as_bytes(), "at {most}, {writes}");
+        assert_eq!(rt;
+            end(alloc, replayed)?.as_str(),
+            ended,
+            "at {most}, {writes}"
+        );
+        assert_eq!(rt;
+            sink.bytes.as_slice(),
+            want.as_bytes(),
+            "at {most}, {writes}"
+        );
     }
     Ok(())
 }
@@ -262,11 +270,41 @@ fn stops_at_a_write(rt: HostRuntime) -> Result<(), Fail> {
 fn stops_where_a_line_gets_no_answer(rt: HostRuntime) -> Result<(), Fail> {
     let alloc = rt.alloc();
     for (lines, reason, ended, again, want) in [
-        (0, Unanswered::Memory, "stop Memory after 0", "stop Memory after 0", ""),
-        (1, Unanswered::Memory, "stop Memory after 1", "stop Memory after 0", "one\n"),
-        (0, Unanswered::Store, "stop Store after 0", "stop Closed after 0", ""),
-        (2, Unanswered::Store, "stop Store after 2", "stop Closed after 0", "one\ntwo\n"),
-        (3, Unanswered::Store, "end after 3", "stop Store after 0", "one\ntwo\n3\n"),
+        (
+            0,
+            Unanswered::Memory,
+            "stop Memory after 0",
+            "stop Memory after 0",
+            "",
+        ),
+        (
+            1,
+            Unanswered::Memory,
+            "stop Memory after 1",
+            "stop Memory after 0",
+            "one\n",
+        ),
+        (
+            0,
+            Unanswered::Store,
+            "stop Store after 0",
+            "stop Closed after 0",
+            "",
+        ),
+        (
+            2,
+            Unanswered::Store,
+            "stop Store after 2",
+            "stop Closed after 0",
+            "one\ntwo\n",
+        ),
+        (
+            3,
+            Unanswered::Store,
+            "end after 3",
+            "stop Store after 0",
+            "one\ntwo\n3\n",
+        ),
     ] {
         let mut echo = Echo::until(lines, reason);
         let mut sink = MemorySink::new(alloc);
