@@ -1,9 +1,9 @@
 -- Lines that the office in memory answered one after another.
-use Rattle.std.proofs.Common.{◌≡◌, ℕ, List, [], ◌∷◌, length, Option, refl, sym, ap, subst, ◌∙◌}
+use Rattle.std.proofs.Common.{◌≡◌, ℕ, List, [], ◌∷◌, length, Option, refl, ap, subst, ◌∙◌}
 use Rattle.std.specs.Io.KnownBytes.{Appends}
 use Rattle.role_wire.specs.Lines.{asking, split_lines, with_line_feeds}
 use Rattle.role_wire.specs.Replay.{AreAnswered, IsReplayed}
-use Rattle.role_cli.specs.Machine.{Answers, answer_to_line, after_line, answers_to_lines, answer_lines, IsAnswered}
+use Rattle.role_cli.specs.Machine.{Answers, answer_to_line, answers_to_lines, answer_lines, IsAnswered}
 use Rattle.role_cli.specs.Office.{OfficeState}
 
 -- are answered by the texts that the machine gives

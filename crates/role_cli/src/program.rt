@@ -1,7 +1,8 @@
 //! What the program does for its words.
-ghost use Rattle.std.specs.Prelude.{◌≡◌, ◌⊎◌, ℕ, List, map, false, OnOk, IfOk, IfErr};
+ghost use Rattle.std.specs.Prelude.{◌≡◌, ◌⊎◌, ◌≤◌, ℕ, List, length, map, true, false, OnOk, IfOk, IfErr, IfSome};
 ghost use Rattle.std.specs.Io.KnownBytes.{Appends, Consumes, IsAtEnd};
-ghost use Rattle.role_wire.specs.Replay.{IsStopped};
+ghost use Rattle.role_wire.specs.Replay.{IsStopped, most_reads};
+ghost use Rattle.rbac_sets.specs.Stream.{HasFailed};
 ghost use Rattle.role_wire.specs.declared.lines.Cause.{Cause};
 ghost use Rattle.role_cli.specs.Machine.{IsAnswered, Answers, Fails};
 ghost use Rattle.role_cli.specs.Words.{asks_replay_in_memory};
@@ -12,6 +13,9 @@ use rbac_sets::{Sink, Source, write_all};
 use role_wire::{Count, Stop, replay};
 use std::alloc::Global;
 use std::io::{Cursor, Write};
+
+#[cfg(test)]
+mod tests;
 
 /// The status of a program that did what it was asked.
 const DONE: u8 = 0;
@@ -40,6 +44,9 @@ pub fn replay_memory<R: Source, W: Sink>(
     ensures end { OnOk result (IsAtEnd (R.remaining source.new)) }
     ensures stopped { IfErr result (λ stop. (taken : List ℕ) × Consumes (R.remaining source.old) (R.remaining source.new) taken × (left : OfficeState)
         × IsStopped Answers Fails empty_state left taken (IsAtEnd (R.remaining source.new)) (W.written sink.old) (W.written sink.new) stop.cause stop.answered) }
+    ensures write_cause { IfErr result (λ stop. stop.cause ≡ Cause.Write → W.takes_some ≡ true → HasFailed (W.failed sink.old) (W.failed sink.new)) }
+    ensures read_cause { IfErr result (λ stop. stop.cause ≡ Cause.Read → HasFailed (R.failed source.old) (R.failed source.new)
+        ⊎ IfSome (R.remaining source.old) (λ input. most_reads ≤ length input)) }
 {
     let mut office = MemoryOffice::new(alloc);
     replay(alloc, &mut office, source, sink)
@@ -65,7 +72,9 @@ pub fn run<T: AllocGlobal, R: Source, W: Sink, E: Sink>(
     ensures done { result ≡ 0 → (input : List ℕ) × Consumes (R.remaining source.old) (R.remaining source.new) input × IsAtEnd (R.remaining source.new)
         × (answered : ℕ) × IsAnswered empty_state input (W.written out.old) (W.written out.new) answered }
     ensures stopped { result ≡ 1 → (taken : List ℕ) × Consumes (R.remaining source.old) (R.remaining source.new) taken × (left : OfficeState) × (cause : Cause) × (answered : ℕ)
-        × IsStopped Answers Fails empty_state left taken (IsAtEnd (R.remaining source.new)) (W.written out.old) (W.written out.new) cause answered }
+        × IsStopped Answers Fails empty_state left taken (IsAtEnd (R.remaining source.new)) (W.written out.old) (W.written out.new) cause answered
+        × (cause ≡ Cause.Write → W.takes_some ≡ true → HasFailed (W.failed out.old) (W.failed out.new))
+        × (cause ≡ Cause.Read → HasFailed (R.failed source.old) (R.failed source.new) ⊎ IfSome (R.remaining source.old) (λ input. most_reads ≤ length input)) }
 {
     if !asks_replay_in_memory(words) {
         tell(err, b"rbac: give replay --memory\n");

@@ -1,16 +1,16 @@
 -- Where a replay ends or stops.
-use Rattle.std.proofs.Common.{◌≡◌, ◌⊎◌, inl, inr, ℕ, ◌+◌, ◌<◌, ◌≤◌, zero, suc, Bool, true, false, not, List, [], ◌∷◌, ◌++◌, length, length-append, get_or, Option, refl, sym, ap, subst, ◌∙◌, append_assoc, arith}
+use Rattle.std.proofs.Common.{◌≡◌, ◌⊎◌, inl, inr, ℕ, ◌+◌, ◌<◌, ◌≤◌, zero, suc, false, List, [], ◌∷◌, ◌++◌, length, length-append, Option, refl, sym, ap, subst, ◌∙◌, append_assoc, arith}
 use Rattle.std.proofs.lemmas.List.{append-nil}
 use Rattle.std.specs.List.{AllByRecursion, All}
 use Rattle.std.specs.Io.KnownBytes.{Appends}
 use Rattle.role_wire.specs.declared.lines.Cause.{Cause}
 use Rattle.role_wire.specs.declared.lines.Cause.TheVariants.{Read, Write, Line, Store, Closed, Memory}
 use Rattle.role_wire.specs.declared.lines.Unanswered.{Unanswered}
-use Rattle.role_wire.specs.Lines.{longest_line, line_feed, split_lines, ended_lines, is_blank, asking, with_line_feeds}
-use Rattle.role_wire.specs.Replay.{AreAnswered, IsReplayed, IsNext, LeavesLine, LeavesOff, IsStopped}
+use Rattle.role_wire.specs.Lines.{longest_line, split_lines, ended_lines, is_blank, asking}
+use Rattle.role_wire.specs.Replay.{AreAnswered, IsReplayed, IsNext, LeavesOff, IsStopped}
 use Rattle.role_wire.specs.Reading.{Place, HasNoLineFeed, IsOpenLine, IsRead, EndsLine, FailsLine, EndsHere, StopsReading, Halts}
 use Rattle.rbac_sets.proofs.Known.{Appends-none, Appends-more}
-use Rattle.role_wire.proofs.Splitting.{split_lines-ended, ended_lines-ended, split_lines-last, ended_lines-last, split_lines-first, HasNoLineFeed-append}
+use Rattle.role_wire.proofs.Splitting.{ended_lines-ended, split_lines-last, ended_lines-last, split_lines-first, HasNoLineFeed-append}
 use Rattle.role_wire.proofs.Answering.{asking-append, with_line_feeds-append, AreAnswered-append}
 use Rattle.role_wire.proofs.ReadSoFar.{all_append, read_none, read_more}
 

@@ -5,3 +5,4 @@ pub mod Reading
 pub mod Replay
 pub mod Request
 pub mod Steps
+pub mod Stop

@@ -1,13 +1,17 @@
 -- What a replay of an input writes and leaves, whether it ends or stops.
 --     answers old line text new       what answers lines is old, answers the line by the text, and is new then
 --     fails old line unanswered new   the line gets no answer for this reason
-use Rattle.std.specs.Prelude.{◌≡◌, ◌⊎◌, ℕ, ◌+◌, ◌<◌, ◌≤◌, Bool, true, List, [], ◌∷◌, ◌++◌, length, Option, All}
+use Rattle.std.specs.Prelude.{◌≡◌, ◌⊎◌, ℕ, ◌+◌, ◌<◌, ◌≤◌, List, [], ◌∷◌, ◌++◌, length, Option, All}
 use Rattle.std.specs.Io.KnownBytes.{Appends}
 use Rattle.role_wire.specs.declared.lines.Cause.{Cause}
-use Rattle.role_wire.specs.declared.lines.Cause.TheVariants.{Read, Write, Line, Store, Closed, Memory}
+use Rattle.role_wire.specs.declared.lines.Cause.TheVariants.{Read, Write, Line, Store, Memory}
 use Rattle.role_wire.specs.declared.lines.Unanswered.{Unanswered}
 use Rattle.role_wire.specs.declared.lines.Unanswered.TheVariants as unanswered
 use Rattle.role_wire.specs.Lines.{longest_line, line_feed, split_lines, ended_lines, asking, with_line_feeds}
+
+-- the most reads of one replay
+abbrev pub most_reads : ℕ
+most_reads = 1000000000
 
 module _ {S : Type 0} (answers : S → List ℕ → List ℕ → S → Type 0) where
   -- the lines are answered by the texts, one after the other, which leads from old to new

@@ -5,12 +5,15 @@ ghost use Rattle.std.specs.Io.KnownBytes.{Appends, Consumes, IsAtEnd};
 ghost use Rattle.rbac_sets.specs.Stream.{HasFailed};
 ghost use Rattle.role_wire.specs.Lines.{is_blank, longest_line, line_feed};
 ghost use Rattle.role_wire.specs.Reading.{place_of, IsOpenLine, IsRead, EndsLine, FailsLine, HasNoLineFeed, Halts};
-ghost use Rattle.role_wire.specs.Replay.{IsReplayed, IsStopped};
+ghost use Rattle.role_wire.specs.Replay.{IsReplayed, IsStopped, most_reads};
 
 use rbac_sets::{Fault, Sink, Source, write_all};
 use std::alloc::Global;
 use std::fmt;
 use std::fmt::{Display, Formatter, Write};
+
+#[cfg(test)]
+mod tests;
 
 /// The most bytes of a line, its LF not counted.
 pub const LONGEST_LINE: usize = 65_536;
@@ -80,6 +83,11 @@ pub enum Cause {
 }
 
 impl Display for Cause {
+    ghost use Rattle.std.specs.Prelude.{Some};
+    ghost use Rattle.role_wire.specs.Stop.{cause_text};
+
+    ghost output = { λ cause. Some (cause_text cause) };
+
     fn fmt<W: Write>(&self, f: &mut Formatter<W>) -> fmt::Result {
         match self {
             Cause::Read => f.write_str("Read"),
@@ -102,6 +110,11 @@ pub struct Stop {
 }
 
 impl Display for Stop {
+    ghost use Rattle.std.specs.Prelude.{Some};
+    ghost use Rattle.role_wire.specs.Stop.{stop_text};
+
+    ghost output = { λ stop. Some (stop_text stop) };
+
     fn fmt<W: Write>(&self, f: &mut Formatter<W>) -> fmt::Result {
         write!(f, "stop {} after {}", self.cause, self.answered)
     }
@@ -144,7 +157,7 @@ pub fn replay<A: AnswerLines, R: Source, W: Sink>(
     // A fault is told only where one rose, or at the bound on reads.
     ensures write_cause { IfErr result (λ stop. stop.cause ≡ Cause.Write → W.takes_some ≡ true → HasFailed (W.failed sink.old) (W.failed sink.new)) }
     ensures read_cause { IfErr result (λ stop. stop.cause ≡ Cause.Read → HasFailed (R.failed source.old) (R.failed source.new)
-        ⊎ IfSome (R.remaining source.old) (λ input. MOST_READS ≤ length input)) }
+        ⊎ IfSome (R.remaining source.old) (λ input. most_reads ≤ length input)) }
 {
     if office.is_closed() {
         return Err(Stop {
@@ -332,7 +345,7 @@ fn read_input<A: AnswerLines, R: Source, W: Sink>(
         × IsStopped A.answers A.fails office.old office.new taken (IsAtEnd (R.remaining source.new)) (W.written sink.old) (W.written sink.new) cause progress.new.answered) }
     ensures write_cause { IfErr result (λ cause. cause ≡ Cause.Write → W.takes_some ≡ true → HasFailed (W.failed sink.old) (W.failed sink.new)) }
     ensures read_cause { IfErr result (λ cause. cause ≡ Cause.Read → HasFailed (R.failed source.old) (R.failed source.new)
-        ⊎ IfSome (R.remaining source.old) (λ input. MOST_READS ≤ length input)) }
+        ⊎ IfSome (R.remaining source.old) (λ input. most_reads ≤ length input)) }
 {
     let mut piece = [0; PIECE];
     for _turn in 0..MOST_READS {

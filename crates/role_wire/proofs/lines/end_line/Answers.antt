@@ -1,4 +1,4 @@
-use Rattle.std.proofs.Common.{◌≡◌, ◌∙◌, sym, ap, rules, arith}
+use Rattle.std.proofs.Common.{◌∙◌, sym, ap, arith}
 use Rattle.role_wire.specs.Lines.{is_blank}
 use Rattle.role_wire.proofs.ReadSoFar.{ends_blank, ends_answered}
 use Rattle.role_wire.proofs.lines.end_line.Goals as goal

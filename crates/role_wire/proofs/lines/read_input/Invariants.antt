@@ -1,4 +1,4 @@
-use Rattle.std.proofs.Common.{◌≡◌, ℕ, List, ◌*◌, ◌≤◌, length}
+use Rattle.std.proofs.Common.{ℕ, List, ◌*◌, ◌≤◌, length}
 use Rattle.std.specs.Io.KnownBytes.{Consumes}
 use Rattle.role_wire.specs.Reading.{place_of, IsRead}
 use Rattle.role_wire.proofs.lines.read_input.Given as goal

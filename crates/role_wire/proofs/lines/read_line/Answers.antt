@@ -1,7 +1,7 @@
-use Rattle.std.proofs.Common.{◌≡◌, ◌++◌, ◌+◌, [], ◌∷◌, inl, refl, sym, ap, arith}
+use Rattle.std.proofs.Common.{◌+◌, [], ◌∷◌, inl, refl, ap}
 use Rattle.std.proofs.lemmas.Result.{err_from_is_err_and}
 use Rattle.role_wire.specs.Lines.{line_feed}
-use Rattle.role_wire.specs.Reading.{place_of, IsRead, IsOpenLine}
+use Rattle.role_wire.specs.Reading.{place_of, IsRead}
 use Rattle.role_wire.proofs.ReadSoFar.{read_open, read_ended, read_more}
 use Rattle.role_wire.proofs.Stopping.{halts_open, halts_line}
 use Rattle.role_wire.proofs.lines.read_line.Goals as goal
