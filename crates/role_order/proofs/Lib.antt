@@ -1,0 +1,11 @@
+pub mod Closing
+pub mod Deciding
+pub mod Gathering
+pub mod Leading
+pub mod Members
+pub mod Planning
+pub mod Ranking
+pub mod Removing
+pub mod Runs
+pub mod StoredClosure
+pub mod Walks

@@ -1,0 +1,121 @@
+-- What changes of the order where the edges change.
+use Rattle.std.proofs.Common.{◌≡◌, ◌≢◌, ◌↔◌, ◌⊎◌, inl, inr, ℕ, ◌+◌, ◌*◌, Bool, true, false, cond, refl, sym, ◌∙◌, ap, subst, arith}
+use Rattle.std.specs.Prelude.{IsTrue}
+use Rattle.rbac_sets.specs.Sets.{Bytes, Names, Pairs, empty, contains, insert, remove, union, difference, len}
+use Rattle.role_order.specs.Order.{HasPair, Leads, Geq, IsAcyclic, IsClosure, IsGained, seniors, juniors}
+use Rattle.role_order.specs.Laws.{CrossesAt}
+use Rattle.role_order.specs.Planned.{Plan, changed, Fits, pairs_at}
+use Rattle.role_order.proofs.Members.{AddsPair-insert, TakesPair-remove, HasPair-none, HasPair-union, HasPair-difference, is_false}
+use Rattle.role_order.proofs.Leading.{Leads-from_eq, Leads-trans, Leads-mono}
+use Rattle.role_order.proofs.Closing.{crosses, IsAcyclic-added, IsAcyclic-subset}
+use Rattle.role_order.proofs.Deciding.{geq_or_not, not_own_senior, not_own_junior}
+use Rattle.role_order.proofs.Ranking.{len-new}
+
+-- the stored pairs after a change
+pub IsClosure-after :
+    (old new pairs puts takes : Pairs)
+    → IsClosure old pairs → IsGained old new puts → IsGained new old takes
+    → IsClosure new (difference (union pairs puts) takes)
+IsClosure-after old new pairs puts takes closed gained lost a b = (
+  λ h.
+      let k = (HasPair-difference (union pairs puts) takes a b).0 h in
+      elim ((HasPair-union pairs puts a b).0 k.0) [
+        | inl p ↦
+            let at = (closed a b).0 p in
+            elim (geq_or_not new a b) [
+              | inl l ↦ (at.0, l)
+              | inr n ↦ absurd (k.1 ((lost a b).1 (at.1, n)))
+            ]
+        | inr g ↦ let at = (gained a b).0 g in ((λ e. at.1 (Leads-from_eq e)), at.0)
+      ],
+  λ h. (HasPair-difference (union pairs puts) takes a b).1 (
+    (HasPair-union pairs puts a b).1 (elim (geq_or_not old a b) [ inl l ↦ inl ((closed a b).1 (h.0, l)) | inr n ↦ inr ((gained a b).1 (h.1, n)) ]),
+    λ t. ((lost a b).0 t).1 h.1,
+  ),
+)
+
+-- what an order gains is not stored
+pub gained_apart : (old new pairs puts : Pairs) → IsClosure old pairs → IsGained old new puts → (x y : Bytes) → HasPair pairs x y → HasPair puts x y → ⊥
+gained_apart old new pairs puts closed gained x y h g = ((gained x y).0 g).1 ((closed x y).0 h).1
+
+-- the crossed pairs that were not stored
+pub IsGained-crossed :
+    (old new pairs : Pairs) (asc desc : Bytes) (above below : Names) (puts : Pairs)
+    → CrossesAt old new asc desc → (Geq old desc asc → ⊥) → IsClosure old pairs
+    → ((p : Bytes) → IsTrue (contains above p) ↔ Geq old p asc) → ((q : Bytes) → IsTrue (contains below q) ↔ Geq old desc q)
+    → ((x y : Bytes) → HasPair puts x y ↔ (IsTrue (contains above x) × (IsTrue (contains below y) × (HasPair pairs x y → ⊥))))
+    → IsGained old new puts
+IsGained-crossed old new pairs asc desc above below puts order no_back closed ups downs rest a b = (
+  λ h.
+      let k = (rest a b).0 h in
+      let up = (ups a).0 k.0 in
+      let down = (downs b).0 k.1.0 in (
+        (order a b).1 (inr (up, down)),
+        λ l. k.1.1 ((closed a b).1 ((λ e. no_back (Leads-trans down (Leads-trans (Leads-from_eq (sym e)) up))), l)),
+      ),
+  λ h. elim ((order a b).0 h.0) [
+    | inl l ↦ absurd (h.1 l)
+    | inr ls ↦ (rest a b).1 ((ups a).1 ls.0, ((downs b).1 ls.1, λ k. h.1 ((closed a b).0 k).1))
+  ],
+)
+
+-- fewer edges gain nothing
+pub IsGained-none : (small large : Pairs) → ((a b : Bytes) → HasPair small a b → HasPair large a b) → IsGained large small empty
+IsGained-none small large sub a b = (λ h. absurd (HasPair-none a b h), λ h. absurd (h.1 (Leads-mono (HasPair small) (HasPair large) sub h.0)))
+
+-- the plan's change, where its kind and its names are known
+pub changed-adds : (edges : Pairs) (plan : Plan) (asc desc : Bytes) → plan.adds ≡ true → plan.asc ≡ asc → plan.desc ≡ desc → changed edges plan ≡ insert edges (asc, desc)
+changed-adds edges plan asc desc kind same_asc same_desc = rw (kind, same_asc, same_desc) refl
+
+pub changed-takes : (edges : Pairs) (plan : Plan) (asc desc : Bytes) → plan.adds ≡ false → plan.asc ≡ asc → plan.desc ≡ desc → changed edges plan ≡ remove edges (asc, desc)
+changed-takes edges plan asc desc kind same_asc same_desc = rw (kind, same_asc, same_desc) refl
+
+-- a plan to put an edge that would make no cycle
+pub Fits-added :
+    (old pairs : Pairs) (asc desc : Bytes) (above below : Names) (plan : Plan)
+    → plan.adds ≡ true → plan.asc ≡ asc → plan.desc ≡ desc → plan.takes ≡ empty
+    → (HasPair old asc desc → ⊥) → IsAcyclic old → (Geq old desc asc → ⊥) → IsClosure old pairs
+    → ((p : Bytes) → IsTrue (contains above p) ↔ Geq old p asc) → ((q : Bytes) → IsTrue (contains below q) ↔ Geq old desc q)
+    → ((x y : Bytes) → HasPair plan.puts x y ↔ (IsTrue (contains above x) × (IsTrue (contains below y) × (HasPair pairs x y → ⊥))))
+    → Fits old plan
+Fits-added old pairs asc desc above below plan kind same_asc same_desc none absent good no_back closed ups downs rest =
+    let new : Pairs = insert old (asc, desc) in
+    let is : changed old plan ≡ new = changed-adds old plan asc desc kind same_asc same_desc in
+    let adds = AddsPair-insert old asc desc in
+    let acyclic : IsAcyclic new = IsAcyclic-added old new asc desc good no_back adds in
+    let gained : IsGained old new plan.puts = IsGained-crossed old new pairs asc desc above below plan.puts (crosses old new asc desc adds) no_back closed ups downs rest in
+    let lost : IsGained new old plan.takes = subst (λ (takes : Pairs). IsGained new old takes) (sym none) (IsGained-none old new (λ a b h. (adds a b).1 (inl h))) in
+    record {
+      absent = λ _. rw (same_asc, same_desc) (is_false (contains old (asc, desc)) absent);
+      acyclic = subst IsAcyclic (sym is) acyclic;
+      puts = subst (λ (edges : Pairs). IsGained old edges plan.puts) (sym is) gained;
+      takes = subst (λ (edges : Pairs). IsGained edges old plan.takes) (sym is) lost;
+    }
+
+-- a plan to take an edge
+pub Fits-taken :
+    (old : Pairs) (asc desc : Bytes) (plan : Plan)
+    → plan.adds ≡ false → plan.asc ≡ asc → plan.desc ≡ desc → plan.puts ≡ empty
+    → IsAcyclic old → IsGained (remove old (asc, desc)) old plan.takes → Fits old plan
+Fits-taken old asc desc plan kind same_asc same_desc none good takes =
+    let new : Pairs = remove old (asc, desc) in
+    let is : changed old plan ≡ new = changed-takes old plan asc desc kind same_asc same_desc in
+    let fewer : ((a b : Bytes) → HasPair new a b → HasPair old a b) = λ a b h. ((TakesPair-remove old asc desc a b).0 h).0 in
+    let gained : IsGained old new plan.puts = subst (λ (puts : Pairs). IsGained old new puts) (sym none) (IsGained-none new old fewer) in
+    record {
+      absent = λ t. let both : true ≡ false = sym t ∙ kind in cc;
+      acyclic = subst IsAcyclic (sym is) (IsAcyclic-subset new old fewer good);
+      puts = subst (λ (edges : Pairs). IsGained old edges plan.puts) (sym is) gained;
+      takes = subst (λ (edges : Pairs). IsGained edges old plan.takes) (sym is) takes;
+    }
+
+-- how many pairs of a role of each there are
+pub judged_are : (edges : Pairs) (asc desc : Bytes) (above below : Names) → above ≡ insert (seniors edges asc) asc → below ≡ insert (juniors edges desc) desc
+    → len above * len below ≡ pairs_at edges asc desc
+judged_are edges asc desc above below ups downs =
+    let up : len above ≡ 1 + len (seniors edges asc) = ap len ups ∙ len-new (seniors edges asc) asc (not_own_senior edges asc) ∙ turned (len (seniors edges asc)) in
+    let down : len below ≡ 1 + len (juniors edges desc) = ap len downs ∙ len-new (juniors edges desc) desc (not_own_junior edges desc) ∙ turned (len (juniors edges desc)) in
+    λ i. up i * down i
+  where
+    turned : (n : ℕ) → n + 1 ≡ 1 + n
+    turned n = omega arith

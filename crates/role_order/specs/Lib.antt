@@ -1,0 +1,5 @@
+pub mod Checked
+pub mod Laws
+pub mod Order
+pub mod Planned
+pub mod Removal

@@ -1,0 +1,19 @@
+//! The role hierarchy: a set of edges without a cycle, and its closure, which is kept up edge by
+//! edge.
+//!
+//! An edge (r, q) says that r is an immediate ascendant of q. The order `r >= q` holds where r is q,
+//! or where edges lead from r to q. Its pairs of two different roles are stored, so that one search
+//! answers whether a role inherits from another, and a change of an edge is planned first: a plan
+//! names the pairs that come and go.
+#![tactic(auto)]
+
+pub use order::RoleOrder;
+pub use plan::OrderPlan;
+
+mod building;
+mod checking;
+pub mod laws;
+mod naming;
+pub mod order;
+pub mod plan;
+mod removal;

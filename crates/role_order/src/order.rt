@@ -1,0 +1,302 @@
+//! The hierarchy of roles: edges without a cycle, with the closure stored beside them.
+ghost use Rattle.std.specs.Prelude.{◌≡◌, ◌≢◌, ◌*◌, ◌↔◌, ◌⊎◌, IsTrue, true, false, Contains, IfOk, IfErr, OnOk, OnErr};
+ghost use Rattle.std.specs.List.{IsDistinct};
+ghost use Rattle.rbac_sets.specs.Sets.{Bytes, name_cmp, pair_cmp, empty, contains, insert, len, same_name};
+ghost use Rattle.rbac_sets.specs.SortedSet.{set_of};
+ghost use Rattle.role_order.specs.Order.{HasPair, Geq, geq, IsAcyclic, IsClosure, seniors, juniors};
+ghost use Rattle.role_order.specs.Planned.{changed, Fits, IsPlanOf, HasRoom};
+ghost use Rattle.role_order.specs.Removal.{AreJuniorsFirst};
+
+use crate::building::{crossed_pairs, firsts_of, seconds_of};
+use crate::checking::{has_cycle, is_closed_under};
+use crate::naming::is_geq;
+use crate::plan::OrderPlan;
+use crate::removal::{juniors_first, lost_pairs};
+use rbac_sets::{Name, NameSet, PairSet, Refusal};
+use std::alloc::Global;
+use std::marker::Model;
+
+/// The hierarchy of roles: a set of edges (ascendant, descendant) without a cycle, with its closure,
+/// all pairs of two different roles of which the first is above the second.
+///
+/// A role r is above q where edges lead from r to q, and `r >= q` holds where r is q or above it. The
+/// closure is stored and kept up edge by edge, so that `geq` is one search. A change of an edge takes
+/// three calls: a plan (`plan_add`, `plan_remove`), room for it (`make_room`), and `commit`, which
+/// can't fail. A contract sees the set of the edges, and how many more edges and pairs the order can
+/// take without memory.
+#[derive(Drop)]
+pub struct RoleOrder {
+    edges: PairSet,
+    pairs: PairSet,
+}
+
+impl Model for RoleOrder {
+    ghost use Rattle.rbac_sets.specs.Sets.{pair_cmp};
+    ghost use Rattle.rbac_sets.specs.SortedSet.{set_of};
+    ghost use Rattle.role_order.specs.Order.{IsAcyclic, IsClosure};
+    ghost use Rattle.role_order.specs.Planned.{Order, coded_order};
+
+    ghost Value = { Order };
+
+    ghost coded = { coded_order };
+
+    ghost view = { λ o. record { edges = set_of pair_cmp o.edges; edge_room = o.edges.room; pair_room = o.pairs.room } };
+
+    ghost invariant = { λ o. IsAcyclic (set_of pair_cmp o.edges) × IsClosure (set_of pair_cmp o.edges) (set_of pair_cmp o.pairs) };
+}
+
+impl RoleOrder {
+    /// The order without edges. It takes no memory yet.
+    pub fn new(alloc: Global) -> RoleOrder
+        ensures { result.edges ≡ empty }
+    {
+        RoleOrder {
+            edges: PairSet::new(alloc),
+            pairs: PairSet::new(alloc),
+        }
+    }
+
+    /// The edges (ascendant, descendant). They have no cycle: no edge leads from a role to itself, and
+    /// no two roles are each above the other.
+    ///
+    /// It takes no memory.
+    pub fn edges(&self) -> &PairSet
+        ensures edges { set_of pair_cmp result.now ≡ self.now.edges }
+        ensures acyclic { IsAcyclic self.now.edges }
+    {
+        &self.edges
+    }
+
+    /// The closure: the pairs (r, q) with `r >= q` and r not q.
+    ///
+    /// It takes no memory.
+    pub fn pairs(&self) -> &PairSet
+        ensures { IsClosure self.now.edges (set_of pair_cmp result.now) }
+    {
+        &self.pairs
+    }
+
+    /// Whether `asc` is an immediate ascendant of `desc`.
+    ///
+    /// It takes no memory.
+    pub fn has_edge(&self, asc: &Name, desc: &Name) -> bool
+        ensures { result ≡ contains self.now.edges (asc.now, desc.now) }
+    {
+        self.edges.contains((asc, desc))
+    }
+
+    /// Whether `a >= b`: `a` is `b`, or edges lead from `a` to `b`, so that `a` inherits from `b`.
+    ///
+    /// It takes no memory. The names may be any, also of no role of an edge.
+    pub fn geq(&self, a: &Name, b: &Name) -> bool
+        ensures reaches { IsTrue result ↔ Geq self.now.edges a.now b.now }
+        ensures test { result ≡ geq self.now.edges a.now b.now }
+    {
+        is_geq(&self.pairs, a, b)
+    }
+
+    /// The roles below `r`, without `r` itself.
+    ///
+    /// # Errors
+    ///
+    /// `Memory` where memory for them was refused.
+    pub fn juniors(&self, alloc: Global, r: &Name) -> Result<NameSet, Refusal>
+        ensures ok { IfOk result (λ names. set_of name_cmp names ≡ juniors self.now.edges r.now) }
+        ensures members { IfOk result (λ names. (q : Bytes) → IsTrue (contains (set_of name_cmp names) q) ↔ ((r.now ≢ q) × Geq self.now.edges r.now q)) }
+        ensures cause { IfErr result (λ refusal. refusal ≡ Refusal.Memory) }
+    {
+        let names = seconds_of(alloc, &self.pairs, r)?;
+        Ok(names)
+    }
+
+    /// The roles above `r`, without `r` itself.
+    ///
+    /// # Errors
+    ///
+    /// `Memory` where memory for them was refused.
+    pub fn seniors(&self, alloc: Global, r: &Name) -> Result<NameSet, Refusal>
+        ensures ok { IfOk result (λ names. set_of name_cmp names ≡ seniors self.now.edges r.now) }
+        ensures members { IfOk result (λ names. (p : Bytes) → IsTrue (contains (set_of name_cmp names) p) ↔ ((p ≢ r.now) × Geq self.now.edges p r.now)) }
+        ensures cause { IfErr result (λ refusal. refusal ≡ Refusal.Memory) }
+    {
+        let names = firsts_of(alloc, &self.pairs, r)?;
+        Ok(names)
+    }
+
+    // `r` and the roles above it.
+    fn at_or_above(&self, alloc: Global, r: &Name) -> Result<NameSet, Refusal>
+        ensures members { IfOk result (λ names. (p : Bytes) → IsTrue (contains (set_of name_cmp names) p) ↔ Geq self.now.edges p r.now) }
+        ensures ok { IfOk result (λ names. set_of name_cmp names ≡ insert (seniors self.now.edges r.now) r.now) }
+        ensures cause { IfErr result (λ refusal. refusal ≡ Refusal.Memory) }
+    {
+        let mut names = self.seniors(alloc, r)?;
+        names.reserve(1)?;
+        names.insert_reserved(r.copy(alloc)?);
+        Ok(names)
+    }
+
+    // `r` and the roles below it.
+    fn at_or_below(&self, alloc: Global, r: &Name) -> Result<NameSet, Refusal>
+        ensures members { IfOk result (λ names. (q : Bytes) → IsTrue (contains (set_of name_cmp names) q) ↔ Geq self.now.edges r.now q) }
+        ensures ok { IfOk result (λ names. set_of name_cmp names ≡ insert (juniors self.now.edges r.now) r.now) }
+        ensures cause { IfErr result (λ refusal. refusal ≡ Refusal.Memory) }
+    {
+        let mut names = self.juniors(alloc, r)?;
+        names.reserve(1)?;
+        names.insert_reserved(r.copy(alloc)?);
+        Ok(names)
+    }
+
+    /// The plan to put the edge from `asc` to `desc`, which need not be roles of other edges.
+    ///
+    /// Its `puts` are the pairs of `asc` or a role above it and `desc` or a role below it that the
+    /// order hasn't yet, and its `takes` are empty.
+    ///
+    /// # Errors
+    ///
+    /// `EdgeExists` where the edge is there. `Cycle` where it isn't, and `desc` is `asc` or above it.
+    /// `Memory` where memory for the plan was refused. The order is not changed in any case.
+    pub fn plan_add(&self, alloc: Global, asc: &Name, desc: &Name) -> Result<OrderPlan, Refusal>
+        ensures exists { (result ≡ Err Refusal.EdgeExists) ↔ HasPair self.now.edges asc.now desc.now }
+        ensures cycle { (result ≡ Err Refusal.Cycle) ↔ ((HasPair self.now.edges asc.now desc.now → ⊥) × Geq self.now.edges desc.now asc.now) }
+        ensures only { OnErr result ((result ≡ Err Refusal.EdgeExists) ⊎ ((result ≡ Err Refusal.Cycle) ⊎ (result ≡ Err Refusal.Memory))) }
+        ensures planned { IfOk result (IsPlanOf self.now.edges true asc.now desc.now) }
+    {
+        if self.has_edge(asc, desc) {
+            return Err(Refusal::EdgeExists);
+        }
+        if self.geq(desc, asc) {
+            return Err(Refusal::Cycle);
+        }
+        let above = self.at_or_above(alloc, asc)?;
+        let below = self.at_or_below(alloc, desc)?;
+        let puts = crossed_pairs(alloc, &self.pairs, &above, &below)?;
+        let judged = count_judged(&above, &below)?;
+        let takes = PairSet::new(alloc);
+        let asc = asc.copy(alloc)?;
+        let desc = desc.copy(alloc)?;
+        Ok(OrderPlan {
+            adds: true,
+            asc,
+            desc,
+            puts,
+            takes,
+            judged,
+        })
+    }
+
+    /// The plan to take the edge from `asc` to `desc`.
+    ///
+    /// Its `takes` are the pairs of `asc` or a role above it and `desc` or a role below it between
+    /// which no other edges lead, and its `puts` are empty.
+    ///
+    /// # Errors
+    ///
+    /// `NoEdge` where the edge isn't there. `Memory` where memory for the plan was refused. The order
+    /// is not changed in any case.
+    pub fn plan_remove(&self, alloc: Global, asc: &Name, desc: &Name) -> Result<OrderPlan, Refusal>
+        ensures absent { (result ≡ Err Refusal.NoEdge) ↔ (HasPair self.now.edges asc.now desc.now → ⊥) }
+        ensures only { OnErr result ((result ≡ Err Refusal.NoEdge) ⊎ (result ≡ Err Refusal.Memory)) }
+        ensures planned { IfOk result (IsPlanOf self.now.edges false asc.now desc.now) }
+    {
+        if !self.has_edge(asc, desc) {
+            return Err(Refusal::NoEdge);
+        }
+        let mut left = self.edges.copy(alloc)?;
+        left.remove((asc, desc));
+        let above = self.at_or_above(alloc, asc)?;
+        let below = self.at_or_below(alloc, desc)?;
+        let judged = count_judged(&above, &below)?;
+        let rows = juniors_first(alloc, &self.pairs, &above)?;
+        let takes = lost_pairs(alloc, &left, &self.pairs, &rows, &below)?;
+        let puts = PairSet::new(alloc);
+        let asc = asc.copy(alloc)?;
+        let desc = desc.copy(alloc)?;
+        Ok(OrderPlan {
+            adds: false,
+            asc,
+            desc,
+            puts,
+            takes,
+            judged,
+        })
+    }
+
+    /// Makes room for what a plan puts.
+    ///
+    /// # Errors
+    ///
+    /// `Memory` where memory was refused. The edges are kept in any case.
+    pub fn make_room(&mut self, plan: &OrderPlan) -> Result<(), Refusal>
+        ensures edges { self.new.edges ≡ self.old.edges }
+        ensures ok { OnOk result (HasRoom self.new plan.now) }
+        ensures cause { IfErr result (λ refusal. refusal ≡ Refusal.Memory) }
+    {
+        self.pairs.reserve(plan.puts.len())?;
+        if plan.adds {
+            self.edges.reserve(1)?;
+        }
+        Ok(())
+    }
+
+    /// Makes the change of a plan that fits this order, in the room that was made.
+    ///
+    /// A plan fits the order that it was made for as long as the edges are the same. It takes no memory
+    /// and can't fail.
+    pub fn commit(&mut self, plan: OrderPlan)
+        requires fits { Fits self.old.edges plan }
+        requires room { HasRoom self.old plan }
+        ensures { self.new.edges ≡ changed self.old.edges plan }
+    {
+        let OrderPlan {
+            adds,
+            asc,
+            desc,
+            puts,
+            takes,
+            judged: _,
+        } = plan;
+        self.pairs.merge_reserved(puts);
+        self.pairs.take_all(&takes);
+        if adds {
+            self.edges.insert_reserved((asc, desc));
+        } else {
+            self.edges.remove((&asc, &desc));
+        }
+    }
+
+    /// The order of these edges, where they have no cycle and `pairs` is their closure.
+    ///
+    /// # Errors
+    ///
+    /// `Damaged(5)` where the edges have a cycle, an edge from a role to itself included.
+    /// `Damaged(6)` where they have none and `pairs` isn't their closure. `Memory` where memory was
+    /// refused.
+    pub fn of_rows(alloc: Global, edges: PairSet, pairs: PairSet) -> Result<RoleOrder, Refusal>
+        ensures order { IfOk result (λ order. order.edges ≡ set_of pair_cmp edges) }
+        ensures acyclic { OnOk result (IsAcyclic (set_of pair_cmp edges)) }
+        ensures closed { OnOk result (IsClosure (set_of pair_cmp edges) (set_of pair_cmp pairs)) }
+        ensures cycle { result ≡ Err (Refusal.Damaged 5) → IsAcyclic (set_of pair_cmp edges) → ⊥ }
+        ensures differ { result ≡ Err (Refusal.Damaged 6) → IsAcyclic (set_of pair_cmp edges) × (IsClosure (set_of pair_cmp edges) (set_of pair_cmp pairs) → ⊥) }
+        ensures only { OnErr result ((result ≡ Err (Refusal.Damaged 5)) ⊎ ((result ≡ Err (Refusal.Damaged 6)) ⊎ (result ≡ Err Refusal.Memory))) }
+    {
+        if is_closed_under(&edges, &pairs) {
+            return Ok(RoleOrder { edges, pairs });
+        }
+        if has_cycle(alloc, &edges)? {
+            return Err(Refusal::Damaged(5));
+        }
+        Err(Refusal::Damaged(6))
+    }
+}
+
+// How many pairs of a name of each there are. No sets that fit in memory have more than a `u64` holds,
+// which no proof knows: such a number would be refused by `Memory`.
+fn count_judged(above: &NameSet, below: &NameSet) -> Result<u64, Refusal>
+    ensures ok { IfOk result (λ judged. judged ≡ len (set_of name_cmp above.now) * len (set_of name_cmp below.now)) }
+    ensures cause { IfErr result (λ refusal. refusal ≡ Refusal.Memory) }
+{
+    let above = above.len() as u64;
+    let below = below.len() as u64;
+    above.checked_mul(below).ok_or(Refusal::Memory)
+}
