@@ -1,0 +1,66 @@
+-- Users and sessions by what they hold.
+use Rattle.std.proofs.Common.{◌≡◌, ℕ, Bool, true, false, ◌||◌, List, map, refl, sym, ◌∙◌, ap}
+use Rattle.std.specs.Prelude.{IsTrue, count_by}
+use Rattle.std.specs.Bool.{Decides}
+use Rattle.std.specs.List.{filter, list_any}
+use Rattle.std.proofs.lemmas.Bool.{and_parts, and_from}
+use Rattle.rbac_sets.specs.Sets.{Bytes, Pair, Pairs, Names, name_cmp, pair_cmp, same_name, contains, members, retain, image, seconds, any, count}
+use Rattle.rbac_sets.specs.NameOrder.{name_total, name_exact, pair_total, pair_exact}
+use Rattle.rbac_sets.proofs.SetLaws.{image-Decides, any-Decides, contains-retain, seconds-Decides}
+use Rattle.role_order.specs.Order.{geq}
+use Rattle.role_order.proofs.Runs.{run_of}
+use Rattle.admin_mgr.specs.RbacState.{RbacState, Separation, members_of, active_roles}
+use Rattle.admin_mgr.specs.Authorization.{authorized_users, is_authorized, is_session_role}
+use Rattle.admin_mgr.specs.Held.{is_reached, reached_roles, reached_members}
+use Rattle.admin_mgr.proofs.Lookups.{any_seconds, count_seconds}
+
+same_test : (a b : Bool) → (IsTrue a → IsTrue b) → (IsTrue b → IsTrue a) → a ≡ b
+same_test true b there back = sym (there refl)
+same_test false true there back = back refl
+same_test false false there back = refl
+
+-- a user is authorized for the roles that are reached from its assignments
+pub authorized_reached : (S : RbacState) (user role : Bytes) → is_authorized S user role ≡ is_reached S.edges (run_of S.assignments user) role
+unfolding authorized_users
+authorized_reached S user role =
+    let test : Pair → Bool = λ a. geq S.edges a.1 role in
+    let found = image-Decides pair_total pair_exact name_total name_exact (λ (a : Pair). a.0) (retain S.assignments test) user in
+    let above = any-Decides name_total name_exact (λ r. geq S.edges r role) (seconds S.assignments user) in
+    same_test _ _
+    (λ h. (let one = found.0 h in
+    let parts = and_parts _ _ (sym (contains-retain pair_total pair_exact S.assignments test one.0) ∙ one.1) in
+    above.1 (one.0.1, (seconds-Decides S.assignments user one.0.1).1 (sym (ap (λ u. contains S.assignments (u, one.0.1)) one.2) ∙ parts.0), parts.1)))
+    (λ h. (let one = above.0 h in
+    found.1 (
+      (user, one.0),
+      contains-retain pair_total pair_exact S.assignments test (user, one.0)
+          ∙ and_from _ _ ((seconds-Decides S.assignments user one.0).0 one.1) one.2,
+      refl,
+    )))
+    ∙ any_seconds (λ r. geq S.edges r role) S.assignments user
+
+-- a session has the roles that are reached from what was activated in it
+pub session_reached : (S : RbacState) (session role : Bytes) → is_session_role S session role ≡ is_reached S.edges (run_of S.active session) role
+session_reached S session role = any_seconds (λ r. geq S.edges r role) S.active session
+
+-- ---- how many of some roles they have
+
+pub authorized_roles_count : (S : RbacState) (user : Bytes) (roles : Names) →
+    count (is_authorized S user) roles ≡ reached_roles S.edges (run_of S.assignments user) (members roles)
+unfolding count
+authorized_roles_count S user roles = λ i. count_by (λ role. authorized_reached S user role i) (members roles)
+
+pub session_roles_count : (S : RbacState) (session : Bytes) (roles : Names) →
+    count (is_session_role S session) roles ≡ reached_roles S.edges (run_of S.active session) (members roles)
+unfolding count
+session_roles_count S session roles = λ i. count_by (λ role. session_reached S session role i) (members roles)
+
+pub authorized_members_count : (S : RbacState) (user : Bytes) (pairs : Pairs) (name : Bytes) →
+    count (is_authorized S user) (seconds pairs name) ≡ reached_members S.edges (run_of S.assignments user) (run_of pairs name)
+authorized_members_count S user pairs name =
+    count_seconds (is_authorized S user) pairs name ∙ (λ i. count_by (λ (member : Pair). authorized_reached S user member.1 i) (run_of pairs name))
+
+pub session_members_count : (S : RbacState) (session : Bytes) (pairs : Pairs) (name : Bytes) →
+    count (is_session_role S session) (seconds pairs name) ≡ reached_members S.edges (run_of S.active session) (run_of pairs name)
+session_members_count S session pairs name =
+    count_seconds (is_session_role S session) pairs name ∙ (λ i. count_by (λ (member : Pair). session_reached S session member.1 i) (run_of pairs name))

@@ -1,0 +1,10 @@
+use Rattle.std.proofs.Common.{◌∙◌}
+use Rattle.admin_mgr.specs.Refusing.{first}
+use Rattle.admin_mgr.specs.Verdict.{verdict, refusals, delete_member_refusals}
+use Rattle.admin_mgr.proofs.judge.dynamic_separation.judge_delete_dsd_role_member.Goals as goal
+
+pub returns : goal.returns
+unfolding verdict refusals
+returns c =
+    c.refuse_member_taken.ensures
+    ∙ (λ i. first (delete_member_refusals c.args.state.now.facts (record { members = c.dsd_members.ensures i; cardinalities = c.dsd_cardinalities.ensures i }) c.args.set.now c.args.role.now))

@@ -1,0 +1,14 @@
+pub mod After
+pub mod Assignment
+pub mod Authorization
+pub mod Good
+pub mod Held
+pub mod Kept
+pub mod Laws
+pub mod RbacState
+pub mod Refusing
+pub mod Rows
+pub mod Run
+pub mod Separation
+pub mod Verdict
+pub mod View

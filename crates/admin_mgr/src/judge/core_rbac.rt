@@ -1,0 +1,279 @@
+//! The verdicts on the commands of core RBAC but for those on sessions, with the locks and the import.
+ghost use Rattle.std.specs.Prelude.{◌≡◌};
+ghost use Rattle.rbac_sets.specs.declared.command.Command.TheVariants.{AddUser, DeleteUser, AddRole, DeleteRole, AddPermObj, DeletePermObj, AddPermission, DeletePermission, GrantPermission, RevokePermission, DeassignUser, ImportAssignments, LockUserAccount, UnlockUserAccount};
+ghost use Rattle.admin_mgr.specs.Verdict.{verdict};
+ghost use Rattle.admin_mgr.specs.Verdict.{is_in_use};
+
+use crate::limits::{is_full, is_too_many};
+use crate::lookup::{has_first, has_part, has_second};
+use crate::state::State;
+use rbac_sets::{Kind, Name, Refusal};
+
+/// The verdict on AddUser.
+///
+/// Refused by `UserExists` where there is such a user, then by `TooMany` where there are as many users
+/// as there may be.
+#[tactic(auto, unfolding(crate::specs::Verdict::verdict, crate::specs::Verdict::refusals))]
+pub fn judge_add_user(state: &State, user: &Name) -> Option<Refusal>
+    ensures { result ≡ verdict state.now.facts (AddUser user.now) }
+{
+    if state.users().contains(user) {
+        return Some(Refusal::UserExists);
+    }
+    if is_full(state, Kind::User, state.users().len()) {
+        return Some(Refusal::TooMany(Kind::User));
+    }
+    None
+}
+
+/// The verdict on DeleteUser.
+///
+/// Refused by `NoUser` where there is no such user.
+#[tactic(auto, unfolding(crate::specs::Verdict::verdict, crate::specs::Verdict::refusals))]
+pub fn judge_delete_user(state: &State, user: &Name) -> Option<Refusal>
+    ensures { result ≡ verdict state.now.facts (DeleteUser user.now) }
+{
+    if !state.users().contains(user) {
+        return Some(Refusal::NoUser);
+    }
+    None
+}
+
+/// The verdict on AddRole.
+///
+/// Refused by `RoleExists` where there is such a role, then by `TooMany` where there are as many roles
+/// as there may be.
+#[tactic(auto, unfolding(crate::specs::Verdict::verdict, crate::specs::Verdict::refusals))]
+pub fn judge_add_role(state: &State, role: &Name) -> Option<Refusal>
+    ensures { result ≡ verdict state.now.facts (AddRole role.now) }
+{
+    if state.roles().contains(role) {
+        return Some(Refusal::RoleExists);
+    }
+    if is_full(state, Kind::Role, state.roles().len()) {
+        return Some(Refusal::TooMany(Kind::Role));
+    }
+    None
+}
+
+/// The verdict on DeleteRole.
+///
+/// Refused by `NoRole` where there is no such role, then by `RoleInUse` where the role has an immediate
+/// inheritance or is a member of a separation of duty set.
+#[tactic(auto, unfolding(crate::specs::Verdict::verdict, crate::specs::Verdict::refusals))]
+pub fn judge_delete_role(state: &State, role: &Name) -> Option<Refusal>
+    ensures { result ≡ verdict state.now.facts (DeleteRole role.now) }
+{
+    if !state.roles().contains(role) {
+        return Some(Refusal::NoRole);
+    }
+    if is_in_use(state, role) {
+        return Some(Refusal::RoleInUse);
+    }
+    None
+}
+
+// Whether the role has an immediate inheritance or is a member of a separation of duty set.
+#[tactic(auto, unfolding(rbac_sets::specs::Sets::any))]
+fn is_in_use(state: &State, role: &Name) -> bool
+    ensures { result ≡ is_in_use state.now.facts role.now }
+{
+    has_part(state.order().edges().as_slice(), role)
+        || has_second(state.ssd_members().as_slice(), role)
+        || has_second(state.dsd_members().as_slice(), role)
+}
+
+/// The verdict on the making of an object.
+///
+/// Refused by `ObjectExists` where there is such an object, then by `TooMany` where there are as many
+/// objects as there may be.
+#[tactic(auto, unfolding(crate::specs::Verdict::verdict, crate::specs::Verdict::refusals))]
+pub fn judge_add_perm_obj(state: &State, object: &Name) -> Option<Refusal>
+    ensures { result ≡ verdict state.now.facts (AddPermObj object.now) }
+{
+    if state.objects().contains(object) {
+        return Some(Refusal::ObjectExists);
+    }
+    if is_full(state, Kind::Object, state.objects().len()) {
+        return Some(Refusal::TooMany(Kind::Object));
+    }
+    None
+}
+
+/// The verdict on the taking of an object.
+///
+/// Refused by `NoObject` where there is no such object, then by `ObjectInUse` where it has a
+/// permission.
+#[tactic(auto, unfolding(crate::specs::Verdict::verdict, crate::specs::Verdict::refusals))]
+pub fn judge_delete_perm_obj(state: &State, object: &Name) -> Option<Refusal>
+    ensures { result ≡ verdict state.now.facts (DeletePermObj object.now) }
+{
+    if !state.objects().contains(object) {
+        return Some(Refusal::NoObject);
+    }
+    if has_first(state.permissions(), object) {
+        return Some(Refusal::ObjectInUse);
+    }
+    None
+}
+
+/// The verdict on the making of a permission for an operation on an object.
+///
+/// Refused by `NoObject` where there is no such object, then by `PermissionExists` where there is such
+/// a permission, then by `TooMany` where there are as many permissions as there may be.
+#[tactic(auto, unfolding(crate::specs::Verdict::verdict, crate::specs::Verdict::refusals))]
+pub fn judge_add_permission(state: &State, object: &Name, operation: &Name) -> Option<Refusal>
+    ensures { result ≡ verdict state.now.facts (AddPermission object.now operation.now) }
+{
+    if !state.objects().contains(object) {
+        return Some(Refusal::NoObject);
+    }
+    if state.permissions().contains((object, operation)) {
+        return Some(Refusal::PermissionExists);
+    }
+    if is_full(state, Kind::Permission, state.permissions().len()) {
+        return Some(Refusal::TooMany(Kind::Permission));
+    }
+    None
+}
+
+/// The verdict on the taking of a permission.
+///
+/// Refused by `NoObject` where there is no such object, then by `NoPermission` where there is no such
+/// permission.
+#[tactic(auto, unfolding(crate::specs::Verdict::verdict, crate::specs::Verdict::refusals))]
+pub fn judge_delete_permission(state: &State, object: &Name, operation: &Name) -> Option<Refusal>
+    ensures { result ≡ verdict state.now.facts (DeletePermission object.now operation.now) }
+{
+    if !state.objects().contains(object) {
+        return Some(Refusal::NoObject);
+    }
+    if !state.permissions().contains((object, operation)) {
+        return Some(Refusal::NoPermission);
+    }
+    None
+}
+
+/// The verdict on GrantPermission.
+///
+/// Refused by `NoObject`, `NoPermission`, `NoRole` where these are missing, then by `AlreadyGranted`
+/// where the role has the grant, then by `TooMany` where there are as many grants as there may be.
+#[tactic(auto, unfolding(crate::specs::Verdict::verdict, crate::specs::Verdict::refusals))]
+pub fn judge_grant_permission(
+    state: &State,
+    object: &Name,
+    operation: &Name,
+    role: &Name,
+) -> Option<Refusal>
+    ensures { result ≡ verdict state.now.facts (GrantPermission object.now operation.now role.now) }
+{
+    if !state.objects().contains(object) {
+        return Some(Refusal::NoObject);
+    }
+    if !state.permissions().contains((object, operation)) {
+        return Some(Refusal::NoPermission);
+    }
+    if !state.roles().contains(role) {
+        return Some(Refusal::NoRole);
+    }
+    if state.grants().contains((object, operation, role)) {
+        return Some(Refusal::AlreadyGranted);
+    }
+    if is_full(state, Kind::Grant, state.grants().len()) {
+        return Some(Refusal::TooMany(Kind::Grant));
+    }
+    None
+}
+
+/// The verdict on RevokePermission.
+///
+/// Refused by `NoObject`, `NoPermission`, `NoRole` where these are missing, then by `NotGranted` where
+/// the role hasn't the grant.
+#[tactic(auto, unfolding(crate::specs::Verdict::verdict, crate::specs::Verdict::refusals))]
+pub fn judge_revoke_permission(
+    state: &State,
+    object: &Name,
+    operation: &Name,
+    role: &Name,
+) -> Option<Refusal>
+    ensures { result ≡ verdict state.now.facts (RevokePermission object.now operation.now role.now) }
+{
+    if !state.objects().contains(object) {
+        return Some(Refusal::NoObject);
+    }
+    if !state.permissions().contains((object, operation)) {
+        return Some(Refusal::NoPermission);
+    }
+    if !state.roles().contains(role) {
+        return Some(Refusal::NoRole);
+    }
+    if !state.grants().contains((object, operation, role)) {
+        return Some(Refusal::NotGranted);
+    }
+    None
+}
+
+/// The verdict on DeassignUser.
+///
+/// Refused by `NoUser`, `NoRole` where these are missing, then by `NotAssigned` where the user isn't
+/// assigned to the role.
+#[tactic(auto, unfolding(crate::specs::Verdict::verdict, crate::specs::Verdict::refusals))]
+pub fn judge_deassign_user(state: &State, user: &Name, role: &Name) -> Option<Refusal>
+    ensures { result ≡ verdict state.now.facts (DeassignUser user.now role.now) }
+{
+    if !state.users().contains(user) {
+        return Some(Refusal::NoUser);
+    }
+    if !state.roles().contains(role) {
+        return Some(Refusal::NoRole);
+    }
+    if !state.assignments().contains((user, role)) {
+        return Some(Refusal::NotAssigned);
+    }
+    None
+}
+
+/// The verdict on an import of assignments: its records are judged one by one only when it is made.
+///
+/// Refused by `TooMany` where it has more records than an import may have.
+#[tactic(auto, unfolding(crate::specs::Verdict::verdict, crate::specs::Verdict::refusals))]
+pub fn judge_import_assignments(state: &State, pairs: &Vec<(Name, Name)>) -> Option<Refusal>
+    ensures { result ≡ verdict state.now.facts (ImportAssignments pairs.now) }
+{
+    if is_too_many(state, Kind::Record, pairs.len()) {
+        return Some(Refusal::TooMany(Kind::Record));
+    }
+    None
+}
+
+/// The verdict on the locking of a user.
+///
+/// Refused by `Version(1)` in version 1, then by `NoUser` where there is no such user.
+#[tactic(auto, unfolding(crate::specs::Verdict::verdict, crate::specs::Verdict::refusals))]
+pub fn judge_lock_user_account(state: &State, user: &Name) -> Option<Refusal>
+    ensures { result ≡ verdict state.now.facts (LockUserAccount user.now) }
+{
+    if state.version() == 1 {
+        return Some(Refusal::Version(1));
+    }
+    if !state.users().contains(user) {
+        return Some(Refusal::NoUser);
+    }
+    None
+}
+
+/// The verdict on the taking of a user's lock.
+///
+/// Refused by `Version(1)` in version 1, then by `NoUser` where there is no such user.
+#[tactic(auto, unfolding(crate::specs::Verdict::verdict, crate::specs::Verdict::refusals))]
+pub fn judge_unlock_user_account(state: &State, user: &Name) -> Option<Refusal>
+    ensures { result ≡ verdict state.now.facts (UnlockUserAccount user.now) }
+{
+    if state.version() == 1 {
+        return Some(Refusal::Version(1));
+    }
+    if !state.users().contains(user) {
+        return Some(Refusal::NoUser);
+    }
+    None
+}

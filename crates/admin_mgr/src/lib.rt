@@ -1,0 +1,17 @@
+//! The state of the office, and the verdict on every command.
+//!
+//! The state has the sets and relations of core RBAC, of the role hierarchy and of static and
+//! dynamic separation of duty, and it is always good. A command is judged on the state as it is,
+//! without a copy of it: the verdict is the first of the command's refusals that holds.
+#![tactic(auto)]
+
+pub use relations::Relations;
+pub use state::State;
+
+mod held;
+pub mod judge;
+pub mod laws;
+mod limits;
+mod lookup;
+pub mod relations;
+pub mod state;

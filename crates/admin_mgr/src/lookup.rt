@@ -1,0 +1,57 @@
+//! What a set of names or pairs says of one name.
+ghost use Rattle.std.specs.Prelude.{◌≡◌, ◌||◌, find, filter};
+ghost use Rattle.std.specs.List.{list_any, list_all};
+ghost use Rattle.std.specs.Option.{option_map};
+ghost use Rattle.rbac_sets.specs.Sets.{Pair, Cardinality, name_cmp, pair_cmp, cardinality_cmp, any, all, contains, members, same_name};
+ghost use Rattle.rbac_sets.specs.SortedSet.{set_of};
+
+use rbac_sets::{CountSet, Name, NameSet, PairSet};
+
+// Whether the two names are one.
+#[tactic(auto, using(rbac_sets::proofs::SetLaws::same_bytes))]
+pub(crate) fn is_same(a: &Name, b: &Name) -> bool
+    ensures { result ≡ same_name a.now b.now }
+{
+    a == b
+}
+
+// Whether a pair begins with this name.
+#[tactic(auto, using(crate::proofs::Lookups::any_filter), unfolding(rbac_sets::specs::Sets::any))]
+pub(crate) fn has_first(pairs: &PairSet, first: &Name) -> bool
+    ensures { result ≡ any (λ (pair : Pair). same_name pair.0 first.now) (set_of pair_cmp pairs.now) }
+{
+    !pairs.with_first(first).is_empty()
+}
+
+// Whether a pair ends with this name.
+pub(crate) fn has_second(pairs: &[(Name, Name)], second: &Name) -> bool
+    ensures { result ≡ list_any (λ (pair : Pair). same_name pair.1 second.now) pairs.now }
+{
+    pairs.iter().any(|pair| is_same(&pair.1, second))
+}
+
+// Whether a pair begins or ends with this name.
+pub(crate) fn has_part(pairs: &[(Name, Name)], name: &Name) -> bool
+    ensures { result ≡ list_any (λ (pair : Pair). same_name pair.0 name.now || same_name pair.1 name.now) pairs.now }
+{
+    pairs
+        .iter()
+        .any(|pair| is_same(&pair.0, name) || is_same(&pair.1, name))
+}
+
+// Whether each of the names is in the set.
+pub(crate) fn are_in(names: &[Name], set: &NameSet) -> bool
+    ensures { result ≡ list_all (contains (set_of name_cmp set.now)) names.now }
+{
+    names.iter().all(|name| set.contains(name))
+}
+
+// The number of a name, if it has one.
+pub(crate) fn number_of(numbers: &CountSet, name: &Name) -> Option<u32>
+    ensures { result ≡ option_map (λ (entry : Cardinality). entry.1) (find (λ (entry : Cardinality). same_name entry.0 name.now) (members (set_of cardinality_cmp numbers.now))) }
+{
+    match numbers.with_first(name).first() {
+        Some(entry) => Some(entry.1),
+        None => None,
+    }
+}

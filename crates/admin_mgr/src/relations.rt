@@ -1,0 +1,161 @@
+//! The sets and relations of the office, whether they are good or not.
+ghost use Rattle.std.specs.Prelude.{◌≡◌};
+ghost use Rattle.rbac_sets.specs.Sets.{name_cmp, pair_cmp, triple_cmp, cardinality_cmp};
+ghost use Rattle.rbac_sets.specs.SortedSet.{set_of};
+ghost use Rattle.admin_mgr.specs.RbacState.{empty_state};
+
+use rbac_sets::{CountSet, GrantSet, NameSet, PairSet};
+use role_order::RoleOrder;
+use std::alloc::Global;
+use std::marker::Model;
+
+/// The sets and relations of core RBAC, of the role hierarchy and of separation of duty, between the
+/// changes of one command: they may be anything.
+///
+/// A contract sees them as `facts`, and beside them how many more entries each set can take without
+/// memory.
+#[derive(Drop)]
+pub struct Relations {
+    version: u32,
+    users: NameSet,
+    locked: NameSet,
+    roles: NameSet,
+    objects: NameSet,
+    permissions: PairSet,
+    assignments: PairSet,
+    grants: GrantSet,
+    order: RoleOrder,
+    sessions: PairSet,
+    active: PairSet,
+    ssd_members: PairSet,
+    ssd_cardinalities: CountSet,
+    dsd_members: PairSet,
+    dsd_cardinalities: CountSet,
+}
+
+impl Model for Relations {
+    ghost use Rattle.admin_mgr.specs.Kept.{Kept, coded_kept};
+
+    ghost Value = { Kept };
+
+    ghost coded = { coded_kept };
+
+    ghost use Rattle.admin_mgr.specs.View.{view_of};
+
+    ghost view = { view_of };
+}
+
+impl Relations {
+    // Nothing yet, in an office of this version. It takes no memory.
+    pub(crate) fn empty(alloc: Global, version: u32) -> Relations
+        ensures { result.facts ≡ empty_state version }
+    {
+        Relations {
+            version,
+            users: NameSet::new(alloc),
+            locked: NameSet::new(alloc),
+            roles: NameSet::new(alloc),
+            objects: NameSet::new(alloc),
+            permissions: PairSet::new(alloc),
+            assignments: PairSet::new(alloc),
+            grants: GrantSet::new(alloc),
+            order: RoleOrder::new(alloc),
+            sessions: PairSet::new(alloc),
+            active: PairSet::new(alloc),
+            ssd_members: PairSet::new(alloc),
+            ssd_cardinalities: CountSet::new(alloc),
+            dsd_members: PairSet::new(alloc),
+            dsd_cardinalities: CountSet::new(alloc),
+        }
+    }
+
+    pub(crate) fn version(&self) -> u32
+        ensures { result ≡ self.now.facts.version }
+    {
+        self.version
+    }
+
+    pub(crate) fn users(&self) -> &NameSet
+        ensures { set_of name_cmp result.now ≡ self.now.facts.users }
+    {
+        &self.users
+    }
+
+    pub(crate) fn locked(&self) -> &NameSet
+        ensures { set_of name_cmp result.now ≡ self.now.facts.locked }
+    {
+        &self.locked
+    }
+
+    pub(crate) fn roles(&self) -> &NameSet
+        ensures { set_of name_cmp result.now ≡ self.now.facts.roles }
+    {
+        &self.roles
+    }
+
+    pub(crate) fn objects(&self) -> &NameSet
+        ensures { set_of name_cmp result.now ≡ self.now.facts.objects }
+    {
+        &self.objects
+    }
+
+    pub(crate) fn permissions(&self) -> &PairSet
+        ensures { set_of pair_cmp result.now ≡ self.now.facts.permissions }
+    {
+        &self.permissions
+    }
+
+    pub(crate) fn assignments(&self) -> &PairSet
+        ensures { set_of pair_cmp result.now ≡ self.now.facts.assignments }
+    {
+        &self.assignments
+    }
+
+    pub(crate) fn grants(&self) -> &GrantSet
+        ensures { set_of triple_cmp result.now ≡ self.now.facts.grants }
+    {
+        &self.grants
+    }
+
+    pub(crate) fn sessions(&self) -> &PairSet
+        ensures { set_of pair_cmp result.now ≡ self.now.facts.sessions }
+    {
+        &self.sessions
+    }
+
+    pub(crate) fn active(&self) -> &PairSet
+        ensures { set_of pair_cmp result.now ≡ self.now.facts.active }
+    {
+        &self.active
+    }
+
+    pub(crate) fn ssd_members(&self) -> &PairSet
+        ensures { set_of pair_cmp result.now ≡ self.now.facts.ssd.members }
+    {
+        &self.ssd_members
+    }
+
+    pub(crate) fn ssd_cardinalities(&self) -> &CountSet
+        ensures { set_of cardinality_cmp result.now ≡ self.now.facts.ssd.cardinalities }
+    {
+        &self.ssd_cardinalities
+    }
+
+    pub(crate) fn dsd_members(&self) -> &PairSet
+        ensures { set_of pair_cmp result.now ≡ self.now.facts.dsd.members }
+    {
+        &self.dsd_members
+    }
+
+    pub(crate) fn dsd_cardinalities(&self) -> &CountSet
+        ensures { set_of cardinality_cmp result.now ≡ self.now.facts.dsd.cardinalities }
+    {
+        &self.dsd_cardinalities
+    }
+
+    pub(crate) fn order(&self) -> &RoleOrder
+        ensures { result.now.edges ≡ self.now.facts.edges }
+    {
+        &self.order
+    }
+}

@@ -1,0 +1,191 @@
+//! The state of the office.
+ghost use Rattle.std.specs.Prelude.{◌≡◌, ◌⊎◌};
+ghost use Rattle.rbac_sets.specs.Sets.{name_cmp, pair_cmp, triple_cmp, cardinality_cmp};
+ghost use Rattle.rbac_sets.specs.SortedSet.{set_of};
+ghost use Rattle.admin_mgr.specs.RbacState.{empty_state, cardinality_of};
+ghost use Rattle.admin_mgr.specs.Good.{IsGood};
+
+use crate::lookup::number_of;
+use crate::relations::Relations;
+use rbac_sets::{CountSet, GrantSet, Name, NameSet, PairSet};
+use role_order::RoleOrder;
+use std::alloc::Global;
+use std::marker::Model;
+
+/// The state of an office: the sets and relations of the standard, which are good.
+///
+/// What a relation speaks of is there, the role hierarchy has no cycle, no separation of duty set is
+/// violated, a session's user is authorized for each role that was activated in it and is not locked,
+/// and no limit of the state's version is passed. A contract sees the sets and relations as `facts`.
+/// No reader takes memory.
+#[derive(Drop)]
+pub struct State {
+    relations: Relations,
+}
+
+impl Model for State {
+    ghost use Rattle.admin_mgr.specs.Kept.{Kept, coded_kept};
+    ghost use Rattle.admin_mgr.specs.Good.{IsGood};
+
+    ghost Value = { Kept };
+
+    ghost coded = { coded_kept };
+
+    ghost view = { λ state. state.relations };
+
+    ghost invariant = { λ state. IsGood state.relations.facts };
+}
+
+impl State {
+    /// A state of version 2 in which nothing was done yet. It takes no memory.
+    pub fn empty(alloc: Global) -> State
+        ensures { result.facts ≡ empty_state 2 }
+    {
+        State {
+            relations: Relations::empty(alloc, 2),
+        }
+    }
+
+    /// A state of version 1 in which nothing was done yet. It takes no memory.
+    pub fn empty_v1(alloc: Global) -> State
+        ensures { result.facts ≡ empty_state 1 }
+    {
+        State {
+            relations: Relations::empty(alloc, 1),
+        }
+    }
+
+    /// What holds of every state.
+    pub fn is_good(&self)
+        ensures { IsGood self.now.facts }
+    {
+        let _ = &self.relations;
+    }
+
+    /// 1, or 2 where users can be locked and the limits of users, roles and immediate inheritances
+    /// are larger. No command changes it.
+    pub fn version(&self) -> u32
+        ensures version { result ≡ self.now.facts.version }
+        ensures known { (result ≡ 1) ⊎ (result ≡ 2) }
+    {
+        self.relations.version()
+    }
+
+    /// USERS.
+    pub fn users(&self) -> &NameSet
+        ensures { set_of name_cmp result.now ≡ self.now.facts.users }
+    {
+        self.relations.users()
+    }
+
+    /// The locked users, who may have no session. There are none in version 1.
+    pub fn locked(&self) -> &NameSet
+        ensures { set_of name_cmp result.now ≡ self.now.facts.locked }
+    {
+        self.relations.locked()
+    }
+
+    /// ROLES.
+    pub fn roles(&self) -> &NameSet
+        ensures { set_of name_cmp result.now ≡ self.now.facts.roles }
+    {
+        self.relations.roles()
+    }
+
+    /// OBS, the objects.
+    pub fn objects(&self) -> &NameSet
+        ensures { set_of name_cmp result.now ≡ self.now.facts.objects }
+    {
+        self.relations.objects()
+    }
+
+    /// PRMS, the permissions, as pairs (object, operation).
+    pub fn permissions(&self) -> &PairSet
+        ensures { set_of pair_cmp result.now ≡ self.now.facts.permissions }
+    {
+        self.relations.permissions()
+    }
+
+    /// UA, the user assignments, as pairs (user, role).
+    pub fn assignments(&self) -> &PairSet
+        ensures { set_of pair_cmp result.now ≡ self.now.facts.assignments }
+    {
+        self.relations.assignments()
+    }
+
+    /// PA, the permission assignments, as triples (object, operation, role).
+    pub fn grants(&self) -> &GrantSet
+        ensures { set_of triple_cmp result.now ≡ self.now.facts.grants }
+    {
+        self.relations.grants()
+    }
+
+    /// SESSIONS with the user of each, as pairs (session, user).
+    pub fn sessions(&self) -> &PairSet
+        ensures { set_of pair_cmp result.now ≡ self.now.facts.sessions }
+    {
+        self.relations.sessions()
+    }
+
+    /// The roles that were activated in the sessions, as pairs (session, role). `session_roles` of the
+    /// standard has the roles below these too.
+    pub fn active(&self) -> &PairSet
+        ensures { set_of pair_cmp result.now ≡ self.now.facts.active }
+    {
+        self.relations.active()
+    }
+
+    /// The roles of the static separation of duty sets, as pairs (set, role).
+    pub fn ssd_members(&self) -> &PairSet
+        ensures { set_of pair_cmp result.now ≡ self.now.facts.ssd.members }
+    {
+        self.relations.ssd_members()
+    }
+
+    /// The static separation of duty sets, as pairs (set, cardinality).
+    pub fn ssd_cardinalities(&self) -> &CountSet
+        ensures { set_of cardinality_cmp result.now ≡ self.now.facts.ssd.cardinalities }
+    {
+        self.relations.ssd_cardinalities()
+    }
+
+    /// The roles of the dynamic separation of duty sets, as pairs (set, role).
+    pub fn dsd_members(&self) -> &PairSet
+        ensures { set_of pair_cmp result.now ≡ self.now.facts.dsd.members }
+    {
+        self.relations.dsd_members()
+    }
+
+    /// The dynamic separation of duty sets, as pairs (set, cardinality).
+    pub fn dsd_cardinalities(&self) -> &CountSet
+        ensures { set_of cardinality_cmp result.now ≡ self.now.facts.dsd.cardinalities }
+    {
+        self.relations.dsd_cardinalities()
+    }
+
+    /// The role hierarchy: the immediate inheritances, as edges (ascendant, descendant), and their
+    /// order.
+    pub fn order(&self) -> &RoleOrder
+        ensures { result.now.edges ≡ self.now.facts.edges }
+    {
+        self.relations.order()
+    }
+
+    /// SsdRoleSetCardinality: the cardinality of a static separation of duty set, and `None` where
+    /// there is no set of this name.
+    #[tactic(auto, unfolding(crate::specs::RbacState::cardinality_of))]
+    pub fn ssd_n(&self, set: &Name) -> Option<u32>
+        ensures { result ≡ cardinality_of self.now.facts.ssd set.now }
+    {
+        number_of(self.ssd_cardinalities(), set)
+    }
+
+    /// DsdRoleSetCardinality: the cardinality of a dynamic separation of duty set, and `None` where
+    /// there is no set of this name.
+    #[tactic(auto, unfolding(crate::specs::RbacState::cardinality_of))]
+    pub fn dsd_n(&self, set: &Name) -> Option<u32>
+        ensures { result ≡ cardinality_of self.now.facts.dsd set.now }
+    {
+        number_of(self.dsd_cardinalities(), set)
+    }
+}
