@@ -1,6 +1,6 @@
 -- Separation of duty with another cardinality, and with one role more.
 use Rattle.std.proofs.Common.{◌≡◌, ℕ, ◌+◌, ◌<◌, ◌≤◌, Bool, true, false, cond, not, ◌||◌, ◌&&◌, List, [], ◌∷◌, refl, sym, ◌∙◌, ap, subst, arith}
-use Rattle.std.specs.Prelude.{IsTrue, Option, Some, None, find, nat_lt, unwrap_or}
+use Rattle.std.specs.Prelude.{IsTrue, Option, Some, None, is_some, find, nat_lt, unwrap_or}
 use Rattle.std.specs.Option.{option_map}
 use Rattle.std.specs.List.{list_any, list_all}
 use Rattle.std.specs.FinMap as finmap
@@ -10,14 +10,15 @@ use Rattle.std.specs.Ordering.{eq_by_cmp}
 use Rattle.std.specs.Cmp.{IsTotalOrder}
 use Rattle.std.specs.FinMap.{IsAntisymmetric}
 use Rattle.std.proofs.lemmas.Bool.{or_left, or_right, lt-ltb, true≢false}
-use Rattle.rbac_sets.specs.Sets.{Bytes, Pair, Pairs, Names, Cardinality, name_cmp, pair_cmp, cardinality_cmp, same_name, contains, members, insert, retain, seconds, len, count, all}
+use Rattle.rbac_sets.specs.Sets.{Bytes, Pair, Pairs, Names, Cardinality, name_cmp, pair_cmp, cardinality_cmp, same_name, contains, members, insert, retain, seconds, len, count, any, all}
 use Rattle.rbac_sets.specs.NameOrder.{name_total, name_exact, pair_total, pair_exact, cardinality_total, cardinality_exact}
 use Rattle.rbac_sets.proofs.SetLaws.{tie_Decides, contains-members, contains-insert, contains-retain, all-Decides, seconds-Decides, same_set}
 use Rattle.rbac_sets.proofs.Members.{count-len}
-use Rattle.admin_mgr.specs.RbacState.{RbacState, Separation, members_of, cardinality_of}
+use Rattle.admin_mgr.specs.RbacState.{RbacState, Separation, members_of, has_set, cardinality_of}
 use Rattle.admin_mgr.specs.Authorization.{is_authorized, is_session_role}
 use Rattle.admin_mgr.specs.Separation.{is_kept_statically, is_kept_dynamically}
 use Rattle.admin_mgr.specs.Good.{IsGood}
+use Rattle.admin_mgr.proofs.Lookups.{is_some_number}
 use Rattle.admin_mgr.proofs.SeparationLaws.{kept_statically, kept_dynamically}
 
 is_false : (b : Bool) → (b ≡ true → ⊥) → b ≡ false
@@ -144,3 +145,8 @@ with_member_dynamically S good name role n there absent =
     (λ (session : Pair). nat_lt (count (is_session_role S session.0) (insert (members_of S.dsd name) role)) n)
     S.sessions
     (λ session owner. fewer_with (is_session_role S session.0) (members_of S.dsd name) role (no_member S.dsd.members name role absent) n (good.dynamic_separation name session.0 session.1 n there owner))
+
+-- a set that is there has a number
+pub is_some_cardinality : (separation : Separation) (name : Bytes) → is_some (cardinality_of separation name) ≡ has_set separation name
+unfolding cardinality_of any
+is_some_cardinality separation name = is_some_number (λ (entry : Cardinality). entry.1) (λ (entry : Cardinality). same_name entry.0 name) (members separation.cardinalities)
