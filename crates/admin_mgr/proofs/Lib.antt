@@ -6,5 +6,6 @@ pub mod Lookups
 pub mod RowLaws
 pub mod SeparationLaws
 pub mod SessionLaws
+pub mod TouchLaws
 pub mod VerdictLaws
 pub mod ViolationLaws

@@ -69,7 +69,7 @@ paired-Decides name roles x y =
       λ h. found.1 (y, h.1, λ i. (sym h.0 i, y)),
     )
 
-with_paired-others : (members : Pairs) (name : Bytes) (roles : Names) (x : Bytes) → (x ≢ name) → seconds (union members (paired name roles)) x ≡ seconds members x
+pub with_paired-others : (members : Pairs) (name : Bytes) (roles : Names) (x : Bytes) → (x ≢ name) → seconds (union members (paired name roles)) x ≡ seconds members x
 with_paired-others members name roles x other = same_test (union members (paired name roles)) members x (λ y. (
   λ h. elim (or_cases _ _ (sym (contains-union pair_total pair_exact members (paired name roles) (x, y)) ∙ h)) [
     | inl old ↦ old
@@ -78,7 +78,7 @@ with_paired-others members name roles x other = same_test (union members (paired
   λ h. contains-union pair_total pair_exact members (paired name roles) (x, y) ∙ or_left _ _ h,
 ))
 
-with_paired-own : (members : Pairs) (name : Bytes) (roles : Names) → ((y : Bytes) → IsTrue (contains members (name, y)) → ⊥) → seconds (union members (paired name roles)) name ≡ roles
+pub with_paired-own : (members : Pairs) (name : Bytes) (roles : Names) → ((y : Bytes) → IsTrue (contains members (name, y)) → ⊥) → seconds (union members (paired name roles)) name ≡ roles
 with_paired-own members name roles none = same_members name_total name_exact (seconds (union members (paired name roles)) name) roles (λ y. (
   λ h. elim (or_cases _ _ (sym (contains-union pair_total pair_exact members (paired name roles) (name, y)) ∙ (seconds-Decides (union members (paired name roles)) name y).0 h)) [
     | inl old ↦ absurd (none y old)
@@ -88,7 +88,7 @@ with_paired-own members name roles none = same_members name_total name_exact (se
       (contains-union pair_total pair_exact members (paired name roles) (name, y) ∙ or_right _ _ ((paired-Decides name roles name y).1 (refl, h))),
 ))
 
-with_one-others : (members : Pairs) (name role : Bytes) (x : Bytes) → (x ≢ name) → seconds (insert members (name, role)) x ≡ seconds members x
+pub with_one-others : (members : Pairs) (name role : Bytes) (x : Bytes) → (x ≢ name) → seconds (insert members (name, role)) x ≡ seconds members x
 with_one-others members name role x other = same_test (insert members (name, role)) members x (λ y.
     let put = contains-insert-Decides pair_total pair_exact members (name, role) (x, y) in (
       λ h. elim (put.0 h) [ inl same ↦ absurd (other (ap (λ (p : Pair). p.0) same)) | inr old ↦ old ],
