@@ -1,5 +1,11 @@
+pub mod BreakLaws
 pub mod EmptyLaws
 pub mod HeldLaws
+pub mod KeepLaws
 pub mod Lookups
 pub mod RowLaws
 pub mod SeparationLaws
+pub mod SessionLaws
+pub mod TouchLaws
+pub mod VerdictLaws
+pub mod ViolationLaws

@@ -1,8 +1,9 @@
 -- What is reached from the roles that a user is assigned or a session has activated.
-use Rattle.std.specs.Prelude.{ℕ, Bool, ◌||◌, List, count_by, filter}
+use Rattle.std.specs.Prelude.{ℕ, Bool, not, ◌||◌, ◌&&◌, nat_lt, List, Option, count_by, filter, find}
 use Rattle.std.specs.List.{list_any}
-use Rattle.rbac_sets.specs.Sets.{Bytes, Pair, Pairs, members, same_name}
+use Rattle.rbac_sets.specs.Sets.{Bytes, Pair, Pairs, Cardinality, members, same_name}
 use Rattle.role_order.specs.Order.{geq}
+use Rattle.admin_mgr.specs.RbacState.{Separation}
 
 -- the pairs that begin with a name, in byte order
 abbrev pub run_of : Pairs → Bytes → List Pair
@@ -23,3 +24,26 @@ reached_members edges held members = count_by (λ (member : Pair). is_reached ed
 -- how many of the members are reached so, or from one more role
 abbrev pub reached_with : Pairs → List Pair → Bytes → List Pair → ℕ
 reached_with edges held more members = count_by (λ (member : Pair). is_reached edges held member.1 || geq edges more member.1) members
+
+-- whether a role is one of these, or below one
+abbrev pub is_reached_from : Pairs → List Bytes → Bytes → Bool
+is_reached_from edges roles role = list_any (λ (above : Bytes). geq edges above role) roles
+
+-- how many of the members are one of these roles, or below one
+abbrev pub reached_from : Pairs → List Bytes → List Pair → ℕ
+reached_from edges roles members = count_by (λ (member : Pair). is_reached_from edges roles member.1) members
+
+-- whether one of the members is this role, or below it
+abbrev pub is_touched : Pairs → Bytes → List Pair → Bool
+is_touched edges role members = list_any (λ (member : Pair). geq edges role member.1) members
+
+-- the first of the sets from which these roles reach as many members as its cardinality
+abbrev pub first_with_all : Pairs → List Bytes → Separation → Option Cardinality
+first_with_all edges roles separation =
+    find (λ (entry : Cardinality). not (nat_lt (reached_from edges roles (run_of separation.members entry.0)) entry.1)) (members separation.cardinalities)
+
+-- the first of the sets from which what is held and one more role reach as many members as its cardinality; only a set with
+-- a member that the role reaches is asked
+abbrev pub first_with_one : Pairs → List Pair → Bytes → Separation → Option Cardinality
+first_with_one edges held more separation =
+    find (λ (entry : Cardinality). is_touched edges more (run_of separation.members entry.0) && not (nat_lt (reached_with edges held more (run_of separation.members entry.0)) entry.1)) (members separation.cardinalities)

@@ -1,6 +1,6 @@
 -- Whether a command is accepted, and else which refusal is told. Each clause of `refusals` is the function of the standard,
 -- or of this office, that has its name.
-use Rattle.std.specs.Prelude.{ℕ, ◌+◌, pos, Bool, not, nat_eq, ◌&&◌, ◌||◌, nat_le, nat_lt, List, [], ◌∷◌, length, Option}
+use Rattle.std.specs.Prelude.{ℕ, ◌+◌, pos, Bool, not, nat_eq, ◌&&◌, ◌||◌, nat_le, nat_lt, List, [], ◌∷◌, ◌++◌, length, Option}
 use Rattle.rbac_sets.specs.Sets.{Bytes, Names, name_cmp, any, all, same_name, contains, len}
 use Rattle.rbac_sets.specs.SortedSet.{set_of}
 use Rattle.rbac_sets.specs.declared.command.Command.{Command}
@@ -53,7 +53,7 @@ module _ (S : RbacState) where
       || any (λ member. same_name member.1 role) S.ssd.members
       || any (λ member. same_name member.1 role) S.dsd.members
 
--- ---- separation of duty sets of one kind; `broken` is what the state after the command violates
+-- ---- separation of duty sets of one kind, but for what the state after the command violates
 
 -- the cardinality is from two to the number of the roles
 abbrev pub bad_cardinality : ℕ → Names → Option Refusal
@@ -61,24 +61,22 @@ bad_cardinality cardinality roles = refuse_unless (nat_le 2 cardinality && nat_l
 
 module _ (S : RbacState) (separation : Separation) where
   -- CreateSsdSet, CreateDsdSet
-  abbrev pub create_set_refusals : Kind → Bytes → Names → ℕ → Option Refusal → List (Option Refusal)
-  create_set_refusals kind name roles cardinality broken =
+  abbrev pub create_set_refusals : Kind → Bytes → Names → ℕ → List (Option Refusal)
+  create_set_refusals kind name roles cardinality =
       wants_roles S roles
       ∷ refuse_if (has_set separation name) SetExists
       ∷ bad_cardinality cardinality roles
       ∷ too_many S kind (len separation.cardinalities + 1)
       ∷ too_many S Member (len roles)
-      ∷ broken
       ∷ []
 
   -- AddSsdRoleMember, AddDsdRoleMember
-  abbrev pub add_member_refusals : Bytes → Bytes → Option Refusal → List (Option Refusal)
-  add_member_refusals name role broken =
+  abbrev pub add_member_refusals : Bytes → Bytes → List (Option Refusal)
+  add_member_refusals name role =
       refuse_unless (has_set separation name) NoSet
       ∷ wants_role S role
       ∷ refuse_if (contains separation.members (name, role)) MemberExists
       ∷ too_many S Member (len (members_of separation name) + 1)
-      ∷ broken
       ∷ []
 
   -- DeleteSsdRoleMember, DeleteDsdRoleMember: the cardinality stays, and fits the roles that are left
@@ -91,11 +89,10 @@ module _ (S : RbacState) (separation : Separation) where
       ∷ []
 
 -- SetSsdSetCardinality, SetDsdSetCardinality
-abbrev pub set_cardinality_refusals : Separation → Bytes → ℕ → Option Refusal → List (Option Refusal)
-set_cardinality_refusals separation name cardinality broken =
+abbrev pub set_cardinality_refusals : Separation → Bytes → ℕ → List (Option Refusal)
+set_cardinality_refusals separation name cardinality =
     refuse_unless (has_set separation name) NoSet
     ∷ bad_cardinality cardinality (members_of separation name)
-    ∷ broken
     ∷ []
 
 -- ---- the refusals of each command, in the order in which they are judged
@@ -140,15 +137,19 @@ refusals S (AddInheritance asc desc) =
 refusals S (DeleteInheritance asc desc) = wants_role S asc ∷ wants_role S desc ∷ refuse_unless (contains S.edges (asc, desc)) NoEdge ∷ []
 refusals S (AddAscendant asc desc) = wants_role S desc ∷ wants_new_role S asc ∷ too_many S Role (len S.roles + 1) ∷ too_many S Edge (len S.edges + 1) ∷ []
 refusals S (AddDescendant asc desc) = wants_role S asc ∷ wants_new_role S desc ∷ too_many S Role (len S.roles + 1) ∷ too_many S Edge (len S.edges + 1) ∷ []
-refusals S (CreateSsdSet name roles cardinality) = create_set_refusals S S.ssd SsdSet name (set_of name_cmp roles) cardinality (breaks_static (after S (CreateSsdSet name roles cardinality)))
-refusals S (AddSsdRoleMember name role) = add_member_refusals S S.ssd name role (breaks_static (after S (AddSsdRoleMember name role)))
+refusals S (CreateSsdSet name roles cardinality) =
+    create_set_refusals S S.ssd SsdSet name (set_of name_cmp roles) cardinality ++ breaks_static (after S (CreateSsdSet name roles cardinality)) ∷ []
+refusals S (AddSsdRoleMember name role) = add_member_refusals S S.ssd name role ++ breaks_static (after S (AddSsdRoleMember name role)) ∷ []
 refusals S (DeleteSsdRoleMember name role) = delete_member_refusals S S.ssd name role
-refusals S (SetSsdSetCardinality name cardinality) = set_cardinality_refusals S.ssd name cardinality (breaks_static (after S (SetSsdSetCardinality name cardinality)))
+refusals S (SetSsdSetCardinality name cardinality) =
+    set_cardinality_refusals S.ssd name cardinality ++ breaks_static (after S (SetSsdSetCardinality name cardinality)) ∷ []
 refusals S (DeleteSsdSet name) = refuse_unless (has_set S.ssd name) NoSet ∷ []
-refusals S (CreateDsdSet name roles cardinality) = create_set_refusals S S.dsd DsdSet name (set_of name_cmp roles) cardinality (breaks_dynamic (after S (CreateDsdSet name roles cardinality)))
-refusals S (AddDsdRoleMember name role) = add_member_refusals S S.dsd name role (breaks_dynamic (after S (AddDsdRoleMember name role)))
+refusals S (CreateDsdSet name roles cardinality) =
+    create_set_refusals S S.dsd DsdSet name (set_of name_cmp roles) cardinality ++ breaks_dynamic (after S (CreateDsdSet name roles cardinality)) ∷ []
+refusals S (AddDsdRoleMember name role) = add_member_refusals S S.dsd name role ++ breaks_dynamic (after S (AddDsdRoleMember name role)) ∷ []
 refusals S (DeleteDsdRoleMember name role) = delete_member_refusals S S.dsd name role
-refusals S (SetDsdSetCardinality name cardinality) = set_cardinality_refusals S.dsd name cardinality (breaks_dynamic (after S (SetDsdSetCardinality name cardinality)))
+refusals S (SetDsdSetCardinality name cardinality) =
+    set_cardinality_refusals S.dsd name cardinality ++ breaks_dynamic (after S (SetDsdSetCardinality name cardinality)) ∷ []
 refusals S (DeleteDsdSet name) = refuse_unless (has_set S.dsd name) NoSet ∷ []
 refusals S (CreateSession user roles session) =
     wants_user S user

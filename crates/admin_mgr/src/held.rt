@@ -1,8 +1,11 @@
 //! What is reached from the roles that a user is assigned or a session has activated.
-ghost use Rattle.std.specs.Prelude.{◌≡◌};
-ghost use Rattle.admin_mgr.specs.Held.{is_reached, reached_roles, reached_members, reached_with};
+ghost use Rattle.std.specs.Prelude.{◌≡◌, ◌&&◌, not, nat_lt, find};
+ghost use Rattle.std.specs.Option.{option_copied};
+ghost use Rattle.rbac_sets.specs.Sets.{Cardinality, pair_cmp};
+ghost use Rattle.rbac_sets.specs.SortedSet.{set_of};
+ghost use Rattle.admin_mgr.specs.Held.{run_of, is_reached, reached_roles, reached_members, reached_with, is_reached_from, reached_from, is_touched};
 
-use rbac_sets::Name;
+use rbac_sets::{Name, PairSet};
 use role_order::RoleOrder;
 
 // Whether the role is the second part of one of the pairs, or below it.
@@ -49,4 +52,81 @@ pub(crate) fn reached_with(
         .iter()
         .filter(|member| is_reached(order, held, &member.1) || order.geq(more, &member.1))
         .count()
+}
+
+// Whether the role is one of these, or below one.
+fn is_reached_from(order: &RoleOrder, roles: &[Name], role: &Name) -> bool
+    ensures { result ≡ is_reached_from order.now.edges roles.now role.now }
+{
+    roles.iter().any(|above| order.geq(above, role))
+}
+
+// How many of the members are one of these roles, or below one.
+fn reached_from(order: &RoleOrder, roles: &[Name], members: &[(Name, Name)]) -> usize
+    ensures { result ≡ reached_from order.now.edges roles.now members.now }
+{
+    members
+        .iter()
+        .filter(|member| is_reached_from(order, roles, &member.1))
+        .count()
+}
+
+// Whether one of the members is this role, or below it.
+fn is_touched(order: &RoleOrder, role: &Name, members: &[(Name, Name)]) -> bool
+    ensures { result ≡ is_touched order.now.edges role.now members.now }
+{
+    members.iter().any(|member| order.geq(role, &member.1))
+}
+
+// The first of the sets from which these roles reach as many members as its cardinality.
+pub(crate) fn first_with_all<'a>(
+    order: &RoleOrder,
+    roles: &[Name],
+    members: &PairSet,
+    cardinalities: &'a [(Name, u32)],
+) -> Option<&'a (Name, u32)>
+    ensures { option_copied result ≡ find (λ (entry : Cardinality). not (nat_lt (reached_from order.now.edges roles.now (run_of (set_of pair_cmp members.now) entry.0)) entry.1)) cardinalities.now }
+{
+    cardinalities.iter().find(|entry| has_all(order, roles, members.with_first(&entry.0), entry.1))
+}
+
+// Whether these roles reach so many of the members.
+fn has_all(order: &RoleOrder, roles: &[Name], members: &[(Name, Name)], cardinality: u32) -> bool
+    ensures { result ≡ not (nat_lt (reached_from order.now.edges roles.now members.now) cardinality) }
+{
+    reached_from(order, roles, members) >= cardinality as usize
+}
+
+// The first of the sets from which what is held and one more role reach as many members as its
+// cardinality. Only a set with a member that the role reaches is asked.
+pub(crate) fn first_with_one<'a>(
+    order: &RoleOrder,
+    held: &[(Name, Name)],
+    more: &Name,
+    members: &PairSet,
+    cardinalities: &'a [(Name, u32)],
+) -> Option<&'a (Name, u32)>
+    ensures { option_copied result ≡ find (λ (entry : Cardinality). is_touched order.now.edges more.now (run_of (set_of pair_cmp members.now) entry.0) && not (nat_lt (reached_with order.now.edges held.now more.now (run_of (set_of pair_cmp members.now) entry.0)) entry.1)) cardinalities.now }
+{
+    cardinalities.iter().find(|entry| has_with(
+        order,
+        held,
+        more,
+        members.with_first(&entry.0),
+        entry.1,
+    ))
+}
+
+// Whether the role reaches one of the members, and with what is held so many of them.
+fn has_with(
+    order: &RoleOrder,
+    held: &[(Name, Name)],
+    more: &Name,
+    members: &[(Name, Name)],
+    cardinality: u32,
+) -> bool
+    ensures { result ≡ (is_touched order.now.edges more.now members.now && not (nat_lt (reached_with order.now.edges held.now more.now members.now) cardinality)) }
+{
+    is_touched(order, more, members)
+        && reached_with(order, held, more, members) >= cardinality as usize
 }

@@ -10,6 +10,8 @@ pub use state::State;
 
 mod held;
 pub mod judge;
+mod keeping_sessions;
+mod keeping_users;
 pub mod laws;
 mod limits;
 mod lookup;

@@ -1,15 +1,18 @@
 //! What the verdicts on static and on dynamic separation of duty sets have in common.
-ghost use Rattle.std.specs.Prelude.{◌≡◌};
-ghost use Rattle.rbac_sets.specs.Sets.{Cardinality, any, cardinality_cmp, len, pair_cmp, same_name, seconds};
+ghost use Rattle.std.specs.Prelude.{◌≡◌, ◌&&◌, IfOk, None, Some, cond, nat_le};
+ghost use Rattle.rbac_sets.specs.Sets.{Cardinality, Pairs, any, cardinality_cmp, len, name_cmp, pair_cmp, same_name, seconds};
 ghost use Rattle.rbac_sets.specs.SortedSet.{set_of};
+ghost use Rattle.rbac_sets.specs.declared.refusal.Refusal.TheVariants.{StaticSeparation, DynamicSeparation};
 ghost use Rattle.admin_mgr.specs.Kept.{separation_of};
-ghost use Rattle.admin_mgr.specs.RbacState.{is_below};
+ghost use Rattle.admin_mgr.specs.RbacState.{Separation, is_below};
 ghost use Rattle.admin_mgr.specs.Refusing.{first};
-ghost use Rattle.admin_mgr.specs.Verdict.{delete_member_refusals};
+ghost use Rattle.admin_mgr.specs.Verdict.{create_set_refusals, add_member_refusals, delete_member_refusals, set_cardinality_refusals};
 
-use crate::lookup::number_of;
+use crate::limits::{is_full, is_too_many};
+use crate::lookup::{are_in, number_of};
 use crate::state::State;
-use rbac_sets::{CountSet, Name, PairSet, Refusal};
+use rbac_sets::{CountSet, Kind, Name, NameSet, PairSet, Refusal};
+use std::alloc::{AllocError, Global};
 
 // Whether there is a set of this name.
 #[tactic(auto, using(crate::proofs::Lookups::is_some_number), unfolding(rbac_sets::specs::Sets::any))]
@@ -24,6 +27,62 @@ pub(crate) fn member_count(members: &PairSet, set: &Name) -> usize
     ensures { result ≡ len (seconds (set_of pair_cmp members.now) set.now) }
 {
     members.with_first(set).len()
+}
+
+// Why there can't be a new set of these roles, but for what it would violate; `kind` is that of the
+// sets, and their members may be any.
+#[tactic(auto, unfolding(rbac_sets::specs::Sets::all))]
+pub(crate) fn refuse_set(
+    state: &State,
+    kind: Kind,
+    cardinalities: &CountSet,
+    set: &Name,
+    roles: &NameSet,
+    cardinality: u32,
+) -> Option<Refusal>
+    ensures { (members : Pairs) → result ≡ first (create_set_refusals state.now.facts (record { members = members; cardinalities = set_of cardinality_cmp cardinalities.now }) kind set.now (set_of name_cmp roles.now) cardinality) }
+{
+    if !are_in(roles.as_slice(), state.roles()) {
+        return Some(Refusal::NoRole);
+    }
+    if has_set(cardinalities, set) {
+        return Some(Refusal::SetExists);
+    }
+    if !is_cardinality(cardinality, roles.len()) {
+        return Some(Refusal::BadCardinality);
+    }
+    if is_full(state, kind, cardinalities.len()) {
+        return Some(Refusal::TooMany(kind));
+    }
+    if is_too_many(state, Kind::Member, roles.len()) {
+        return Some(Refusal::TooMany(Kind::Member));
+    }
+    None
+}
+
+// Why a role can't become a member of a set, but for what the set would violate.
+pub(crate) fn refuse_member(
+    state: &State,
+    members: &PairSet,
+    cardinalities: &CountSet,
+    set: &Name,
+    role: &Name,
+) -> Option<Refusal>
+    ensures { result ≡ first (add_member_refusals state.now.facts (separation_of members.now cardinalities.now) set.now role.now) }
+{
+    if !has_set(cardinalities, set) {
+        return Some(Refusal::NoSet);
+    }
+    if !state.roles().contains(role) {
+        return Some(Refusal::NoRole);
+    }
+    if members.contains((set, role)) {
+        return Some(Refusal::MemberExists);
+    }
+    if is_full(state, Kind::Member, member_count(members, set)) {
+        return Some(Refusal::TooMany(Kind::Member));
+    }
+    None
 }
 
 // Why a member can't be taken from a set.
@@ -50,6 +109,71 @@ pub(crate) fn refuse_member_taken(
         return Some(Refusal::BadCardinality);
     }
     None
+}
+
+// Why a set can't have this cardinality, but for what it would violate.
+pub(crate) fn refuse_cardinality(
+    members: &PairSet,
+    cardinalities: &CountSet,
+    set: &Name,
+    cardinality: u32,
+) -> Option<Refusal>
+    ensures { result ≡ first (set_cardinality_refusals (separation_of members.now cardinalities.now) set.now cardinality) }
+{
+    if !has_set(cardinalities, set) {
+        return Some(Refusal::NoSet);
+    }
+    if !is_cardinality(cardinality, member_count(members, set)) {
+        return Some(Refusal::BadCardinality);
+    }
+    None
+}
+
+// A refusal by the static set of this name, unless it is kept.
+pub(crate) fn refuse_static(
+    alloc: Global,
+    kept: bool,
+    set: &Name,
+) -> Result<Option<Refusal>, AllocError>
+    ensures { IfOk result (λ found. found ≡ cond kept None (Some (StaticSeparation set.now))) }
+{
+    if kept {
+        return Ok(None);
+    }
+    let set = copied(alloc, set)?;
+    Ok(Some(Refusal::StaticSeparation(set)))
+}
+
+// A refusal by the dynamic set of this name, unless it is kept.
+pub(crate) fn refuse_dynamic(
+    alloc: Global,
+    kept: bool,
+    set: &Name,
+) -> Result<Option<Refusal>, AllocError>
+    ensures { IfOk result (λ found. found ≡ cond kept None (Some (DynamicSeparation set.now))) }
+{
+    if kept {
+        return Ok(None);
+    }
+    let set = copied(alloc, set)?;
+    Ok(Some(Refusal::DynamicSeparation(set)))
+}
+
+// The same name, in memory of its own.
+pub(crate) fn copied(alloc: Global, name: &Name) -> Result<Name, AllocError>
+    ensures { IfOk result (λ copy. copy ≡ name.now) }
+{
+    match name.copy(alloc) {
+        Ok(copy) => Ok(copy),
+        Err(_) => Err(AllocError),
+    }
+}
+
+// Whether a cardinality is from two to the number of roles.
+fn is_cardinality(cardinality: u32, roles: usize) -> bool
+    ensures { result ≡ (nat_le 2 cardinality && nat_le cardinality roles) }
+{
+    cardinality >= 2 && cardinality as usize <= roles
 }
 
 // Whether the number, if there is one, is below the count.

@@ -1,0 +1,42 @@
+-- The first of several refusals, and what a command had to pass.
+use Rattle.std.proofs.Common.{◌≡◌, ℕ, ◌≤◌, Bool, true, false, cond, List, [], ◌∷◌, ◌++◌, refl, sym, ◌∙◌}
+use Rattle.std.specs.Prelude.{Option, Some, None}
+use Rattle.std.specs.Option.{option_map}
+use Rattle.rbac_sets.specs.declared.refusal.Refusal.{Refusal}
+use Rattle.admin_mgr.specs.Refusing.{refuse_if, refuse_unless, first}
+
+-- no refusal of the list holds
+abbrev pub AllPassed : List (Option Refusal) → Type 0
+AllPassed [] = Unit {0}
+AllPassed (refusal ∷ rest) = (refusal ≡ None) × AllPassed rest
+
+-- there is no first refusal only where none holds
+pub passed : (refusals : List (Option Refusal)) → first refusals ≡ None → AllPassed refusals
+passed [] h = tt
+passed (None ∷ rest) h = (refl, passed rest h)
+passed (Some refusal ∷ rest) h = cc
+
+pub refuse_if-None : (test : Bool) (refusal : Refusal) → refuse_if test refusal ≡ None → test ≡ false
+refuse_if-None true refusal h = cc
+refuse_if-None false refusal h = refl
+
+pub refuse_unless-None : (test : Bool) (refusal : Refusal) → refuse_unless test refusal ≡ None → test ≡ true
+refuse_unless-None true refusal h = refl
+refuse_unless-None false refusal h = cc
+
+-- an earlier refusal is the first of a longer list too
+pub stopped : (refusals : List (Option Refusal)) (last : Option Refusal) (refusal : Refusal) → first refusals ≡ Some refusal → Some refusal ≡ first (refusals ++ last ∷ [])
+stopped [] last refusal h = cc
+stopped (None ∷ rest) last refusal h = stopped rest last refusal h
+stopped (Some one ∷ rest) last refusal h = sym h
+
+-- where none holds, the last one decides
+pub last_decides : (refusals : List (Option Refusal)) (last : Option Refusal) → first refusals ≡ None → first (refusals ++ last ∷ []) ≡ last
+last_decides [] None h = refl
+last_decides [] (Some refusal) h = refl
+last_decides (None ∷ rest) last h = last_decides rest last h
+last_decides (Some one ∷ rest) last h = cc
+
+pub mapped_cond : (b : Bool) {A B : Type 0} (f : A → B) (x : A) → option_map f (cond b None (Some x)) ≡ cond b None (Some (f x))
+mapped_cond true f x = refl
+mapped_cond false f x = refl

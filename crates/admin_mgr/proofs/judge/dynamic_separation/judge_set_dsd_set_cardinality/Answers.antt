@@ -1,0 +1,36 @@
+use Rattle.std.proofs.Common.{◌≡◌, ℕ, ◌+◌, Bool, true, false, cond, ◌∷◌, [], ◌++◌, sym, ◌∙◌, ap}
+use Rattle.std.specs.Prelude.{IsTrue, Some, None, is_some}
+use Rattle.rbac_sets.specs.declared.command.Command.TheVariants.{SetDsdSetCardinality}
+use Rattle.rbac_sets.specs.declared.refusal.Refusal.TheVariants.{NoSet, DynamicSeparation}
+use Rattle.admin_mgr.specs.RbacState.{has_set}
+use Rattle.admin_mgr.specs.Refusing.{first, breaks_dynamic}
+use Rattle.admin_mgr.specs.After.{after}
+use Rattle.admin_mgr.specs.Verdict.{verdict, refusals, set_cardinality_refusals}
+use Rattle.admin_mgr.proofs.VerdictLaws.{passed, refuse_unless-None, stopped, last_decides}
+use Rattle.admin_mgr.proofs.BreakLaws.{set_dsd}
+use Rattle.admin_mgr.proofs.KeepLaws.{cardinality_there, is_some_cardinality}
+use Rattle.admin_mgr.proofs.judge.dynamic_separation.judge_set_dsd_set_cardinality.Goals as goal
+
+pub returns-in-Some : goal.returns-in-Some
+unfolding verdict refusals
+returns-in-Some c =
+    let front = c.refuse_cardinality.ensures ∙ (λ i. first (set_cardinality_refusals (record { members = c.dsd_members.ensures i; cardinalities = c.dsd_cardinalities.ensures i }) c.args.set.now c.args.cardinality)) in
+    stopped (set_cardinality_refusals c.args.state.now.facts.dsd c.args.set.now c.args.cardinality) (breaks_dynamic (after c.args.state.now.facts (SetDsdSetCardinality c.args.set.now c.args.cardinality))) c.in-Some.refusal (sym front ∙ c.in-Some.is)
+
+pub unwrap-before-requires : goal.unwrap-before-requires
+unwrap-before-requires c =
+    let front = c.refuse_cardinality.ensures ∙ (λ i. first (set_cardinality_refusals (record { members = c.dsd_members.ensures i; cardinalities = c.dsd_cardinalities.ensures i }) c.args.set.now c.args.cardinality)) in
+    let all = passed (set_cardinality_refusals c.args.state.now.facts.dsd c.args.set.now c.args.cardinality) (sym front ∙ c.in-None.is) in
+    ap is_some c.dsd_n.ensures ∙ is_some_cardinality c.args.state.now.facts.dsd c.args.set.now ∙ refuse_unless-None (has_set c.args.state.now.facts.dsd c.args.set.now) NoSet all.0
+
+pub keep_sessions_of-kept-requires : goal.keep_sessions_of-kept-requires
+keep_sessions_of-kept-requires c = record { there = cardinality_there c.args.state.now.facts.dsd c.args.set.now c.unwrap-before.result (sym c.dsd_n.ensures ∙ c.unwrap-before.ensures) }
+
+pub returns : goal.returns
+unfolding verdict refusals
+returns c =
+    let front = c.refuse_cardinality.ensures ∙ (λ i. first (set_cardinality_refusals (record { members = c.dsd_members.ensures i; cardinalities = c.dsd_cardinalities.ensures i }) c.args.set.now c.args.cardinality)) in
+    c.in_ok-broken.ensures
+    ∙ ap (λ b. cond b None (Some (DynamicSeparation c.args.set.now))) c.keep_sessions_of-kept.ensures
+    ∙ sym (set_dsd c.args.state.now.facts c.is_good.ensures c.args.set.now c.args.cardinality)
+    ∙ sym (last_decides (set_cardinality_refusals c.args.state.now.facts.dsd c.args.set.now c.args.cardinality) (breaks_dynamic (after c.args.state.now.facts (SetDsdSetCardinality c.args.set.now c.args.cardinality))) (sym front ∙ c.in-None.is))

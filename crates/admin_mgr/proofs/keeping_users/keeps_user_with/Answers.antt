@@ -1,0 +1,23 @@
+use Rattle.std.proofs.Common.{◌≡◌, Bool, not, ◌||◌, ◌+◌, true, false, sym, ◌∙◌, ap}
+use Rattle.std.specs.Prelude.{nat_lt}
+use Rattle.rbac_sets.specs.Sets.{count}
+use Rattle.admin_mgr.specs.RbacState.{members_of}
+use Rattle.admin_mgr.specs.Authorization.{is_authorized}
+use Rattle.admin_mgr.specs.Held.{run_of, is_reached, reached_members}
+use Rattle.admin_mgr.proofs.HeldLaws.{authorized_reached, authorized_members_count}
+use Rattle.admin_mgr.proofs.keeping_users.keeps_user_with.Goals as goal
+
+pub returns-then-not-is_reached : goal.returns-then-not-is_reached
+returns-then-not-is_reached c =
+    let reached = c.is_reached.ensures ∙ (λ i. is_reached (c.order.ensures i) ((c.with_first-held.ensures ∙ ap (λ s. run_of s c.args.user.now) c.assignments.ensures) i) c.args.role.now) ∙ sym (authorized_reached c.args.state.now.facts c.args.user.now c.args.role.now) in
+    sym (ap (λ b. not b || nat_lt (count (is_authorized c.args.state.now.facts c.args.user.now) (members_of c.args.state.now.facts.ssd c.args.set.now) + 1) c.args.cardinality) (sym reached ∙ c.if-not-is_reached.true))
+
+pub returns : goal.returns
+returns c =
+    let reached = c.is_reached.ensures ∙ (λ i. is_reached (c.order.ensures i) ((c.with_first-held.ensures ∙ ap (λ s. run_of s c.args.user.now) c.assignments.ensures) i) c.args.role.now) ∙ sym (authorized_reached c.args.state.now.facts c.args.user.now c.args.role.now) in
+    ap (λ k. nat_lt (k + 1) c.args.cardinality) (
+    c.reached_members-count.ensures
+    ∙ (λ i. reached_members (c.order-2.ensures i) ((c.with_first-held.ensures ∙ ap (λ s. run_of s c.args.user.now) c.assignments.ensures) i) ((c.with_first-members.ensures ∙ ap (λ s. run_of s c.args.set.now) c.ssd_members.ensures) i))
+    ∙ sym (authorized_members_count c.args.state.now.facts c.args.user.now c.args.state.now.facts.ssd.members c.args.set.now)
+    )
+    ∙ sym (ap (λ b. not b || nat_lt (count (is_authorized c.args.state.now.facts c.args.user.now) (members_of c.args.state.now.facts.ssd c.args.set.now) + 1) c.args.cardinality) (sym reached ∙ c.if-not-is_reached.false))
