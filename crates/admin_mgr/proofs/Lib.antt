@@ -5,6 +5,7 @@ pub mod KeepLaws
 pub mod Lookups
 pub mod RowLaws
 pub mod SeparationLaws
+pub mod SessionCommandLaws
 pub mod SessionLaws
 pub mod TouchLaws
 pub mod VerdictLaws
