@@ -1,6 +1,7 @@
 pub mod BreakLaws
 pub mod EmptyLaws
 pub mod HeldLaws
+pub mod InheritLaws
 pub mod KeepLaws
 pub mod Lookups
 pub mod RowLaws

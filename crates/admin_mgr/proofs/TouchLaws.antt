@@ -58,7 +58,7 @@ kept_by_length {X} p t (x ∷ xs) none = step (kept_by_length p t xs) (p x) (t x
     step rest true false none = ap suc (rest none)
     step rest false false none = rest none
 
-untouched : {X : Type 0} (p t : X → Bool) (xs : List X) → list_any t xs ≡ false → count_by (λ x. p x || t x) xs ≡ count_by p xs
+pub untouched : {X : Type 0} (p t : X → Bool) (xs : List X) → list_any t xs ≡ false → count_by (λ x. p x || t x) xs ≡ count_by p xs
 untouched p t xs none = sym (length-filter (λ x. p x || t x) xs) ∙ kept_by_length p t xs none ∙ length-filter p xs
 
 -- only a touched set can come to have too many

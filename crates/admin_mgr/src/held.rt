@@ -1,9 +1,9 @@
 //! What is reached from the roles that a user is assigned or a session has activated.
-ghost use Rattle.std.specs.Prelude.{◌≡◌, ◌&&◌, not, nat_lt};
+ghost use Rattle.std.specs.Prelude.{◌≡◌, ◌&&◌, ◌||◌, not, nat_lt};
 ghost use Rattle.std.specs.Option.{option_copied};
 ghost use Rattle.rbac_sets.specs.Sets.{pair_cmp};
 ghost use Rattle.rbac_sets.specs.SortedSet.{set_of};
-ghost use Rattle.admin_mgr.specs.Held.{is_reached, reached_roles, reached_members, reached_with, is_reached_from, reached_from, is_touched, find_from, find_in};
+ghost use Rattle.admin_mgr.specs.Held.{is_reached, reached_roles, reached_members, reached_with, is_reached_from, reached_from, is_touched, find_from, find_in, keeps_below};
 
 use rbac_sets::{Name, PairSet};
 use role_order::RoleOrder;
@@ -72,7 +72,7 @@ fn reached_from(order: &RoleOrder, roles: &[Name], members: &[(Name, Name)]) -> 
 }
 
 // Whether one of the members is this role, or below it.
-fn is_touched(order: &RoleOrder, role: &Name, members: &[(Name, Name)]) -> bool
+pub(crate) fn is_touched(order: &RoleOrder, role: &Name, members: &[(Name, Name)]) -> bool
     ensures { result ≡ is_touched order.now.edges role.now members.now }
 {
     members.iter().any(|member| order.geq(role, &member.1))
@@ -129,4 +129,19 @@ fn has_with(
 {
     is_touched(order, more, members)
         && reached_with(order, held, more, members) >= cardinality as usize
+}
+
+// Whether the role `asc` is not reached, or fewer than so many of the members are with the role
+// `desc`.
+pub(crate) fn keeps_below(
+    order: &RoleOrder,
+    held: &[(Name, Name)],
+    asc: &Name,
+    desc: &Name,
+    members: &[(Name, Name)],
+    cardinality: u32,
+) -> bool
+    ensures { result ≡ keeps_below order.now.edges held.now asc.now desc.now members.now cardinality }
+{
+    !is_reached(order, held, asc) || reached_with(order, held, desc, members) < cardinality as usize
 }
