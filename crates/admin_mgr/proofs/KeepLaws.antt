@@ -130,7 +130,7 @@ unfolding is_kept_statically all
 with_member_statically S good name role n there absent =
     λ i. list_all (λ user. fewer_with (is_authorized S user) (members_of S.ssd name) role (no_member S.ssd.members name role absent) n (good.static_separation name user n there) i) (members S.users)
 
-all_same : {K : Type 0} {R : K → K → Ordering} (total : IsTotalOrder R) (exact : IsAntisymmetric R) (p q : K → Bool) (s : FinSet R) → ((x : K) → IsTrue (contains s x) → p x ≡ q x) → all p s ≡ all q s
+pub all_same : {K : Type 0} {R : K → K → Ordering} (total : IsTotalOrder R) (exact : IsAntisymmetric R) (p q : K → Bool) (s : FinSet R) → ((x : K) → IsTrue (contains s x) → p x ≡ q x) → all p s ≡ all q s
 all_same total exact p q s same = same_test (all p s) (all q s)
     (λ h. (all-Decides total exact q s).1 (λ x there. sym (same x there) ∙ (all-Decides total exact p s).0 h x there))
     (λ h. (all-Decides total exact p s).1 (λ x there. same x there ∙ (all-Decides total exact q s).0 h x there))

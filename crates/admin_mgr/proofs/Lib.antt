@@ -1,10 +1,12 @@
 pub mod BreakLaws
 pub mod EmptyLaws
 pub mod HeldLaws
+pub mod InheritLaws
 pub mod KeepLaws
 pub mod Lookups
 pub mod RowLaws
 pub mod SeparationLaws
+pub mod SessionCommandLaws
 pub mod SessionLaws
 pub mod TouchLaws
 pub mod VerdictLaws

@@ -58,7 +58,7 @@ kept_by_length {X} p t (x ∷ xs) none = step (kept_by_length p t xs) (p x) (t x
     step rest true false none = ap suc (rest none)
     step rest false false none = rest none
 
-untouched : {X : Type 0} (p t : X → Bool) (xs : List X) → list_any t xs ≡ false → count_by (λ x. p x || t x) xs ≡ count_by p xs
+pub untouched : {X : Type 0} (p t : X → Bool) (xs : List X) → list_any t xs ≡ false → count_by (λ x. p x || t x) xs ≡ count_by p xs
 untouched p t xs none = sym (length-filter (λ x. p x || t x) xs) ∙ kept_by_length p t xs none ∙ length-filter p xs
 
 -- only a touched set can come to have too many
@@ -70,7 +70,7 @@ one_more {X} p t xs n fewer = by (list_any t xs) refl
     by true is = refl
     by false is = sym (ap (λ k. not (nat_lt k n)) (untouched p t xs is) ∙ ap not (lt-ltb (count_by p xs) n fewer))
 
-any_insert : (p : Bytes → Bool) (s : Names) (x : Bytes) → any p (insert s x) ≡ (any p s || p x)
+pub any_insert : (p : Bytes → Bool) (s : Names) (x : Bytes) → any p (insert s x) ≡ (any p s || p x)
 any_insert p s x =
     let more = any-Decides name_total name_exact p (insert s x) in
     let before = any-Decides name_total name_exact p s in
@@ -156,14 +156,14 @@ unfoldable pub with_sessions : RbacState → Pairs → Pairs → RbacState
 with_sessions S sessions active = record S { sessions = sessions; active = active }
 
 -- each session but this one is as before
-pub OthersStay : RbacState → Pairs → Pairs → Bytes → Type 0
+abbrev pub OthersStay : RbacState → Pairs → Pairs → Bytes → Type 0
 OthersStay S sessions active session = (other user : Bytes) → IsTrue (contains sessions (other, user)) → (other ≡ session) ⊎ (IsTrue (contains S.sessions (other, user)) × (seconds active other ≡ seconds S.active other))
 
 module _ (S : RbacState) (good : IsGood S) (sessions active : Pairs) (session user : Bytes) (there : IsTrue (contains sessions (session, user))) (others : OthersStay S sessions active session) where
   -- only this session is counted anew
   kept_by_session : (x : Cardinality) → IsTrue (contains S.dsd.cardinalities x) →
       is_kept_dynamically (with_sessions S sessions active) (members_of S.dsd x.0) x.1 ≡ nat_lt (count (is_session_role (with_sessions S sessions active) session) (members_of S.dsd x.0)) x.1
-  unfolding with_sessions OthersStay
+  unfolding with_sessions
   kept_by_session x has = same_test _ _
       (λ h. lt-ltb _ _ ((kept_dynamically (with_sessions S sessions active) (members_of S.dsd x.0) x.1).0 h session user there))
       (λ h. (kept_dynamically (with_sessions S sessions active) (members_of S.dsd x.0) x.1).1 (λ other owner is. elim (others other owner is) [

@@ -62,7 +62,7 @@ same_test s t x same = same_members name_total name_exact (seconds s x) (seconds
   λ h. (seconds-Decides s x y).1 ((same y).1 ((seconds-Decides t x y).0 h)),
 ))
 
-paired-Decides : (name : Bytes) (roles : Names) (x y : Bytes) → Decides (contains (paired name roles) (x, y)) ((x ≡ name) × IsTrue (contains roles y))
+pub paired-Decides : (name : Bytes) (roles : Names) (x y : Bytes) → Decides (contains (paired name roles) (x, y)) ((x ≡ name) × IsTrue (contains roles y))
 paired-Decides name roles x y =
     let found = image-Decides name_total name_exact pair_total pair_exact (λ (other : Bytes). (name, other)) roles (x, y) in (
       λ h. (let one = found.0 h in (sym (ap (λ (p : Pair). p.0) one.2), subst (λ r. IsTrue (contains roles r)) (ap (λ (p : Pair). p.1) one.2) one.1)),

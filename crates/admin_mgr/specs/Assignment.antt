@@ -1,5 +1,5 @@
 -- Assigning a user to a role, once, and for each record of an import; and which sessions end by a change.
-use Rattle.std.specs.Prelude.{ℕ, ◌+◌, Bool, false, not, if◌then◌else◌, ◌&&◌, nat_eq, List, [], ◌∷◌, Option, Some, None, is_none, count_by}
+use Rattle.std.specs.Prelude.{ℕ, ◌+◌, Bool, false, not, if◌then◌else◌, ◌&&◌, nat_eq, List, [], ◌∷◌, ◌++◌, Option, Some, None, is_none, count_by}
 use Rattle.std.specs.List.{enumerate_from, filter_map}
 use Rattle.rbac_sets.specs.Refusal.{code_of}
 use Rattle.rbac_sets.specs.Sets.{Pair, any, all, same_name, contains, insert, retain, len}
@@ -25,15 +25,18 @@ end_sessions S = record S {
 unfoldable pub after_assignment : RbacState → Pair → RbacState
 after_assignment S pair = end_sessions (record S { assignments = insert S.assignments pair })
 
--- what an assignment is refused for, in the order in which it is judged
-unfoldable pub assignment_refusals : RbacState → Pair → List (Option Refusal)
-assignment_refusals S (user, role) =
+-- what an assignment is refused for, in the order in which it is judged, but for static separation
+abbrev pub assign_user_refusals : RbacState → Pair → List (Option Refusal)
+assign_user_refusals S (user, role) =
     refuse_unless (contains S.users user) NoUser
     ∷ refuse_unless (contains S.roles role) NoRole
     ∷ refuse_if (contains S.assignments (user, role)) AlreadyAssigned
     ∷ too_many S Assignment (len S.assignments + 1)
-    ∷ breaks_static (after_assignment S (user, role))
     ∷ []
+
+-- static separation is judged last, on the state after the assignment
+unfoldable pub assignment_refusals : RbacState → Pair → List (Option Refusal)
+assignment_refusals S pair = assign_user_refusals S pair ++ breaks_static (after_assignment S pair) ∷ []
 
 unfoldable pub assignment_verdict : RbacState → Pair → Option Refusal
 assignment_verdict S pair = first (assignment_refusals S pair)

@@ -37,13 +37,22 @@ reached_from edges roles members = count_by (λ (member : Pair). is_reached_from
 abbrev pub is_touched : Pairs → Bytes → List Pair → Bool
 is_touched edges role members = list_any (λ (member : Pair). geq edges role member.1) members
 
--- the first of the sets from which these roles reach as many members as its cardinality
-abbrev pub first_with_all : Pairs → List Bytes → Separation → Option Cardinality
-first_with_all edges roles separation =
-    find (λ (entry : Cardinality). not (nat_lt (reached_from edges roles (run_of separation.members entry.0)) entry.1)) (members separation.cardinalities)
+-- the first of the sets, pairs (set, cardinality), from which these roles reach as many members as its cardinality
+abbrev pub find_from : Pairs → List Bytes → Pairs → List Cardinality → Option Cardinality
+find_from edges roles pairs sets = find (λ (entry : Cardinality). not (nat_lt (reached_from edges roles (run_of pairs entry.0)) entry.1)) sets
 
 -- the first of the sets from which what is held and one more role reach as many members as its cardinality; only a set with
 -- a member that the role reaches is asked
+abbrev pub find_in : Pairs → List Pair → Bytes → Pairs → List Cardinality → Option Cardinality
+find_in edges held more pairs sets =
+    find (λ (entry : Cardinality). is_touched edges more (run_of pairs entry.0) && not (nat_lt (reached_with edges held more (run_of pairs entry.0)) entry.1)) sets
+
+abbrev pub first_with_all : Pairs → List Bytes → Separation → Option Cardinality
+first_with_all edges roles separation = find_from edges roles separation.members (members separation.cardinalities)
+
 abbrev pub first_with_one : Pairs → List Pair → Bytes → Separation → Option Cardinality
-first_with_one edges held more separation =
-    find (λ (entry : Cardinality). is_touched edges more (run_of separation.members entry.0) && not (nat_lt (reached_with edges held more (run_of separation.members entry.0)) entry.1)) (members separation.cardinalities)
+first_with_one edges held more separation = find_in edges held more separation.members (members separation.cardinalities)
+
+-- whether the role asc is not reached, or fewer than so many of the members are with the role desc
+abbrev pub keeps_below : Pairs → List Pair → Bytes → Bytes → List Pair → ℕ → Bool
+keeps_below edges held asc desc members n = not (is_reached edges held asc) || nat_lt (reached_with edges held desc members) n

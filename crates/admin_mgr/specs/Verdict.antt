@@ -95,6 +95,40 @@ set_cardinality_refusals separation name cardinality =
     ∷ bad_cardinality cardinality (members_of separation name)
     ∷ []
 
+-- ---- the other commands that separation of duty judges, but for that
+
+module _ (S : RbacState) where
+  abbrev pub add_inheritance_refusals : Bytes → Bytes → List (Option Refusal)
+  add_inheritance_refusals asc desc =
+      wants_role S asc
+      ∷ wants_role S desc
+      ∷ refuse_if (contains S.edges (asc, desc)) EdgeExists
+      ∷ refuse_if (geq S.edges desc asc) Cycle
+      ∷ too_many S Edge (len S.edges + 1)
+      ∷ []
+
+  abbrev pub create_session_refusals : Bytes → Names → Bytes → List (Option Refusal)
+  create_session_refusals user roles session =
+      wants_user S user
+      ∷ wants_roles S roles
+      ∷ refuse_if (has_session S session) SessionExists
+      ∷ refuse_unless (all (is_authorized S user) roles) NotAuthorized
+      ∷ refuse_if (contains S.locked user) UserLocked
+      ∷ too_many S Session (len S.sessions + 1)
+      ∷ too_many S ActiveRole (len roles)
+      ∷ []
+
+  abbrev pub add_active_role_refusals : Bytes → Bytes → Bytes → List (Option Refusal)
+  add_active_role_refusals user session role =
+      wants_user S user
+      ∷ wants_session S session
+      ∷ wants_role S role
+      ∷ wants_owner S session user
+      ∷ refuse_if (contains S.active (session, role)) AlreadyActive
+      ∷ refuse_unless (is_authorized S user role) NotAuthorized
+      ∷ too_many S ActiveRole (len (active_roles S session) + 1)
+      ∷ []
+
 -- ---- the refusals of each command, in the order in which they are judged
 
 unfoldable pub refusals : RbacState → Command → List (Option Refusal)
@@ -126,14 +160,7 @@ refusals S (RevokePermission object operation role) =
 refusals S (AssignUser user role) = assignment_refusals S (user, role)
 refusals S (DeassignUser user role) = wants_user S user ∷ wants_role S role ∷ refuse_unless (contains S.assignments (user, role)) NotAssigned ∷ []
 refusals S (AddInheritance asc desc) =
-    wants_role S asc
-    ∷ wants_role S desc
-    ∷ refuse_if (contains S.edges (asc, desc)) EdgeExists
-    ∷ refuse_if (geq S.edges desc asc) Cycle
-    ∷ too_many S Edge (len S.edges + 1)
-    ∷ breaks_static (after S (AddInheritance asc desc))
-    ∷ breaks_dynamic (after S (AddInheritance asc desc))
-    ∷ []
+    add_inheritance_refusals S asc desc ++ breaks_static (after S (AddInheritance asc desc)) ∷ breaks_dynamic (after S (AddInheritance asc desc)) ∷ []
 refusals S (DeleteInheritance asc desc) = wants_role S asc ∷ wants_role S desc ∷ refuse_unless (contains S.edges (asc, desc)) NoEdge ∷ []
 refusals S (AddAscendant asc desc) = wants_role S desc ∷ wants_new_role S asc ∷ too_many S Role (len S.roles + 1) ∷ too_many S Edge (len S.edges + 1) ∷ []
 refusals S (AddDescendant asc desc) = wants_role S asc ∷ wants_new_role S desc ∷ too_many S Role (len S.roles + 1) ∷ too_many S Edge (len S.edges + 1) ∷ []
@@ -152,26 +179,10 @@ refusals S (SetDsdSetCardinality name cardinality) =
     set_cardinality_refusals S.dsd name cardinality ++ breaks_dynamic (after S (SetDsdSetCardinality name cardinality)) ∷ []
 refusals S (DeleteDsdSet name) = refuse_unless (has_set S.dsd name) NoSet ∷ []
 refusals S (CreateSession user roles session) =
-    wants_user S user
-    ∷ wants_roles S (set_of name_cmp roles)
-    ∷ refuse_if (has_session S session) SessionExists
-    ∷ refuse_unless (all (is_authorized S user) (set_of name_cmp roles)) NotAuthorized
-    ∷ refuse_if (contains S.locked user) UserLocked
-    ∷ too_many S Session (len S.sessions + 1)
-    ∷ too_many S ActiveRole (len (set_of name_cmp roles))
-    ∷ breaks_dynamic (after S (CreateSession user roles session))
-    ∷ []
+    create_session_refusals S user (set_of name_cmp roles) session ++ breaks_dynamic (after S (CreateSession user roles session)) ∷ []
 refusals S (DeleteSession user session) = wants_user S user ∷ wants_session S session ∷ wants_owner S session user ∷ []
 refusals S (AddActiveRole user session role) =
-    wants_user S user
-    ∷ wants_session S session
-    ∷ wants_role S role
-    ∷ wants_owner S session user
-    ∷ refuse_if (contains S.active (session, role)) AlreadyActive
-    ∷ refuse_unless (is_authorized S user role) NotAuthorized
-    ∷ too_many S ActiveRole (len (active_roles S session) + 1)
-    ∷ breaks_dynamic (after S (AddActiveRole user session role))
-    ∷ []
+    add_active_role_refusals S user session role ++ breaks_dynamic (after S (AddActiveRole user session role)) ∷ []
 refusals S (DropActiveRole user session role) =
     wants_user S user
     ∷ wants_session S session

@@ -1,9 +1,9 @@
 //! What is reached from the roles that a user is assigned or a session has activated.
-ghost use Rattle.std.specs.Prelude.{◌≡◌, ◌&&◌, not, nat_lt, find};
+ghost use Rattle.std.specs.Prelude.{◌≡◌, ◌&&◌, ◌||◌, not, nat_lt};
 ghost use Rattle.std.specs.Option.{option_copied};
-ghost use Rattle.rbac_sets.specs.Sets.{Cardinality, pair_cmp};
+ghost use Rattle.rbac_sets.specs.Sets.{pair_cmp};
 ghost use Rattle.rbac_sets.specs.SortedSet.{set_of};
-ghost use Rattle.admin_mgr.specs.Held.{run_of, is_reached, reached_roles, reached_members, reached_with, is_reached_from, reached_from, is_touched};
+ghost use Rattle.admin_mgr.specs.Held.{is_reached, reached_roles, reached_members, reached_with, is_reached_from, reached_from, is_touched, find_from, find_in, keeps_below};
 
 use rbac_sets::{Name, PairSet};
 use role_order::RoleOrder;
@@ -72,7 +72,7 @@ fn reached_from(order: &RoleOrder, roles: &[Name], members: &[(Name, Name)]) -> 
 }
 
 // Whether one of the members is this role, or below it.
-fn is_touched(order: &RoleOrder, role: &Name, members: &[(Name, Name)]) -> bool
+pub(crate) fn is_touched(order: &RoleOrder, role: &Name, members: &[(Name, Name)]) -> bool
     ensures { result ≡ is_touched order.now.edges role.now members.now }
 {
     members.iter().any(|member| order.geq(role, &member.1))
@@ -85,7 +85,7 @@ pub(crate) fn first_with_all<'a>(
     members: &PairSet,
     cardinalities: &'a [(Name, u32)],
 ) -> Option<&'a (Name, u32)>
-    ensures { option_copied result ≡ find (λ (entry : Cardinality). not (nat_lt (reached_from order.now.edges roles.now (run_of (set_of pair_cmp members.now) entry.0)) entry.1)) cardinalities.now }
+    ensures { option_copied result ≡ find_from order.now.edges roles.now (set_of pair_cmp members.now) cardinalities.now }
 {
     cardinalities.iter().find(|entry| has_all(order, roles, members.with_first(&entry.0), entry.1))
 }
@@ -106,7 +106,7 @@ pub(crate) fn first_with_one<'a>(
     members: &PairSet,
     cardinalities: &'a [(Name, u32)],
 ) -> Option<&'a (Name, u32)>
-    ensures { option_copied result ≡ find (λ (entry : Cardinality). is_touched order.now.edges more.now (run_of (set_of pair_cmp members.now) entry.0) && not (nat_lt (reached_with order.now.edges held.now more.now (run_of (set_of pair_cmp members.now) entry.0)) entry.1)) cardinalities.now }
+    ensures { option_copied result ≡ find_in order.now.edges held.now more.now (set_of pair_cmp members.now) cardinalities.now }
 {
     cardinalities.iter().find(|entry| has_with(
         order,
@@ -129,4 +129,19 @@ fn has_with(
 {
     is_touched(order, more, members)
         && reached_with(order, held, more, members) >= cardinality as usize
+}
+
+// Whether the role `asc` is not reached, or fewer than so many of the members are with the role
+// `desc`.
+pub(crate) fn keeps_below(
+    order: &RoleOrder,
+    held: &[(Name, Name)],
+    asc: &Name,
+    desc: &Name,
+    members: &[(Name, Name)],
+    cardinality: u32,
+) -> bool
+    ensures { result ≡ keeps_below order.now.edges held.now asc.now desc.now members.now cardinality }
+{
+    !is_reached(order, held, asc) || reached_with(order, held, desc, members) < cardinality as usize
 }

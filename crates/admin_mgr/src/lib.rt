@@ -9,6 +9,7 @@ pub use relations::Relations;
 pub use state::State;
 
 mod held;
+mod inheriting;
 pub mod judge;
 mod keeping_sessions;
 mod keeping_users;

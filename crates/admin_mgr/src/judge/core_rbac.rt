@@ -1,13 +1,18 @@
 //! The verdicts on the commands of core RBAC but for those on sessions, with the locks and the import.
-ghost use Rattle.std.specs.Prelude.{◌≡◌};
-ghost use Rattle.rbac_sets.specs.declared.command.Command.TheVariants.{AddUser, DeleteUser, AddRole, DeleteRole, AddPermObj, DeletePermObj, AddPermission, DeletePermission, GrantPermission, RevokePermission, DeassignUser, ImportAssignments, LockUserAccount, UnlockUserAccount};
+ghost use Rattle.std.specs.Prelude.{◌≡◌, IfOk};
+ghost use Rattle.rbac_sets.specs.declared.command.Command.TheVariants.{AddUser, DeleteUser, AddRole, DeleteRole, AddPermObj, DeletePermObj, AddPermission, DeletePermission, GrantPermission, RevokePermission, AssignUser, DeassignUser, ImportAssignments, LockUserAccount, UnlockUserAccount};
+ghost use Rattle.admin_mgr.specs.Assignment.{assign_user_refusals};
+ghost use Rattle.admin_mgr.specs.Refusing.{first};
 ghost use Rattle.admin_mgr.specs.Verdict.{verdict};
 ghost use Rattle.admin_mgr.specs.Verdict.{is_in_use};
 
+use crate::held::first_with_one;
+use crate::judge::naming::name_static;
 use crate::limits::{is_full, is_too_many};
 use crate::lookup::{has_first, has_part, has_second};
 use crate::state::State;
 use rbac_sets::{Kind, Name, Refusal};
+use std::alloc::{AllocError, Global};
 
 /// The verdict on AddUser.
 ///
@@ -209,6 +214,56 @@ pub fn judge_revoke_permission(
     }
     if !state.grants().contains((object, operation, role)) {
         return Some(Refusal::NotGranted);
+    }
+    None
+}
+
+/// The verdict on AssignUser.
+///
+/// Refused by `NoUser`, `NoRole` where these are missing, then by `AlreadyAssigned` where the user is
+/// assigned to the role, then by `TooMany` where there are as many assignments as there may be, then by
+/// `StaticSeparation` with the first set in byte order from which the user would be authorized for as
+/// many roles as its cardinality.
+///
+/// # Errors
+///
+/// Where memory for the name of the set was refused.
+#[tactic(auto, unfolding(crate::specs::Verdict::verdict, crate::specs::Verdict::refusals, crate::specs::Assignment::assignment_refusals))]
+pub fn judge_assign_user(
+    alloc: Global,
+    state: &State,
+    user: &Name,
+    role: &Name,
+) -> Result<Option<Refusal>, AllocError>
+    ensures { IfOk result (λ found. found ≡ verdict state.now.facts (AssignUser user.now role.now)) }
+{
+    state.is_good();
+    match refuse_assignment(state, user, role) {
+        Some(refusal) => return Ok(Some(refusal)),
+        None => {}
+    }
+    let held = state.assignments().with_first(user);
+    let sets = state.ssd_cardinalities().as_slice();
+    let violated = first_with_one(state.order(), held, role, state.ssd_members(), sets);
+    let named = name_static(alloc, violated)?;
+    Ok(named)
+}
+
+// Why the user can't be assigned to the role, but for what it would violate.
+fn refuse_assignment(state: &State, user: &Name, role: &Name) -> Option<Refusal>
+    ensures { result ≡ first (assign_user_refusals state.now.facts (user.now, role.now)) }
+{
+    if !state.users().contains(user) {
+        return Some(Refusal::NoUser);
+    }
+    if !state.roles().contains(role) {
+        return Some(Refusal::NoRole);
+    }
+    if state.assignments().contains((user, role)) {
+        return Some(Refusal::AlreadyAssigned);
+    }
+    if is_full(state, Kind::Assignment, state.assignments().len()) {
+        return Some(Refusal::TooMany(Kind::Assignment));
     }
     None
 }

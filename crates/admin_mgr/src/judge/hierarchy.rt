@@ -1,11 +1,75 @@
 //! The verdicts on the commands of the role hierarchy.
-ghost use Rattle.std.specs.Prelude.{◌≡◌};
-ghost use Rattle.rbac_sets.specs.declared.command.Command.TheVariants.{DeleteInheritance, AddAscendant, AddDescendant};
-ghost use Rattle.admin_mgr.specs.Verdict.{verdict};
+ghost use Rattle.std.specs.Prelude.{◌≡◌, IfOk};
+ghost use Rattle.rbac_sets.specs.declared.command.Command.TheVariants.{AddInheritance, DeleteInheritance, AddAscendant, AddDescendant};
+ghost use Rattle.admin_mgr.specs.Refusing.{first};
+ghost use Rattle.admin_mgr.specs.Verdict.{verdict, add_inheritance_refusals};
 
+use crate::inheriting::{first_broken_by_sessions, first_broken_by_users};
+use crate::judge::naming::{name_dynamic, name_static};
 use crate::limits::is_full;
 use crate::state::State;
 use rbac_sets::{Kind, Name, Refusal};
+use std::alloc::{AllocError, Global};
+
+/// The verdict on AddInheritance.
+///
+/// Refused by `NoRole` where one of the roles is missing, then by `EdgeExists` where `asc` is an
+/// immediate ascendant of `desc`, then by `Cycle` where `desc` is `asc` or above it, then by `TooMany`
+/// where there are as many immediate inheritances as there may be, then by `StaticSeparation` with the
+/// first static set in byte order from which some user would be authorized for as many roles as its
+/// cardinality, then by `DynamicSeparation` with the first dynamic set in byte order from which some
+/// session would have as many roles as its cardinality.
+///
+/// # Errors
+///
+/// Where memory for the name of the set was refused.
+#[tactic(auto, unfolding(crate::specs::Verdict::verdict, crate::specs::Verdict::refusals))]
+pub fn judge_add_inheritance(
+    alloc: Global,
+    state: &State,
+    asc: &Name,
+    desc: &Name,
+) -> Result<Option<Refusal>, AllocError>
+    ensures { IfOk result (λ found. found ≡ verdict state.now.facts (AddInheritance asc.now desc.now)) }
+{
+    state.is_good();
+    match refuse_inheritance(state, asc, desc) {
+        Some(refusal) => return Ok(Some(refusal)),
+        None => {}
+    }
+    let statics = state.ssd_cardinalities().as_slice();
+    let violated = first_broken_by_users(state, asc, desc, statics);
+    match name_static(alloc, violated)? {
+        Some(broken) => return Ok(Some(broken)),
+        None => {}
+    }
+    let dynamics = state.dsd_cardinalities().as_slice();
+    let violated = first_broken_by_sessions(state, asc, desc, dynamics);
+    let named = name_dynamic(alloc, violated)?;
+    Ok(named)
+}
+
+// Why `asc` can't become an immediate ascendant of `desc`, but for what it would violate.
+fn refuse_inheritance(state: &State, asc: &Name, desc: &Name) -> Option<Refusal>
+    ensures { result ≡ first (add_inheritance_refusals state.now.facts asc.now desc.now) }
+{
+    if !state.roles().contains(asc) {
+        return Some(Refusal::NoRole);
+    }
+    if !state.roles().contains(desc) {
+        return Some(Refusal::NoRole);
+    }
+    if state.order().has_edge(asc, desc) {
+        return Some(Refusal::EdgeExists);
+    }
+    if state.order().geq(desc, asc) {
+        return Some(Refusal::Cycle);
+    }
+    if is_full(state, Kind::Edge, state.order().edges().len()) {
+        return Some(Refusal::TooMany(Kind::Edge));
+    }
+    None
+}
 
 /// The verdict on DeleteInheritance.
 ///

@@ -8,6 +8,7 @@ ghost use Rattle.admin_mgr.specs.RbacState.{Separation, is_below};
 ghost use Rattle.admin_mgr.specs.Refusing.{first};
 ghost use Rattle.admin_mgr.specs.Verdict.{create_set_refusals, add_member_refusals, delete_member_refusals, set_cardinality_refusals};
 
+use crate::judge::naming::copied;
 use crate::limits::{is_full, is_too_many};
 use crate::lookup::{are_in, number_of};
 use crate::state::State;
@@ -157,16 +158,6 @@ pub(crate) fn refuse_dynamic(
     }
     let set = copied(alloc, set)?;
     Ok(Some(Refusal::DynamicSeparation(set)))
-}
-
-// The same name, in memory of its own.
-pub(crate) fn copied(alloc: Global, name: &Name) -> Result<Name, AllocError>
-    ensures { IfOk result (λ copy. copy ≡ name.now) }
-{
-    match name.copy(alloc) {
-        Ok(copy) => Ok(copy),
-        Err(_) => Err(AllocError),
-    }
 }
 
 // Whether a cardinality is from two to the number of roles.

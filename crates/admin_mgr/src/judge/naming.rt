@@ -1,0 +1,50 @@
+//! Refusals that name the first violated separation of duty set.
+ghost use Rattle.std.specs.Prelude.{◌≡◌, IfOk};
+ghost use Rattle.std.specs.Option.{option_copied, option_map};
+ghost use Rattle.rbac_sets.specs.Sets.{Cardinality};
+ghost use Rattle.rbac_sets.specs.declared.refusal.Refusal.TheVariants.{StaticSeparation, DynamicSeparation};
+
+use rbac_sets::{Name, Refusal};
+use std::alloc::{AllocError, Global};
+
+// A refusal by this static set, if there is one.
+pub(crate) fn name_static(
+    alloc: Global,
+    violated: Option<&(Name, u32)>,
+) -> Result<Option<Refusal>, AllocError>
+    ensures { IfOk result (λ found. found ≡ option_map StaticSeparation (option_map (λ (entry : Cardinality). entry.0) (option_copied violated.entry))) }
+{
+    match violated {
+        Some(entry) => {
+            let set = copied(alloc, &entry.0)?;
+            Ok(Some(Refusal::StaticSeparation(set)))
+        }
+        None => Ok(None),
+    }
+}
+
+// A refusal by this dynamic set, if there is one.
+pub(crate) fn name_dynamic(
+    alloc: Global,
+    violated: Option<&(Name, u32)>,
+) -> Result<Option<Refusal>, AllocError>
+    ensures { IfOk result (λ found. found ≡ option_map DynamicSeparation (option_map (λ (entry : Cardinality). entry.0) (option_copied violated.entry))) }
+{
+    match violated {
+        Some(entry) => {
+            let set = copied(alloc, &entry.0)?;
+            Ok(Some(Refusal::DynamicSeparation(set)))
+        }
+        None => Ok(None),
+    }
+}
+
+// The same name, in memory of its own.
+pub(crate) fn copied(alloc: Global, name: &Name) -> Result<Name, AllocError>
+    ensures { IfOk result (λ copy. copy ≡ name.now) }
+{
+    match name.copy(alloc) {
+        Ok(copy) => Ok(copy),
+        Err(_) => Err(AllocError),
+    }
+}
