@@ -1,0 +1,2 @@
+pub mod AccessByRuns
+pub mod Gathering

@@ -1,0 +1,13 @@
+//! What is asked of the office: access decisions, and the review functions of the standard.
+//!
+//! No question changes the state. A question about what isn't there is refused; else the answer is
+//! the set that the standard defines, as a list in byte order.
+#![tactic(auto)]
+
+pub use access::check_access;
+pub use query::{Answer, Query};
+
+pub mod access;
+mod gather;
+mod lookup;
+pub mod query;
