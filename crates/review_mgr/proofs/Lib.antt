@@ -1,2 +1,3 @@
 pub mod AccessByRuns
 pub mod Gathering
+pub mod Reached

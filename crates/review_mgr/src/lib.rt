@@ -11,3 +11,4 @@ pub mod access;
 mod gather;
 mod lookup;
 pub mod query;
+pub mod review;
