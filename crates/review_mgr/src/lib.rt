@@ -5,9 +5,11 @@
 #![tactic(auto)]
 
 pub use access::check_access;
+pub use asking::ask;
 pub use query::{Answer, Query};
 
 pub mod access;
+pub mod asking;
 mod gather;
 mod lookup;
 pub mod query;
