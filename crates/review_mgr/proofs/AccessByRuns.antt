@@ -1,0 +1,67 @@
+-- The access decision by runs.
+use Rattle.std.proofs.Common.{◌≡◌, Bool, true, false, List, refl, sym, ◌∙◌, ap}
+use Rattle.std.specs.Prelude.{IsTrue}
+use Rattle.std.specs.List.{filter, list_any}
+use Rattle.std.proofs.lemmas.Bool.{and_parts, and_from}
+use Rattle.rbac_sets.specs.Sets.{Bytes, Pair, Pairs, Triple, Triples, same_name, contains, members, retain, any}
+use Rattle.rbac_sets.specs.NameOrder.{name_total, name_exact, pair_total, pair_exact, triple_total, triple_exact}
+use Rattle.rbac_sets.proofs.SetLaws.{any-Decides, contains-retain, tie_Decides}
+use Rattle.rbac_sets.proofs.Members.{members-retain}
+use Rattle.admin_mgr.specs.RbacState.{RbacState}
+use Rattle.admin_mgr.specs.Authorization.{session_roles, is_session_role}
+use Rattle.admin_mgr.specs.Good.{IsGood}
+use Rattle.admin_mgr.specs.Held.{run_of, is_reached}
+use Rattle.admin_mgr.proofs.HeldLaws.{session_reached}
+use Rattle.review_mgr.specs.Review.{has_access, permission_of, is_grant_of}
+
+pub same_test : (a b : Bool) → (IsTrue a → IsTrue b) → (IsTrue b → IsTrue a) → a ≡ b
+same_test true b there back = sym (there refl)
+same_test false true there back = back refl
+same_test false false there back = refl
+
+-- a role that is granted the permission is reached from what was activated
+pub access_reached : (S : RbacState) → IsGood S → (session operation object : Bytes) →
+    list_any (λ (grant : Triple). is_reached S.edges (run_of S.active session) grant.2) (filter (is_grant_of object operation) (members S.grants)) ≡ has_access S session operation object
+unfolding has_access any session_roles
+access_reached S good session operation object =
+    let reached : Triple → Bool = λ grant. is_reached S.edges (run_of S.active session) grant.2 in
+    let granted = retain S.grants (is_grant_of object operation) in
+    let by_run = any-Decides triple_total triple_exact reached granted in
+    let by_role = any-Decides name_total name_exact (λ role. contains S.grants (object, operation, role)) (session_roles S session) in
+    ap (list_any reached) (sym (members-retain triple_total triple_exact S.grants (is_grant_of object operation)))
+    ∙ same_test _ _
+    (λ h.
+    let found = by_run.0 h in
+    let grant = found.0 in
+    let parts = and_parts _ _ (sym (contains-retain triple_total triple_exact S.grants (is_grant_of object operation) grant) ∙ found.1) in
+    let same = (tie_Decides pair_total pair_exact (permission_of grant) (object, operation)).0 parts.1 in
+    let role_there = (good.well_formed.grants grant.0 grant.1 grant.2 parts.0).1 in
+    let of_session : IsTrue (contains (session_roles S session) grant.2) = contains-retain name_total name_exact S.roles (is_session_role S session) grant.2
+    ∙ and_from _ _ role_there (session_reached S session grant.2 ∙ found.2) in
+    by_role.1 (grant.2, of_session, sym (ap (λ (p : Pair). contains S.grants (p.0, p.1, grant.2)) same) ∙ parts.0))
+    (λ h.
+    let found = by_role.0 h in
+    let role = found.0 in
+    let parts = and_parts _ _ (sym (contains-retain name_total name_exact S.roles (is_session_role S session) role) ∙ found.1) in
+    let member : IsTrue (contains granted (object, operation, role)) = contains-retain triple_total triple_exact S.grants (is_grant_of object operation) (object, operation, role)
+    ∙ and_from _ _ found.2 ((tie_Decides pair_total pair_exact (object, operation) (object, operation)).1 refl) in
+    by_run.1 ((object, operation, role), member, sym (session_reached S session role) ∙ parts.1))
+
+-- the run of the grants and of the activated roles, found in the sets that stand for those of the state
+pub found_reached : (S : RbacState) (session operation object : Bytes) (edges active : Pairs) (grants : Triples) (held : List Pair) (granted : List Triple)
+    → edges ≡ S.edges → active ≡ S.active → held ≡ run_of active session → grants ≡ S.grants → granted ≡ filter (is_grant_of object operation) (members grants)
+    → list_any (λ (grant : Triple). is_reached edges held grant.2) granted
+    ≡ list_any (λ (grant : Triple). is_reached S.edges (run_of S.active session) grant.2) (filter (is_grant_of object operation) (members S.grants))
+found_reached S session operation object edges active grants held granted e a h g r =
+    let runs = h ∙ ap (λ (pairs : Pairs). run_of pairs session) a in
+    let triples = r ∙ ap (λ (t : Triples). filter (is_grant_of object operation) (members t)) g in
+    λ i. list_any (λ (grant : Triple). is_reached (e i) (runs i) grant.2) (triples i)
+
+-- the operation of a permission is one of OPS
+pub any_second : (pairs : Pairs) (first second : Bytes) → contains pairs (first, second) ≡ true → any (λ (pair : Pair). same_name pair.1 second) pairs ≡ true
+any_second pairs first second h =
+    (any-Decides pair_total pair_exact (λ (pair : Pair). same_name pair.1 second) pairs).1 ((first, second), h, (tie_Decides name_total name_exact second second).1 refl)
+
+pub any-members : (p : Pair → Bool) (pairs : Pairs) → list_any p (members pairs) ≡ any p pairs
+unfolding any
+any-members p pairs = refl

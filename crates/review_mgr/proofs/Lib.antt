@@ -1,0 +1,3 @@
+pub mod AccessByRuns
+pub mod Gathering
+pub mod Reached

@@ -1,0 +1,230 @@
+//! Lists in byte order, gathered from the sets of a state.
+ghost use Rattle.std.specs.Prelude.{◌≡◌, ◌<◌, ◌≤◌, length, IfOk, IfErr, OnOk};
+ghost use Rattle.std.specs.List.{HoldsAt};
+ghost use Rattle.std.specs.List.Sorted.{IsStrictlySortedBy, IsPartitionPoint};
+ghost use Rattle.std.specs.declared.cmp.Ordering.TheVariants.{Less, Equal, Greater};
+ghost use Rattle.rbac_sets.specs.Sets.{Cardinality, Pair, Triple, cardinality_cmp, firsts, from_list, image, insert, members, name_cmp, pair_cmp, retain, same_name, seconds, triple_cmp};
+ghost use Rattle.rbac_sets.specs.SortedSet.{set_of};
+ghost use Rattle.role_order.specs.Order.{geq};
+ghost use Rattle.admin_mgr.specs.Held.{is_reached};
+ghost use Rattle.review_mgr.specs.Review.{is_grant_of, permission_of};
+
+use crate::lookup::{is_reached, is_same};
+use rbac_sets::{CountSet, Entry, GrantSet, Name, NameSet, PairSet, Probe, Refusal};
+use role_order::RoleOrder;
+use std::alloc::Global;
+
+// Where the entry is, or else where it would stand.
+fn place<K: Entry, P: Probe<K>>(entries: &[K], probe: P) -> Result<usize, usize>
+    requires { IsStrictlySortedBy K.cmp entries.now }
+    ensures found { IfOk result (λ i. (i < length entries.now) × HoldsAt (λ y. K.cmp y (P.entry probe) ≡ Equal) entries.now i) }
+    ensures gap { IfErr result (λ i. (i ≤ length entries.now)
+        × IsPartitionPoint (λ y. K.cmp y (P.entry probe) ≡ Less) (λ y. K.cmp y (P.entry probe) ≡ Greater) entries.now i) }
+{
+    entries.binary_search_by(|entry| probe.compare(entry))
+}
+
+// Puts a copy of a name where it stands in byte order, unless it is there.
+pub(crate) fn put_name(alloc: Global, names: &mut Vec<Name>, name: &Name) -> Result<(), Refusal>
+    requires { IsStrictlySortedBy name_cmp names.old.items }
+    ensures sorted { OnOk result (IsStrictlySortedBy name_cmp names.new.items) }
+    ensures put { OnOk result (from_list {R = name_cmp} names.new.items ≡ insert (from_list names.old.items) name.now) }
+    ensures cause { IfErr result (λ refusal. refusal ≡ Refusal.Memory) }
+{
+    if let Err(at) = place(names, name) {
+        names.insert(at, name.copy(alloc)?)?;
+    }
+    Ok(())
+}
+
+// Puts a copy of a pair where it stands in byte order, unless it is there.
+pub(crate) fn put_pair(
+    alloc: Global,
+    pairs: &mut Vec<(Name, Name)>,
+    first: &Name,
+    second: &Name,
+) -> Result<(), Refusal>
+    requires { IsStrictlySortedBy pair_cmp pairs.old.items }
+    ensures sorted { OnOk result (IsStrictlySortedBy pair_cmp pairs.new.items) }
+    ensures put { OnOk result (from_list {R = pair_cmp} pairs.new.items ≡ insert (from_list pairs.old.items) (first.now, second.now)) }
+    ensures cause { IfErr result (λ refusal. refusal ≡ Refusal.Memory) }
+{
+    if let Err(at) = place(pairs, (first, second)) {
+        pairs.insert(at, (first.copy(alloc)?, second.copy(alloc)?))?;
+    }
+    Ok(())
+}
+
+// The first names of the pairs that have this second name.
+pub(crate) fn firsts_of(alloc: Global, pairs: &PairSet, second: &Name) -> Result<Vec<Name>, Refusal>
+    ensures ok { IfOk result (λ names. names.items ≡ members (firsts (set_of pair_cmp pairs.now) second.now)) }
+    ensures cause { IfErr result (λ refusal. refusal ≡ Refusal.Memory) }
+{
+    let mut names = Vec::new(alloc);
+    for pair in pairs.as_slice() {
+        if is_same(&pair.1, second) {
+            put_name(alloc, &mut names, &pair.0)?;
+        }
+    }
+    Ok(names)
+}
+
+// The second names of the pairs that have this first name.
+pub(crate) fn seconds_of(alloc: Global, pairs: &PairSet, first: &Name) -> Result<Vec<Name>, Refusal>
+    ensures ok { IfOk result (λ names. names.items ≡ members (seconds (set_of pair_cmp pairs.now) first.now)) }
+    ensures cause { IfErr result (λ refusal. refusal ≡ Refusal.Memory) }
+{
+    let mut names = Vec::new(alloc);
+    for pair in pairs.with_first(first) {
+        put_name(alloc, &mut names, &pair.1)?;
+    }
+    Ok(names)
+}
+
+// The names of the sets that have a cardinality.
+pub(crate) fn names_of(alloc: Global, cardinalities: &CountSet) -> Result<Vec<Name>, Refusal>
+    ensures ok { IfOk result (λ names. names.items ≡ members (image {Q = name_cmp} (λ (entry : Cardinality). entry.0) (set_of cardinality_cmp cardinalities.now))) }
+    ensures cause { IfErr result (λ refusal. refusal ≡ Refusal.Memory) }
+{
+    let mut names = Vec::new(alloc);
+    for entry in cardinalities.as_slice() {
+        put_name(alloc, &mut names, &entry.0)?;
+    }
+    Ok(names)
+}
+
+// The users who are assigned the role or a role above it.
+pub(crate) fn users_above(
+    alloc: Global,
+    order: &RoleOrder,
+    assignments: &PairSet,
+    role: &Name,
+) -> Result<Vec<Name>, Refusal>
+    ensures ok { IfOk result (λ names. names.items ≡ members (image {Q = name_cmp} (λ (pair : Pair). pair.0) (retain (set_of pair_cmp assignments.now) (λ pair. geq order.now.edges pair.1 role.now)))) }
+    ensures cause { IfErr result (λ refusal. refusal ≡ Refusal.Memory) }
+{
+    let mut users = Vec::new(alloc);
+    for pair in assignments.as_slice() {
+        if order.geq(&pair.1, role) {
+            put_name(alloc, &mut users, &pair.0)?;
+        }
+    }
+    Ok(users)
+}
+
+// The roles that are reached from the second names of the pairs.
+pub(crate) fn roles_reached(
+    alloc: Global,
+    order: &RoleOrder,
+    roles: &NameSet,
+    held: &[(Name, Name)],
+) -> Result<Vec<Name>, Refusal>
+    ensures ok { IfOk result (λ names. names.items ≡ members (retain (set_of name_cmp roles.now) (is_reached order.now.edges held.now))) }
+    ensures cause { IfErr result (λ refusal. refusal ≡ Refusal.Memory) }
+{
+    let mut reached = Vec::new(alloc);
+    for role in roles.as_slice() {
+        if is_reached(order, held, role) {
+            put_name(alloc, &mut reached, role)?;
+        }
+    }
+    Ok(reached)
+}
+
+// The permissions that are granted to the role or to one below it.
+pub(crate) fn permissions_below(
+    alloc: Global,
+    order: &RoleOrder,
+    grants: &GrantSet,
+    role: &Name,
+) -> Result<Vec<(Name, Name)>, Refusal>
+    ensures ok { IfOk result (λ pairs. pairs.items ≡ members (image {Q = pair_cmp} permission_of (retain (set_of triple_cmp grants.now) (λ grant. geq order.now.edges role.now grant.2)))) }
+    ensures cause { IfErr result (λ refusal. refusal ≡ Refusal.Memory) }
+{
+    let mut permissions = Vec::new(alloc);
+    for grant in grants.as_slice() {
+        if order.geq(role, &grant.2) {
+            put_pair(alloc, &mut permissions, &grant.0, &grant.1)?;
+        }
+    }
+    Ok(permissions)
+}
+
+// The permissions that are granted to a role which is reached from the second names of the pairs.
+pub(crate) fn permissions_reached(
+    alloc: Global,
+    order: &RoleOrder,
+    grants: &GrantSet,
+    held: &[(Name, Name)],
+) -> Result<Vec<(Name, Name)>, Refusal>
+    ensures ok { IfOk result (λ pairs. pairs.items ≡ members (image {Q = pair_cmp} permission_of (retain (set_of triple_cmp grants.now) (λ grant. is_reached order.now.edges held.now grant.2)))) }
+    ensures cause { IfErr result (λ refusal. refusal ≡ Refusal.Memory) }
+{
+    let mut permissions = Vec::new(alloc);
+    for grant in grants.as_slice() {
+        if is_reached(order, held, &grant.2) {
+            put_pair(alloc, &mut permissions, &grant.0, &grant.1)?;
+        }
+    }
+    Ok(permissions)
+}
+
+// The operations of the grants of the object to the role or to one below it.
+pub(crate) fn operations_below(
+    alloc: Global,
+    order: &RoleOrder,
+    grants: &GrantSet,
+    role: &Name,
+    object: &Name,
+) -> Result<Vec<Name>, Refusal>
+    ensures ok { IfOk result (λ names. names.items ≡ members (image {Q = name_cmp} (λ (grant : Triple). grant.1)
+        (retain (retain (set_of triple_cmp grants.now) (λ grant. same_name grant.0 object.now)) (λ grant. geq order.now.edges role.now grant.2)))) }
+    ensures cause { IfErr result (λ refusal. refusal ≡ Refusal.Memory) }
+{
+    let mut operations = Vec::new(alloc);
+    for grant in grants.with_first(object) {
+        if order.geq(role, &grant.2) {
+            put_name(alloc, &mut operations, &grant.1)?;
+        }
+    }
+    Ok(operations)
+}
+
+// The operations of the grants of the object to a role which is reached from the second names of the
+// pairs.
+pub(crate) fn operations_reached(
+    alloc: Global,
+    order: &RoleOrder,
+    grants: &GrantSet,
+    held: &[(Name, Name)],
+    object: &Name,
+) -> Result<Vec<Name>, Refusal>
+    ensures ok { IfOk result (λ names. names.items ≡ members (image {Q = name_cmp} (λ (grant : Triple). grant.1)
+        (retain (retain (set_of triple_cmp grants.now) (λ grant. same_name grant.0 object.now)) (λ grant. is_reached order.now.edges held.now grant.2)))) }
+    ensures cause { IfErr result (λ refusal. refusal ≡ Refusal.Memory) }
+{
+    let mut operations = Vec::new(alloc);
+    for grant in grants.with_first(object) {
+        if is_reached(order, held, &grant.2) {
+            put_name(alloc, &mut operations, &grant.1)?;
+        }
+    }
+    Ok(operations)
+}
+
+// The roles of the grants of the permission.
+pub(crate) fn roles_granted(
+    alloc: Global,
+    grants: &GrantSet,
+    object: &Name,
+    operation: &Name,
+) -> Result<Vec<Name>, Refusal>
+    ensures ok { IfOk result (λ names. names.items ≡ members (image {Q = name_cmp} (λ (grant : Triple). grant.2) (retain (set_of triple_cmp grants.now) (is_grant_of object.now operation.now)))) }
+    ensures cause { IfErr result (λ refusal. refusal ≡ Refusal.Memory) }
+{
+    let mut roles = Vec::new(alloc);
+    for grant in grants.with_first((object, operation)) {
+        put_name(alloc, &mut roles, &grant.2)?;
+    }
+    Ok(roles)
+}

@@ -1,0 +1,16 @@
+//! What is asked of the office: access decisions, and the review functions of the standard.
+//!
+//! No question changes the state. A question about what isn't there is refused; else the answer is
+//! the set that the standard defines, as a list in byte order.
+#![tactic(auto)]
+
+pub use access::check_access;
+pub use asking::ask;
+pub use query::{Answer, Query};
+
+pub mod access;
+pub mod asking;
+mod gather;
+mod lookup;
+pub mod query;
+pub mod review;

@@ -1,0 +1,84 @@
+//! What is there, and what is reached from a role.
+ghost use Rattle.std.specs.Prelude.{◌≡◌};
+ghost use Rattle.std.specs.List.{list_any};
+ghost use Rattle.rbac_sets.specs.Sets.{Pair, Triple, any, pair_cmp, same_name};
+ghost use Rattle.rbac_sets.specs.SortedSet.{set_of};
+ghost use Rattle.admin_mgr.specs.RbacState.{has_session, has_set};
+ghost use Rattle.admin_mgr.specs.Held.{is_reached};
+ghost use Rattle.review_mgr.specs.Questions.{has_operation};
+
+use admin_mgr::State;
+use rbac_sets::{Name, PairSet};
+use role_order::RoleOrder;
+
+// Whether the two names are one.
+#[tactic(auto, using(rbac_sets::proofs::SetLaws::same_bytes))]
+pub(crate) fn is_same(a: &Name, b: &Name) -> bool
+    ensures { result ≡ same_name a.now b.now }
+{
+    a == b
+}
+
+// Whether a pair begins with this name.
+#[tactic(auto, using(admin_mgr::proofs::Lookups::any_filter), unfolding(rbac_sets::specs::Sets::any))]
+fn has_first(pairs: &PairSet, first: &Name) -> bool
+    ensures { result ≡ any (λ (pair : Pair). same_name pair.0 first.now) (set_of pair_cmp pairs.now) }
+{
+    !pairs.with_first(first).is_empty()
+}
+
+// Whether there is a session of this name.
+pub(crate) fn has_session(state: &State, session: &Name) -> bool
+    ensures { result ≡ has_session state.now.facts session.now }
+{
+    has_first(state.sessions(), session)
+}
+
+// Whether there is a static separation of duty set of this name.
+#[tactic(auto, using(admin_mgr::proofs::Lookups::is_some_number), unfolding(rbac_sets::specs::Sets::any, admin_mgr::specs::RbacState::cardinality_of))]
+pub(crate) fn has_ssd_set(state: &State, set: &Name) -> bool
+    ensures { result ≡ has_set state.now.facts.ssd set.now }
+{
+    state.ssd_n(set).is_some()
+}
+
+// Whether there is a dynamic separation of duty set of this name.
+#[tactic(auto, using(admin_mgr::proofs::Lookups::is_some_number), unfolding(rbac_sets::specs::Sets::any, admin_mgr::specs::RbacState::cardinality_of))]
+pub(crate) fn has_dsd_set(state: &State, set: &Name) -> bool
+    ensures { result ≡ has_set state.now.facts.dsd set.now }
+{
+    state.dsd_n(set).is_some()
+}
+
+// Whether a pair ends with this name.
+pub(crate) fn has_second(pairs: &[(Name, Name)], second: &Name) -> bool
+    ensures { result ≡ list_any (λ (pair : Pair). same_name pair.1 second.now) pairs.now }
+{
+    pairs.iter().any(|pair| is_same(&pair.1, second))
+}
+
+// Whether some permission has the operation. The permission (object, operation) is looked for first.
+pub(crate) fn has_operation(state: &State, object: &Name, operation: &Name) -> bool
+    ensures { result ≡ has_operation state.now.facts operation.now }
+{
+    state.permissions().contains((object, operation))
+        || has_second(state.permissions().as_slice(), operation)
+}
+
+// Whether the role is the second part of one of the pairs, or below it.
+pub(crate) fn is_reached(order: &RoleOrder, held: &[(Name, Name)], role: &Name) -> bool
+    ensures { result ≡ is_reached order.now.edges held.now role.now }
+{
+    held.iter().any(|pair| order.geq(&pair.1, role))
+}
+
+// Whether the role of one of the grants is reached so.
+pub(crate) fn is_granted(
+    order: &RoleOrder,
+    held: &[(Name, Name)],
+    grants: &[(Name, Name, Name)],
+) -> bool
+    ensures { result ≡ list_any (λ (grant : Triple). is_reached order.now.edges held.now grant.2) grants.now }
+{
+    grants.iter().any(|grant| is_reached(order, held, &grant.2))
+}

@@ -1,0 +1,54 @@
+//! What sessions have and may do.
+ghost use Rattle.std.specs.Prelude.{◌≡◌, ◌⊎◌, Some, None, OnOk, IfOk, IfErr};
+ghost use Rattle.rbac_sets.specs.Sets.{members};
+ghost use Rattle.review_mgr.specs.declared.query.Query.TheVariants.{SessionRoles, SessionPermissions};
+ghost use Rattle.review_mgr.specs.Questions.{refused};
+ghost use Rattle.admin_mgr.specs.Authorization.{session_roles};
+ghost use Rattle.review_mgr.specs.Review.{session_permissions};
+
+use crate::gather::{permissions_reached, roles_reached};
+use crate::lookup::has_session;
+use admin_mgr::State;
+use rbac_sets::{Name, Refusal};
+use std::alloc::Global;
+
+/// SessionRoles, session_roles: the roles that were activated in the session, and their descendants.
+///
+/// # Errors
+///
+/// `NoSession` where there is no such session. `Memory` where memory for the answer was refused.
+#[tactic(auto, unfolding(crate::specs::Questions::refused, crate::specs::Questions::refusals))]
+pub fn session_roles(alloc: Global, state: &State, session: &Name) -> Result<Vec<Name>, Refusal>
+    ensures answered { OnOk result (refused state.now.facts (SessionRoles session.now) ≡ None) }
+    ensures value { IfOk result (λ names. names.items ≡ members (session_roles state.now.facts session.now)) }
+    ensures refused { IfErr result (λ refusal. (refusal ≡ Refusal.Memory) ⊎ (refused state.now.facts (SessionRoles session.now) ≡ Some refusal)) }
+{
+    if !has_session(state, session) {
+        return Err(Refusal::NoSession);
+    }
+    let active = state.active().with_first(session);
+    roles_reached(alloc, state.order(), state.roles(), active)
+}
+
+/// SessionPermissions: what is granted to the roles of the session, as pairs (object, operation).
+///
+/// # Errors
+///
+/// `NoSession` where there is no such session. `Memory` where memory for the answer was refused.
+#[tactic(auto, unfolding(crate::specs::Questions::refused, crate::specs::Questions::refusals))]
+pub fn session_permissions(
+    alloc: Global,
+    state: &State,
+    session: &Name,
+) -> Result<Vec<(Name, Name)>, Refusal>
+    ensures answered { OnOk result (refused state.now.facts (SessionPermissions session.now) ≡ None) }
+    ensures value { IfOk result (λ permissions. permissions.items ≡ members (session_permissions state.now.facts session.now)) }
+    ensures refused { IfErr result (λ refusal. (refusal ≡ Refusal.Memory) ⊎ (refused state.now.facts (SessionPermissions session.now) ≡ Some refusal)) }
+{
+    if !has_session(state, session) {
+        return Err(Refusal::NoSession);
+    }
+    state.is_good();
+    let active = state.active().with_first(session);
+    permissions_reached(alloc, state.order(), state.grants(), active)
+}
