@@ -1,11 +1,10 @@
 -- What the state after a command on one separation of duty set violates.
-use Rattle.std.proofs.Common.{◌≡◌, ℕ, ◌+◌, ◌<◌, ◌≤◌, Bool, true, false, cond, not, ◌||◌, refl, sym, ◌∙◌, ap, subst, arith}
-use Rattle.std.specs.Prelude.{IsTrue, Option, Some, None, nat_lt}
+use Rattle.std.proofs.Common.{◌≡◌, ℕ, false, cond, refl, ◌∙◌, ap}
+use Rattle.std.specs.Prelude.{IsTrue, Some, None}
 use Rattle.std.specs.Option.{option_map}
-use Rattle.rbac_sets.specs.Sets.{Bytes, Pair, Names, name_cmp, contains, insert}
+use Rattle.rbac_sets.specs.Sets.{Bytes, name_cmp, contains, insert}
 use Rattle.rbac_sets.specs.SortedSet.{Stored, set_of}
 use Rattle.rbac_sets.specs.declared.command.Command.TheVariants.{CreateSsdSet, AddSsdRoleMember, SetSsdSetCardinality, CreateDsdSet, AddDsdRoleMember, SetDsdSetCardinality}
-use Rattle.rbac_sets.specs.declared.refusal.Refusal.{Refusal}
 use Rattle.rbac_sets.specs.declared.refusal.Refusal.TheVariants.{StaticSeparation, DynamicSeparation}
 use Rattle.admin_mgr.specs.RbacState.{RbacState, Separation, members_of, has_set}
 use Rattle.admin_mgr.specs.Authorization.{authorized_users}

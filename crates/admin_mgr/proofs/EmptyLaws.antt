@@ -1,17 +1,16 @@
 -- The state in which nothing was done yet is good.
-use Rattle.std.proofs.Common.{◌≡◌, ℕ, ◌≤◌, ◌<◌, Bool, true, false, List, [], length, map, refl, sym, ◌∙◌, ap, arith}
+use Rattle.std.proofs.Common.{◌≡◌, ℕ, ◌≤◌, List, length, map, refl, sym, ◌∙◌, ap, arith}
 use Rattle.std.specs.Prelude.{IsTrue, ◌⊎◌}
 use Rattle.std.specs.declared.cmp.Ordering.{Ordering}
 use Rattle.std.specs.FinMap as finmap
 use Rattle.std.specs.List.{filter}
 use Rattle.std.proofs.lemmas.Bool.{true≢false}
-use Rattle.rbac_sets.specs.Sets.{Bytes, Pair, Names, name_cmp, pair_cmp, triple_cmp, cardinality_cmp, same_name, empty, contains, members, len, seconds}
-use Rattle.rbac_sets.specs.NameOrder.{name_total}
+use Rattle.rbac_sets.specs.Sets.{Bytes, Pair, Names, name_cmp, pair_cmp, triple_cmp, cardinality_cmp, same_name, empty, contains, len, seconds}
 use Rattle.rbac_sets.proofs.SetLaws.{contains-empty, members-empty}
 use Rattle.rbac_sets.proofs.Members.{len-members}
 use Rattle.role_order.proofs.Closing.{IsAcyclic-none}
-use Rattle.admin_mgr.specs.RbacState.{RbacState, Separation, empty_state, no_separation}
-use Rattle.admin_mgr.specs.Good.{IsGood, IsSeparation, IsWellFormed, IsWithinLimits}
+use Rattle.admin_mgr.specs.RbacState.{empty_state, no_separation}
+use Rattle.admin_mgr.specs.Good.{IsGood, IsSeparation}
 use Rattle.admin_mgr.proofs.Lookups.{members_seconds}
 
 -- an empty set has nothing, and nothing behind a name

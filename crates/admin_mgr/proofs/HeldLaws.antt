@@ -1,15 +1,13 @@
 -- Users and sessions by what they hold.
-use Rattle.std.proofs.Common.{◌≡◌, ℕ, Bool, true, false, ◌||◌, List, map, refl, sym, ◌∙◌, ap}
+use Rattle.std.proofs.Common.{◌≡◌, Bool, true, false, refl, sym, ◌∙◌, ap}
 use Rattle.std.specs.Prelude.{IsTrue, count_by}
-use Rattle.std.specs.Bool.{Decides}
-use Rattle.std.specs.List.{filter, list_any}
 use Rattle.std.proofs.lemmas.Bool.{and_parts, and_from}
-use Rattle.rbac_sets.specs.Sets.{Bytes, Pair, Pairs, Names, name_cmp, pair_cmp, same_name, contains, members, retain, image, seconds, any, count}
+use Rattle.rbac_sets.specs.Sets.{Bytes, Pair, Pairs, Names, contains, members, retain, seconds, count}
 use Rattle.rbac_sets.specs.NameOrder.{name_total, name_exact, pair_total, pair_exact}
 use Rattle.rbac_sets.proofs.SetLaws.{image-Decides, any-Decides, contains-retain, seconds-Decides}
 use Rattle.role_order.specs.Order.{geq}
 use Rattle.role_order.proofs.Runs.{run_of}
-use Rattle.admin_mgr.specs.RbacState.{RbacState, Separation, members_of, active_roles}
+use Rattle.admin_mgr.specs.RbacState.{RbacState}
 use Rattle.admin_mgr.specs.Authorization.{authorized_users, is_authorized, is_session_role}
 use Rattle.admin_mgr.specs.Held.{is_reached, reached_roles, reached_members}
 use Rattle.admin_mgr.proofs.Lookups.{any_seconds, count_seconds}

@@ -1,15 +1,15 @@
 -- One more immediate inheritance: who is authorized for more, and which set is named.
-use Rattle.std.proofs.Common.{◌≡◌, ◌≢◌, ℕ, ◌+◌, ◌<◌, ◌≤◌, Bool, true, false, cond, not, ◌||◌, ◌&&◌, List, [], ◌∷◌, refl, sym, ◌∙◌, ap, subst, inl, inr}
-use Rattle.std.specs.Prelude.{IsTrue, ◌⊎◌, nat_lt, count_by, find}
+use Rattle.std.proofs.Common.{◌≡◌, ℕ, ◌<◌, Bool, true, false, not, ◌||◌, ◌&&◌, List, [], ◌∷◌, refl, sym, ◌∙◌, ap, subst, inl, inr}
+use Rattle.std.specs.Prelude.{IsTrue, nat_lt, count_by, find}
 use Rattle.std.specs.Option.{option_map}
 use Rattle.std.specs.List.{list_any, list_all}
 use Rattle.std.proofs.lemmas.Bool.{and_parts, and_from, or_cases, or_left, or_right, lt-ltb, true≢false}
-use Rattle.rbac_sets.specs.Sets.{Bytes, Pair, Pairs, Cardinality, name_cmp, pair_cmp, contains, members, insert, seconds, count, all}
+use Rattle.rbac_sets.specs.Sets.{Bytes, Pair, Cardinality, contains, members, insert, count, all}
 use Rattle.rbac_sets.specs.NameOrder.{name_total, name_exact, pair_total, pair_exact}
 use Rattle.rbac_sets.specs.declared.command.Command.TheVariants.{AddInheritance}
 use Rattle.rbac_sets.specs.declared.refusal.Refusal.TheVariants.{StaticSeparation, DynamicSeparation}
 use Rattle.rbac_sets.proofs.SetLaws.{all-Decides, seconds-Decides}
-use Rattle.role_order.specs.Order.{Geq, geq, IsAcyclic}
+use Rattle.role_order.specs.Order.{Geq, geq}
 use Rattle.role_order.proofs.Closing.{added_edge}
 use Rattle.role_order.proofs.Deciding.{geq-Decides}
 use Rattle.admin_mgr.specs.RbacState.{RbacState, members_of, active_roles}
@@ -20,8 +20,7 @@ use Rattle.admin_mgr.specs.Assignment.{may_go_on, end_sessions}
 use Rattle.admin_mgr.specs.After.{changed, after}
 use Rattle.admin_mgr.specs.Good.{IsGood}
 use Rattle.admin_mgr.specs.Held.{run_of, is_reached, reached_members, reached_with, is_touched, keeps_below}
-use Rattle.admin_mgr.proofs.Lookups.{count_seconds}
-use Rattle.admin_mgr.proofs.HeldLaws.{authorized_reached, session_reached, authorized_members_count, session_members_count}
+use Rattle.admin_mgr.proofs.HeldLaws.{authorized_reached, authorized_members_count, session_members_count}
 use Rattle.admin_mgr.proofs.KeepLaws.{all_same}
 use Rattle.admin_mgr.proofs.SessionLaws.{none_ends_where}
 use Rattle.admin_mgr.proofs.TouchLaws.{same_test, untouched, violated_by}

@@ -10,7 +10,7 @@ use Rattle.std.specs.Ordering.{eq_by_cmp}
 use Rattle.std.specs.Cmp.{IsTotalOrder}
 use Rattle.std.specs.FinMap.{IsAntisymmetric}
 use Rattle.std.proofs.lemmas.Bool.{or_left, or_right, lt-ltb, true≢false}
-use Rattle.rbac_sets.specs.Sets.{Bytes, Pair, Pairs, Names, Cardinality, name_cmp, pair_cmp, cardinality_cmp, same_name, contains, members, insert, retain, seconds, len, count, any, all}
+use Rattle.rbac_sets.specs.Sets.{Bytes, Pair, Pairs, Names, Cardinality, cardinality_cmp, same_name, contains, members, insert, retain, seconds, len, count, any, all}
 use Rattle.rbac_sets.specs.NameOrder.{name_total, name_exact, pair_total, pair_exact, cardinality_total, cardinality_exact}
 use Rattle.rbac_sets.proofs.SetLaws.{tie_Decides, contains-members, contains-insert, contains-retain, all-Decides, seconds-Decides, same_set}
 use Rattle.rbac_sets.proofs.Members.{count-len}

@@ -11,3 +11,4 @@ pub mod SessionLaws
 pub mod TouchLaws
 pub mod VerdictLaws
 pub mod ViolationLaws
+pub mod Worked

@@ -1,15 +1,15 @@
 -- What is found in the run of entries that begin with one name.
-use Rattle.std.proofs.Common.{◌≡◌, ◌↔◌, ℕ, suc, ◌+◌, Bool, true, false, cond, not, ◌||◌, List, [], ◌∷◌, length, map, refl, sym, ◌∙◌, ap, subst, arith}
-use Rattle.std.specs.Prelude.{IsTrue, Contains, Option, Some, None, is_some, is_none, find, count_by, ◌==◌}
+use Rattle.std.proofs.Common.{◌≡◌, ℕ, suc, Bool, true, false, cond, not, ◌||◌, List, [], ◌∷◌, length, map, refl, sym, ◌∙◌, ap, arith}
+use Rattle.std.specs.Prelude.{Option, Some, None, is_some, find, count_by, ◌==◌}
 use Rattle.std.specs.Option.{option_map}
-use Rattle.std.specs.List.{filter, list_any, list_all, slice_get, AllByRecursion}
+use Rattle.std.specs.List.{filter, list_any, slice_get, AllByRecursion}
 use Rattle.std.specs.List.Sorted.{IsStrictlySortedBy}
 use Rattle.std.specs.declared.cmp.Ordering.TheVariants.{Less}
 use Rattle.std.proofs.lemmas.Bool.{eqb-true}
 use Rattle.std.proofs.lemmas.List.Sums.{length-filter}
 use Rattle.std.proofs.lemmas.List.{length-map}
-use Rattle.rbac_sets.specs.Sets.{Bytes, Pair, Pairs, Names, name_cmp, pair_cmp, same_name, contains, members, from_list, retain, image, seconds, len, any, all, count}
-use Rattle.rbac_sets.specs.NameOrder.{name_total, name_exact, pair_total, pair_exact}
+use Rattle.rbac_sets.specs.Sets.{Bytes, Pair, Pairs, name_cmp, same_name, members, from_list, retain, image, seconds, len, any, count}
+use Rattle.rbac_sets.specs.NameOrder.{name_total, pair_total, pair_exact}
 use Rattle.rbac_sets.proofs.Members.{members-retain, len-members}
 use Rattle.rbac_sets.proofs.InOrder.{members-sorted}
 use Rattle.role_order.specs.Checked.{second_cmp}

@@ -1,18 +1,18 @@
 -- Static separation of duty by counting and by subsets, and the tests of both kinds.
-use Rattle.std.proofs.Common.{◌≡◌, ℕ, ◌<◌, ◌≤◌, Bool, true, false, cond, not, ◌||◌, List, [], ◌∷◌, refl, sym, ◌∙◌, ap, subst, arith, inl, inr}
+use Rattle.std.proofs.Common.{◌≡◌, ℕ, ◌<◌, ◌≤◌, Bool, true, false, cond, not, ◌||◌, List, [], ◌∷◌, refl, sym, ◌∙◌, subst, arith, inl, inr}
 use Rattle.std.specs.Prelude.{IsTrue, ◌↔◌, Option, Some, None, find, nat_lt}
 use Rattle.std.specs.Option.{option_map}
 use Rattle.std.specs.List.{list_any}
-use Rattle.std.proofs.lemmas.Bool.{and_parts, and_from, cases_lt, ltb-true, lt-ltb, not-false, not-true, not_from_true, true≢false}
-use Rattle.rbac_sets.specs.Sets.{Bytes, Pair, Names, Cardinality, name_cmp, cardinality_cmp, contains, members, retain, len, count, any, all}
+use Rattle.std.proofs.lemmas.Bool.{and_parts, and_from, cases_lt, ltb-true, lt-ltb, not-false, not-true, true≢false}
+use Rattle.rbac_sets.specs.Sets.{Bytes, Pair, Names, Cardinality, contains, members, retain, len, count, any}
 use Rattle.rbac_sets.specs.NameOrder.{name_total, name_exact, pair_total, pair_exact, cardinality_total, cardinality_exact}
 use Rattle.rbac_sets.proofs.SetLaws.{contains-retain, image-Decides, any-Decides, all-Decides}
 use Rattle.rbac_sets.proofs.Members.{count-len, len-subset, a_member}
 use Rattle.role_order.specs.Order.{geq}
 use Rattle.admin_mgr.specs.RbacState.{RbacState, Separation, members_of}
 use Rattle.admin_mgr.specs.Authorization.{authorized_users, is_authorized, is_session_role}
-use Rattle.admin_mgr.specs.Separation.{is_kept_statically, is_kept_dynamically, least_violated, static_violation, dynamic_violation}
-use Rattle.admin_mgr.specs.Good.{IsWellFormed, IsStaticallySeparated, IsDynamicallySeparated}
+use Rattle.admin_mgr.specs.Separation.{is_kept_statically, is_kept_dynamically, least_violated}
+use Rattle.admin_mgr.specs.Good.{IsWellFormed, IsStaticallySeparated}
 use Rattle.admin_mgr.specs.Laws.{IsSeparatedBySubsets, SubsetForm, StaticTest, DynamicTest}
 
 -- ---- by counting and by subsets

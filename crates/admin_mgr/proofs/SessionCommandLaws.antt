@@ -1,10 +1,9 @@
 -- A new session, and a role that is activated in one: no session ends, and only this one can violate a dynamic set.
-use Rattle.std.proofs.Common.{◌≡◌, ◌≢◌, ℕ, ◌<◌, Bool, true, false, not, ◌||◌, ◌&&◌, List, refl, sym, ◌∙◌, ap, subst, inl, inr}
-use Rattle.std.specs.Prelude.{IsTrue, ◌⊎◌, nat_lt, count_by}
+use Rattle.std.proofs.Common.{◌≡◌, ◌≢◌, ◌<◌, false, not, ◌||◌, refl, sym, ◌∙◌, ap, subst, inl, inr}
+use Rattle.std.specs.Prelude.{IsTrue, count_by}
 use Rattle.std.specs.Option.{option_map}
-use Rattle.std.specs.List.{list_any}
-use Rattle.std.proofs.lemmas.Bool.{and_parts, and_from, or_cases, true≢false}
-use Rattle.rbac_sets.specs.Sets.{Bytes, Pair, Pairs, Names, Cardinality, name_cmp, pair_cmp, same_name, contains, members, insert, union, seconds, any, all}
+use Rattle.std.proofs.lemmas.Bool.{and_from, or_cases, true≢false}
+use Rattle.rbac_sets.specs.Sets.{Bytes, Pair, Pairs, Names, Cardinality, name_cmp, same_name, contains, members, insert, union, seconds, any, all}
 use Rattle.rbac_sets.specs.SortedSet.{Stored, set_of}
 use Rattle.rbac_sets.specs.NameOrder.{name_total, name_exact, pair_total, pair_exact}
 use Rattle.rbac_sets.specs.declared.command.Command.TheVariants.{CreateSession, AddActiveRole}
@@ -12,7 +11,7 @@ use Rattle.rbac_sets.specs.declared.refusal.Refusal.TheVariants.{DynamicSeparati
 use Rattle.rbac_sets.proofs.SetLaws.{tie_Decides, contains-union, contains-insert-Decides, any-Decides, all-Decides, seconds-Decides}
 use Rattle.role_order.specs.Order.{geq}
 use Rattle.role_order.proofs.Members.{same_or_other}
-use Rattle.admin_mgr.specs.RbacState.{RbacState, active_roles, has_session}
+use Rattle.admin_mgr.specs.RbacState.{RbacState, has_session}
 use Rattle.admin_mgr.specs.Authorization.{authorized_users, is_authorized, is_session_role}
 use Rattle.admin_mgr.specs.Separation.{is_kept_dynamically}
 use Rattle.admin_mgr.specs.Refusing.{breaks_dynamic}
@@ -21,7 +20,7 @@ use Rattle.admin_mgr.specs.After.{paired, changed, after}
 use Rattle.admin_mgr.specs.Good.{IsGood}
 use Rattle.admin_mgr.specs.Held.{run_of, is_reached, is_reached_from, first_with_all, first_with_one}
 use Rattle.admin_mgr.proofs.HeldLaws.{session_reached, session_members_count}
-use Rattle.admin_mgr.proofs.SessionLaws.{goes_on, none_ends_where}
+use Rattle.admin_mgr.proofs.SessionLaws.{none_ends_where}
 use Rattle.admin_mgr.proofs.TouchLaws.{any_insert, one_more, violated_by, with_sessions, OthersStay, session_breaks}
 use Rattle.admin_mgr.proofs.ViolationLaws.{paired-Decides, with_paired-others, with_paired-own, with_one-others, with_one-own}
 

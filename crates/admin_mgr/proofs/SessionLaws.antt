@@ -1,5 +1,5 @@
 -- Which sessions end: none of a good state.
-use Rattle.std.proofs.Common.{◌≡◌, Bool, true, false, not, refl, ap}
+use Rattle.std.proofs.Common.{◌≡◌, not, refl, ap}
 use Rattle.std.specs.Prelude.{IsTrue, ◌&&◌}
 use Rattle.std.proofs.lemmas.Bool.{and_from}
 use Rattle.rbac_sets.specs.Sets.{Bytes, Pair, contains, any, same_name}

@@ -1,27 +1,27 @@
 -- Which set is named where a command touches one user or one session.
-use Rattle.std.proofs.Common.{◌≡◌, ◌≢◌, ℕ, suc, ◌+◌, ◌<◌, ◌≤◌, Bool, true, false, cond, not, ◌||◌, ◌&&◌, List, [], ◌∷◌, length, refl, sym, ◌∙◌, ap, subst, arith, inl, inr}
-use Rattle.std.specs.Prelude.{IsTrue, ◌⊎◌, Option, Some, None, find, nat_lt, count_by}
+use Rattle.std.proofs.Common.{◌≡◌, ◌≢◌, ℕ, suc, ◌<◌, Bool, true, false, cond, not, ◌||◌, ◌&&◌, List, [], ◌∷◌, length, refl, sym, ◌∙◌, ap, subst, inl, inr}
+use Rattle.std.specs.Prelude.{IsTrue, ◌⊎◌, Some, find, nat_lt, count_by}
 use Rattle.std.specs.Bool.{Decides}
 use Rattle.std.specs.Option.{option_map}
 use Rattle.std.specs.List.{list_any, filter}
 use Rattle.std.proofs.lemmas.List.Sums.{length-filter}
 use Rattle.std.specs.Ordering.{eq_by_cmp}
 use Rattle.std.proofs.lemmas.Bool.{and_parts, and_from, or_cases, or_left, or_right, ltb-true, lt-ltb, true≢false}
-use Rattle.rbac_sets.specs.Sets.{Bytes, Pair, Pairs, Names, Cardinality, name_cmp, pair_cmp, cardinality_cmp, contains, members, insert, retain, seconds, count, any, all}
+use Rattle.rbac_sets.specs.Sets.{Bytes, Pair, Pairs, Names, Cardinality, cardinality_cmp, contains, members, insert, retain, seconds, count, any}
 use Rattle.rbac_sets.specs.NameOrder.{name_total, name_exact, pair_total, pair_exact, cardinality_total, cardinality_exact}
-use Rattle.rbac_sets.specs.declared.refusal.Refusal.TheVariants.{StaticSeparation, DynamicSeparation}
+use Rattle.rbac_sets.specs.declared.refusal.Refusal.TheVariants.{StaticSeparation}
 use Rattle.rbac_sets.proofs.SetLaws.{tie_Decides, contains-members, contains-retain, contains-insert-Decides, image-Decides, any-Decides}
 use Rattle.role_order.specs.Order.{geq}
 use Rattle.role_order.proofs.Members.{same_or_other}
 use Rattle.admin_mgr.specs.RbacState.{RbacState, Separation, members_of}
 use Rattle.admin_mgr.specs.Authorization.{authorized_users, is_authorized, is_session_role}
 use Rattle.admin_mgr.specs.Separation.{is_kept_statically, is_kept_dynamically, least_violated}
-use Rattle.admin_mgr.specs.Refusing.{breaks_static, breaks_dynamic}
+use Rattle.admin_mgr.specs.Refusing.{breaks_static}
 use Rattle.admin_mgr.specs.Assignment.{end_sessions, after_assignment}
 use Rattle.admin_mgr.specs.Good.{IsGood}
-use Rattle.admin_mgr.specs.Held.{run_of, is_reached, is_touched, reached_with, first_with_one}
+use Rattle.admin_mgr.specs.Held.{run_of, is_reached, first_with_one}
 use Rattle.admin_mgr.proofs.Lookups.{count_seconds}
-use Rattle.admin_mgr.proofs.HeldLaws.{authorized_reached, session_reached, authorized_members_count, session_members_count}
+use Rattle.admin_mgr.proofs.HeldLaws.{authorized_reached, authorized_members_count}
 use Rattle.admin_mgr.proofs.SeparationLaws.{kept_statically, kept_dynamically}
 
 pub same_test : (a b : Bool) → (IsTrue a → IsTrue b) → (IsTrue b → IsTrue a) → a ≡ b

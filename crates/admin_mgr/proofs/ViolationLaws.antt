@@ -1,17 +1,15 @@
 -- Which set is named where a command changes one set alone.
-use Rattle.std.proofs.Common.{◌≡◌, ◌≢◌, ℕ, ◌+◌, ◌<◌, ◌≤◌, Bool, true, false, cond, not, ◌||◌, ◌&&◌, List, [], ◌∷◌, length, map, refl, sym, ◌∙◌, ap, subst, arith, inl, inr}
-use Rattle.std.specs.Prelude.{IsTrue, ◌⊎◌, ◌↔◌, Option, Some, None, find, nat_lt, count_by}
+use Rattle.std.proofs.Common.{◌≡◌, ◌≢◌, ℕ, Bool, true, false, cond, not, ◌||◌, List, [], ◌∷◌, refl, sym, ◌∙◌, ap, subst, inl, inr}
+use Rattle.std.specs.Prelude.{IsTrue, ◌⊎◌, ◌↔◌, Some, None, find}
 use Rattle.std.specs.Bool.{Decides}
 use Rattle.std.specs.Option.{option_map}
 use Rattle.std.specs.List.{list_any}
-use Rattle.std.specs.FinMap as finmap
 use Rattle.std.specs.Ordering.{eq_by_cmp}
-use Rattle.std.proofs.lemmas.Bool.{and_parts, and_from, or_cases, or_left, or_right, ltb-true, lt-ltb, not-false, not-true, not_from_true, true≢false}
-use Rattle.rbac_sets.specs.Sets.{Bytes, Pair, Pairs, Names, Cardinality, Cardinalities, name_cmp, pair_cmp, cardinality_cmp, same_name, contains, members, insert, remove, retain, union, image, seconds, len, count, any, all}
+use Rattle.std.proofs.lemmas.Bool.{and_parts, or_cases, or_left, or_right, not-true, true≢false}
+use Rattle.rbac_sets.specs.Sets.{Bytes, Pair, Pairs, Names, Cardinality, cardinality_cmp, same_name, contains, members, insert, union, seconds, any}
 use Rattle.rbac_sets.specs.NameOrder.{name_total, name_exact, pair_total, pair_exact, cardinality_total, cardinality_exact}
-use Rattle.rbac_sets.proofs.SetLaws.{tie_Decides, contains-members, contains-retain, contains-union, contains-insert-Decides, image-Decides, any-Decides, all-Decides, seconds-Decides, same_members}
-use Rattle.rbac_sets.proofs.Members.{count-len, len-subset}
-use Rattle.admin_mgr.specs.RbacState.{RbacState, Separation, members_of, has_set}
+use Rattle.rbac_sets.proofs.SetLaws.{tie_Decides, contains-members, contains-retain, contains-union, contains-insert-Decides, image-Decides, any-Decides, seconds-Decides, same_members}
+use Rattle.admin_mgr.specs.RbacState.{Separation, members_of, has_set}
 use Rattle.admin_mgr.specs.Separation.{least_violated}
 use Rattle.admin_mgr.specs.After.{paired, without_cardinality, with_set, with_member, with_cardinality}
 use Rattle.admin_mgr.specs.Good.{IsSeparation}

@@ -1,5 +1,5 @@
 -- The state after an accepted command. Each clause of `changed` is the function of the standard, or of this office, that has its name.
-use Rattle.std.specs.Prelude.{ℕ, not, ◌&&◌, Bool}
+use Rattle.std.specs.Prelude.{ℕ, not, ◌&&◌}
 use Rattle.rbac_sets.specs.Sets.{Bytes, Names, Pairs, Cardinalities, name_cmp, image, same_name, insert, remove, retain, union}
 use Rattle.rbac_sets.specs.SortedSet.{set_of}
 use Rattle.rbac_sets.specs.declared.command.Command.{Command}

@@ -1,7 +1,7 @@
 -- A state with the room that each of its sets has.
-use Rattle.std.specs.Prelude.{refl, ℕ, List, [], ◌∷◌}
+use Rattle.std.specs.Prelude.{refl, ℕ, List}
 use Rattle.std.specs.Coded.{Coded, coded_ℕ, coded_list, coded×, code_by}
-use Rattle.rbac_sets.specs.Sets.{name_cmp, pair_cmp, triple_cmp, cardinality_cmp, Bytes, Pair, Triple, Cardinality}
+use Rattle.rbac_sets.specs.Sets.{pair_cmp, cardinality_cmp, Pair, Cardinality}
 use Rattle.rbac_sets.specs.SortedSet.{Stored, set_of}
 use Rattle.admin_mgr.specs.RbacState.{RbacState, Separation, coded_state}
 

@@ -1,6 +1,6 @@
 -- Whether a command is accepted, and else which refusal is told. Each clause of `refusals` is the function of the standard,
 -- or of this office, that has its name.
-use Rattle.std.specs.Prelude.{ℕ, ◌+◌, pos, Bool, not, nat_eq, ◌&&◌, ◌||◌, nat_le, nat_lt, List, [], ◌∷◌, ◌++◌, length, Option}
+use Rattle.std.specs.Prelude.{ℕ, ◌+◌, pos, Bool, nat_eq, ◌&&◌, ◌||◌, nat_le, List, [], ◌∷◌, ◌++◌, length, Option}
 use Rattle.rbac_sets.specs.Sets.{Bytes, Names, name_cmp, any, all, same_name, contains, len}
 use Rattle.rbac_sets.specs.SortedSet.{set_of}
 use Rattle.rbac_sets.specs.declared.command.Command.{Command}

@@ -1,4 +1,4 @@
-use Rattle.std.proofs.Common.{◌≡◌, Bool, not, ◌||◌, ◌+◌, true, false, sym, ◌∙◌, ap}
+use Rattle.std.proofs.Common.{sym, ◌∙◌, ap}
 use Rattle.std.specs.Prelude.{nat_lt}
 use Rattle.rbac_sets.specs.Sets.{name_cmp}
 use Rattle.rbac_sets.specs.SortedSet.{set_of}

@@ -1,4 +1,4 @@
-use Rattle.std.proofs.Common.{◌≡◌, Bool, not, ◌||◌, ◌+◌, true, false, sym, ◌∙◌, ap}
+use Rattle.std.proofs.Common.{sym, ◌∙◌, ap}
 use Rattle.std.specs.Prelude.{nat_lt}
 use Rattle.admin_mgr.specs.Held.{run_of, reached_members}
 use Rattle.admin_mgr.proofs.HeldLaws.{authorized_members_count}

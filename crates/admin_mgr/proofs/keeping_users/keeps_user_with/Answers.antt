@@ -1,4 +1,4 @@
-use Rattle.std.proofs.Common.{◌≡◌, Bool, not, ◌||◌, ◌+◌, true, false, sym, ◌∙◌, ap}
+use Rattle.std.proofs.Common.{not, ◌||◌, ◌+◌, sym, ◌∙◌, ap}
 use Rattle.std.specs.Prelude.{nat_lt}
 use Rattle.rbac_sets.specs.Sets.{count}
 use Rattle.admin_mgr.specs.RbacState.{members_of}

@@ -1,18 +1,14 @@
-use Rattle.std.proofs.Common.{◌≡◌, ℕ, Bool, true, false, ◌∷◌, [], ◌++◌, sym, ◌∙◌, ap}
-use Rattle.std.specs.Prelude.{Some, None}
+use Rattle.std.proofs.Common.{sym, ◌∙◌, ap}
 use Rattle.std.specs.Option.{option_map}
-use Rattle.rbac_sets.specs.Sets.{Cardinality, Names, name_cmp, contains, members, all}
-use Rattle.rbac_sets.specs.SortedSet.{set_of}
+use Rattle.rbac_sets.specs.Sets.{Cardinality, contains, members}
 use Rattle.rbac_sets.specs.declared.refusal.Refusal.TheVariants.{NoUser}
 use Rattle.admin_mgr.specs.Assignment.{assign_user_refusals, assignment_refusals, after_assignment}
 use Rattle.admin_mgr.specs.Held.{run_of, find_in}
 use Rattle.admin_mgr.proofs.TouchLaws.{assignment_breaks}
-use Rattle.admin_mgr.specs.Kept.{separation_of}
-use Rattle.rbac_sets.specs.declared.command.Command.TheVariants.{AssignUser}
 use Rattle.rbac_sets.specs.declared.refusal.Refusal.TheVariants.{StaticSeparation}
-use Rattle.admin_mgr.specs.Refusing.{first, breaks_static}
+use Rattle.admin_mgr.specs.Refusing.{breaks_static}
 use Rattle.admin_mgr.specs.Verdict.{verdict, refusals}
-use Rattle.admin_mgr.proofs.VerdictLaws.{passed, refuse_if-None, refuse_unless-None, stopped, last_decides}
+use Rattle.admin_mgr.proofs.VerdictLaws.{passed, refuse_unless-None, stopped, last_decides}
 use Rattle.admin_mgr.proofs.judge.core_rbac.judge_assign_user.Goals as goal
 
 pub returns-in-Some : goal.returns-in-Some

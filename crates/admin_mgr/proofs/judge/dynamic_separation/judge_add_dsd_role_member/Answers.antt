@@ -1,13 +1,12 @@
-use Rattle.std.proofs.Common.{◌≡◌, ℕ, ◌+◌, Bool, true, false, cond, ◌∷◌, [], ◌++◌, sym, ◌∙◌, ap}
-use Rattle.std.specs.Prelude.{IsTrue, Some, None, is_some}
+use Rattle.std.proofs.Common.{cond, sym, ◌∙◌, ap}
+use Rattle.std.specs.Prelude.{Some, None, is_some}
 use Rattle.rbac_sets.specs.declared.command.Command.TheVariants.{AddDsdRoleMember}
-use Rattle.rbac_sets.specs.declared.refusal.Refusal.TheVariants.{NoSet, MemberExists, DynamicSeparation}
-use Rattle.rbac_sets.specs.Sets.{contains}
+use Rattle.rbac_sets.specs.declared.refusal.Refusal.TheVariants.{NoSet, DynamicSeparation}
 use Rattle.admin_mgr.specs.RbacState.{has_set}
 use Rattle.admin_mgr.specs.Refusing.{first, breaks_dynamic}
 use Rattle.admin_mgr.specs.After.{after}
 use Rattle.admin_mgr.specs.Verdict.{verdict, refusals, add_member_refusals}
-use Rattle.admin_mgr.proofs.VerdictLaws.{passed, refuse_if-None, refuse_unless-None, stopped, last_decides}
+use Rattle.admin_mgr.proofs.VerdictLaws.{passed, refuse_unless-None, stopped, last_decides}
 use Rattle.admin_mgr.proofs.BreakLaws.{add_dsd}
 use Rattle.admin_mgr.proofs.KeepLaws.{cardinality_there, is_some_cardinality}
 use Rattle.admin_mgr.proofs.judge.dynamic_separation.judge_add_dsd_role_member.Goals as goal

@@ -1,5 +1,5 @@
-use Rattle.std.proofs.Common.{◌≡◌, ℕ, ◌+◌, Bool, true, false, cond, ◌∷◌, [], ◌++◌, sym, ◌∙◌, ap}
-use Rattle.std.specs.Prelude.{IsTrue, Some, None, is_some}
+use Rattle.std.proofs.Common.{cond, sym, ◌∙◌, ap}
+use Rattle.std.specs.Prelude.{Some, None}
 use Rattle.rbac_sets.specs.Sets.{name_cmp}
 use Rattle.rbac_sets.specs.SortedSet.{set_of}
 use Rattle.rbac_sets.specs.declared.kind.Kind.TheVariants.{DsdSet}

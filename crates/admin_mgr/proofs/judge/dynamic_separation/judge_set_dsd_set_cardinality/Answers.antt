@@ -1,5 +1,5 @@
-use Rattle.std.proofs.Common.{◌≡◌, ℕ, ◌+◌, Bool, true, false, cond, ◌∷◌, [], ◌++◌, sym, ◌∙◌, ap}
-use Rattle.std.specs.Prelude.{IsTrue, Some, None, is_some}
+use Rattle.std.proofs.Common.{cond, sym, ◌∙◌, ap}
+use Rattle.std.specs.Prelude.{Some, None, is_some}
 use Rattle.rbac_sets.specs.declared.command.Command.TheVariants.{SetDsdSetCardinality}
 use Rattle.rbac_sets.specs.declared.refusal.Refusal.TheVariants.{NoSet, DynamicSeparation}
 use Rattle.admin_mgr.specs.RbacState.{has_set}

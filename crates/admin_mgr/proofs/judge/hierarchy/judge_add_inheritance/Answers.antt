@@ -1,12 +1,12 @@
-use Rattle.std.proofs.Common.{◌≡◌, Bool, not, ◌&&◌, ◌∷◌, [], ◌++◌, sym, ◌∙◌, ap}
-use Rattle.std.specs.Prelude.{Some, None, find}
+use Rattle.std.proofs.Common.{not, ◌&&◌, sym, ◌∙◌, ap}
+use Rattle.std.specs.Prelude.{find}
 use Rattle.std.specs.Option.{option_map}
 use Rattle.std.specs.List.{list_all}
 use Rattle.rbac_sets.specs.Sets.{Cardinality, Pair, members}
 use Rattle.rbac_sets.specs.declared.command.Command.TheVariants.{AddInheritance}
 use Rattle.rbac_sets.specs.declared.refusal.Refusal.TheVariants.{Cycle, StaticSeparation, DynamicSeparation}
 use Rattle.role_order.specs.Order.{geq}
-use Rattle.admin_mgr.specs.Refusing.{first, breaks_static, breaks_dynamic}
+use Rattle.admin_mgr.specs.Refusing.{breaks_static, breaks_dynamic}
 use Rattle.admin_mgr.specs.After.{after}
 use Rattle.admin_mgr.specs.Held.{run_of, is_touched, keeps_below}
 use Rattle.admin_mgr.specs.Verdict.{verdict, refusals, add_inheritance_refusals}

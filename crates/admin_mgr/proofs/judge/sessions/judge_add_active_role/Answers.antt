@@ -1,8 +1,6 @@
-use Rattle.std.proofs.Common.{◌≡◌, ℕ, Bool, true, false, ◌∷◌, [], ◌++◌, sym, ◌∙◌, ap}
-use Rattle.std.specs.Prelude.{Some, None}
+use Rattle.std.proofs.Common.{sym, ◌∙◌, ap}
 use Rattle.std.specs.Option.{option_map}
-use Rattle.rbac_sets.specs.Sets.{Cardinality, Names, name_cmp, contains, members, all}
-use Rattle.rbac_sets.specs.SortedSet.{set_of}
+use Rattle.rbac_sets.specs.Sets.{Cardinality, contains, members}
 use Rattle.rbac_sets.specs.declared.refusal.Refusal.TheVariants.{NotOwner, NotAuthorized}
 use Rattle.admin_mgr.specs.After.{after}
 use Rattle.admin_mgr.specs.Authorization.{is_authorized}
@@ -11,9 +9,9 @@ use Rattle.admin_mgr.specs.Verdict.{add_active_role_refusals}
 use Rattle.admin_mgr.proofs.SessionCommandLaws.{activated_breaks}
 use Rattle.rbac_sets.specs.declared.command.Command.TheVariants.{AddActiveRole}
 use Rattle.rbac_sets.specs.declared.refusal.Refusal.TheVariants.{DynamicSeparation}
-use Rattle.admin_mgr.specs.Refusing.{first, breaks_dynamic}
+use Rattle.admin_mgr.specs.Refusing.{breaks_dynamic}
 use Rattle.admin_mgr.specs.Verdict.{verdict, refusals}
-use Rattle.admin_mgr.proofs.VerdictLaws.{passed, refuse_if-None, refuse_unless-None, stopped, last_decides}
+use Rattle.admin_mgr.proofs.VerdictLaws.{passed, refuse_unless-None, stopped, last_decides}
 use Rattle.admin_mgr.proofs.judge.sessions.judge_add_active_role.Goals as goal
 
 pub returns-in-Some : goal.returns-in-Some

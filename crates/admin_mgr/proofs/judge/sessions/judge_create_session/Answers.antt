@@ -1,7 +1,6 @@
-use Rattle.std.proofs.Common.{◌≡◌, ℕ, Bool, true, false, ◌∷◌, [], ◌++◌, sym, ◌∙◌, ap}
-use Rattle.std.specs.Prelude.{Some, None}
+use Rattle.std.proofs.Common.{sym, ◌∙◌, ap}
 use Rattle.std.specs.Option.{option_map}
-use Rattle.rbac_sets.specs.Sets.{Cardinality, Names, name_cmp, contains, members, all}
+use Rattle.rbac_sets.specs.Sets.{Cardinality, name_cmp, contains, members, all}
 use Rattle.rbac_sets.specs.SortedSet.{set_of}
 use Rattle.rbac_sets.specs.declared.refusal.Refusal.TheVariants.{NoUser, SessionExists, NotAuthorized, UserLocked}
 use Rattle.admin_mgr.specs.Held.{find_from}
@@ -12,7 +11,7 @@ use Rattle.admin_mgr.specs.Verdict.{create_session_refusals}
 use Rattle.admin_mgr.proofs.SessionCommandLaws.{create_session}
 use Rattle.rbac_sets.specs.declared.command.Command.TheVariants.{CreateSession}
 use Rattle.rbac_sets.specs.declared.refusal.Refusal.TheVariants.{DynamicSeparation}
-use Rattle.admin_mgr.specs.Refusing.{first, breaks_dynamic}
+use Rattle.admin_mgr.specs.Refusing.{breaks_dynamic}
 use Rattle.admin_mgr.specs.Verdict.{verdict, refusals}
 use Rattle.admin_mgr.proofs.VerdictLaws.{passed, refuse_if-None, refuse_unless-None, stopped, last_decides}
 use Rattle.admin_mgr.proofs.judge.sessions.judge_create_session.Goals as goal
