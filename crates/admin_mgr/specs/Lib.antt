@@ -5,6 +5,7 @@ pub mod Good
 pub mod Held
 pub mod Kept
 pub mod Laws
+pub mod Life
 pub mod RbacState
 pub mod Refusing
 pub mod Rows
