@@ -18,3 +18,5 @@ mod limits;
 mod lookup;
 pub mod relations;
 pub mod state;
+#[cfg(test)]
+mod tests;
