@@ -47,15 +47,14 @@ access_reached S good session operation object =
     ∙ and_from _ _ found.2 ((tie_Decides pair_total pair_exact (object, operation) (object, operation)).1 refl) in
     by_run.1 ((object, operation, role), member, sym (session_reached S session role) ∙ parts.1))
 
--- the run of the grants and of the activated roles, found in the sets that stand for those of the state
-pub found_reached : (S : RbacState) (session operation object : Bytes) (edges active : Pairs) (grants : Triples) (held : List Pair) (granted : List Triple)
-    → edges ≡ S.edges → active ≡ S.active → held ≡ run_of active session → grants ≡ S.grants → granted ≡ filter (is_grant_of object operation) (members grants)
+-- the run of the grants, found in the set that stands for that of the state
+pub found_reached : (S : RbacState) (session operation object : Bytes) (edges : Pairs) (grants : Triples) (held : List Pair) (granted : List Triple)
+    → edges ≡ S.edges → held ≡ run_of S.active session → grants ≡ S.grants → granted ≡ filter (is_grant_of object operation) (members grants)
     → list_any (λ (grant : Triple). is_reached edges held grant.2) granted
     ≡ list_any (λ (grant : Triple). is_reached S.edges (run_of S.active session) grant.2) (filter (is_grant_of object operation) (members S.grants))
-found_reached S session operation object edges active grants held granted e a h g r =
-    let runs = h ∙ ap (λ (pairs : Pairs). run_of pairs session) a in
+found_reached S session operation object edges grants held granted e h g r =
     let triples = r ∙ ap (λ (t : Triples). filter (is_grant_of object operation) (members t)) g in
-    λ i. list_any (λ (grant : Triple). is_reached (e i) (runs i) grant.2) (triples i)
+    λ i. list_any (λ (grant : Triple). is_reached (e i) (h i) grant.2) (triples i)
 
 -- the operation of a permission is one of OPS
 pub any_second : (pairs : Pairs) (first second : Bytes) → contains pairs (first, second) ≡ true → any (λ (pair : Pair). same_name pair.1 second) pairs ≡ true

@@ -4,7 +4,7 @@ ghost use Rattle.review_mgr.specs.declared.query.Query.TheVariants.{CheckAccess}
 ghost use Rattle.review_mgr.specs.Questions.{refused};
 ghost use Rattle.review_mgr.specs.Review.{has_access};
 
-use crate::lookup::{has_operation, has_session, is_granted};
+use crate::lookup::{activated_in, has_operation, has_session, is_granted};
 use admin_mgr::State;
 use rbac_sets::{Name, Refusal};
 
@@ -48,6 +48,5 @@ fn has_access(state: &State, session: &Name, operation: &Name, object: &Name) ->
 {
     state.is_good();
     let granted = state.grants().with_first((object, operation));
-    let active = state.active().with_first(session);
-    is_granted(state.order(), active, granted)
+    is_granted(state.order(), activated_in(state, session), granted)
 }

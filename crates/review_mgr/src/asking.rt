@@ -31,39 +31,39 @@ pub fn ask(alloc: Global, state: &State, query: &Query) -> Result<Answer, Refusa
             session,
             operation,
             object,
-        } => Ok(Answer::Access(check_access(state, session, operation, object)?)),
-        Query::AssignedUsers { role } => Ok(Answer::Names(assigned_users(alloc, state, role)?)),
-        Query::AssignedRoles { user } => Ok(Answer::Names(assigned_roles(alloc, state, user)?)),
-        Query::AuthorizedUsers { role } => Ok(Answer::Names(authorized_users(alloc, state, role)?)),
-        Query::AuthorizedRoles { user } => Ok(Answer::Names(authorized_roles(alloc, state, user)?)),
-        Query::RolePermissions { role } => Ok(Answer::Permissions(role_permissions(
-            alloc, state, role,
-        )?)),
-        Query::UserPermissions { user } => Ok(Answer::Permissions(user_permissions(
-            alloc, state, user,
-        )?)),
-        Query::SessionRoles { session } => Ok(Answer::Names(session_roles(alloc, state, session)?)),
-        Query::SessionPermissions { session } => Ok(Answer::Permissions(session_permissions(
-            alloc, state, session,
-        )?)),
-        Query::RoleOperationsOnObject { role, object } => Ok(Answer::Names(
-            role_operations_on_object(alloc, state, role, object)?,
-        )),
-        Query::UserOperationsOnObject { user, object } => Ok(Answer::Names(
-            user_operations_on_object(alloc, state, user, object)?,
-        )),
-        Query::SsdRoleSets => Ok(Answer::Names(ssd_role_sets(alloc, state)?)),
-        Query::SsdRoleSetRoles { set } => Ok(Answer::Names(ssd_role_set_roles(alloc, state, set)?)),
-        Query::SsdRoleSetCardinality { set } => Ok(Answer::Count(ssd_role_set_cardinality(
-            state, set,
-        )?)),
-        Query::DsdRoleSets => Ok(Answer::Names(dsd_role_sets(alloc, state)?)),
-        Query::DsdRoleSetRoles { set } => Ok(Answer::Names(dsd_role_set_roles(alloc, state, set)?)),
-        Query::DsdRoleSetCardinality { set } => Ok(Answer::Count(dsd_role_set_cardinality(
-            state, set,
-        )?)),
-        Query::PermissionRoles { object, operation } => Ok(Answer::Names(permission_roles(
+        } => check_access(state, session, operation, object).map(Answer::Access),
+        Query::AssignedUsers { role } => assigned_users(alloc, state, role).map(Answer::Names),
+        Query::AssignedRoles { user } => assigned_roles(alloc, state, user).map(Answer::Names),
+        Query::AuthorizedUsers { role } => authorized_users(alloc, state, role).map(Answer::Names),
+        Query::AuthorizedRoles { user } => authorized_roles(alloc, state, user).map(Answer::Names),
+        Query::RolePermissions { role } => role_permissions(alloc, state, role).map(
+            Answer::Permissions,
+        ),
+        Query::UserPermissions { user } => user_permissions(alloc, state, user).map(
+            Answer::Permissions,
+        ),
+        Query::SessionRoles { session } => session_roles(alloc, state, session).map(Answer::Names),
+        Query::SessionPermissions { session } => session_permissions(alloc, state, session).map(
+            Answer::Permissions,
+        ),
+        Query::RoleOperationsOnObject { role, object } => role_operations_on_object(
+            alloc, state, role, object,
+        ).map(Answer::Names),
+        Query::UserOperationsOnObject { user, object } => user_operations_on_object(
+            alloc, state, user, object,
+        ).map(Answer::Names),
+        Query::SsdRoleSets => ssd_role_sets(alloc, state).map(Answer::Names),
+        Query::SsdRoleSetRoles { set } => ssd_role_set_roles(alloc, state, set).map(Answer::Names),
+        Query::SsdRoleSetCardinality { set } => ssd_role_set_cardinality(state, set).map(
+            Answer::Count,
+        ),
+        Query::DsdRoleSets => dsd_role_sets(alloc, state).map(Answer::Names),
+        Query::DsdRoleSetRoles { set } => dsd_role_set_roles(alloc, state, set).map(Answer::Names),
+        Query::DsdRoleSetCardinality { set } => dsd_role_set_cardinality(state, set).map(
+            Answer::Count,
+        ),
+        Query::PermissionRoles { object, operation } => permission_roles(
             alloc, state, object, operation,
-        )?)),
+        ).map(Answer::Names),
     }
 }

@@ -14,3 +14,5 @@ mod gather;
 mod lookup;
 pub mod query;
 pub mod review;
+#[cfg(test)]
+mod tests;

@@ -4,7 +4,7 @@ ghost use Rattle.std.specs.List.{list_any};
 ghost use Rattle.rbac_sets.specs.Sets.{Pair, Triple, any, pair_cmp, same_name};
 ghost use Rattle.rbac_sets.specs.SortedSet.{set_of};
 ghost use Rattle.admin_mgr.specs.RbacState.{has_session, has_set};
-ghost use Rattle.admin_mgr.specs.Held.{is_reached};
+ghost use Rattle.admin_mgr.specs.Held.{is_reached, run_of};
 ghost use Rattle.review_mgr.specs.Questions.{has_operation};
 
 use admin_mgr::State;
@@ -63,6 +63,20 @@ pub(crate) fn has_operation(state: &State, object: &Name, operation: &Name) -> b
 {
     state.permissions().contains((object, operation))
         || has_second(state.permissions().as_slice(), operation)
+}
+
+// The roles that are assigned to the user, as pairs (user, role).
+pub(crate) fn assigned_to<'a>(state: &'a State, user: &Name) -> &'a [(Name, Name)]
+    ensures { result.now ≡ run_of state.now.facts.assignments user.now }
+{
+    state.assignments().with_first(user)
+}
+
+// The roles that were activated in the session, as pairs (session, role).
+pub(crate) fn activated_in<'a>(state: &'a State, session: &Name) -> &'a [(Name, Name)]
+    ensures { result.now ≡ run_of state.now.facts.active session.now }
+{
+    state.active().with_first(session)
 }
 
 // Whether the role is the second part of one of the pairs, or below it.

@@ -6,6 +6,7 @@ ghost use Rattle.review_mgr.specs.Questions.{refused};
 ghost use Rattle.review_mgr.specs.Review.{role_operations_on_object, user_operations_on_object};
 
 use crate::gather::{operations_below, operations_reached};
+use crate::lookup::assigned_to;
 use admin_mgr::State;
 use rbac_sets::{Name, Refusal};
 use std::alloc::Global;
@@ -59,6 +60,11 @@ pub fn user_operations_on_object(
     if !state.objects().contains(object) {
         return Err(Refusal::NoObject);
     }
-    let assigned = state.assignments().with_first(user);
-    operations_reached(alloc, state.order(), state.grants(), assigned, object)
+    operations_reached(
+        alloc,
+        state.order(),
+        state.grants(),
+        assigned_to(state, user),
+        object,
+    )
 }

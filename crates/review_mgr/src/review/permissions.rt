@@ -7,6 +7,7 @@ ghost use Rattle.admin_mgr.specs.Authorization.{authorized_permissions};
 ghost use Rattle.review_mgr.specs.Review.{user_permissions, permission_roles};
 
 use crate::gather::{permissions_below, permissions_reached, roles_granted};
+use crate::lookup::assigned_to;
 use admin_mgr::State;
 use rbac_sets::{Name, Refusal};
 use std::alloc::Global;
@@ -52,8 +53,12 @@ pub fn user_permissions(
     if !state.users().contains(user) {
         return Err(Refusal::NoUser);
     }
-    let assigned = state.assignments().with_first(user);
-    permissions_reached(alloc, state.order(), state.grants(), assigned)
+    permissions_reached(
+        alloc,
+        state.order(),
+        state.grants(),
+        assigned_to(state, user),
+    )
 }
 
 /// The roles to which the permission is granted directly.

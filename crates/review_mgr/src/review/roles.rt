@@ -7,6 +7,7 @@ ghost use Rattle.admin_mgr.specs.Authorization.{authorized_users, authorized_rol
 ghost use Rattle.review_mgr.specs.Review.{assigned_users, assigned_roles};
 
 use crate::gather::{firsts_of, roles_reached, seconds_of, users_above};
+use crate::lookup::assigned_to;
 use admin_mgr::State;
 use rbac_sets::{Name, Refusal};
 use std::alloc::Global;
@@ -78,6 +79,10 @@ pub fn authorized_roles(alloc: Global, state: &State, user: &Name) -> Result<Vec
     if !state.users().contains(user) {
         return Err(Refusal::NoUser);
     }
-    let assigned = state.assignments().with_first(user);
-    roles_reached(alloc, state.order(), state.roles(), assigned)
+    roles_reached(
+        alloc,
+        state.order(),
+        state.roles(),
+        assigned_to(state, user),
+    )
 }

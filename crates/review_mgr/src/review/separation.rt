@@ -103,7 +103,7 @@ pub fn dsd_role_set_cardinality(state: &State, set: &Name) -> Result<u32, Refusa
     ensures refused { IfErr result (λ refusal. refused state.now.facts (DsdRoleSetCardinality set.now) ≡ Some refusal) }
 {
     match state.dsd_n(set) {
-        Some(cardinality) => Ok(cardinality),
+        Some(number) => Ok(number),
         None => Err(Refusal::NoSet),
     }
 }

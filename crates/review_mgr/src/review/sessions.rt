@@ -7,7 +7,7 @@ ghost use Rattle.admin_mgr.specs.Authorization.{session_roles};
 ghost use Rattle.review_mgr.specs.Review.{session_permissions};
 
 use crate::gather::{permissions_reached, roles_reached};
-use crate::lookup::has_session;
+use crate::lookup::{activated_in, has_session};
 use admin_mgr::State;
 use rbac_sets::{Name, Refusal};
 use std::alloc::Global;
@@ -26,8 +26,12 @@ pub fn session_roles(alloc: Global, state: &State, session: &Name) -> Result<Vec
     if !has_session(state, session) {
         return Err(Refusal::NoSession);
     }
-    let active = state.active().with_first(session);
-    roles_reached(alloc, state.order(), state.roles(), active)
+    roles_reached(
+        alloc,
+        state.order(),
+        state.roles(),
+        activated_in(state, session),
+    )
 }
 
 /// SessionPermissions: what is granted to the roles of the session, as pairs (object, operation).
@@ -49,6 +53,10 @@ pub fn session_permissions(
         return Err(Refusal::NoSession);
     }
     state.is_good();
-    let active = state.active().with_first(session);
-    permissions_reached(alloc, state.order(), state.grants(), active)
+    permissions_reached(
+        alloc,
+        state.order(),
+        state.grants(),
+        activated_in(state, session),
+    )
 }

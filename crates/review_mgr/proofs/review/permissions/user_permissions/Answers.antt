@@ -1,13 +1,13 @@
 use Rattle.std.proofs.Common.{◌≡◌, List, ap, subst, ◌∙◌}
 use Rattle.std.specs.Prelude.{IfOk}
-use Rattle.rbac_sets.specs.Sets.{Pair, Pairs, Triple, pair_cmp, members, retain, image}
-use Rattle.admin_mgr.specs.Held.{run_of, is_reached}
+use Rattle.rbac_sets.specs.Sets.{Pair, Triple, pair_cmp, members, retain, image}
+use Rattle.admin_mgr.specs.Held.{is_reached}
 use Rattle.review_mgr.specs.Review.{permission_of}
 use Rattle.review_mgr.proofs.Reached.{user_permissions-reached}
 use Rattle.review_mgr.proofs.review.permissions.user_permissions.Goals as goal
 
 pub returns-clause-value : goal.returns-clause-value
 returns-clause-value c =
-    let held = c.with_first-assigned.ensures ∙ ap (λ (pairs : Pairs). run_of pairs c.args.user.now) c.assignments.ensures in
+    let held = c.assigned_to.ensures in
     let same = (λ i. members (image {Q = pair_cmp} permission_of (retain (c.grants.ensures i) (λ (grant : Triple). is_reached (c.order.ensures i) (held i) grant.2)))) ∙ ap members (user_permissions-reached c.args.state.now.facts c.args.user.now) in
     subst (λ (all : List Pair). IfOk c.permissions_reached.result (λ permissions. permissions.items ≡ all)) same c.permissions_reached.ensures.ok
