@@ -252,18 +252,24 @@ fn only_version_2_has_locks(rt: HostRuntime) -> Result<(), Fail> {
     Ok(())
 }
 
+// The numbers of the verdicts of both empty states on an import of these pairs.
+fn import_codes(alloc: Global, pairs: &Vec<(Name, Name)>) -> (u32, u32) {
+    let first = judge_import_assignments(&State::empty_v1(alloc), pairs);
+    let second = judge_import_assignments(&State::empty(alloc), pairs);
+    (code(first), code(second))
+}
+
 #[test]
-fn an_empty_import_is_accepted(rt: HostRuntime) -> Result<(), Fail> {
+fn an_import_has_at_most_10000_records(rt: HostRuntime) -> Result<(), Fail> {
     let alloc = rt.alloc();
-    let pairs = Vec::new(alloc);
-    assert_eq!(rt;
-        code(judge_import_assignments(&State::empty_v1(alloc), &pairs)),
-        0
-    );
-    assert_eq!(rt;
-        code(judge_import_assignments(&State::empty(alloc), &pairs)),
-        0
-    );
+    let mut pairs = Vec::new(alloc);
+    assert!(rt; import_codes(alloc, &pairs) == (0, 0));
+    for _ in 0..10_000 {
+        pairs.push((name(alloc, "ann")?, name(alloc, "clerk")?))?;
+    }
+    assert!(rt; import_codes(alloc, &pairs) == (0, 0));
+    pairs.push((name(alloc, "ann")?, name(alloc, "clerk")?))?;
+    assert!(rt; import_codes(alloc, &pairs) == (32, 32));
     Ok(())
 }
 
