@@ -1,5 +1,5 @@
 -- The text of the report.
-use Rattle.std.proofs.Common.{◌≡◌, ℕ, ◌+◌, ◌<◌, List, [], ◌∷◌, ◌++◌, length, take, drop, get_or, ◌≤◌, inl, inr, suc, arith, refl, sym, ◌∙◌, ap, append_assoc}
+use Rattle.std.proofs.Common.{◌≡◌, ℕ, ◌+◌, ◌<◌, List, [], ◌∷◌, ◌++◌, length, take, drop, get_or, zero, ◌≤◌, inl, inr, suc, arith, refl, sym, ◌∙◌, ap, append_assoc}
 use Rattle.std.specs.declared.cmp.Ordering.{Ordering}
 use Rattle.std.specs.FinSet.{FinSet}
 use Rattle.std.proofs.lemmas.List.{take_more, append-nil, take-append-drop}
@@ -7,6 +7,10 @@ use Rattle.rbac_sets.specs.Sets.{Bytes, len, members}
 use Rattle.rbac_sets.proofs.Members.{len-members}
 use Rattle.admin_mgr.specs.RbacState.{RbacState}
 use Rattle.std.specs.Prelude.{OnErr, Result, Ok, Err, Option}
+use Rattle.std.specs.Prelude.{◌-◌, replicate}
+use Rattle.std.proofs.lemmas.Str.{encode_ascii}
+use Rattle.std.specs.List.{repeat}
+use Rattle.std.specs.Fmt.{styled_decimal, format_spec, padded_integral, char_count}
 use Rattle.std.specs.Io.KnownBytes.{Appends}
 use Rattle.std.proofs.Math.Seq.{drop-cons}
 use Rattle.rbac_sets.specs.Stream.{HasFailed}
@@ -75,3 +79,19 @@ on_err P (Err e) h = h
 pub failed_since : (first before after : ℕ) → first ≤ before → HasFailed before after → HasFailed first after
 failed_since first before after le (inl less) = inl (omega arith)
 failed_since first before after le (inr most) = inr most
+
+-- ---- a number at the right of twelve places is what `{:>12}` writes
+
+spaces : (n : ℕ) → repeat {A = ℕ} n (32 ∷ []) ≡ replicate n 32
+spaces zero = refl
+spaces (suc n) = ap (λ l. 32 ∷ l) (spaces n)
+
+less_nothing : (n : ℕ) → n - 0 ≡ n
+less_nothing n = omega arith
+
+nothing_left : (n : ℕ) → n - n ≡ 0
+nothing_left n = omega arith
+
+pub column-styled : (n : ℕ) → styled_decimal (format_spec 32 3 0 12 18446744073709551615) n ≡ column n
+unfolding padded_integral char_count
+column-styled n = simp (append-nil, less_nothing, nothing_left, encode_ascii 32 (omega arith), spaces)

@@ -1,15 +1,15 @@
 -- The role report: one heading line, then one line for each role in byte order.
-use Rattle.std.specs.Prelude.{ℕ, ◌-◌, ◌^◌, List, [], ◌∷◌, ◌++◌, codes}
-use Rattle.std.specs.Fmt.{styled_decimal, format_spec}
+use Rattle.std.specs.Prelude.{ℕ, ◌-◌, length, replicate, List, [], ◌∷◌, ◌++◌, codes}
+use Rattle.std.specs.Fmt.{decimal}
 use Rattle.rbac_sets.specs.Sets.{Bytes, Triple, count, len, members, same_name}
 use Rattle.role_order.specs.Order.{juniors, seniors}
 use Rattle.admin_mgr.specs.RbacState.{RbacState}
 use Rattle.admin_mgr.specs.Authorization.{authorized_users, authorized_permissions}
 use Rattle.review_mgr.specs.Review.{assigned_users}
 
--- a number at the right of twelve places, with spaces before it, as `{:>12}` writes it
+-- a number at the right of twelve places
 abbrev pub column : ℕ → List ℕ
-column number = styled_decimal (format_spec 32 3 0 12 (2 ^ 64 - 1)) number
+column number = replicate (12 - length (decimal number)) 32 ++ decimal number
 
 -- the columns of numbers, one behind another
 abbrev pub columns : List ℕ → List ℕ

@@ -108,6 +108,6 @@ fn reports_no_role(rt: HostRuntime) -> Result<(), Fail> {
     report_roles(alloc, &state, &mut sink)?;
     let heading =
         b"    assigned  authorized     granted   permitted     juniors     seniors  role\n";
-    assert!(rt; sink.as_slice() == heading);
+    assert!(rt; sink.as_slice() == heading.as_slice());
     Ok(())
 }
