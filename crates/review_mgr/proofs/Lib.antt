@@ -1,3 +1,4 @@
 pub mod AccessByRuns
+pub mod Columns
 pub mod Gathering
 pub mod Reached

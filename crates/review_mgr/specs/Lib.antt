@@ -1,3 +1,4 @@
 pub mod Answering
 pub mod Questions
+pub mod Report
 pub mod Review

@@ -1,8 +1,8 @@
 //! Questions on a state in which nothing was done yet.
 use crate::review::*;
-use crate::{Answer, Query, ask, check_access};
+use crate::{Answer, Query, ask, check_access, report_roles};
 use admin_mgr::State;
-use rbac_sets::{Name, Refusal};
+use rbac_sets::{MemorySink, Name, Refusal};
 use std::test::Fail;
 
 #[test]
@@ -97,5 +97,17 @@ fn answers_a_question(rt: HostRuntime) -> Result<(), Fail> {
     let role = Name::new(alloc, "clerk")?;
     let answer = ask(alloc, &state, &Query::AssignedUsers { role }).err();
     assert!(rt; matches!(answer, Some(Refusal::NoRole)));
+    Ok(())
+}
+
+#[test]
+fn reports_no_role(rt: HostRuntime) -> Result<(), Fail> {
+    let alloc = rt.alloc();
+    let state = State::empty(alloc);
+    let mut sink = MemorySink::new(alloc);
+    report_roles(alloc, &state, &mut sink)?;
+    let heading =
+        b"    assigned  authorized     granted   permitted     juniors     seniors  role\n";
+    assert!(rt; sink.as_slice() == heading.as_slice());
     Ok(())
 }
