@@ -6,10 +6,10 @@ use Rattle.rbac_sets.specs.Sets.{empty, Bytes, Pairs, Cardinality, cardinality_c
 use Rattle.rbac_sets.specs.SortedSet.{Stored}
 use Rattle.rbac_sets.specs.NameOrder.{cardinality_total, cardinality_exact}
 use Rattle.rbac_sets.proofs.Evaluation.{evaluated, ordered, members-from_list, any-from_list, all-from_list, retain-from_list}
-use Rattle.rbac_sets.specs.declared.command.Command.TheVariants.{AddInheritance, AssignUser, CreateSession, AddActiveRole, DeassignUser, LockUserAccount}
-use Rattle.rbac_sets.specs.declared.refusal.Refusal.TheVariants.{StaticSeparation, DynamicSeparation, AlreadyAssigned, UserLocked, NoUser, Version}
+use Rattle.rbac_sets.specs.declared.command.Command.TheVariants.{AddInheritance, AssignUser, CreateSession, AddActiveRole, DeassignUser, LockUserAccount, AddAscendant, AddPermObj, AddPermission, AddRole, AddSsdRoleMember, AddUser, CreateSsdSet, DeleteInheritance, DeletePermObj, DeletePermission, DeleteRole, DeleteSession, DeleteSsdRoleMember, DeleteSsdSet, DropActiveRole, GrantPermission, RevokePermission, SetSsdSetCardinality}
+use Rattle.rbac_sets.specs.declared.refusal.Refusal.TheVariants.{StaticSeparation, DynamicSeparation, AlreadyAssigned, UserLocked, NoUser, Version, AlreadyActive, AlreadyGranted, BadCardinality, Cycle, EdgeExists, MemberExists, NoEdge, NoMember, NoObject, NoPermission, NoSession, NoSet, NotActive, NotAssigned, NotAuthorized, NotGranted, NotOwner, ObjectExists, ObjectInUse, PermissionExists, RoleExists, RoleInUse, SessionExists, SetExists, UserExists}
 use Rattle.role_order.specs.Order.{geq}
-use Rattle.admin_mgr.specs.RbacState.{RbacState, has_session, empty_state}
+use Rattle.admin_mgr.specs.RbacState.{RbacState, has_session, empty_state, cardinality_of}
 use Rattle.admin_mgr.specs.Authorization.{authorized_users}
 use Rattle.admin_mgr.specs.Separation.{is_kept_statically, is_kept_dynamically, least_violated}
 use Rattle.admin_mgr.specs.Assignment.{assignment_verdict, after_assignment, after_record, import_verdicts, tally_of, may_go_on, end_sessions, assignment_refusals}
@@ -242,3 +242,162 @@ nobody_to_lock = simp written
 no_locks_in_version_1 : verdict (empty_state 1) (LockUserAccount zed) ≡ Some (Version (pos 1))
 unfolding refusals verdict
 no_locks_in_version_1 = refl
+
+-- ---- one command for each condition that an empty state can't meet
+
+desk : Bytes
+desk = codes "desk"
+
+safe : Bytes
+safe = codes "safe"
+
+opens : Bytes
+opens = codes "open"
+
+views : Bytes
+views = codes "view"
+
+s2 : Bytes
+s2 = codes "s2"
+
+temp : Bytes
+temp = codes "temp"
+
+-- ann is a boss and bob a clerk, boss inherits from clerk, clerks may open the safe, and nobody may be both clerk and temp
+office : RbacState
+office = record (empty_state 2) {
+  users = from_list (ann ∷ bob ∷ []);
+  roles = from_list (boss ∷ clerk ∷ temp ∷ []);
+  objects = from_list (safe ∷ []);
+  permissions = from_list ((safe, opens) ∷ []);
+  assignments = from_list ((ann, boss) ∷ (bob, clerk) ∷ []);
+  grants = from_list ((safe, opens, clerk) ∷ []);
+  edges = from_list ((boss, clerk) ∷ []);
+  ssd = record { members = from_list ((pay, clerk) ∷ (pay, temp) ∷ []); cardinalities = from_list ((pay, 2) ∷ []) };
+  sessions = from_list ((s1, ann) ∷ []);
+  active = from_list ((s1, boss) ∷ []);
+}
+
+the_user_is_there : verdict office (AddUser ann) ≡ Some UserExists
+unfolding asked office ann bob boss clerk temp safe desk opens views pay aid s1 s2 refusals verdict
+the_user_is_there = simp written
+
+the_role_is_there : verdict office (AddRole clerk) ≡ Some RoleExists
+unfolding asked office ann bob boss clerk temp safe desk opens views pay aid s1 s2 refusals verdict
+the_role_is_there = simp written
+
+the_object_is_there : verdict office (AddPermObj safe) ≡ Some ObjectExists
+unfolding asked office ann bob boss clerk temp safe desk opens views pay aid s1 s2 refusals verdict
+the_object_is_there = simp written
+
+no_such_object : verdict office (AddPermission desk opens) ≡ Some NoObject
+unfolding asked office ann bob boss clerk temp safe desk opens views pay aid s1 s2 refusals verdict
+no_such_object = simp written
+
+the_permission_is_there : verdict office (AddPermission safe opens) ≡ Some PermissionExists
+unfolding asked office ann bob boss clerk temp safe desk opens views pay aid s1 s2 refusals verdict
+the_permission_is_there = simp written
+
+no_such_permission : verdict office (DeletePermission safe views) ≡ Some NoPermission
+unfolding asked office ann bob boss clerk temp safe desk opens views pay aid s1 s2 refusals verdict
+no_such_permission = simp written
+
+the_grant_is_there : verdict office (GrantPermission safe opens clerk) ≡ Some AlreadyGranted
+unfolding asked office ann bob boss clerk temp safe desk opens views pay aid s1 s2 refusals verdict
+the_grant_is_there = simp written
+
+no_such_grant : verdict office (RevokePermission safe opens boss) ≡ Some NotGranted
+unfolding asked office ann bob boss clerk temp safe desk opens views pay aid s1 s2 refusals verdict
+no_such_grant = simp written
+
+the_pair_is_assigned : verdict office (AssignUser ann boss) ≡ Some AlreadyAssigned
+unfolding asked office ann bob boss clerk temp safe desk opens views pay aid s1 s2 refusals verdict assignment_refusals
+the_pair_is_assigned = simp written
+
+the_pair_is_not_assigned : verdict office (DeassignUser ann clerk) ≡ Some NotAssigned
+unfolding asked office ann bob boss clerk temp safe desk opens views pay aid s1 s2 refusals verdict
+the_pair_is_not_assigned = simp written
+
+the_edge_is_there : verdict office (AddInheritance boss clerk) ≡ Some EdgeExists
+unfolding asked office ann bob boss clerk temp safe desk opens views pay aid s1 s2 refusals verdict geq
+the_edge_is_there = simp written
+
+the_edge_closes_a_cycle : verdict office (AddInheritance clerk boss) ≡ Some Cycle
+unfolding asked office ann bob boss clerk temp safe desk opens views pay aid s1 s2 refusals verdict geq
+the_edge_closes_a_cycle = simp written
+
+no_such_edge : verdict office (DeleteInheritance clerk temp) ≡ Some NoEdge
+unfolding asked office ann bob boss clerk temp safe desk opens views pay aid s1 s2 refusals verdict
+no_such_edge = simp written
+
+the_ascendant_is_there : verdict office (AddAscendant boss clerk) ≡ Some RoleExists
+unfolding asked office ann bob boss clerk temp safe desk opens views pay aid s1 s2 refusals verdict
+the_ascendant_is_there = simp written
+
+the_role_has_an_edge : verdict office (DeleteRole boss) ≡ Some RoleInUse
+unfolding asked office ann bob boss clerk temp safe desk opens views pay aid s1 s2 refusals verdict
+the_role_has_an_edge = simp written
+
+the_role_is_a_member : verdict office (DeleteRole temp) ≡ Some RoleInUse
+unfolding asked office ann bob boss clerk temp safe desk opens views pay aid s1 s2 refusals verdict
+the_role_is_a_member = simp written
+
+the_object_has_a_permission : verdict office (DeletePermObj safe) ≡ Some ObjectInUse
+unfolding asked office ann bob boss clerk temp safe desk opens views pay aid s1 s2 refusals verdict
+the_object_has_a_permission = simp written
+
+the_set_is_there : verdict office (CreateSsdSet pay (asked clerk) 2) ≡ Some SetExists
+unfolding asked office ann bob boss clerk temp safe desk opens views pay aid s1 s2 refusals verdict
+the_set_is_there = simp written
+
+too_few_members : verdict office (CreateSsdSet aid (asked clerk) 2) ≡ Some BadCardinality
+unfolding asked office ann bob boss clerk temp safe desk opens views pay aid s1 s2 refusals verdict
+too_few_members = simp written
+
+no_such_set : verdict office (DeleteSsdSet aid) ≡ Some NoSet
+unfolding asked office ann bob boss clerk temp safe desk opens views pay aid s1 s2 refusals verdict
+no_such_set = simp written
+
+the_role_is_a_member_already : verdict office (AddSsdRoleMember pay clerk) ≡ Some MemberExists
+unfolding asked office ann bob boss clerk temp safe desk opens views pay aid s1 s2 refusals verdict seconds
+the_role_is_a_member_already = simp written
+
+no_such_member : verdict office (DeleteSsdRoleMember pay boss) ≡ Some NoMember
+unfolding asked office ann bob boss clerk temp safe desk opens views pay aid s1 s2 refusals verdict cardinality_of seconds
+no_such_member = simp written
+
+the_last_members_stay : verdict office (DeleteSsdRoleMember pay temp) ≡ Some BadCardinality
+unfolding asked office ann bob boss clerk temp safe desk opens views pay aid s1 s2 refusals verdict cardinality_of seconds
+the_last_members_stay = simp written
+
+more_than_the_members : verdict office (SetSsdSetCardinality pay 3) ≡ Some BadCardinality
+unfolding asked office ann bob boss clerk temp safe desk opens views pay aid s1 s2 refusals verdict seconds
+more_than_the_members = simp written
+
+the_session_is_there : verdict office (CreateSession ann (asked boss) s1) ≡ Some SessionExists
+unfolding asked office ann bob boss clerk temp safe desk opens views pay aid s1 s2 refusals verdict authorized_users geq
+the_session_is_there = simp written
+
+not_authorized_at_the_start : verdict office (CreateSession bob (asked boss) s2) ≡ Some NotAuthorized
+unfolding asked office ann bob boss clerk temp safe desk opens views pay aid s1 s2 refusals verdict authorized_users geq
+not_authorized_at_the_start = simp written
+
+no_such_session : verdict office (DropActiveRole ann s2 boss) ≡ Some NoSession
+unfolding asked office ann bob boss clerk temp safe desk opens views pay aid s1 s2 refusals verdict
+no_such_session = simp written
+
+another_user_has_it : verdict office (DeleteSession bob s1) ≡ Some NotOwner
+unfolding asked office ann bob boss clerk temp safe desk opens views pay aid s1 s2 refusals verdict
+another_user_has_it = simp written
+
+not_authorized_later : verdict office (AddActiveRole ann s1 temp) ≡ Some NotAuthorized
+unfolding asked office ann bob boss clerk temp safe desk opens views pay aid s1 s2 refusals verdict authorized_users geq seconds
+not_authorized_later = simp written
+
+active_already : verdict office (AddActiveRole ann s1 boss) ≡ Some AlreadyActive
+unfolding asked office ann bob boss clerk temp safe desk opens views pay aid s1 s2 refusals verdict authorized_users geq seconds
+active_already = simp written
+
+not_active : verdict office (DropActiveRole ann s1 clerk) ≡ Some NotActive
+unfolding asked office ann bob boss clerk temp safe desk opens views pay aid s1 s2 refusals verdict
+not_active = simp written
