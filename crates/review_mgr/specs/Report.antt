@@ -40,5 +40,6 @@ abbrev pub lines_of : RbacState → List Bytes → List ℕ
 lines_of S [] = []
 lines_of S (role ∷ roles) = line_of S role ++ lines_of S roles
 
+-- the whole text: the heading, then a line for each role in byte order
 unfoldable pub report : RbacState → List ℕ
 report S = heading ++ lines_of S (members S.roles)
