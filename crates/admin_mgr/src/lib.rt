@@ -5,6 +5,7 @@
 //! without a copy of it: the verdict is the first of the command's refusals that holds.
 #![tactic(auto)]
 
+pub use plan::{Plan, Report};
 pub use relations::Relations;
 pub use state::State;
 
@@ -16,6 +17,7 @@ mod keeping_users;
 pub mod laws;
 mod limits;
 mod lookup;
+pub mod plan;
 pub mod relations;
 pub mod state;
 #[cfg(test)]

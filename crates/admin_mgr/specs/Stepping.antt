@@ -1,0 +1,115 @@
+-- A state with one row more or less, and the room that a list of changes takes. The rows of the hierarchy change with its
+-- edges, all at once, and no change of one row touches them.
+use Rattle.std.specs.Prelude.{◌≡◌, ℕ, ◌+◌, ◌≤◌, Bool, true, false, ◌&&◌, ◌||◌, nat_eq, if◌then◌else◌, List, [], ◌∷◌}
+use Rattle.rbac_sets.specs.Sets.{Pairs, insert, remove}
+use Rattle.rbac_sets.specs.declared.row.Row.{Row}
+use Rattle.rbac_sets.specs.declared.row.Row.TheVariants.{NameRow, PairRow, GrantRow, SetRow, LockedRow}
+use Rattle.rbac_sets.specs.declared.row.Change.{Change}
+use Rattle.rbac_sets.specs.declared.row.Change.TheVariants.{Put, Take}
+use Rattle.admin_mgr.specs.RbacState.{RbacState}
+use Rattle.admin_mgr.specs.Rows.{has_row}
+
+-- a row of a set that changes row by row
+abbrev pub is_plain : Row → Bool
+is_plain (NameRow kind a) = nat_eq kind 1 || nat_eq kind 2 || nat_eq kind 3
+is_plain (PairRow kind a b) = nat_eq kind 1 || nat_eq kind 2 || nat_eq kind 5 || nat_eq kind 6 || nat_eq kind 7 || nat_eq kind 8
+is_plain (GrantRow a b c) = true
+is_plain (SetRow kind a n) = nat_eq kind 1 || nat_eq kind 2
+is_plain (LockedRow a) = true
+
+-- one row more
+unfoldable pub with_row : RbacState → Row → RbacState
+with_row S (NameRow kind a) = record S {
+  users = if nat_eq kind 1 then insert S.users a else S.users;
+  roles = if nat_eq kind 2 then insert S.roles a else S.roles;
+  objects = if nat_eq kind 3 then insert S.objects a else S.objects;
+}
+with_row S (PairRow kind a b) = record S {
+  permissions = if nat_eq kind 1 then insert S.permissions (a, b) else S.permissions;
+  assignments = if nat_eq kind 2 then insert S.assignments (a, b) else S.assignments;
+  ssd = record S.ssd { members = if nat_eq kind 5 then insert S.ssd.members (a, b) else S.ssd.members };
+  dsd = record S.dsd { members = if nat_eq kind 6 then insert S.dsd.members (a, b) else S.dsd.members };
+  sessions = if nat_eq kind 7 then insert S.sessions (a, b) else S.sessions;
+  active = if nat_eq kind 8 then insert S.active (a, b) else S.active;
+}
+with_row S (GrantRow a b c) = record S { grants = insert S.grants (a, b, c) }
+with_row S (SetRow kind a n) = record S {
+  ssd = record S.ssd { cardinalities = if nat_eq kind 1 then insert S.ssd.cardinalities (a, n) else S.ssd.cardinalities };
+  dsd = record S.dsd { cardinalities = if nat_eq kind 2 then insert S.dsd.cardinalities (a, n) else S.dsd.cardinalities };
+}
+with_row S (LockedRow a) = record S { locked = insert S.locked a }
+
+-- one row less
+unfoldable pub without_row : RbacState → Row → RbacState
+without_row S (NameRow kind a) = record S {
+  users = if nat_eq kind 1 then remove S.users a else S.users;
+  roles = if nat_eq kind 2 then remove S.roles a else S.roles;
+  objects = if nat_eq kind 3 then remove S.objects a else S.objects;
+}
+without_row S (PairRow kind a b) = record S {
+  permissions = if nat_eq kind 1 then remove S.permissions (a, b) else S.permissions;
+  assignments = if nat_eq kind 2 then remove S.assignments (a, b) else S.assignments;
+  ssd = record S.ssd { members = if nat_eq kind 5 then remove S.ssd.members (a, b) else S.ssd.members };
+  dsd = record S.dsd { members = if nat_eq kind 6 then remove S.dsd.members (a, b) else S.dsd.members };
+  sessions = if nat_eq kind 7 then remove S.sessions (a, b) else S.sessions;
+  active = if nat_eq kind 8 then remove S.active (a, b) else S.active;
+}
+without_row S (GrantRow a b c) = record S { grants = remove S.grants (a, b, c) }
+without_row S (SetRow kind a n) = record S {
+  ssd = record S.ssd { cardinalities = if nat_eq kind 1 then remove S.ssd.cardinalities (a, n) else S.ssd.cardinalities };
+  dsd = record S.dsd { cardinalities = if nat_eq kind 2 then remove S.dsd.cardinalities (a, n) else S.dsd.cardinalities };
+}
+without_row S (LockedRow a) = record S { locked = remove S.locked a }
+
+-- the same sets and relations with other edges
+abbrev pub with_edges : RbacState → Pairs → RbacState
+with_edges S edges = record S { edges = edges }
+
+abbrev pub after_change : RbacState → Change → RbacState
+after_change S (Put row) = with_row S row
+after_change S (Take row) = without_row S row
+
+-- the changes one after the other
+unfoldable pub after_changes : RbacState → List Change → RbacState
+after_changes S [] = S
+after_changes S (change ∷ changes) = after_changes (after_change S change) changes
+
+-- a row that is to be put isn't there
+abbrev pub IsFree : RbacState → Change → Type 0
+IsFree S (Put row) = (is_plain row && has_row S row) ≡ false
+IsFree S (Take row) = Unit {0}
+
+-- each row that is to be put isn't there when its turn comes
+abbrev pub AreFree : RbacState → List Change → Type 0
+AreFree S [] = Unit {0}
+AreFree S (change ∷ changes) = IsFree S change × AreFree (after_change S change) changes
+
+-- ---- room
+
+-- the set in which a row is kept, as a number
+abbrev pub place_of : Row → ℕ
+place_of (NameRow kind a) = kind
+place_of (PairRow kind a b) = 10 + kind
+place_of (GrantRow a b c) = 20
+place_of (SetRow kind a n) = 20 + kind
+place_of (LockedRow a) = 30
+
+abbrev pub puts_at : ℕ → Change → Bool
+puts_at place (Put row) = nat_eq (place_of row) place
+puts_at place (Take row) = false
+
+-- how many of the changes put a row in the set
+abbrev pub puts_of : ℕ → List Change → ℕ
+puts_of place [] = 0
+puts_of place (change ∷ changes) = (if puts_at place change then 1 else 0) + puts_of place changes
+
+-- each set has room for the rows that are put there
+abbrev pub HasRoom : List (ℕ × ℕ) → List Change → Type 0
+HasRoom [] changes = Unit {0}
+HasRoom (place ∷ places) changes = (puts_of place.0 changes ≤ place.1) × HasRoom places changes
+
+-- the same sets with no less room, but for one entry in the set of the change
+abbrev pub Spends : Change → List (ℕ × ℕ) → List (ℕ × ℕ) → Type 0
+Spends change [] [] = Unit {0}
+Spends change (old ∷ olds) (new ∷ news) = (old.0 ≡ new.0) × (old.1 ≤ new.1 + (if puts_at old.0 change then 1 else 0)) × Spends change olds news
+Spends change _ _ = ⊥
