@@ -3,6 +3,7 @@ pub mod EmptyLaws
 pub mod HeldLaws
 pub mod InheritLaws
 pub mod KeepLaws
+pub mod ListLaws
 pub mod Lookups
 pub mod RowLaws
 pub mod SeparationLaws

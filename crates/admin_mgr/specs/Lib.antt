@@ -2,11 +2,13 @@ pub mod After
 pub mod Assignment
 pub mod Authorization
 pub mod Changes
+pub mod Ending
 pub mod Good
 pub mod Held
 pub mod Kept
 pub mod Laws
 pub mod Life
+pub mod Listing
 pub mod Planned
 pub mod RbacState
 pub mod Refusing

@@ -1,0 +1,12 @@
+use Rattle.std.specs.Prelude.{not, filter}
+use Rattle.std.specs.List.{flat_map}
+use Rattle.rbac_sets.specs.Sets.{Pair}
+use Rattle.admin_mgr.specs.Ending.{stays}
+use Rattle.admin_mgr.specs.Listing.{session_rows}
+use Rattle.admin_mgr.proofs.ListLaws.{IsListed}
+use Rattle.admin_mgr.proofs.planning.ending.take_ended.Given as goal
+
+abbrev pub invariant-loop-session : goal.invariant-loop-session
+invariant-loop-session l =
+    IsListed (λ xs. flat_map (session_rows l.state.facts) (filter (λ (session : Pair). not (stays l.state.facts l.fn.loss session)) xs))
+    l.fn.changes.items l.session-items l.session-index l.changes.items

@@ -1,0 +1,17 @@
+use Rattle.std.proofs.Common.{◌++◌, ◌∷◌, [], ap, refl, sym, ◌∙◌}
+use Rattle.rbac_sets.specs.Sets.{Pair}
+use Rattle.rbac_sets.specs.declared.row.Row.TheVariants.{PairRow}
+use Rattle.rbac_sets.specs.declared.row.Change.TheVariants.{Put}
+use Rattle.admin_mgr.proofs.ListLaws.{each_map, listed_more, listed_all}
+use Rattle.admin_mgr.proofs.planning.rows.put_pairs.Goals as goal
+
+pub loop-pair-init : goal.loop-pair-init
+loop-pair-init c = refl
+
+pub loop-pair-preserved : goal.loop-pair-preserved
+loop-pair-preserved c =
+    listed_more _ _ (each_map (λ (x : Pair). Put (PairRow c.args.kind x.0 x.1))) _ _ _ c.args.pairs.now c.loop-pair.pair-index c.pair-item.result c.loop-pair-test.true c.pair-item.is c.loop-pair.invariant
+    (c.in_ok-put.ensures.ok ∙ ap (λ row. c.loop-pair.changes.items ++ Put row ∷ []) c.in_ok-pair_row.ensures.ok)
+
+pub returns-clause-ok : goal.returns-clause-ok
+returns-clause-ok c = listed_all _ _ (each_map (λ (x : Pair). Put (PairRow c.args.kind x.0 x.1))) _ _ _ c.loop-pair.pair-index c.loop-pair-test.false c.loop-pair.invariant

@@ -1,0 +1,9 @@
+use Rattle.std.proofs.Common.{map}
+use Rattle.rbac_sets.specs.Sets.{Pair}
+use Rattle.rbac_sets.specs.declared.row.Row.TheVariants.{PairRow}
+use Rattle.rbac_sets.specs.declared.row.Change.TheVariants.{Take}
+use Rattle.admin_mgr.proofs.ListLaws.{IsListed}
+use Rattle.admin_mgr.proofs.planning.rows.take_pairs.Given as goal
+
+abbrev pub invariant-loop-pair : goal.invariant-loop-pair
+invariant-loop-pair l = IsListed (map (λ (x : Pair). Take (PairRow l.kind x.0 x.1))) l.fn.changes.items l.pairs l.pair-index l.changes.items

@@ -1,0 +1,147 @@
+//! The sessions that end by a command.
+ghost use Rattle.std.specs.Prelude.{◌≡◌, ◌++◌, ◌||◌, ◌&&◌, not, IfErr, OnOk};
+ghost use Rattle.std.specs.List.{list_any, list_all};
+ghost use Rattle.rbac_sets.specs.Sets.{Bytes, Pair, pair_cmp, contains, same_name};
+ghost use Rattle.rbac_sets.specs.SortedSet.{set_of};
+ghost use Rattle.role_order.specs.Order.{geq};
+ghost use Rattle.admin_mgr.specs.Held.{run_of};
+ghost use Rattle.admin_mgr.specs.Listing.{session_rows, ended_rows};
+ghost use Rattle.admin_mgr.specs.Ending.{is_held_without_role, is_held_without_pairs, goes_on_without_role, goes_on_without_pairs, stays};
+
+use crate::lookup::is_same;
+use crate::planning::rows::{pair_row, take, take_pairs};
+use crate::state::State;
+use rbac_sets::{Change, Name, PairSet, Refusal};
+use role_order::RoleOrder;
+use std::alloc::Global;
+
+// What a command takes that the roles of a session stand on.
+#[derive(Clone, Copy)]
+pub(crate) enum Loss<'a> {
+    // The user itself, or its leave to have sessions.
+    User(&'a Name),
+    // The assignment of a user to a role.
+    Assignment(&'a Name, &'a Name),
+    // The assignments to a role.
+    Role(&'a Name),
+    // These pairs of the order.
+    Pairs(&'a PairSet),
+}
+
+// A session goes with the roles that were activated in it.
+pub(crate) fn take_session(
+    alloc: Global,
+    changes: &mut Vec<Change>,
+    state: &State,
+    session: &Name,
+    user: &Name,
+) -> Result<(), Refusal>
+    ensures ok { OnOk result (changes.new.items ≡ changes.old.items ++ session_rows state.now.facts (session.now, user.now)) }
+    ensures cause { IfErr result (λ refusal. refusal ≡ Refusal.Memory) }
+{
+    take(changes, pair_row(alloc, 7, session, user)?)?;
+    take_pairs(alloc, changes, 8, state.active().with_first(session))
+}
+
+// Each session that may not go on after the loss goes.
+pub(crate) fn take_ended(
+    alloc: Global,
+    changes: &mut Vec<Change>,
+    state: &State,
+    loss: Loss<'_>,
+) -> Result<(), Refusal>
+    ensures ok { OnOk result (changes.new.items ≡ changes.old.items ++ ended_rows state.now.facts (stays state.now.facts loss.entry)) }
+    ensures cause { IfErr result (λ refusal. refusal ≡ Refusal.Memory) }
+{
+    for session in state.sessions().as_slice() {
+        if !goes_on(state, loss, &session.0, &session.1) {
+            take_session(alloc, changes, state, &session.0, &session.1)?;
+        }
+    }
+    Ok(())
+}
+
+// Whether the session goes on after the loss.
+fn goes_on(state: &State, loss: Loss<'_>, session: &Name, user: &Name) -> bool
+    ensures { result ≡ stays state.now.facts loss.entry (session.now, user.now) }
+{
+    match loss {
+        Loss::User(gone) => !is_same(user, gone),
+        Loss::Assignment(assigned, role) => {
+            !is_same(user, assigned) || goes_on_without_role(state, session, user, role)
+        }
+        Loss::Role(role) => goes_on_without_role(state, session, user, role),
+        Loss::Pairs(pairs) => goes_on_without_pairs(state, session, user, pairs),
+    }
+}
+
+// Whether the session's user is authorized for each of its roles by another role than this.
+fn goes_on_without_role(state: &State, session: &Name, user: &Name, gone: &Name) -> bool
+    ensures { result ≡ goes_on_without_role state.now.facts gone.now (session.now, user.now) }
+{
+    let held = state.assignments().with_first(user);
+    let active = state.active().with_first(session);
+    are_held_without_role(state.order(), held, gone, active)
+}
+
+// Whether each of the activated roles, or one above it, is held, but for one role.
+fn are_held_without_role(
+    order: &RoleOrder,
+    held: &[(Name, Name)],
+    gone: &Name,
+    active: &[(Name, Name)],
+) -> bool
+    ensures { result ≡ list_all (λ (pair : Pair). is_held_without_role order.now.edges held.now gone.now pair.1) active.now }
+{
+    active
+        .iter()
+        .all(|pair| is_held_without_role(order, held, gone, &pair.1))
+}
+
+// Whether the role, or one above it, is the second part of one of the pairs, but for one role.
+fn is_held_without_role(
+    order: &RoleOrder,
+    held: &[(Name, Name)],
+    gone: &Name,
+    role: &Name,
+) -> bool
+    ensures { result ≡ is_held_without_role order.now.edges held.now gone.now role.now }
+{
+    held.iter().any(|pair| !is_same(&pair.1, gone) && order.geq(&pair.1, role))
+}
+
+// Whether the session's user is authorized for each of its roles without these pairs of the order.
+fn goes_on_without_pairs(state: &State, session: &Name, user: &Name, lost: &PairSet) -> bool
+    ensures { result ≡ goes_on_without_pairs state.now.facts (set_of pair_cmp lost.now) (session.now, user.now) }
+{
+    let held = state.assignments().with_first(user);
+    let active = state.active().with_first(session);
+    are_held_without_pairs(state.order(), held, lost, active)
+}
+
+// Whether each of the activated roles is held without the lost pairs.
+fn are_held_without_pairs(
+    order: &RoleOrder,
+    held: &[(Name, Name)],
+    lost: &PairSet,
+    active: &[(Name, Name)],
+) -> bool
+    ensures { result ≡ list_all (λ (pair : Pair). is_held_without_pairs order.now.edges held.now (set_of pair_cmp lost.now) pair.1) active.now }
+{
+    active
+        .iter()
+        .all(|pair| is_held_without_pairs(order, held, lost, &pair.1))
+}
+
+// Whether the role is reached from the second part of one of the pairs, but not over the lost pairs.
+fn is_held_without_pairs(
+    order: &RoleOrder,
+    held: &[(Name, Name)],
+    lost: &PairSet,
+    role: &Name,
+) -> bool
+    ensures { result ≡ is_held_without_pairs order.now.edges held.now (set_of pair_cmp lost.now) role.now }
+{
+    held.iter()
+        .any(|pair| order.geq(&pair.1, role) && !lost.contains((&pair.1, role)))
+}

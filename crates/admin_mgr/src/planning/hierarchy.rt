@@ -1,0 +1,88 @@
+//! The plans of the commands on the role hierarchy.
+ghost use Rattle.std.specs.Prelude.{◌≡◌, ◌++◌, None, IfOk, IfErr, OnOk};
+ghost use Rattle.rbac_sets.specs.declared.command.Command.TheVariants.{AddInheritance, DeleteInheritance, AddAscendant, AddDescendant};
+ghost use Rattle.admin_mgr.specs.Listing.{order_puts, order_takes};
+ghost use Rattle.admin_mgr.specs.Verdict.{verdict};
+ghost use Rattle.admin_mgr.specs.Planned.{IsPlanOf};
+
+use crate::plan::Plan;
+use crate::planning::ending::{Loss, take_ended};
+use crate::planning::making::with_order;
+use crate::planning::rows::{name_row, pair_row, put, put_pairs, take, take_pairs};
+use crate::state::State;
+use rbac_sets::{Change, Name, Refusal};
+use role_order::OrderPlan;
+use std::alloc::Global;
+
+// The plan of AddInheritance.
+pub(crate) fn plan_add_inheritance(alloc: Global, state: &State, asc: &Name, desc: &Name) -> Result<Plan, Refusal>
+    requires accepted { verdict state.now.facts (AddInheritance asc.now desc.now) ≡ None }
+    ensures planned { IfOk result (IsPlanOf state.now.facts (AddInheritance asc.now desc.now)) }
+    ensures cause { IfErr result (λ refusal. refusal ≡ Refusal.Memory) }
+{
+    state.is_good();
+    let order = state.order().plan_add(alloc, asc, desc)?;
+    let mut changes = Vec::new(alloc);
+    put_edge(alloc, &mut changes, asc, desc, &order)?;
+    Ok(with_order(alloc, changes, order))
+}
+
+// The plan of DeleteInheritance: sessions may end.
+pub(crate) fn plan_delete_inheritance(alloc: Global, state: &State, asc: &Name, desc: &Name) -> Result<Plan, Refusal>
+    requires accepted { verdict state.now.facts (DeleteInheritance asc.now desc.now) ≡ None }
+    ensures planned { IfOk result (IsPlanOf state.now.facts (DeleteInheritance asc.now desc.now)) }
+    ensures cause { IfErr result (λ refusal. refusal ≡ Refusal.Memory) }
+{
+    state.is_good();
+    let order = state.order().plan_remove(alloc, asc, desc)?;
+    let mut changes = Vec::new(alloc);
+    take_edge(alloc, &mut changes, asc, desc, &order)?;
+    take_ended(alloc, &mut changes, state, Loss::Pairs(order.takes()))?;
+    Ok(with_order(alloc, changes, order))
+}
+
+// The plan of AddAscendant: the role `asc` comes with its edge.
+pub(crate) fn plan_add_ascendant(alloc: Global, state: &State, asc: &Name, desc: &Name) -> Result<Plan, Refusal>
+    requires accepted { verdict state.now.facts (AddAscendant asc.now desc.now) ≡ None }
+    ensures planned { IfOk result (IsPlanOf state.now.facts (AddAscendant asc.now desc.now)) }
+    ensures cause { IfErr result (λ refusal. refusal ≡ Refusal.Memory) }
+{
+    state.is_good();
+    let order = state.order().plan_add(alloc, asc, desc)?;
+    let mut changes = Vec::new(alloc);
+    put(&mut changes, name_row(alloc, 2, asc)?)?;
+    put_edge(alloc, &mut changes, asc, desc, &order)?;
+    Ok(with_order(alloc, changes, order))
+}
+
+// The plan of AddDescendant: the role `desc` comes with its edge.
+pub(crate) fn plan_add_descendant(alloc: Global, state: &State, asc: &Name, desc: &Name) -> Result<Plan, Refusal>
+    requires accepted { verdict state.now.facts (AddDescendant asc.now desc.now) ≡ None }
+    ensures planned { IfOk result (IsPlanOf state.now.facts (AddDescendant asc.now desc.now)) }
+    ensures cause { IfErr result (λ refusal. refusal ≡ Refusal.Memory) }
+{
+    state.is_good();
+    let order = state.order().plan_add(alloc, asc, desc)?;
+    let mut changes = Vec::new(alloc);
+    put(&mut changes, name_row(alloc, 2, desc)?)?;
+    put_edge(alloc, &mut changes, asc, desc, &order)?;
+    Ok(with_order(alloc, changes, order))
+}
+
+// An edge comes with the pairs that its plan puts into the order.
+fn put_edge(alloc: Global, changes: &mut Vec<Change>, asc: &Name, desc: &Name, order: &OrderPlan) -> Result<(), Refusal>
+    ensures ok { OnOk result (changes.new.items ≡ changes.old.items ++ order_puts asc.now desc.now order.now.puts) }
+    ensures cause { IfErr result (λ refusal. refusal ≡ Refusal.Memory) }
+{
+    put(changes, pair_row(alloc, 3, asc, desc)?)?;
+    put_pairs(alloc, changes, 4, order.puts().as_slice())
+}
+
+// An edge goes with the pairs that its plan takes from the order.
+fn take_edge(alloc: Global, changes: &mut Vec<Change>, asc: &Name, desc: &Name, order: &OrderPlan) -> Result<(), Refusal>
+    ensures ok { OnOk result (changes.new.items ≡ changes.old.items ++ order_takes asc.now desc.now order.now.takes) }
+    ensures cause { IfErr result (λ refusal. refusal ≡ Refusal.Memory) }
+{
+    take(changes, pair_row(alloc, 3, asc, desc)?)?;
+    take_pairs(alloc, changes, 4, order.takes().as_slice())
+}

@@ -1,0 +1,179 @@
+//! The rows that a plan names, one after another.
+ghost use Rattle.std.specs.Prelude.{◌≡◌, ◌++◌, ◌∷◌, [], filter, IfOk, IfErr, OnOk};
+ghost use Rattle.std.specs.Prelude.{map as list_map};
+ghost use Rattle.rbac_sets.specs.Sets.{Bytes, Pair, Triple, same_name};
+ghost use Rattle.rbac_sets.specs.declared.row.Row.TheVariants.{NameRow, PairRow, GrantRow, SetRow, LockedRow};
+ghost use Rattle.rbac_sets.specs.declared.row.Change.TheVariants.{Put, Take};
+ghost use Rattle.admin_mgr.specs.Listing.{pair_row, grant_row, take_all, put_all};
+
+use crate::lookup::is_same;
+use rbac_sets::{Change, Name, Refusal, Row};
+use std::alloc::Global;
+
+// The row of a name.
+pub(crate) fn name_row(alloc: Global, kind: u8, name: &Name) -> Result<Row, Refusal>
+    ensures ok { IfOk result (λ row. row ≡ NameRow kind name.now) }
+    ensures cause { IfErr result (λ refusal. refusal ≡ Refusal.Memory) }
+{
+    Ok(Row::NameRow(kind, name.copy(alloc)?))
+}
+
+// The row of a pair.
+pub(crate) fn pair_row(alloc: Global, kind: u8, a: &Name, b: &Name) -> Result<Row, Refusal>
+    ensures ok { IfOk result (λ row. row ≡ PairRow kind a.now b.now) }
+    ensures cause { IfErr result (λ refusal. refusal ≡ Refusal.Memory) }
+{
+    Ok(Row::PairRow(kind, a.copy(alloc)?, b.copy(alloc)?))
+}
+
+// The row of a grant.
+pub(crate) fn grant_row(
+    alloc: Global,
+    object: &Name,
+    operation: &Name,
+    role: &Name,
+) -> Result<Row, Refusal>
+    ensures ok { IfOk result (λ row. row ≡ GrantRow object.now operation.now role.now) }
+    ensures cause { IfErr result (λ refusal. refusal ≡ Refusal.Memory) }
+{
+    Ok(Row::GrantRow(
+        object.copy(alloc)?,
+        operation.copy(alloc)?,
+        role.copy(alloc)?,
+    ))
+}
+
+// The row of a separation of duty set's cardinality.
+pub(crate) fn set_row(alloc: Global, kind: u8, set: &Name, cardinality: u32) -> Result<Row, Refusal>
+    ensures ok { IfOk result (λ row. row ≡ SetRow kind set.now cardinality) }
+    ensures cause { IfErr result (λ refusal. refusal ≡ Refusal.Memory) }
+{
+    Ok(Row::SetRow(kind, set.copy(alloc)?, cardinality))
+}
+
+// The row of a lock.
+pub(crate) fn locked_row(alloc: Global, user: &Name) -> Result<Row, Refusal>
+    ensures ok { IfOk result (λ row. row ≡ LockedRow user.now) }
+    ensures cause { IfErr result (λ refusal. refusal ≡ Refusal.Memory) }
+{
+    Ok(Row::LockedRow(user.copy(alloc)?))
+}
+
+// One more row is put.
+pub(crate) fn put(changes: &mut Vec<Change>, row: Row) -> Result<(), Refusal>
+    ensures ok { OnOk result (changes.new.items ≡ changes.old.items ++ Put row ∷ []) }
+    ensures cause { IfErr result (λ refusal. refusal ≡ Refusal.Memory) }
+{
+    changes.push(Change::Put(row))?;
+    Ok(())
+}
+
+// One more row is taken.
+pub(crate) fn take(changes: &mut Vec<Change>, row: Row) -> Result<(), Refusal>
+    ensures ok { OnOk result (changes.new.items ≡ changes.old.items ++ Take row ∷ []) }
+    ensures cause { IfErr result (λ refusal. refusal ≡ Refusal.Memory) }
+{
+    changes.push(Change::Take(row))?;
+    Ok(())
+}
+
+// The row of each pair is taken.
+pub(crate) fn take_pairs(
+    alloc: Global,
+    changes: &mut Vec<Change>,
+    kind: u8,
+    pairs: &[(Name, Name)],
+) -> Result<(), Refusal>
+    ensures ok { OnOk result (changes.new.items ≡ changes.old.items ++ take_all (pair_row kind) pairs.now) }
+    ensures cause { IfErr result (λ refusal. refusal ≡ Refusal.Memory) }
+{
+    for pair in pairs {
+        take(changes, pair_row(alloc, kind, &pair.0, &pair.1)?)?;
+    }
+    Ok(())
+}
+
+// The row of each pair is put.
+pub(crate) fn put_pairs(
+    alloc: Global,
+    changes: &mut Vec<Change>,
+    kind: u8,
+    pairs: &[(Name, Name)],
+) -> Result<(), Refusal>
+    ensures ok { OnOk result (changes.new.items ≡ changes.old.items ++ put_all (pair_row kind) pairs.now) }
+    ensures cause { IfErr result (λ refusal. refusal ≡ Refusal.Memory) }
+{
+    for pair in pairs {
+        put(changes, pair_row(alloc, kind, &pair.0, &pair.1)?)?;
+    }
+    Ok(())
+}
+
+// The row of each pair with this second part is taken.
+pub(crate) fn take_pairs_with_second(
+    alloc: Global,
+    changes: &mut Vec<Change>,
+    kind: u8,
+    pairs: &[(Name, Name)],
+    second: &Name,
+) -> Result<(), Refusal>
+    ensures ok { OnOk result (changes.new.items ≡ changes.old.items ++ take_all (pair_row kind) (filter (λ (pair : Pair). same_name pair.1 second.now) pairs.now)) }
+    ensures cause { IfErr result (λ refusal. refusal ≡ Refusal.Memory) }
+{
+    for pair in pairs {
+        if is_same(&pair.1, second) {
+            take(changes, pair_row(alloc, kind, &pair.0, &pair.1)?)?;
+        }
+    }
+    Ok(())
+}
+
+// The row of the name with each of the others is put.
+pub(crate) fn put_paired(
+    alloc: Global,
+    changes: &mut Vec<Change>,
+    kind: u8,
+    name: &Name,
+    others: &[Name],
+) -> Result<(), Refusal>
+    ensures ok { OnOk result (changes.new.items ≡ changes.old.items ++ put_all (λ other. PairRow kind name.now other) others.now) }
+    ensures cause { IfErr result (λ refusal. refusal ≡ Refusal.Memory) }
+{
+    for other in others {
+        put(changes, pair_row(alloc, kind, name, other)?)?;
+    }
+    Ok(())
+}
+
+// The row of each grant is taken.
+pub(crate) fn take_grants(
+    alloc: Global,
+    changes: &mut Vec<Change>,
+    grants: &[(Name, Name, Name)],
+) -> Result<(), Refusal>
+    ensures ok { OnOk result (changes.new.items ≡ changes.old.items ++ take_all grant_row grants.now) }
+    ensures cause { IfErr result (λ refusal. refusal ≡ Refusal.Memory) }
+{
+    for grant in grants {
+        take(changes, grant_row(alloc, &grant.0, &grant.1, &grant.2)?)?;
+    }
+    Ok(())
+}
+
+// The row of each grant to this role is taken.
+pub(crate) fn take_grants_of_role(
+    alloc: Global,
+    changes: &mut Vec<Change>,
+    grants: &[(Name, Name, Name)],
+    role: &Name,
+) -> Result<(), Refusal>
+    ensures ok { OnOk result (changes.new.items ≡ changes.old.items ++ take_all grant_row (filter (λ (grant : Triple). same_name grant.2 role.now) grants.now)) }
+    ensures cause { IfErr result (λ refusal. refusal ≡ Refusal.Memory) }
+{
+    for grant in grants {
+        if is_same(&grant.2, role) {
+            take(changes, grant_row(alloc, &grant.0, &grant.1, &grant.2)?)?;
+        }
+    }
+    Ok(())
+}
