@@ -1,9 +1,13 @@
+pub mod AdditionLaws
 pub mod BreakLaws
 pub mod EmptyLaws
+pub mod GoodWithLaws
 pub mod HeldLaws
 pub mod InheritLaws
 pub mod KeepLaws
+pub mod LimitLaws
 pub mod Lookups
+pub mod NewRoleLaws
 pub mod RowLaws
 pub mod SeparationLaws
 pub mod SessionCommandLaws
