@@ -24,18 +24,22 @@ module _ (S : RbacState) (user : Bytes) (accepted : verdict S (AddUser user) ≡
   unfolding verdict refusals
   add_user_absent = refuse_if-None (contains S.users user) UserExists (passed (refusals S (AddUser user)) accepted).0
 
-  add_user_room : len S.users + 1 ≤ limit_of User S.version
+  -- there is room for one more user
+  pub add_user_room : len S.users + 1 ≤ limit_of User S.version
   unfolding verdict refusals
   add_user_room = too_many-None S User (len S.users + 1) (passed (refusals S (AddUser user)) accepted).1.0
 
+  -- what the command makes of the state is good
   good_changed_user : IsGood S → IsGood (changed S (AddUser user))
   unfolding changed
   good_changed_user good = good_with_users S good (insert S.users user)
       (λ x h. (contains-insert-Decides name_total name_exact S.users user x).1 (inr h)) (one_more_within name_total S.users user _ add_user_room)
 
+-- no session ends
 pub after_add_user : (S : RbacState) → IsGood S → (user : Bytes) → verdict S (AddUser user) ≡ None → after S (AddUser user) ≡ changed S (AddUser user)
 after_add_user S good user accepted = after_is_changed S (AddUser user) (good_changed_user S user accepted good)
 
+-- the state after it is good
 pub good_after_add_user : (S : RbacState) → IsGood S → (user : Bytes) → verdict S (AddUser user) ≡ None → IsGood (after S (AddUser user))
 good_after_add_user S good user accepted = good_after S (AddUser user) (good_changed_user S user accepted good)
 
@@ -47,10 +51,12 @@ module _ (S : RbacState) (role : Bytes) (accepted : verdict S (AddRole role) ≡
   unfolding verdict refusals
   add_role_absent = refuse_if-None (contains S.roles role) RoleExists (passed (refusals S (AddRole role)) accepted).0
 
-  add_role_room : len S.roles + 1 ≤ limit_of Role S.version
+  -- there is room for one more role
+  pub add_role_room : len S.roles + 1 ≤ limit_of Role S.version
   unfolding verdict refusals
   add_role_room = too_many-None S Role (len S.roles + 1) (passed (refusals S (AddRole role)) accepted).1.0
 
+  -- what the command makes of the state is good
   good_changed_role : IsGood S → IsGood (changed S (AddRole role))
   unfolding changed
   good_changed_role good =
@@ -64,9 +70,11 @@ module _ (S : RbacState) (role : Bytes) (accepted : verdict S (AddRole role) ≡
         edges_room = good.limits.edges;
       })
 
+-- no session ends
 pub after_add_role : (S : RbacState) → IsGood S → (role : Bytes) → verdict S (AddRole role) ≡ None → after S (AddRole role) ≡ changed S (AddRole role)
 after_add_role S good role accepted = after_is_changed S (AddRole role) (good_changed_role S role accepted good)
 
+-- the state after it is good
 pub good_after_add_role : (S : RbacState) → IsGood S → (role : Bytes) → verdict S (AddRole role) ≡ None → IsGood (after S (AddRole role))
 good_after_add_role S good role accepted = good_after S (AddRole role) (good_changed_role S role accepted good)
 
@@ -78,10 +86,12 @@ module _ (S : RbacState) (object : Bytes) (accepted : verdict S (AddPermObj obje
   unfolding verdict refusals
   add_perm_obj_absent = refuse_if-None (contains S.objects object) ObjectExists (passed (refusals S (AddPermObj object)) accepted).0
 
-  add_perm_obj_room : len S.objects + 1 ≤ limit_of Object S.version
+  -- there is room for one more object
+  pub add_perm_obj_room : len S.objects + 1 ≤ limit_of Object S.version
   unfolding verdict refusals
   add_perm_obj_room = too_many-None S Object (len S.objects + 1) (passed (refusals S (AddPermObj object)) accepted).1.0
 
+  -- what the command makes of the state is good
   good_changed_object : IsGood S → IsGood (changed S (AddPermObj object))
   unfolding changed
   good_changed_object good = good_with_permissions S good (insert S.objects object) S.permissions S.grants (record {
@@ -92,9 +102,11 @@ module _ (S : RbacState) (object : Bytes) (accepted : verdict S (AddPermObj obje
     grants_room = good.limits.grants;
   })
 
+-- no session ends
 pub after_add_perm_obj : (S : RbacState) → IsGood S → (object : Bytes) → verdict S (AddPermObj object) ≡ None → after S (AddPermObj object) ≡ changed S (AddPermObj object)
 after_add_perm_obj S good object accepted = after_is_changed S (AddPermObj object) (good_changed_object S object accepted good)
 
+-- the state after it is good
 pub good_after_add_perm_obj : (S : RbacState) → IsGood S → (object : Bytes) → verdict S (AddPermObj object) ≡ None → IsGood (after S (AddPermObj object))
 good_after_add_perm_obj S good object accepted = good_after S (AddPermObj object) (good_changed_object S object accepted good)
 
@@ -111,10 +123,12 @@ module _ (S : RbacState) (object operation : Bytes) (accepted : verdict S (AddPe
   unfolding verdict refusals
   add_permission_absent = refuse_if-None (contains S.permissions (object, operation)) PermissionExists (passed (refusals S (AddPermission object operation)) accepted).1.0
 
-  add_permission_room : len S.permissions + 1 ≤ limit_of Permission S.version
+  -- there is room for one more permission
+  pub add_permission_room : len S.permissions + 1 ≤ limit_of Permission S.version
   unfolding verdict refusals
   add_permission_room = too_many-None S Permission (len S.permissions + 1) (passed (refusals S (AddPermission object operation)) accepted).1.1.0
 
+  -- what the command makes of the state is good
   good_changed_permission : IsGood S → IsGood (changed S (AddPermission object operation))
   unfolding changed
   good_changed_permission good =
@@ -130,10 +144,12 @@ module _ (S : RbacState) (object operation : Bytes) (accepted : verdict S (AddPe
         grants_room = good.limits.grants;
       })
 
+-- no session ends
 pub after_add_permission : (S : RbacState) → IsGood S → (object operation : Bytes) → verdict S (AddPermission object operation) ≡ None →
     after S (AddPermission object operation) ≡ changed S (AddPermission object operation)
 after_add_permission S good object operation accepted = after_is_changed S (AddPermission object operation) (good_changed_permission S object operation accepted good)
 
+-- the state after it is good
 pub good_after_add_permission : (S : RbacState) → IsGood S → (object operation : Bytes) → verdict S (AddPermission object operation) ≡ None →
     IsGood (after S (AddPermission object operation))
 good_after_add_permission S good object operation accepted = good_after S (AddPermission object operation) (good_changed_permission S object operation accepted good)
@@ -156,10 +172,12 @@ module _ (S : RbacState) (object operation role : Bytes) (accepted : verdict S (
   unfolding verdict refusals
   grant_permission_absent = refuse_if-None (contains S.grants (object, operation, role)) AlreadyGranted (passed (refusals S (GrantPermission object operation role)) accepted).1.1.1.0
 
-  grant_permission_room : len S.grants + 1 ≤ limit_of Grant S.version
+  -- there is room for one more grant
+  pub grant_permission_room : len S.grants + 1 ≤ limit_of Grant S.version
   unfolding verdict refusals
   grant_permission_room = too_many-None S Grant (len S.grants + 1) (passed (refusals S (GrantPermission object operation role)) accepted).1.1.1.1.0
 
+  -- what the command makes of the state is good
   good_changed_grant : IsGood S → IsGood (changed S (GrantPermission object operation role))
   unfolding changed
   good_changed_grant good = good_with_permissions S good S.objects S.permissions (insert S.grants (object, operation, role)) (record {
@@ -173,10 +191,12 @@ module _ (S : RbacState) (object operation role : Bytes) (accepted : verdict S (
     grants_room = one_more_within triple_total S.grants (object, operation, role) _ grant_permission_room;
   })
 
+-- no session ends
 pub after_grant_permission : (S : RbacState) → IsGood S → (object operation role : Bytes) → verdict S (GrantPermission object operation role) ≡ None →
     after S (GrantPermission object operation role) ≡ changed S (GrantPermission object operation role)
 after_grant_permission S good object operation role accepted = after_is_changed S (GrantPermission object operation role) (good_changed_grant S object operation role accepted good)
 
+-- the state after it is good
 pub good_after_grant_permission : (S : RbacState) → IsGood S → (object operation role : Bytes) → verdict S (GrantPermission object operation role) ≡ None →
     IsGood (after S (GrantPermission object operation role))
 good_after_grant_permission S good object operation role accepted = good_after S (GrantPermission object operation role) (good_changed_grant S object operation role accepted good)

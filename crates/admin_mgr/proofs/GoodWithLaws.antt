@@ -22,12 +22,14 @@ use Rattle.admin_mgr.specs.Good.{IsGood, IsSeparation, IsDynamicallySeparated}
 use Rattle.admin_mgr.proofs.SessionLaws.{none_ends}
 use Rattle.admin_mgr.proofs.TouchLaws.{same_test, with_sessions}
 
--- ---- no session ends where the changed state is good
+-- ---- the state after a command that changes a state into a good one
 
+-- no session ends
 pub after_is_changed : (S : RbacState) (command : Command) → IsGood (changed S command) → after S command ≡ changed S command
 unfolding after
 after_is_changed S command good = none_ends (changed S command) good
 
+-- and that state is good
 pub good_after : (S : RbacState) (command : Command) → IsGood (changed S command) → IsGood (after S command)
 good_after S command good = subst IsGood (sym (after_is_changed S command good)) good
 
@@ -108,6 +110,7 @@ pub record ArePermissions (S : RbacState) (objects : Names) (permissions : Pairs
   pub permissions_room : len permissions ≤ limit_of Permission S.version
   pub grants_room : len grants ≤ limit_of Grant S.version
 
+-- so the state with them is good
 pub good_with_permissions : (S : RbacState) → IsGood S → (objects : Names) (permissions : Pairs) (grants : Triples) → ArePermissions S objects permissions grants →
     IsGood (record S { objects = objects; permissions = permissions; grants = grants })
 unfolding authorized_users
@@ -164,21 +167,24 @@ pub record AreMoreRoles (S : RbacState) (roles : Names) (edges : Pairs) : Type 0
   pub edges_room : len edges ≤ limit_of Edge S.version
 
 module _ (S : RbacState) (good : IsGood S) (roles : Names) (edges : Pairs) (are : AreMoreRoles S roles edges) where
+  -- the state with them
   abbrev with_roles : RbacState
   with_roles = record S { roles = roles; edges = edges }
 
-  -- users and sessions have the old roles that they had
+  -- users are authorized for the old roles for which they were
   same_authorized : (user q : Bytes) → IsTrue (contains S.roles q) → is_authorized with_roles user q ≡ is_authorized S user q
   unfolding authorized_users
   same_authorized user q is_role = ap (λ (s : Pairs). contains (image {Q = name_cmp} (λ (a : Pair). a.0) s) user)
       (retain_same pair_total pair_exact (λ (a : Pair). geq edges a.1 q) (λ (a : Pair). geq S.edges a.1 q) S.assignments
       (λ a there. are.as_before a.1 q (good.well_formed.assignments a.0 a.1 there).1 is_role))
 
+  -- and sessions have the old roles that they had
   same_session_role : (session q : Bytes) → IsTrue (contains S.roles q) → is_session_role with_roles session q ≡ is_session_role S session q
   same_session_role session q is_role =
       any_same name_total name_exact (λ a. geq edges a q) (λ a. geq S.edges a q) (active_roles S session)
       (λ a there. are.as_before a q (good.well_formed.active session a ((seconds-Decides S.active session a).0 there)) is_role)
 
+  -- sets of old roles are sets of these
   separation_with : (separation : Separation) → IsSeparation S.roles separation → IsSeparation roles separation
   separation_with separation formed = record {
     members = λ name role h. ((formed.members name role h).0, are.more role (formed.members name role h).1);
@@ -186,6 +192,7 @@ module _ (S : RbacState) (good : IsGood S) (roles : Names) (edges : Pairs) (are 
     one_cardinality = formed.one_cardinality;
   }
 
+  -- so the state with them is good
   pub good_with_roles : IsGood with_roles
   good_with_roles =
       let formed = good.well_formed in
@@ -255,6 +262,7 @@ goes_on_parts S p h =
     let first = and_parts _ _ parts.0 in
     (first.0, not-true _ first.1, λ role active. (all-Decides name_total name_exact (is_authorized S p.1) (active_roles S p.0)).0 parts.1 role ((seconds-Decides S.active p.0 role).1 active))
 
+-- so the state with them is good
 pub good_with_sessions : (S : RbacState) → IsGood S → (sessions active : Pairs) → AreSessions S sessions active → IsGood (with_sessions S sessions active)
 unfolding authorized_users with_sessions
 good_with_sessions S good sessions active are =

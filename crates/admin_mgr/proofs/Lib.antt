@@ -8,6 +8,7 @@ pub mod KeepLaws
 pub mod LimitLaws
 pub mod Lookups
 pub mod NewRoleLaws
+pub mod NewSessionLaws
 pub mod RowLaws
 pub mod SeparationLaws
 pub mod SessionCommandLaws

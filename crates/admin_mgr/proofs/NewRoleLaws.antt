@@ -10,12 +10,11 @@ use Rattle.rbac_sets.specs.declared.command.Command.TheVariants.{AddAscendant, A
 use Rattle.rbac_sets.specs.declared.kind.Kind.TheVariants.{Role, Edge}
 use Rattle.rbac_sets.specs.declared.refusal.Refusal.TheVariants.{NoRole, RoleExists}
 use Rattle.rbac_sets.proofs.SetLaws.{contains-insert-Decides}
-use Rattle.role_order.specs.Order.{Geq, geq}
+use Rattle.role_order.specs.Order.{HasPair, Geq, geq}
 use Rattle.role_order.proofs.Members.{is_false}
 use Rattle.role_order.proofs.Leading.{first_step, last_step}
 use Rattle.role_order.proofs.Closing.{added_edge}
 use Rattle.role_order.proofs.Deciding.{geq-Decides}
-use Rattle.role_order.specs.Order.{HasPair}
 use Rattle.admin_mgr.specs.RbacState.{RbacState}
 use Rattle.admin_mgr.specs.After.{changed, after}
 use Rattle.admin_mgr.specs.Verdict.{verdict, refusals}
@@ -49,7 +48,7 @@ abbrev IsEdgeAt : RbacState → Bytes → Bytes → Bytes → Type 0
 IsEdgeAt S role asc desc = ((asc ≡ role) × IsTrue (contains S.roles desc)) ⊎ (IsTrue (contains S.roles asc) × (desc ≡ role))
 
 module _ (S : RbacState) (good : IsGood S) (role asc desc : Bytes) (new : contains S.roles role ≡ false) (at : IsEdgeAt S role asc desc) where
-  -- no role is above asc and another one below desc, both being there
+  -- no way between two roles that were there goes over the edge
   not_crossed : (r q : Bytes) → IsTrue (contains S.roles r) → IsTrue (contains S.roles q) → Geq S.edges r asc → Geq S.edges desc q → ⊥
   not_crossed r q is_first is_second up down = elim at [
     | inl above ↦ true≢false (sym (role_below S good r asc up is_first) ∙ ap (contains S.roles) above.0 ∙ new)
@@ -80,6 +79,7 @@ module _ (S : RbacState) (good : IsGood S) (role asc desc : Bytes) (new : contai
       (λ h. elim (ways.0 (more.0 h)) [ inl leads ↦ old.1 leads | inr over ↦ absurd (not_crossed r q is_first is_second over.0 over.1) ])
       (λ h. more.1 (ways.1 (inl (old.0 h))))
 
+  -- the state with the role and the edge is good
   good_with_role_at : len S.roles + 1 ≤ limit_of Role S.version → len S.edges + 1 ≤ limit_of Edge S.version →
       IsGood (record S { roles = insert S.roles role; edges = insert S.edges (asc, desc) })
   good_with_role_at role_room edge_room =
@@ -114,17 +114,20 @@ module _ (S : RbacState) (asc desc : Bytes) (accepted : verdict S (AddAscendant 
   unfolding verdict refusals
   add_ascendant_absent = refuse_if-None (contains S.roles asc) RoleExists (passed (refusals S (AddAscendant asc desc)) accepted).1.0
 
-  ascendant_role_room : len S.roles + 1 ≤ limit_of Role S.version
+  -- there is room for one more role
+  pub add_ascendant_role_room : len S.roles + 1 ≤ limit_of Role S.version
   unfolding verdict refusals
-  ascendant_role_room = too_many-None S Role (len S.roles + 1) (passed (refusals S (AddAscendant asc desc)) accepted).1.1.0
+  add_ascendant_role_room = too_many-None S Role (len S.roles + 1) (passed (refusals S (AddAscendant asc desc)) accepted).1.1.0
 
-  ascendant_edge_room : len S.edges + 1 ≤ limit_of Edge S.version
+  -- there is room for one more edge
+  pub add_ascendant_edge_room : len S.edges + 1 ≤ limit_of Edge S.version
   unfolding verdict refusals
-  ascendant_edge_room = too_many-None S Edge (len S.edges + 1) (passed (refusals S (AddAscendant asc desc)) accepted).1.1.1.0
+  add_ascendant_edge_room = too_many-None S Edge (len S.edges + 1) (passed (refusals S (AddAscendant asc desc)) accepted).1.1.1.0
 
+  -- what the command makes of the state is good
   good_changed_ascendant : IsGood S → IsGood (changed S (AddAscendant asc desc))
   unfolding changed
-  good_changed_ascendant good = good_with_role_at S good asc asc desc add_ascendant_absent (inl (refl, add_ascendant_below)) ascendant_role_room ascendant_edge_room
+  good_changed_ascendant good = good_with_role_at S good asc asc desc add_ascendant_absent (inl (refl, add_ascendant_below)) add_ascendant_role_room add_ascendant_edge_room
 
   -- the new edge wasn't there
   pub add_ascendant_no_edge : IsGood S → contains S.edges (asc, desc) ≡ false
@@ -134,10 +137,12 @@ module _ (S : RbacState) (asc desc : Bytes) (accepted : verdict S (AddAscendant 
   pub add_ascendant_no_cycle : IsGood S → Geq S.edges desc asc → ⊥
   add_ascendant_no_cycle good = no_cycle_at S good asc asc desc add_ascendant_absent (inl (refl, add_ascendant_below))
 
+-- no session ends
 pub after_add_ascendant : (S : RbacState) → IsGood S → (asc desc : Bytes) → verdict S (AddAscendant asc desc) ≡ None →
     after S (AddAscendant asc desc) ≡ changed S (AddAscendant asc desc)
 after_add_ascendant S good asc desc accepted = after_is_changed S (AddAscendant asc desc) (good_changed_ascendant S asc desc accepted good)
 
+-- the state after it is good
 pub good_after_add_ascendant : (S : RbacState) → IsGood S → (asc desc : Bytes) → verdict S (AddAscendant asc desc) ≡ None → IsGood (after S (AddAscendant asc desc))
 good_after_add_ascendant S good asc desc accepted = good_after S (AddAscendant asc desc) (good_changed_ascendant S asc desc accepted good)
 
@@ -154,17 +159,20 @@ module _ (S : RbacState) (asc desc : Bytes) (accepted : verdict S (AddDescendant
   unfolding verdict refusals
   add_descendant_absent = refuse_if-None (contains S.roles desc) RoleExists (passed (refusals S (AddDescendant asc desc)) accepted).1.0
 
-  descendant_role_room : len S.roles + 1 ≤ limit_of Role S.version
+  -- there is room for one more role
+  pub add_descendant_role_room : len S.roles + 1 ≤ limit_of Role S.version
   unfolding verdict refusals
-  descendant_role_room = too_many-None S Role (len S.roles + 1) (passed (refusals S (AddDescendant asc desc)) accepted).1.1.0
+  add_descendant_role_room = too_many-None S Role (len S.roles + 1) (passed (refusals S (AddDescendant asc desc)) accepted).1.1.0
 
-  descendant_edge_room : len S.edges + 1 ≤ limit_of Edge S.version
+  -- there is room for one more edge
+  pub add_descendant_edge_room : len S.edges + 1 ≤ limit_of Edge S.version
   unfolding verdict refusals
-  descendant_edge_room = too_many-None S Edge (len S.edges + 1) (passed (refusals S (AddDescendant asc desc)) accepted).1.1.1.0
+  add_descendant_edge_room = too_many-None S Edge (len S.edges + 1) (passed (refusals S (AddDescendant asc desc)) accepted).1.1.1.0
 
+  -- what the command makes of the state is good
   good_changed_descendant : IsGood S → IsGood (changed S (AddDescendant asc desc))
   unfolding changed
-  good_changed_descendant good = good_with_role_at S good desc asc desc add_descendant_absent (inr (add_descendant_above, refl)) descendant_role_room descendant_edge_room
+  good_changed_descendant good = good_with_role_at S good desc asc desc add_descendant_absent (inr (add_descendant_above, refl)) add_descendant_role_room add_descendant_edge_room
 
   -- the new edge wasn't there
   pub add_descendant_no_edge : IsGood S → contains S.edges (asc, desc) ≡ false
@@ -174,9 +182,11 @@ module _ (S : RbacState) (asc desc : Bytes) (accepted : verdict S (AddDescendant
   pub add_descendant_no_cycle : IsGood S → Geq S.edges desc asc → ⊥
   add_descendant_no_cycle good = no_cycle_at S good desc asc desc add_descendant_absent (inr (add_descendant_above, refl))
 
+-- no session ends
 pub after_add_descendant : (S : RbacState) → IsGood S → (asc desc : Bytes) → verdict S (AddDescendant asc desc) ≡ None →
     after S (AddDescendant asc desc) ≡ changed S (AddDescendant asc desc)
 after_add_descendant S good asc desc accepted = after_is_changed S (AddDescendant asc desc) (good_changed_descendant S asc desc accepted good)
 
+-- the state after it is good
 pub good_after_add_descendant : (S : RbacState) → IsGood S → (asc desc : Bytes) → verdict S (AddDescendant asc desc) ≡ None → IsGood (after S (AddDescendant asc desc))
 good_after_add_descendant S good asc desc accepted = good_after S (AddDescendant asc desc) (good_changed_descendant S asc desc accepted good)
