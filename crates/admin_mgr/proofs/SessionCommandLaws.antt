@@ -34,17 +34,17 @@ may_go S sessions active p is_user unlocked each = and_from _ _ (and_from _ _ is
 -- ---- a new session
 
 module _ (S : RbacState) (good : IsGood S) (user : Bytes) (roles : Names) (session : Bytes) (new : has_session S session ≡ false) where
-  created_sessions : Pairs
+  unfoldable pub created_sessions : Pairs
   created_sessions = insert S.sessions (session, user)
 
-  created_active : Pairs
+  unfoldable pub created_active : Pairs
   created_active = union S.active (paired session roles)
 
-  not_new : (other owner : Bytes) → IsTrue (contains S.sessions (other, owner)) → other ≢ session
+  pub not_new : (other owner : Bytes) → IsTrue (contains S.sessions (other, owner)) → other ≢ session
   not_new other owner there same = true≢false
       (sym ((any-Decides pair_total pair_exact (λ (pair : Pair). same_name pair.0 session) S.sessions).1 ((other, owner), there, (tie_Decides name_total name_exact other session).1 same)) ∙ new)
 
-  none_active : (role : Bytes) → IsTrue (contains S.active (session, role)) → ⊥
+  pub none_active : (role : Bytes) → IsTrue (contains S.active (session, role)) → ⊥
   none_active role active = let owner = good.well_formed.owned session role active in not_new session owner.0 owner.1 refl
 
   others_created : OthersStay S created_sessions created_active session
@@ -54,7 +54,7 @@ module _ (S : RbacState) (good : IsGood S) (user : Bytes) (roles : Names) (sessi
     | inr old ↦ inr (old, with_paired-others S.active session roles other (not_new other owner old))
   ]
 
-  created_goes_on : IsTrue (contains S.users user) → contains S.locked user ≡ false → IsTrue (all (is_authorized S user) roles) → (p : Pair) → IsTrue (contains created_sessions p) →
+  pub created_goes_on : IsTrue (contains S.users user) → contains S.locked user ≡ false → IsTrue (all (is_authorized S user) roles) → (p : Pair) → IsTrue (contains created_sessions p) →
       IsTrue (may_go_on (with_sessions S created_sessions created_active) p)
   unfolding created_sessions created_active
   created_goes_on is_user unlocked authorized p there = elim ((contains-insert-Decides pair_total pair_exact S.sessions (session, user) p).0 there) [
@@ -65,7 +65,7 @@ module _ (S : RbacState) (good : IsGood S) (user : Bytes) (roles : Names) (sessi
         good.authorized p.0 p.1 role old ((seconds-Decides S.active p.0 role).0 (subst (λ s. IsTrue (contains s role)) (with_paired-others S.active session roles p.0 (not_new p.0 p.1 old)) h)))
   ]
 
-  created_owned : (other role : Bytes) → IsTrue (contains created_active (other, role)) → (owner : Bytes) × IsTrue (contains created_sessions (other, owner))
+  pub created_owned : (other role : Bytes) → IsTrue (contains created_active (other, role)) → (owner : Bytes) × IsTrue (contains created_sessions (other, owner))
   unfolding created_sessions created_active
   created_owned other role active = elim (or_cases _ _ (sym (contains-union pair_total pair_exact S.active (paired session roles) (other, role)) ∙ active)) [
     | inl old ↦ (let owner = good.well_formed.owned other role old in (owner.0, (contains-insert-Decides pair_total pair_exact S.sessions (session, user) (other, owner.0)).1 (inr owner.1)))
@@ -94,7 +94,7 @@ create_session S good user roles session new is_user unlocked authorized = creat
 -- ---- a role is activated
 
 module _ (S : RbacState) (good : IsGood S) (user session role : Bytes) (owner : IsTrue (contains S.sessions (session, user))) (authorized : IsTrue (is_authorized S user role)) where
-  more_active : Pairs
+  unfoldable pub more_active : Pairs
   more_active = insert S.active (session, role)
 
   others_stay : OthersStay S S.sessions more_active session
@@ -104,7 +104,7 @@ module _ (S : RbacState) (good : IsGood S) (user session role : Bytes) (owner : 
     | inr apart ↦ inr (there, with_one-others S.active session role other apart)
   ]
 
-  activated_goes_on : (p : Pair) → IsTrue (contains S.sessions p) → IsTrue (may_go_on (with_sessions S S.sessions more_active) p)
+  pub activated_goes_on : (p : Pair) → IsTrue (contains S.sessions p) → IsTrue (may_go_on (with_sessions S S.sessions more_active) p)
   unfolding more_active
   activated_goes_on p there = may_go S S.sessions more_active p (good.well_formed.sessions p.0 p.1 there) (good.unlocked p.0 p.1 there) (λ q h.
       elim ((contains-insert-Decides pair_total pair_exact S.active (session, role) (p.0, q)).0 ((seconds-Decides more_active p.0 q).0 h)) [
@@ -115,7 +115,7 @@ module _ (S : RbacState) (good : IsGood S) (user session role : Bytes) (owner : 
         | inr old ↦ good.authorized p.0 p.1 q there old
       ])
 
-  activated_owned : (other q : Bytes) → IsTrue (contains more_active (other, q)) → (u : Bytes) × IsTrue (contains S.sessions (other, u))
+  pub activated_owned : (other q : Bytes) → IsTrue (contains more_active (other, q)) → (u : Bytes) × IsTrue (contains S.sessions (other, u))
   unfolding more_active
   activated_owned other q active = elim ((contains-insert-Decides pair_total pair_exact S.active (session, role) (other, q)).0 active) [
     | inl same ↦ (user, subst (λ s. IsTrue (contains S.sessions (s, user))) (sym (ap (λ (x : Pair). x.0) same)) owner)
