@@ -5,11 +5,8 @@ pub mod GoodWithLaws
 pub mod HeldLaws
 pub mod InheritLaws
 pub mod KeepLaws
-<<<<<<< HEAD
-pub mod ListLaws
-=======
 pub mod LimitLaws
->>>>>>> adds
+pub mod ListLaws
 pub mod Lookups
 pub mod NewRoleLaws
 pub mod NewSessionLaws
