@@ -8,6 +8,7 @@ pub mod RowLaws
 pub mod SeparationLaws
 pub mod SessionCommandLaws
 pub mod SessionLaws
+pub mod SetRowLaws
 pub mod TouchLaws
 pub mod VerdictLaws
 pub mod ViolationLaws
