@@ -1,4 +1,5 @@
 pub mod BreakLaws
+pub mod DynamicSetLaws
 pub mod EmptyLaws
 pub mod HeldLaws
 pub mod InheritLaws
@@ -9,6 +10,8 @@ pub mod SeparationLaws
 pub mod SessionCommandLaws
 pub mod SessionLaws
 pub mod SetRowLaws
+pub mod SoundSetLaws
+pub mod StaticSetLaws
 pub mod TouchLaws
 pub mod VerdictLaws
 pub mod ViolationLaws
