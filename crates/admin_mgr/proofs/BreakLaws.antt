@@ -58,7 +58,7 @@ pub kept_dsd : (S : RbacState) → IsGood S → AreKept (is_kept_dynamically S) 
 kept_dsd S good x there = (kept_dynamically S (members_of S.dsd x.0) x.1).1 (λ session user owner. good.dynamic_separation x.0 session user x.1 there owner)
 
 -- no session ends for other dynamic sets
-none_ends_dsd : (S : RbacState) → IsGood S → (other : Separation) → end_sessions (record S { dsd = other }) ≡ record S { dsd = other }
+pub none_ends_dsd : (S : RbacState) → IsGood S → (other : Separation) → end_sessions (record S { dsd = other }) ≡ record S { dsd = other }
 unfolding may_go_on authorized_users
 none_ends_dsd S good other = none_ends_where (record S { dsd = other }) (goes_on S good) good.well_formed.owned
 

@@ -1,5 +1,6 @@
 pub mod AdditionLaws
 pub mod BreakLaws
+pub mod DynamicSetLaws
 pub mod EmptyLaws
 pub mod GoodWithLaws
 pub mod HeldLaws
@@ -14,6 +15,9 @@ pub mod RowLaws
 pub mod SeparationLaws
 pub mod SessionCommandLaws
 pub mod SessionLaws
+pub mod SetRowLaws
+pub mod SoundSetLaws
+pub mod StaticSetLaws
 pub mod TouchLaws
 pub mod VerdictLaws
 pub mod ViolationLaws

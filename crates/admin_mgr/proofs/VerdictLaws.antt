@@ -37,6 +37,13 @@ last_decides [] (Some refusal) h = refl
 last_decides (None ∷ rest) last h = last_decides rest last h
 last_decides (Some one ∷ rest) last h = cc
 
+-- with no first refusal the last one does not hold either
+pub all_but_last : (refusals : List (Option Refusal)) (last : Option Refusal) → first (refusals ++ last ∷ []) ≡ None → (first refusals ≡ None) × (last ≡ None)
+all_but_last [] None h = (refl, refl)
+all_but_last [] (Some refusal) h = cc
+all_but_last (None ∷ rest) last h = all_but_last rest last h
+all_but_last (Some refusal ∷ rest) last h = cc
+
 pub mapped_cond : (b : Bool) {A B : Type 0} (f : A → B) (x : A) → option_map f (cond b None (Some x)) ≡ cond b None (Some (f x))
 mapped_cond true f x = refl
 mapped_cond false f x = refl
