@@ -5,10 +5,12 @@ pub mod HeldLaws
 pub mod InheritLaws
 pub mod KeepLaws
 pub mod Lookups
+pub mod PartLaws
 pub mod RowLaws
 pub mod SeparationLaws
 pub mod SessionCommandLaws
 pub mod SessionLaws
+pub mod TakeLaws
 pub mod TouchLaws
 pub mod VerdictLaws
 pub mod ViolationLaws
