@@ -89,6 +89,7 @@ module _ (S : RbacState) (good : IsGoodApart S) where
       let above = (any-Decides name_total name_exact (λ active. geq S.edges active role) (active_roles (end_sessions S) session)).0 h in
       (any-Decides name_total name_exact (λ active. geq S.edges active role) (active_roles S session)).1 (above.0, fewer_active session above.0 above.1, above.2)
 
+  -- dynamic separation holds of the sessions that are left
   ended_separation : IsDynamicallySeparated (end_sessions S)
   unfolding end_sessions
   ended_separation name session user n has there =

@@ -1,6 +1,7 @@
 pub mod BreakLaws
 pub mod EmptyLaws
 pub mod EndLaws
+pub mod EndingLaws
 pub mod HeldLaws
 pub mod InheritLaws
 pub mod KeepLaws

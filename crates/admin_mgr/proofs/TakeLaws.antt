@@ -24,7 +24,7 @@ use Rattle.admin_mgr.proofs.PartLaws.{Part, whole, state_of, good_part, part_end
 
 -- ---- what is left
 
--- a name whose test of being another one fails is this one
+-- where the test that two names are one fails, they are two
 other_name : (a b : Bytes) → IsTrue (not (same_name a b)) → a ≢ b
 other_name a b h same = true≢false (sym h ∙ ap not ((tie_Decides name_total name_exact a b).1 same))
 
@@ -37,10 +37,11 @@ remove-keeps {R = R} total exact s y x h other =
 retain-passes : {K : Type 0} {R : K → K → Ordering} (total : IsTotalOrder R) (exact : IsAntisymmetric R) (s : FinSet R) (p : K → Bool) (x : K) → IsTrue (contains (retain s p) x) → IsTrue (p x)
 retain-passes total exact s p x h = (and_parts _ _ (sym (contains-retain total exact s p x) ∙ h)).1
 
--- where no member passes, one that does is none
-none_passes : {K : Type 0} {R : K → K → Ordering} (total : IsTotalOrder R) (exact : IsAntisymmetric R) (p : K → Bool) (s : FinSet R) → any p s ≡ false → (x : K) → IsTrue (contains s x) → IsTrue (p x) → ⊥
-none_passes total exact p s none x h passes = true≢false (sym ((any-Decides total exact p s).1 (x, h, passes)) ∙ none)
+-- where no member passes the test, what passes it is no member
+none_such : {K : Type 0} {R : K → K → Ordering} (total : IsTotalOrder R) (exact : IsAntisymmetric R) (p : K → Bool) (s : FinSet R) → any p s ≡ false → (x : K) → IsTrue (contains s x) → IsTrue (p x) → ⊥
+none_such total exact p s none x h passes = true≢false (sym ((any-Decides total exact p s).1 (x, h, passes)) ∙ none)
 
+-- where it fails that one of two tests holds, both fail
 neither : (a b : Bool) → (a || b) ≡ false → (a ≡ false) × (b ≡ false)
 neither false false h = (refl, refl)
 neither false true h = cc
@@ -50,6 +51,7 @@ module _ (S : RbacState) (good : IsGood S) where
   -- ---- a user goes, with its assignments and its lock
 
   module _ (user : Bytes) where
+    -- the state without it
     abbrev without_user : Part S
     without_user = record (whole S) {
       users = remove S.users user;
@@ -60,6 +62,7 @@ module _ (S : RbacState) (good : IsGood S) where
       assignments_within = retain-subset pair_total pair_exact S.assignments (λ pair. not (same_name pair.0 user));
     }
 
+    -- another user stays
     other_user : (x : Bytes) → IsTrue (contains S.users x) → (x ≢ user) → IsTrue (contains (remove S.users user) x)
     other_user = remove-keeps name_total name_exact S.users user
 
@@ -84,6 +87,7 @@ module _ (S : RbacState) (good : IsGood S) where
   -- ---- a role goes that stands in no edge and no separation set, with its assignments and its grants
 
   module _ (role : Bytes) where
+    -- the state without it
     abbrev without_role : Part S
     without_role = record (whole S) {
       roles = remove S.roles role;
@@ -94,9 +98,11 @@ module _ (S : RbacState) (good : IsGood S) where
       grants_within = retain-subset triple_total triple_exact S.grants (λ grant. not (same_name grant.2 role));
     }
 
+    -- another role stays
     other_role : (x : Bytes) → IsTrue (contains S.roles x) → (x ≢ role) → IsTrue (contains (remove S.roles role) x)
     other_role = remove-keeps name_total name_exact S.roles role
 
+    -- the test that a name is the role
     is_role : (x : Bytes) → x ≡ role → IsTrue (same_name x role)
     is_role x same = (tie_Decides name_total name_exact x role).1 same
 
@@ -107,9 +113,9 @@ module _ (S : RbacState) (good : IsGood S) where
         let unused = neither (any (λ edge. same_name edge.0 role || same_name edge.1 role) S.edges || any (λ member. same_name member.1 role) S.ssd.members) (any (λ member. same_name member.1 role) S.dsd.members)
         (refuse_if-None (is_in_use S role) RoleInUse (passed (refusals S (DeleteRole role)) accepted).1.0) in
         let others = neither (any (λ edge. same_name edge.0 role || same_name edge.1 role) S.edges) (any (λ member. same_name member.1 role) S.ssd.members) unused.0 in
-        let no_edge = none_passes pair_total pair_exact (λ (edge : Pair). same_name edge.0 role || same_name edge.1 role) S.edges others.0 in
-        let no_static = none_passes pair_total pair_exact (λ (member : Pair). same_name member.1 role) S.ssd.members others.1 in
-        let no_dynamic = none_passes pair_total pair_exact (λ (member : Pair). same_name member.1 role) S.dsd.members unused.1 in
+        let no_edge = none_such pair_total pair_exact (λ (edge : Pair). same_name edge.0 role || same_name edge.1 role) S.edges others.0 in
+        let no_static = none_such pair_total pair_exact (λ (member : Pair). same_name member.1 role) S.ssd.members others.1 in
+        let no_dynamic = none_such pair_total pair_exact (λ (member : Pair). same_name member.1 role) S.dsd.members unused.1 in
         good_ended (state_of without_role) (good_part S without_role good (record {
           permissions = formed.permissions;
           assignments = λ u r h.
@@ -137,6 +143,7 @@ module _ (S : RbacState) (good : IsGood S) where
   -- ---- an object goes that no permission speaks of
 
   module _ (object : Bytes) where
+    -- the state without it
     abbrev without_object : Part S
     without_object = record (whole S) { objects = remove S.objects object; objects_within = remove-subset name_total S.objects object }
 
@@ -144,7 +151,7 @@ module _ (S : RbacState) (good : IsGood S) where
     unfolding after changed verdict refusals
     good_after_delete_perm_obj accepted =
         let formed = good.well_formed in
-        let unused = none_passes pair_total pair_exact (λ (permission : Pair). same_name permission.0 object) S.permissions
+        let unused = none_such pair_total pair_exact (λ (permission : Pair). same_name permission.0 object) S.permissions
         (refuse_if-None (any (λ permission. same_name permission.0 object) S.permissions) ObjectInUse (passed (refusals S (DeletePermObj object)) accepted).1.0) in
         good_ended (state_of without_object) (good_part S without_object good (record {
           permissions = λ ob op h. remove-keeps name_total name_exact S.objects object ob (formed.permissions ob op h) (λ same. unused (ob, op) h ((tie_Decides name_total name_exact ob object).1 same));
@@ -164,6 +171,7 @@ module _ (S : RbacState) (good : IsGood S) where
   -- ---- a permission goes, with its grants
 
   module _ (object operation : Bytes) where
+    -- the state without it
     abbrev without_permission : Part S
     without_permission = record (whole S) {
       permissions = remove S.permissions (object, operation);
@@ -200,6 +208,7 @@ module _ (S : RbacState) (good : IsGood S) where
   -- ---- a permission is revoked from a role
 
   module _ (object operation role : Bytes) where
+    -- the state without it
     abbrev without_grant : Part S
     without_grant = record (whole S) { grants = remove S.grants (object, operation, role); grants_within = remove-subset triple_total S.grants (object, operation, role) }
 
@@ -225,6 +234,7 @@ module _ (S : RbacState) (good : IsGood S) where
   -- ---- a user is deassigned from a role
 
   module _ (user role : Bytes) where
+    -- the state without it
     abbrev without_assignment : Part S
     without_assignment = record (whole S) { assignments = remove S.assignments (user, role); assignments_within = remove-subset pair_total S.assignments (user, role) }
 
@@ -245,6 +255,7 @@ module _ (S : RbacState) (good : IsGood S) where
   -- ---- an immediate inheritance goes
 
   module _ (asc desc : Bytes) where
+    -- the state without it
     abbrev without_edge : Part S
     without_edge = record (whole S) { edges = remove S.edges (asc, desc); edges_within = remove-subset pair_total S.edges (asc, desc) }
 
@@ -265,6 +276,7 @@ module _ (S : RbacState) (good : IsGood S) where
   -- ---- a session is deleted
 
   module _ (user session : Bytes) where
+    -- the state without it
     abbrev without_session : Part S
     without_session = record (whole S) {
       sessions = remove S.sessions (session, user);
@@ -298,6 +310,7 @@ module _ (S : RbacState) (good : IsGood S) where
   -- ---- a role is dropped from a session
 
   module _ (user session role : Bytes) where
+    -- the state without it
     abbrev without_active : Part S
     without_active = record (whole S) { active = remove S.active (session, role); active_within = remove-subset pair_total S.active (session, role) }
 
@@ -323,6 +336,7 @@ module _ (S : RbacState) (good : IsGood S) where
   -- ---- a user is unlocked
 
   module _ (user : Bytes) where
+    -- the state without it
     abbrev without_lock : Part S
     without_lock = record (whole S) { locked = remove S.locked user; locked_within = remove-subset name_total S.locked user }
 

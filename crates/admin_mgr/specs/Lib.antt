@@ -2,6 +2,7 @@ pub mod After
 pub mod Assignment
 pub mod Authorization
 pub mod Changes
+pub mod Ending
 pub mod Good
 pub mod Held
 pub mod Kept
