@@ -3,6 +3,8 @@ pub mod BreakLaws
 pub mod DynamicSetLaws
 pub mod EmptyLaws
 pub mod GoodWithLaws
+pub mod EndLaws
+pub mod EndingLaws
 pub mod HeldLaws
 pub mod InheritLaws
 pub mod KeepLaws
@@ -11,6 +13,7 @@ pub mod ListLaws
 pub mod Lookups
 pub mod NewRoleLaws
 pub mod NewSessionLaws
+pub mod PartLaws
 pub mod RowLaws
 pub mod SeparationLaws
 pub mod SessionCommandLaws
@@ -18,6 +21,7 @@ pub mod SessionLaws
 pub mod SetRowLaws
 pub mod SoundSetLaws
 pub mod StaticSetLaws
+pub mod TakeLaws
 pub mod TouchLaws
 pub mod VerdictLaws
 pub mod ViolationLaws

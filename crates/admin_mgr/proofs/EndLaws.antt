@@ -1,0 +1,143 @@
+-- What holds once the sessions that may not go on have ended.
+use Rattle.std.proofs.Common.{◌≡◌, ◌≤◌, Bool, false, ◌&&◌, sym, ◌∙◌, subst, arith}
+use Rattle.std.specs.Prelude.{IsTrue, ◌⊎◌}
+use Rattle.std.proofs.lemmas.Bool.{and_parts, and_from, not-true}
+use Rattle.rbac_sets.specs.Sets.{Bytes, Names, Pair, any, contains, retain, count, same_name, empty}
+use Rattle.rbac_sets.specs.NameOrder.{name_total, name_exact, pair_total, pair_exact}
+use Rattle.rbac_sets.proofs.SetLaws.{any-Decides, all-Decides, seconds-Decides, image-Decides, contains-retain, tie_Decides}
+use Rattle.rbac_sets.proofs.Members.{count-len, len-subset}
+use Rattle.role_order.specs.Order.{here, step, Geq, geq, IsAcyclic}
+use Rattle.role_order.proofs.Deciding.{geq-Decides}
+use Rattle.admin_mgr.specs.RbacState.{RbacState, members_of, active_roles}
+use Rattle.admin_mgr.specs.Authorization.{authorized_users, is_authorized, is_session_role}
+use Rattle.admin_mgr.specs.Assignment.{may_go_on, end_sessions}
+use Rattle.admin_mgr.specs.Good.{IsGood, IsSeparation, IsStaticallySeparated, IsDynamicallySeparated, IsWithinLimits}
+
+-- The state is good but for its sessions: their users may be gone or locked, or no longer authorized for what was activated.
+pub record IsGoodApart (S : RbacState) : Type 0 where
+  pub permissions : (object operation : Bytes) → IsTrue (contains S.permissions (object, operation)) → IsTrue (contains S.objects object)
+  pub assignments : (user role : Bytes) → IsTrue (contains S.assignments (user, role)) → IsTrue (contains S.users user) × IsTrue (contains S.roles role)
+  pub grants : (object operation role : Bytes) → IsTrue (contains S.grants (object, operation, role)) → IsTrue (contains S.permissions (object, operation)) × IsTrue (contains S.roles role)
+  pub edges : (asc desc : Bytes) → IsTrue (contains S.edges (asc, desc)) → IsTrue (contains S.roles asc) × IsTrue (contains S.roles desc)
+  pub one_owner : (session user other : Bytes) → IsTrue (contains S.sessions (session, user)) → IsTrue (contains S.sessions (session, other)) → user ≡ other
+  pub locked : (user : Bytes) → IsTrue (contains S.locked user) → IsTrue (contains S.users user)
+  pub ssd : IsSeparation S.roles S.ssd
+  pub dsd : IsSeparation S.roles S.dsd
+  pub acyclic : IsAcyclic S.edges
+  pub static_separation : IsStaticallySeparated S
+  pub dynamic_separation : IsDynamicallySeparated S
+  pub limits : IsWithinLimits S
+  pub version : (S.version ≡ 1) ⊎ (S.version ≡ 2)
+  pub no_locks : S.version ≡ 1 → S.locked ≡ empty
+
+-- of fewer names, no more pass a test that is no easier
+pub count-fewer : (p q : Bytes → Bool) (part whole : Names) → ((x : Bytes) → IsTrue (contains part x) → IsTrue (contains whole x)) →
+    ((x : Bytes) → IsTrue (p x) → IsTrue (q x)) → count p part ≤ count q whole
+count-fewer p q part whole within harder =
+    let fewer = len-subset name_total name_exact (retain part p) (retain whole q) (λ x h.
+    let parts = and_parts _ _ (sym (contains-retain name_total name_exact part p x) ∙ h) in
+    contains-retain name_total name_exact whole q x ∙ and_from _ _ (within x parts.0) (harder x parts.1)) in
+    let counted = count-len name_total name_exact p part in
+    let counted_more = count-len name_total name_exact q whole in
+    omega (arith, fewer, counted, counted_more)
+
+-- where edges run between roles, what is below a role is one
+below_role : (S : RbacState) → ((asc desc : Bytes) → IsTrue (contains S.edges (asc, desc)) → IsTrue (contains S.roles asc) × IsTrue (contains S.roles desc)) →
+    {above role : Bytes} → Geq S.edges above role → IsTrue (contains S.roles above) → IsTrue (contains S.roles role)
+below_role S ends here is = is
+below_role S ends {above} (step {b = m} edge rest) is = below_role S ends rest (ends above m edge).1
+
+module _ (S : RbacState) (good : IsGoodApart S) where
+  -- who is authorized for a role is so for one that is there
+  authorized-role : (user role : Bytes) → IsTrue (is_authorized S user role) → IsTrue (contains S.roles role)
+  unfolding authorized_users
+  authorized-role user role h =
+      let found = (image-Decides pair_total pair_exact name_total name_exact (λ (a : Pair). a.0) (retain S.assignments (λ a. geq S.edges a.1 role)) user).0 h in
+      let parts = and_parts _ _ (sym (contains-retain pair_total pair_exact S.assignments (λ (a : Pair). geq S.edges a.1 role) found.0) ∙ found.1) in
+      below_role S good.edges ((geq-Decides S.edges found.0.1 role).0 parts.1) (good.assignments found.0.0 found.0.1 parts.0).1
+
+  -- a session that is left was there and may go on
+  kept_session : (p : Pair) → IsTrue (contains (end_sessions S).sessions p) → IsTrue (contains S.sessions p) × IsTrue (may_go_on S p)
+  unfolding end_sessions
+  kept_session p h = and_parts _ _ (sym (contains-retain pair_total pair_exact S.sessions (may_go_on S) p) ∙ h)
+
+  -- a role that is left active was so, in a session that may go on
+  kept_active : (p : Pair) → IsTrue (contains (end_sessions S).active p) → IsTrue (contains S.active p) × ((user : Bytes) × IsTrue (contains S.sessions (p.0, user)) × IsTrue (may_go_on S (p.0, user)))
+  unfolding end_sessions
+  kept_active p h =
+      let parts = and_parts _ _ (sym (contains-retain pair_total pair_exact S.active (λ active. any (λ session. same_name session.0 active.0 && may_go_on S session) S.sessions) p) ∙ h) in
+      let owner = (any-Decides pair_total pair_exact (λ (session : Pair). same_name session.0 p.0 && may_go_on S session) S.sessions).0 parts.1 in
+      let tests = and_parts _ _ owner.2 in
+      let same : owner.0 ≡ (p.0, owner.0.1) = λ i. ((tie_Decides name_total name_exact owner.0.0 p.0).0 tests.0 i, owner.0.1) in
+      (parts.0, (owner.0.1, subst (λ s. IsTrue (contains S.sessions s)) same owner.1, subst (λ s. IsTrue (may_go_on S s)) same tests.1))
+
+  -- what it is that a session may go on
+  goes_on_parts : (p : Pair) → IsTrue (may_go_on S p) → IsTrue (contains S.users p.1) × (contains S.locked p.1 ≡ false) × ((role : Bytes) → IsTrue (contains S.active (p.0, role)) → IsTrue (is_authorized S p.1 role))
+  unfolding may_go_on
+  goes_on_parts p h =
+      let parts = and_parts _ _ h in
+      let first = and_parts _ _ parts.0 in
+      (first.0, not-true _ first.1, λ role active. (all-Decides name_total name_exact (is_authorized S p.1) (active_roles S p.0)).0 parts.1 role ((seconds-Decides S.active p.0 role).1 active))
+
+  -- no role is activated anew
+  fewer_active : (session role : Bytes) → IsTrue (contains (active_roles (end_sessions S) session) role) → IsTrue (contains (active_roles S session) role)
+  fewer_active session role h = (seconds-Decides S.active session role).1 (kept_active (session, role) ((seconds-Decides (end_sessions S).active session role).0 h)).0
+
+  fewer_roles : (session role : Bytes) → IsTrue (is_session_role (end_sessions S) session role) → IsTrue (is_session_role S session role)
+  unfolding end_sessions
+  fewer_roles session role h =
+      let above = (any-Decides name_total name_exact (λ active. geq S.edges active role) (active_roles (end_sessions S) session)).0 h in
+      (any-Decides name_total name_exact (λ active. geq S.edges active role) (active_roles S session)).1 (above.0, fewer_active session above.0 above.1, above.2)
+
+  -- dynamic separation holds of the sessions that are left
+  ended_separation : IsDynamicallySeparated (end_sessions S)
+  unfolding end_sessions
+  ended_separation name session user n has there =
+      let before = good.dynamic_separation name session user n has (kept_session (session, user) there).0 in
+      let fewer = count-fewer (is_session_role (end_sessions S) session) (is_session_role S session) (members_of S.dsd name) (members_of S.dsd name) (λ x member. member) (fewer_roles session) in
+      omega (arith, before, fewer)
+
+  -- what is good but for its sessions is good once those have ended that may not go on
+  pub good_ended : IsGood (end_sessions S)
+  unfolding end_sessions authorized_users
+  good_ended =
+      let limits = good.limits in
+      let T = end_sessions S in
+      record {
+        well_formed = record {
+          permissions = good.permissions;
+          assignments = good.assignments;
+          grants = good.grants;
+          edges = good.edges;
+          sessions = λ session user h. (goes_on_parts (session, user) (kept_session (session, user) h).1).0;
+          one_owner = λ session user other a b. good.one_owner session user other (kept_session (session, user) a).0 (kept_session (session, other) b).0;
+          active = λ session role h. (let kept = kept_active (session, role) h in authorized-role kept.1.0 role ((goes_on_parts (session, kept.1.0) kept.1.2).2 role kept.0));
+          owned = λ session role h. (let kept = kept_active (session, role) h in
+              (kept.1.0, contains-retain pair_total pair_exact S.sessions (may_go_on S) (session, kept.1.0) ∙ and_from _ _ kept.1.1 kept.1.2));
+          locked = good.locked;
+          ssd = good.ssd;
+          dsd = good.dsd;
+        };
+        acyclic = good.acyclic;
+        static_separation = good.static_separation;
+        dynamic_separation = ended_separation;
+        authorized = λ session user role owner active. (goes_on_parts (session, user) (kept_session (session, user) owner).1).2 role (kept_active (session, role) active).0;
+        unlocked = λ session user h. (goes_on_parts (session, user) (kept_session (session, user) h).1).1;
+        limits = record {
+          users = limits.users;
+          roles = limits.roles;
+          objects = limits.objects;
+          permissions = limits.permissions;
+          grants = limits.grants;
+          assignments = limits.assignments;
+          edges = limits.edges;
+          ssd_sets = limits.ssd_sets;
+          dsd_sets = limits.dsd_sets;
+          ssd_members = limits.ssd_members;
+          dsd_members = limits.dsd_members;
+          sessions = (let fewer = len-subset pair_total pair_exact T.sessions S.sessions (λ p h. (kept_session p h).0) in let before = limits.sessions in omega (arith, fewer, before));
+          active_roles = λ session. (let fewer = len-subset name_total name_exact (active_roles T session) (active_roles S session) (fewer_active session) in let before = limits.active_roles session in omega (arith, fewer, before));
+        };
+        version = good.version;
+        no_locks = good.no_locks;
+      }
