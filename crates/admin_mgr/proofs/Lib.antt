@@ -6,6 +6,7 @@ pub mod HeldLaws
 pub mod InheritLaws
 pub mod KeepLaws
 pub mod Lookups
+pub mod RoomLaws
 pub mod RowLaws
 pub mod SeparationLaws
 pub mod SessionCommandLaws
