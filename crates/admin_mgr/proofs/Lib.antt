@@ -1,6 +1,8 @@
 pub mod AdditionLaws
 pub mod BreakLaws
 pub mod DynamicSetLaws
+pub mod ChangeLaws
+pub mod CommitLaws
 pub mod EmptyLaws
 pub mod GoodWithLaws
 pub mod EndLaws
@@ -14,6 +16,7 @@ pub mod Lookups
 pub mod NewRoleLaws
 pub mod NewSessionLaws
 pub mod PartLaws
+pub mod RoomLaws
 pub mod RowLaws
 pub mod SeparationLaws
 pub mod SessionCommandLaws
