@@ -1,12 +1,12 @@
 pub mod AdditionLaws
 pub mod BreakLaws
-pub mod DynamicSetLaws
 pub mod ChangeLaws
 pub mod CommitLaws
+pub mod DynamicSetLaws
 pub mod EmptyLaws
-pub mod GoodWithLaws
 pub mod EndLaws
 pub mod EndingLaws
+pub mod GoodWithLaws
 pub mod HeldLaws
 pub mod InheritLaws
 pub mod KeepLaws
