@@ -16,6 +16,7 @@ pub mod Lookups
 pub mod NewRoleLaws
 pub mod NewSessionLaws
 pub mod PartLaws
+pub mod PlanLaws
 pub mod RoomLaws
 pub mod RowLaws
 pub mod SeparationLaws
