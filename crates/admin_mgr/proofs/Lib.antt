@@ -5,9 +5,12 @@ pub mod InheritLaws
 pub mod KeepLaws
 pub mod Lookups
 pub mod RowLaws
+pub mod RunLaws
 pub mod SeparationLaws
 pub mod SessionCommandLaws
 pub mod SessionLaws
+pub mod SetRows
+pub mod StepLaws
 pub mod TouchLaws
 pub mod VerdictLaws
 pub mod ViolationLaws

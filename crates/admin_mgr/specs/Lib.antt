@@ -7,6 +7,7 @@ pub mod Held
 pub mod Kept
 pub mod Laws
 pub mod Life
+pub mod Listing
 pub mod Planned
 pub mod RbacState
 pub mod Refusing
