@@ -1,4 +1,6 @@
 pub mod BreakLaws
+pub mod ChangeLaws
+pub mod CommitLaws
 pub mod EmptyLaws
 pub mod HeldLaws
 pub mod InheritLaws

@@ -1,0 +1,213 @@
+-- What one change makes of the rows, and what a whole list of them makes.
+use Rattle.std.proofs.Common.{◌≡◌, ℕ, Bool, true, false, not, ◌&&◌, ◌||◌, List, [], ◌∷◌, refl, sym, ◌∙◌, ap, subst, inl, inr}
+use Rattle.std.specs.Prelude.{nat_eq, if◌then◌else◌}
+use Rattle.std.specs.declared.cmp.Ordering.{Ordering}
+use Rattle.std.specs.Ordering.{eq_by_cmp}
+use Rattle.std.specs.Cmp.{IsTotalOrder}
+use Rattle.std.specs.FinSet.{FinSet}
+use Rattle.std.proofs.lemmas.Bool.{eqb-true, or_cases}
+use Rattle.rbac_sets.specs.Sets.{contains, insert, remove}
+use Rattle.rbac_sets.specs.NameOrder.{name_total, pair_total, triple_total, cardinality_total}
+use Rattle.rbac_sets.proofs.SetLaws.{contains-insert, contains-remove}
+use Rattle.rbac_sets.specs.declared.row.Row.{Row}
+use Rattle.rbac_sets.specs.declared.row.Row.TheVariants.{NameRow, PairRow, GrantRow, SetRow, LockedRow}
+use Rattle.rbac_sets.specs.declared.row.Change.{Change}
+use Rattle.rbac_sets.specs.declared.row.Change.TheVariants.{Put, Take}
+use Rattle.admin_mgr.specs.RbacState.{RbacState}
+use Rattle.admin_mgr.specs.Rows.{has_row}
+use Rattle.admin_mgr.specs.Changes.{same_row, is_put, is_taken}
+use Rattle.admin_mgr.specs.Stepping.{is_plain, with_row, without_row, after_changes}
+
+-- ---- the kinds of the rows that change one by one
+
+one_of : (P : ℕ → Type 0) (k n : ℕ) → P k → nat_eq n k ≡ true → P n
+one_of P k n at is = subst P (sym (eqb-true n k is)) at
+
+-- what holds at the three kinds of names holds at each kind that passes the test
+pub plain_names : (P : ℕ → Type 0) → P 1 → P 2 → P 3 → (kind : ℕ) → (nat_eq kind 1 || nat_eq kind 2 || nat_eq kind 3) ≡ true → P kind
+plain_names P at1 at2 at3 kind test = elim (or_cases (nat_eq kind 1 || nat_eq kind 2) (nat_eq kind 3) test) [
+  | inl below ↦ elim (or_cases (nat_eq kind 1) (nat_eq kind 2) below) [
+    | inl is ↦ one_of P 1 kind at1 is
+    | inr is ↦ one_of P 2 kind at2 is
+  ]
+  | inr is ↦ one_of P 3 kind at3 is
+]
+
+-- what holds at the six kinds of pairs holds at each kind that passes the test
+pub plain_pairs : (P : ℕ → Type 0) → P 1 → P 2 → P 5 → P 6 → P 7 → P 8 → (kind : ℕ) →
+    (nat_eq kind 1 || nat_eq kind 2 || nat_eq kind 5 || nat_eq kind 6 || nat_eq kind 7 || nat_eq kind 8) ≡ true → P kind
+plain_pairs P at1 at2 at5 at6 at7 at8 kind test = elim (or_cases (nat_eq kind 1 || nat_eq kind 2 || nat_eq kind 5 || nat_eq kind 6 || nat_eq kind 7) (nat_eq kind 8) test) [
+  | inl below8 ↦ elim (or_cases (nat_eq kind 1 || nat_eq kind 2 || nat_eq kind 5 || nat_eq kind 6) (nat_eq kind 7) below8) [
+    | inl below7 ↦ elim (or_cases (nat_eq kind 1 || nat_eq kind 2 || nat_eq kind 5) (nat_eq kind 6) below7) [
+      | inl below6 ↦ elim (or_cases (nat_eq kind 1 || nat_eq kind 2) (nat_eq kind 5) below6) [
+        | inl below5 ↦ elim (or_cases (nat_eq kind 1) (nat_eq kind 2) below5) [
+          | inl is ↦ one_of P 1 kind at1 is
+          | inr is ↦ one_of P 2 kind at2 is
+        ]
+        | inr is ↦ one_of P 5 kind at5 is
+      ]
+      | inr is ↦ one_of P 6 kind at6 is
+    ]
+    | inr is ↦ one_of P 7 kind at7 is
+  ]
+  | inr is ↦ one_of P 8 kind at8 is
+]
+
+-- what holds at both kinds of cardinalities holds at each kind that passes the test
+pub plain_sets : (P : ℕ → Type 0) → P 1 → P 2 → (kind : ℕ) → (nat_eq kind 1 || nat_eq kind 2) ≡ true → P kind
+plain_sets P at1 at2 kind test = elim (or_cases (nat_eq kind 1) (nat_eq kind 2) test) [
+  | inl is ↦ one_of P 1 kind at1 is
+  | inr is ↦ one_of P 2 kind at2 is
+]
+
+-- ---- one change
+
+or_false : (b : Bool) → b ≡ (b || false)
+or_false true = refl
+or_false false = refl
+
+and_true : (b : Bool) → b ≡ (b && true)
+and_true true = refl
+and_true false = refl
+
+or_turned : (a b : Bool) → (a || b) ≡ (b || a)
+or_turned true true = refl
+or_turned true false = refl
+or_turned false true = refl
+or_turned false false = refl
+
+and_turned : (a b : Bool) → (not a && b) ≡ (b && not a)
+and_turned true true = refl
+and_turned true false = refl
+and_turned false true = refl
+and_turned false false = refl
+
+-- a set that takes a member on one condition alone
+module _ {K : Type 0} {R : K → K → Ordering} (total : IsTotalOrder R) where
+  insert_if : (b : Bool) (s : FinSet R) (a x : K) → contains (if b then insert s a else s) x ≡ (contains s x || (b && eq_by_cmp R x a))
+  insert_if true s a x = contains-insert total s a x ∙ or_turned (eq_by_cmp R x a) (contains s x)
+  insert_if false s a x = or_false (contains s x)
+
+  remove_if : (b : Bool) (s : FinSet R) (a x : K) → contains (if b then remove s a else s) x ≡ (contains s x && not (b && eq_by_cmp R x a))
+  remove_if true s a x = contains-remove total s a x ∙ and_turned (eq_by_cmp R x a) (contains s x)
+  remove_if false s a x = and_true (contains s x)
+
+-- after one row is put, the rows are those before and this one
+pub has_row-with : (S : RbacState) (row other : Row) → is_plain other ≡ true → has_row (with_row S row) other ≡ (has_row S other || same_row row other)
+unfolding has_row with_row
+has_row-with S (NameRow k a) (NameRow l x) plain =
+    plain_names (λ kind. has_row (with_row S (NameRow k a)) (NameRow kind x) ≡ (has_row S (NameRow kind x) || same_row (NameRow k a) (NameRow kind x)))
+    (insert_if name_total (nat_eq k 1) S.users a x) (insert_if name_total (nat_eq k 2) S.roles a x) (insert_if name_total (nat_eq k 3) S.objects a x)
+    l plain
+has_row-with S (NameRow k a) (PairRow l x y) plain = or_false (has_row S (PairRow l x y))
+has_row-with S (NameRow k a) (GrantRow x y z) plain = or_false (has_row S (GrantRow x y z))
+has_row-with S (NameRow k a) (SetRow l x n) plain = or_false (has_row S (SetRow l x n))
+has_row-with S (NameRow k a) (LockedRow x) plain = or_false (has_row S (LockedRow x))
+has_row-with S (PairRow k a b) (NameRow l x) plain = or_false (has_row S (NameRow l x))
+has_row-with S (PairRow k a b) (PairRow l x y) plain =
+    plain_pairs (λ kind. has_row (with_row S (PairRow k a b)) (PairRow kind x y) ≡ (has_row S (PairRow kind x y) || same_row (PairRow k a b) (PairRow kind x y)))
+    (insert_if pair_total (nat_eq k 1) S.permissions (a, b) (x, y)) (insert_if pair_total (nat_eq k 2) S.assignments (a, b) (x, y))
+    (insert_if pair_total (nat_eq k 5) S.ssd.members (a, b) (x, y)) (insert_if pair_total (nat_eq k 6) S.dsd.members (a, b) (x, y))
+    (insert_if pair_total (nat_eq k 7) S.sessions (a, b) (x, y)) (insert_if pair_total (nat_eq k 8) S.active (a, b) (x, y))
+    l plain
+has_row-with S (PairRow k a b) (GrantRow x y z) plain = or_false (has_row S (GrantRow x y z))
+has_row-with S (PairRow k a b) (SetRow l x n) plain = or_false (has_row S (SetRow l x n))
+has_row-with S (PairRow k a b) (LockedRow x) plain = or_false (has_row S (LockedRow x))
+has_row-with S (GrantRow a b c) (NameRow l x) plain = or_false (has_row S (NameRow l x))
+has_row-with S (GrantRow a b c) (PairRow l x y) plain = or_false (has_row S (PairRow l x y))
+has_row-with S (GrantRow a b c) (GrantRow x y z) plain = insert_if triple_total true S.grants (a, b, c) (x, y, z)
+has_row-with S (GrantRow a b c) (SetRow l x n) plain = or_false (has_row S (SetRow l x n))
+has_row-with S (GrantRow a b c) (LockedRow x) plain = or_false (has_row S (LockedRow x))
+has_row-with S (SetRow k a m) (NameRow l x) plain = or_false (has_row S (NameRow l x))
+has_row-with S (SetRow k a m) (PairRow l x y) plain = or_false (has_row S (PairRow l x y))
+has_row-with S (SetRow k a m) (GrantRow x y z) plain = or_false (has_row S (GrantRow x y z))
+has_row-with S (SetRow k a m) (SetRow l x n) plain =
+    plain_sets (λ kind. has_row (with_row S (SetRow k a m)) (SetRow kind x n) ≡ (has_row S (SetRow kind x n) || same_row (SetRow k a m) (SetRow kind x n)))
+    (insert_if cardinality_total (nat_eq k 1) S.ssd.cardinalities (a, m) (x, n)) (insert_if cardinality_total (nat_eq k 2) S.dsd.cardinalities (a, m) (x, n))
+    l plain
+has_row-with S (SetRow k a m) (LockedRow x) plain = or_false (has_row S (LockedRow x))
+has_row-with S (LockedRow a) (NameRow l x) plain = or_false (has_row S (NameRow l x))
+has_row-with S (LockedRow a) (PairRow l x y) plain = or_false (has_row S (PairRow l x y))
+has_row-with S (LockedRow a) (GrantRow x y z) plain = or_false (has_row S (GrantRow x y z))
+has_row-with S (LockedRow a) (SetRow l x n) plain = or_false (has_row S (SetRow l x n))
+has_row-with S (LockedRow a) (LockedRow x) plain = insert_if name_total true S.locked a x
+
+-- after one row is taken, the rows are those before but for this one
+pub has_row-without : (S : RbacState) (row other : Row) → is_plain other ≡ true → has_row (without_row S row) other ≡ (has_row S other && not (same_row row other))
+unfolding has_row without_row
+has_row-without S (NameRow k a) (NameRow l x) plain =
+    plain_names (λ kind. has_row (without_row S (NameRow k a)) (NameRow kind x) ≡ (has_row S (NameRow kind x) && not (same_row (NameRow k a) (NameRow kind x))))
+    (remove_if name_total (nat_eq k 1) S.users a x) (remove_if name_total (nat_eq k 2) S.roles a x) (remove_if name_total (nat_eq k 3) S.objects a x)
+    l plain
+has_row-without S (NameRow k a) (PairRow l x y) plain = and_true (has_row S (PairRow l x y))
+has_row-without S (NameRow k a) (GrantRow x y z) plain = and_true (has_row S (GrantRow x y z))
+has_row-without S (NameRow k a) (SetRow l x n) plain = and_true (has_row S (SetRow l x n))
+has_row-without S (NameRow k a) (LockedRow x) plain = and_true (has_row S (LockedRow x))
+has_row-without S (PairRow k a b) (NameRow l x) plain = and_true (has_row S (NameRow l x))
+has_row-without S (PairRow k a b) (PairRow l x y) plain =
+    plain_pairs (λ kind. has_row (without_row S (PairRow k a b)) (PairRow kind x y) ≡ (has_row S (PairRow kind x y) && not (same_row (PairRow k a b) (PairRow kind x y))))
+    (remove_if pair_total (nat_eq k 1) S.permissions (a, b) (x, y)) (remove_if pair_total (nat_eq k 2) S.assignments (a, b) (x, y))
+    (remove_if pair_total (nat_eq k 5) S.ssd.members (a, b) (x, y)) (remove_if pair_total (nat_eq k 6) S.dsd.members (a, b) (x, y))
+    (remove_if pair_total (nat_eq k 7) S.sessions (a, b) (x, y)) (remove_if pair_total (nat_eq k 8) S.active (a, b) (x, y))
+    l plain
+has_row-without S (PairRow k a b) (GrantRow x y z) plain = and_true (has_row S (GrantRow x y z))
+has_row-without S (PairRow k a b) (SetRow l x n) plain = and_true (has_row S (SetRow l x n))
+has_row-without S (PairRow k a b) (LockedRow x) plain = and_true (has_row S (LockedRow x))
+has_row-without S (GrantRow a b c) (NameRow l x) plain = and_true (has_row S (NameRow l x))
+has_row-without S (GrantRow a b c) (PairRow l x y) plain = and_true (has_row S (PairRow l x y))
+has_row-without S (GrantRow a b c) (GrantRow x y z) plain = remove_if triple_total true S.grants (a, b, c) (x, y, z)
+has_row-without S (GrantRow a b c) (SetRow l x n) plain = and_true (has_row S (SetRow l x n))
+has_row-without S (GrantRow a b c) (LockedRow x) plain = and_true (has_row S (LockedRow x))
+has_row-without S (SetRow k a m) (NameRow l x) plain = and_true (has_row S (NameRow l x))
+has_row-without S (SetRow k a m) (PairRow l x y) plain = and_true (has_row S (PairRow l x y))
+has_row-without S (SetRow k a m) (GrantRow x y z) plain = and_true (has_row S (GrantRow x y z))
+has_row-without S (SetRow k a m) (SetRow l x n) plain =
+    plain_sets (λ kind. has_row (without_row S (SetRow k a m)) (SetRow kind x n) ≡ (has_row S (SetRow kind x n) && not (same_row (SetRow k a m) (SetRow kind x n))))
+    (remove_if cardinality_total (nat_eq k 1) S.ssd.cardinalities (a, m) (x, n)) (remove_if cardinality_total (nat_eq k 2) S.dsd.cardinalities (a, m) (x, n))
+    l plain
+has_row-without S (SetRow k a m) (LockedRow x) plain = and_true (has_row S (LockedRow x))
+has_row-without S (LockedRow a) (NameRow l x) plain = and_true (has_row S (NameRow l x))
+has_row-without S (LockedRow a) (PairRow l x y) plain = and_true (has_row S (PairRow l x y))
+has_row-without S (LockedRow a) (GrantRow x y z) plain = and_true (has_row S (GrantRow x y z))
+has_row-without S (LockedRow a) (SetRow l x n) plain = and_true (has_row S (SetRow l x n))
+has_row-without S (LockedRow a) (LockedRow x) plain = remove_if name_total true S.locked a x
+
+-- ---- a whole list of changes
+
+put_first : (has same taken put : Bool) → (taken && (same || put)) ≡ false → ((has || same) && not taken || put) ≡ (has && not taken || (same || put))
+put_first has true true put h = cc
+put_first true true false put h = refl
+put_first false true false put h = refl
+put_first true false true put h = refl
+put_first true false false put h = refl
+put_first false false true put h = refl
+put_first false false false put h = refl
+
+take_first : (has same taken put : Bool) → ((has && not same) && not taken || put) ≡ (has && not (same || taken) || put)
+take_first true true taken put = refl
+take_first true false taken put = refl
+take_first false same taken put = refl
+
+rest_put : (same taken put : Bool) → (taken && (same || put)) ≡ false → (taken && put) ≡ false
+rest_put same false put h = refl
+rest_put true true put h = cc
+rest_put false true put h = h
+
+rest_taken : (same taken put : Bool) → ((same || taken) && put) ≡ false → (taken && put) ≡ false
+rest_taken true false put h = refl
+rest_taken true true put h = h
+rest_taken false taken put h = h
+
+-- a row that isn't both put and taken is there where it was and isn't taken, or where it is put
+pub has_row-changes : (S : RbacState) (changes : List Change) (row : Row) → is_plain row ≡ true → (is_taken changes row && is_put changes row) ≡ false →
+    has_row (after_changes S changes) row ≡ (has_row S row && not (is_taken changes row) || is_put changes row)
+unfolding after_changes is_put is_taken
+has_row-changes S [] row plain apart = and_true (has_row S row) ∙ or_false (has_row S row && true)
+has_row-changes S (Put first ∷ changes) row plain apart =
+    has_row-changes (with_row S first) changes row plain (rest_put (same_row first row) (is_taken changes row) (is_put changes row) apart)
+    ∙ ap (λ b. b && not (is_taken changes row) || is_put changes row) (has_row-with S first row plain)
+    ∙ put_first (has_row S row) (same_row first row) (is_taken changes row) (is_put changes row) apart
+has_row-changes S (Take first ∷ changes) row plain apart =
+    has_row-changes (without_row S first) changes row plain (rest_taken (same_row first row) (is_taken changes row) (is_put changes row) apart)
+    ∙ ap (λ b. b && not (is_taken changes row) || is_put changes row) (has_row-without S first row plain)
+    ∙ take_first (has_row S row) (same_row first row) (is_taken changes row) (is_put changes row)
