@@ -2,10 +2,12 @@ pub mod BreakLaws
 pub mod ChangeLaws
 pub mod CommitLaws
 pub mod EmptyLaws
+pub mod EndedRows
 pub mod HeldLaws
 pub mod InheritLaws
 pub mod KeepLaws
 pub mod Lookups
+pub mod OrderTurns
 pub mod RowLaws
 pub mod RunLaws
 pub mod SeparationLaws
@@ -14,6 +16,7 @@ pub mod SessionLaws
 pub mod SetRows
 pub mod StepLaws
 pub mod TouchLaws
+pub mod TurnLaws
 pub mod VerdictLaws
 pub mod ViolationLaws
 pub mod Worked

@@ -19,6 +19,7 @@ use Rattle.admin_mgr.specs.RbacState.{RbacState}
 use Rattle.admin_mgr.specs.Rows.{has_row}
 use Rattle.admin_mgr.specs.Stepping.{is_plain, with_row, without_row}
 use Rattle.admin_mgr.specs.Listing.{take_all, put_all}
+use Rattle.admin_mgr.proofs.StepLaws.Way.{taking, putting}
 use Rattle.admin_mgr.proofs.StepLaws.{Steps, steps_nothing, steps_append, steps_to, steps_take, steps_put}
 
 -- The rows `row x` are those of one set of the state, which changes row by row: `get` reads the set, and `set` is the state
@@ -49,6 +50,11 @@ and_move false false c = refl
 and_true : (b : Bool) → b ≡ (b && true)
 and_true true = refl
 and_true false = refl
+
+-- what follows from two facts that hold of each entry
+pub all_two : {K : Type 0} {P Q T : K → Type 0} → ((x : K) → P x → Q x → T x) → (xs : List K) → AllByRecursion P xs → AllByRecursion Q xs → AllByRecursion T xs
+all_two both [] ps qs = tt
+all_two both (x ∷ xs) ps qs = (both x ps.0 qs.0, all_two both xs ps.1 qs.1)
 
 module _ {K : Type 0} {R : K → K → Ordering} where
   -- the set without the entries of a list
@@ -115,10 +121,6 @@ module _ {K : Type 0} {R : K → K → Ordering} (total : IsTotalOrder R) (exact
       but true b = refl
       but false b = refl
 
-  all_two : {P Q T : K → Type 0} → ((x : K) → P x → Q x → T x) → (xs : List K) → AllByRecursion P xs → AllByRecursion Q xs → AllByRecursion T xs
-  all_two both [] ps qs = tt
-  all_two both (x ∷ xs) ps qs = (both x ps.0 qs.0, all_two both xs ps.1 qs.1)
-
   -- what holds of each entry of a list, by the test of being one
   pub all_of : (P : K → Type 0) (xs : List K) → ((x : K) → list_any (eq_by_cmp R x) xs ≡ true → P x) → AllByRecursion P xs
   all_of P [] each = tt
@@ -164,15 +166,15 @@ module _ {K : Type 0} {R : K → K → Ordering} (total : IsTotalOrder R) (exact
 
 module _ {K : Type 0} {R : K → K → Ordering} {row : K → Row} {get : RbacState → FinSet R} {set : RbacState → FinSet R → RbacState} (rows : IsSetOf row get set) where
   -- one row of the set goes
-  pub steps_take_one : (S : RbacState) (x : K) → contains (get S) x ≡ true → Steps S (Take (row x) ∷ []) (set S (remove (get S) x))
+  pub steps_take_one : (S : RbacState) (x : K) → contains (get S) x ≡ true → Steps taking S (Take (row x) ∷ []) (set S (remove (get S) x))
   steps_take_one S x there = steps_to (steps_take S (row x) (rows.plain x) (rows.has S x ∙ there)) (rows.take S x)
 
   -- one row of the set comes
-  pub steps_put_one : (S : RbacState) (x : K) → contains (get S) x ≡ false → Steps S (Put (row x) ∷ []) (set S (insert (get S) x))
+  pub steps_put_one : (S : RbacState) (x : K) → contains (get S) x ≡ false → Steps putting S (Put (row x) ∷ []) (set S (insert (get S) x))
   steps_put_one S x absent = steps_to (steps_put S (row x) (rows.plain x) (rows.has S x ∙ absent)) (rows.put S x)
 
   -- the rows of a list go, each there when its turn comes
-  pub steps_take_each : (xs : List K) (S : RbacState) → AreThere (get S) xs → Steps S (take_all row xs) (set S (remove_all (get S) xs))
+  pub steps_take_each : (xs : List K) (S : RbacState) → AreThere (get S) xs → Steps taking S (take_all row xs) (set S (remove_all (get S) xs))
   unfolding remove_all
   steps_take_each [] S there = steps_to (steps_nothing S) (sym (rows.same S))
   steps_take_each (x ∷ xs) S there =
@@ -181,7 +183,7 @@ module _ {K : Type 0} {R : K → K → Ordering} {row : K → Row} {get : RbacSt
       steps_to (steps_append (steps_take_one S x there.0) rest) (ap (λ s. set (set S left) (remove_all s xs)) (rows.got S left) ∙ rows.again S left (remove_all left xs))
 
   -- the rows of a list come, each new when its turn comes
-  pub steps_put_each : (xs : List K) (S : RbacState) → AreNew (get S) xs → Steps S (put_all row xs) (set S (insert_each (get S) xs))
+  pub steps_put_each : (xs : List K) (S : RbacState) → AreNew (get S) xs → Steps putting S (put_all row xs) (set S (insert_each (get S) xs))
   unfolding insert_each
   steps_put_each [] S new = steps_to (steps_nothing S) (sym (rows.same S))
   steps_put_each (x ∷ xs) S new =
@@ -191,21 +193,21 @@ module _ {K : Type 0} {R : K → K → Ordering} {row : K → Row} {get : RbacSt
 
   module _ (total : IsTotalOrder R) (exact : IsAntisymmetric R) where
     -- the rows of a list go, each of which is there, and none is listed twice
-    pub steps_take_list : (S : RbacState) (xs : List K) → IsDistinct (eq_by_cmp R) xs → AllByRecursion (λ x. contains (get S) x ≡ true) xs → Steps S (take_all row xs) (set S (remove_all (get S) xs))
+    pub steps_take_list : (S : RbacState) (xs : List K) → IsDistinct (eq_by_cmp R) xs → AllByRecursion (λ x. contains (get S) x ≡ true) xs → Steps taking S (take_all row xs) (set S (remove_all (get S) xs))
     steps_take_list S xs distinct there = steps_take_each xs S (there_each total exact xs (get S) distinct there)
 
     -- the rows go that pass a test
-    pub steps_take_some : (S : RbacState) (test : K → Bool) → Steps S (take_all row (filter test (members (get S)))) (set S (retain (get S) (λ x. not (test x))))
+    pub steps_take_some : (S : RbacState) (test : K → Bool) → Steps taking S (take_all row (filter test (members (get S)))) (set S (retain (get S) (λ x. not (test x))))
     steps_take_some S test = steps_to
         (steps_take_list S (filter test (members (get S))) (distinct-filter total exact (get S) test)
         (all_of total exact _ _ (λ x h. (and_parts _ _ (sym (any-retain total exact (get S) test x) ∙ h)).0)))
         (ap (set S) (remove_all-retain total exact (get S) test))
 
     -- the rows of a list come, none of which is there, and none is listed twice
-    pub steps_put_list : (S : RbacState) (xs : List K) → IsDistinct (eq_by_cmp R) xs → AllByRecursion (λ x. contains (get S) x ≡ false) xs → Steps S (put_all row xs) (set S (insert_all (get S) xs))
+    pub steps_put_list : (S : RbacState) (xs : List K) → IsDistinct (eq_by_cmp R) xs → AllByRecursion (λ x. contains (get S) x ≡ false) xs → Steps putting S (put_all row xs) (set S (insert_all (get S) xs))
     steps_put_list S xs distinct absent = steps_to (steps_put_each xs S (new_each total exact xs (get S) distinct absent)) (ap (set S) (insert_each-all total exact (get S) xs))
 
     -- the rows of a set come, none of which is there
-    pub steps_put_set : (S : RbacState) (more : FinSet R) → ((x : K) → contains more x ≡ true → contains (get S) x ≡ false) → Steps S (put_all row (members more)) (set S (union (get S) more))
+    pub steps_put_set : (S : RbacState) (more : FinSet R) → ((x : K) → contains more x ≡ true → contains (get S) x ≡ false) → Steps putting S (put_all row (members more)) (set S (union (get S) more))
     unfolding union
     steps_put_set S more absent = steps_put_list S (members more) (distinct-members total exact more) (all_of total exact _ _ (λ x h. absent x (contains-members more x ∙ h)))
