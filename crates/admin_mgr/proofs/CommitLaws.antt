@@ -105,7 +105,7 @@ edges-changes S [] = refl
 edges-changes S (change ∷ changes) = edges-changes (after_change S change) changes ∙ edges_stay S change
 
 -- and the version
-version-changes : (S : RbacState) (changes : List Change) → (after_changes S changes).version ≡ S.version
+pub version-changes : (S : RbacState) (changes : List Change) → (after_changes S changes).version ≡ S.version
 unfolding after_changes
 version-changes S [] = refl
 version-changes S (change ∷ changes) = version-changes (after_change S change) changes ∙ version_stays S change

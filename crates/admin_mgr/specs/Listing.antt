@@ -1,8 +1,8 @@
--- Words for lists of changes.
-use Rattle.std.specs.Prelude.{ℕ, Bool, not, List, [], ◌∷◌, filter, if◌then◌else◌}
-use Rattle.std.specs.Prelude.{map as list_map}
+-- The changes of a plan, written row by row: sets of rows that go or come, the rows of sessions that end, and the rows of an
+-- edge with the pairs of the order.
+use Rattle.std.specs.Prelude.{ℕ, Bool, not, List, [], ◌∷◌, map, filter, if◌then◌else◌}
 use Rattle.std.specs.List.{flat_map}
-use Rattle.rbac_sets.specs.Sets.{Bytes, Pair, Pairs, Triple, contains, members}
+use Rattle.rbac_sets.specs.Sets.{Bytes, Pair, Triple, Pairs, contains, members}
 use Rattle.rbac_sets.specs.declared.row.Row.{Row}
 use Rattle.rbac_sets.specs.declared.row.Row.TheVariants.{PairRow, GrantRow, LockedRow}
 use Rattle.rbac_sets.specs.declared.row.Change.{Change}
@@ -10,27 +10,27 @@ use Rattle.rbac_sets.specs.declared.row.Change.TheVariants.{Put, Take}
 use Rattle.admin_mgr.specs.RbacState.{RbacState}
 use Rattle.admin_mgr.specs.Held.{run_of}
 
--- the row of a pair of this kind
+-- the row of a pair, by the kind of pairs that it is
 abbrev pub pair_row : ℕ → Pair → Row
-pair_row kind p = PairRow kind p.0 p.1
+pair_row kind pair = PairRow kind pair.0 pair.1
 
 -- the row of a grant
 abbrev pub grant_row : Triple → Row
-grant_row g = GrantRow g.0 g.1 g.2
+grant_row grant = GrantRow grant.0 grant.1 grant.2
 
--- the row of each entry is taken
+-- the row of each entry goes
 abbrev pub take_all : {K : Type 0} → (K → Row) → List K → List Change
-take_all row entries = list_map (λ x. Take (row x)) entries
+take_all row entries = map (λ entry. Take (row entry)) entries
 
--- the row of each entry is put
+-- the row of each entry comes
 abbrev pub put_all : {K : Type 0} → (K → Row) → List K → List Change
-put_all row entries = list_map (λ x. Put (row x)) entries
+put_all row entries = map (λ entry. Put (row entry)) entries
 
--- a session goes with the roles that were activated in it
+-- a session's row goes, and the rows of the roles that were activated in it
 abbrev pub session_rows : RbacState → Pair → List Change
 session_rows S session = Take (PairRow 7 session.0 session.1) ∷ take_all (pair_row 8) (run_of S.active session.0)
 
--- each session that fails the test goes
+-- the rows of the sessions that don't go on, one session after the other
 abbrev pub ended_rows : RbacState → (Pair → Bool) → List Change
 ended_rows S goes_on = flat_map (session_rows S) (filter (λ session. not (goes_on session)) (members S.sessions))
 
@@ -38,10 +38,10 @@ ended_rows S goes_on = flat_map (session_rows S) (filter (λ session. not (goes_
 abbrev pub lock_rows : RbacState → Bytes → List Change
 lock_rows S user = if contains S.locked user then Take (LockedRow user) ∷ [] else []
 
--- an edge is put, with these pairs of the order
+-- the row of an edge comes, and those of the pairs that the order gains by it
 abbrev pub order_puts : Bytes → Bytes → Pairs → List Change
 order_puts asc desc pairs = Put (PairRow 3 asc desc) ∷ put_all (pair_row 4) (members pairs)
 
--- an edge is taken, with these pairs of the order
+-- the row of an edge goes, and those of the pairs that the order loses by it
 abbrev pub order_takes : Bytes → Bytes → Pairs → List Change
 order_takes asc desc pairs = Take (PairRow 3 asc desc) ∷ take_all (pair_row 4) (members pairs)
