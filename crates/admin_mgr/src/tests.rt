@@ -1,5 +1,10 @@
+ghost use Rattle.std.specs.Prelude.{◌≡◌, OnOk, IfErr};
+ghost use Rattle.admin_mgr.specs.RbacState.{RbacState};
+ghost use Rattle.admin_mgr.specs.Planned.{LeadsTo};
+
 use crate::judge::core_rbac::judge_import_assignments;
 use crate::judge::judge;
+use crate::plan::{Plan, Report};
 use crate::state::State;
 use rbac_sets::{Command, Name, NameSet, Refusal};
 use std::alloc::Global;
@@ -283,5 +288,35 @@ fn an_empty_state_has_nothing(rt: HostRuntime) -> Result<(), Fail> {
         assert!(rt; state.locked().is_empty() && state.sessions().is_empty());
         assert!(rt; state.ssd_n(&pay).is_none() && state.dsd_n(&pay).is_none());
     }
+    Ok(())
+}
+
+// Makes room for the plan, and makes its changes.
+fn carry_out(state: &mut State, plan: Plan) -> Result<(), Refusal>
+    requires { (T : RbacState) × LeadsTo state.old.facts plan T }
+    ensures done { OnOk result ((T : RbacState) → LeadsTo state.old.facts plan T → state.new.facts ≡ T) }
+    ensures kept { IfErr result (λ refusal. (refusal ≡ Refusal.Memory) × (state.new.facts ≡ state.old.facts)) }
+{
+    state.make_room(&plan)?;
+    state.commit(plan);
+    Ok(())
+}
+
+#[test]
+fn a_plan_of_nothing_is_carried_out(rt: HostRuntime) -> Result<(), Fail> {
+    let alloc = rt.alloc();
+    let mut state = State::empty(alloc);
+    state.is_good();
+    let plan = Plan {
+        changes: Vec::new(alloc),
+        report: Report {
+            assigned: 0,
+            already: 0,
+            refused: Vec::new(alloc),
+        },
+        order: None,
+    };
+    carry_out(&mut state, plan).ok().ok_or("room")?;
+    assert!(rt; state.users().is_empty());
     Ok(())
 }
