@@ -1,5 +1,6 @@
 pub mod BreakLaws
 pub mod EmptyLaws
+pub mod GoodAssignment
 pub mod HeldLaws
 pub mod InheritLaws
 pub mod KeepLaws

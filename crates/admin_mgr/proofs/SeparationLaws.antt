@@ -56,7 +56,7 @@ none_found {X} p (x ∷ xs) = step (none_found p xs) (p x)
     step rest true = (λ h. cc, λ h. absurd (true≢false h))
     step rest false = rest
 
-unmapped : {A B : Type 0} (f : A → B) (o : Option A) → (option_map f o ≡ None) ↔ (o ≡ None)
+pub unmapped : {A B : Type 0} (f : A → B) (o : Option A) → (option_map f o ≡ None) ↔ (o ≡ None)
 unmapped f None = (λ _. refl, λ _. refl)
 unmapped f (Some x) = (λ h. cc, λ h. cc)
 
