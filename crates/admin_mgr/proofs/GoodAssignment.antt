@@ -1,6 +1,6 @@
 -- An accepted assignment leads from a good state to a good one, and no session ends.
-use Rattle.std.proofs.Common.{◌≡◌, ℕ, ◌+◌, ◌≤◌, false, not, refl, sym, ◌∙◌, ap, subst, arith, inl, inr}
-use Rattle.std.specs.Prelude.{IsTrue, ◌⊎◌, None, nat_lt}
+use Rattle.std.proofs.Common.{◌≡◌, ◌+◌, ◌≤◌, false, not, refl, sym, ◌∙◌, ap, subst, arith, inl, inr}
+use Rattle.std.specs.Prelude.{IsTrue, None}
 use Rattle.std.proofs.lemmas.Bool.{and_from, ltb-false}
 use Rattle.rbac_sets.specs.Sets.{Bytes, Pair, contains, insert, len}
 use Rattle.rbac_sets.specs.NameOrder.{name_total, name_exact, pair_total, pair_exact}
@@ -17,7 +17,7 @@ use Rattle.admin_mgr.specs.Refusing.{is_too_many}
 use Rattle.admin_mgr.specs.Assignment.{may_go_on, end_sessions, after_assignment, assignment_refusals, assignment_verdict}
 use Rattle.admin_mgr.specs.After.{changed, after}
 use Rattle.admin_mgr.specs.Verdict.{verdict, refusals}
-use Rattle.admin_mgr.specs.Good.{IsGood, IsWellFormed, IsStaticallySeparated}
+use Rattle.admin_mgr.specs.Good.{IsGood, IsWellFormed}
 use Rattle.admin_mgr.proofs.SeparationLaws.{unmapped, static_test}
 use Rattle.admin_mgr.proofs.SessionLaws.{none_ends_where}
 use Rattle.admin_mgr.proofs.TouchLaws.{with_assignment, authorized-assigned}

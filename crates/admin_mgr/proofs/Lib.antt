@@ -1,6 +1,7 @@
 pub mod BreakLaws
 pub mod EmptyLaws
 pub mod GoodAssignment
+pub mod GoodInheritance
 pub mod HeldLaws
 pub mod InheritLaws
 pub mod KeepLaws
