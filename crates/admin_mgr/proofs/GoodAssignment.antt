@@ -92,7 +92,7 @@ module _ (S : RbacState) (good : IsGood S) (pair : Pair) (accepted : assignment_
         dsd = formed.dsd;
       }
 
-  good_with_assignment : IsGood (with_assignment S pair)
+  pub good_with_assignment : IsGood (with_assignment S pair)
   unfolding with_assignment
   good_with_assignment =
       let limits = good.limits in

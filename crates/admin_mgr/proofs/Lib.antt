@@ -3,6 +3,7 @@ pub mod EmptyLaws
 pub mod GoodAssignment
 pub mod GoodInheritance
 pub mod HeldLaws
+pub mod ImportLaws
 pub mod InheritLaws
 pub mod KeepLaws
 pub mod Lookups
@@ -11,6 +12,7 @@ pub mod SeparationLaws
 pub mod SessionCommandLaws
 pub mod SessionLaws
 pub mod TouchLaws
+pub mod UnionLaws
 pub mod VerdictLaws
 pub mod ViolationLaws
 pub mod Worked

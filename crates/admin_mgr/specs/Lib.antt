@@ -4,6 +4,7 @@ pub mod Authorization
 pub mod Changes
 pub mod Good
 pub mod Held
+pub mod Importing
 pub mod Kept
 pub mod Laws
 pub mod Life
