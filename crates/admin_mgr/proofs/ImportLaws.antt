@@ -10,6 +10,17 @@ use Rattle.rbac_sets.specs.NameOrder.{pair_total, pair_exact}
 use Rattle.rbac_sets.specs.declared.refusal.Refusal.{Refusal}
 use Rattle.rbac_sets.proofs.SetLaws.{contains-insert, contains-from_list, tie_Decides}
 use Rattle.admin_mgr.specs.RbacState.{RbacState}
+use Rattle.rbac_sets.specs.declared.command.Command.TheVariants.{ImportAssignments}
+use Rattle.rbac_sets.specs.declared.kind.Kind.TheVariants.{Record}
+use Rattle.rbac_sets.specs.declared.refusal.Refusal.TheVariants.{TooMany}
+use Rattle.std.specs.declared.vec.Vec.{Vec}
+use Rattle.std.specs.declared.alloc.Global.{Global}
+use Rattle.std.proofs.lemmas.Bool.{ltb-false}
+use Rattle.admin_mgr.specs.After.{changed, after}
+use Rattle.admin_mgr.specs.Verdict.{verdict, refusals}
+use Rattle.admin_mgr.specs.Refusing.{is_too_many}
+use Rattle.admin_mgr.proofs.SessionLaws.{none_ends}
+use Rattle.admin_mgr.proofs.VerdictLaws.{passed, refuse_if-None}
 use Rattle.admin_mgr.specs.Assignment.{after_assignment, after_record, after_import, assignment_verdict, import_verdicts}
 use Rattle.admin_mgr.specs.Importing.{accepted, with_assignments}
 use Rattle.admin_mgr.specs.Good.{IsGood}
@@ -208,3 +219,27 @@ import_len S good pairs =
 pub import_puts : (S : RbacState) → IsGood S → (pairs : List Pair) → after_import S pairs ≡ record S { assignments = insert_all S.assignments (accepted S pairs) }
 unfolding with_assignments
 import_puts S good pairs = import_is S good pairs ∙ (λ i. record S { assignments = sym (insert_all-union pair_total pair_exact S.assignments (accepted S pairs)) i })
+
+-- ---- the command
+
+module _ (S : RbacState) (good : IsGood S) (pairs : Vec Pair Global) where
+  -- no session ends
+  pub after_import_assignments : after S (ImportAssignments pairs) ≡ after_import S pairs.items
+  unfolding after changed
+  after_import_assignments = none_ends (after_import S pairs.items) (good_import S good pairs.items)
+
+  pub good_after_import : IsGood (after S (ImportAssignments pairs))
+  good_after_import = subst IsGood (sym after_import_assignments) (good_import S good pairs.items)
+
+  -- the state has the assignments before with those that the import puts
+  pub after_import_is : after S (ImportAssignments pairs) ≡ with_assignments S (from_list (accepted S pairs.items))
+  after_import_is = after_import_assignments ∙ import_is S good pairs.items
+
+  pub after_import_puts : after S (ImportAssignments pairs) ≡ record S { assignments = insert_all S.assignments (accepted S pairs.items) }
+  after_import_puts = after_import_assignments ∙ import_puts S good pairs.items
+
+-- an import that is accepted has no more records than it may
+pub import_records : (S : RbacState) (pairs : Vec Pair Global) → verdict S (ImportAssignments pairs) ≡ None → length pairs.items ≤ 10000
+unfolding verdict refusals
+import_records S pairs accepted_one = ltb-false 10000 (length pairs.items)
+    (refuse_if-None (is_too_many S Record (length pairs.items)) (TooMany Record) (passed (refusals S (ImportAssignments pairs)) accepted_one).0)
