@@ -7,6 +7,7 @@ pub mod ImportLaws
 pub mod InheritLaws
 pub mod KeepLaws
 pub mod Lookups
+pub mod RecordLaws
 pub mod RowLaws
 pub mod SeparationLaws
 pub mod SessionCommandLaws
