@@ -26,7 +26,7 @@ use Rattle.admin_mgr.specs.Importing.{accepted, with_assignments}
 use Rattle.admin_mgr.specs.Good.{IsGood}
 use Rattle.admin_mgr.proofs.GoodAssignment.{after_assignment_is, good_assignment, good_with_assignment, not_assigned}
 use Rattle.admin_mgr.proofs.TouchLaws.{with_assignment}
-use Rattle.admin_mgr.proofs.UnionLaws.{union-empty, insert-union, insert_all-union, len-union, len-distinct}
+use Rattle.admin_mgr.proofs.UnionLaws.{is_false, or_none, union-empty, insert-union, insert_all-union, len-union, len-distinct}
 
 -- ---- one record
 
@@ -108,14 +108,6 @@ import_is = by_records (λ S pairs assigned. after_import S pairs ≡ with_assig
     kept S good pair pairs assigned refusal is rest = ap (λ X. after_import X pairs) (record_kept S pair refusal is) ∙ rest
 
 -- ---- which they are
-
-or_none : (a b : Bool) → (a || b) ≡ false → (a ≡ false) × (b ≡ false)
-or_none true b h = absurd (true≢false h)
-or_none false b h = (refl, h)
-
-is_false : (b : Bool) → (b ≡ true → ⊥) → b ≡ false
-is_false true h = absurd (h refl)
-is_false false h = refl
 
 -- none of these is assigned before
 abbrev AreNew : RbacState → List Pair → Type 0

@@ -1,5 +1,5 @@
 -- One record of an import, judged on the state before and the pairs that were added since.
-use Rattle.std.proofs.Common.{◌≡◌, ℕ, ◌+◌, Bool, true, false, ◌||◌, ◌&&◌, not, List, [], ◌∷◌, ◌++◌, refl, sym, ◌∙◌, ap, inl, inr}
+use Rattle.std.proofs.Common.{◌≡◌, ℕ, ◌+◌, ◌≤◌, arith, Bool, true, false, ◌||◌, ◌&&◌, not, List, [], ◌∷◌, ◌++◌, refl, sym, ◌∙◌, ap, inl, inr}
 use Rattle.std.specs.Prelude.{IsTrue, Option, Some, None, nat_lt, count_by, find}
 use Rattle.std.specs.Option.{option_map}
 use Rattle.std.proofs.lemmas.Bool.{or_cases, or_left, or_right}
@@ -19,7 +19,8 @@ use Rattle.admin_mgr.specs.Good.{IsGood}
 use Rattle.admin_mgr.specs.Held.{run_of, is_reached, is_touched, find_in, first_with_one}
 use Rattle.admin_mgr.proofs.Lookups.{any_seconds}
 use Rattle.admin_mgr.proofs.TouchLaws.{same_test, assignment_breaks}
-use Rattle.admin_mgr.proofs.UnionLaws.{len-union}
+use Rattle.admin_mgr.proofs.GoodAssignment.{not_assigned}
+use Rattle.admin_mgr.proofs.UnionLaws.{or_none, len-union}
 use Rattle.admin_mgr.proofs.VerdictLaws.{passed, refuse_unless-None, stopped, last_decides}
 
 -- ---- what a user holds of either set
@@ -58,6 +59,10 @@ found_union edges s t x role pairs sets = λ i. find (λ (entry : Cardinality). 
 
 -- ---- the verdict on a record
 
+-- the static set that would be violated, which is named last
+abbrev pub named_last : RbacState → Pairs → Bytes → Bytes → Option Refusal
+named_last S added user role = option_map StaticSeparation (option_map (λ (x : Cardinality). x.0) (first_with_one S.edges (run_of S.assignments user ++ run_of added user) role S.ssd))
+
 module _ (S : RbacState) (added : Pairs) (good : IsGood (with_assignments S added)) (apart : IsDisjoint S.assignments added) (user role : Bytes) where
   same_refusals : assign_user_refusals (with_assignments S added) (user, role) ≡ record_refusals S added (user, role)
   unfolding with_assignments
@@ -68,18 +73,14 @@ module _ (S : RbacState) (added : Pairs) (good : IsGood (with_assignments S adde
       ∷ too_many S Assignment (len-union pair_total pair_exact S.assignments added apart i + 1)
       ∷ []
 
-  -- the static set that is named last
-  abbrev named_last : Option Refusal
-  named_last = option_map StaticSeparation (option_map (λ (x : Cardinality). x.0) (first_with_one S.edges (run_of S.assignments user ++ run_of added user) role S.ssd))
-
-  same_last : IsTrue (contains S.users user) → breaks_static (after_assignment (with_assignments S added) (user, role)) ≡ named_last
+  same_last : IsTrue (contains S.users user) → breaks_static (after_assignment (with_assignments S added) (user, role)) ≡ named_last S added user role
   unfolding with_assignments
   same_last is_user =
       assignment_breaks (with_assignments S added) good user role is_user
       ∙ ap (λ o. option_map StaticSeparation (option_map (λ (x : Cardinality). x.0) o)) (found_union S.edges S.assignments added user role S.ssd.members (members S.ssd.cardinalities))
 
   -- the record is refused for the first of these, and else for the static set that would be violated
-  pub record_verdict : assignment_verdict (with_assignments S added) (user, role) ≡ first (record_refusals S added (user, role) ++ named_last ∷ [])
+  pub record_verdict : assignment_verdict (with_assignments S added) (user, role) ≡ first (record_refusals S added (user, role) ++ named_last S added user role ∷ [])
   unfolding assignment_verdict assignment_refusals
   record_verdict =
       ap (λ refusals. first (refusals ++ breaks_static (after_assignment (with_assignments S added) (user, role)) ∷ [])) same_refusals
@@ -87,8 +88,22 @@ module _ (S : RbacState) (added : Pairs) (good : IsGood (with_assignments S adde
     where
       by : (v : Option Refusal) → first (record_refusals S added (user, role)) ≡ v →
           first (record_refusals S added (user, role) ++ breaks_static (after_assignment (with_assignments S added) (user, role)) ∷ [])
-          ≡ first (record_refusals S added (user, role) ++ named_last ∷ [])
-      by (Some refusal) is = sym (stopped (record_refusals S added (user, role)) _ refusal is) ∙ stopped (record_refusals S added (user, role)) named_last refusal is
+          ≡ first (record_refusals S added (user, role) ++ named_last S added user role ∷ [])
+      by (Some refusal) is = sym (stopped (record_refusals S added (user, role)) _ refusal is) ∙ stopped (record_refusals S added (user, role)) (named_last S added user role) refusal is
       by None is =
           let is_user = refuse_unless-None (contains S.users user) NoUser (passed (record_refusals S added (user, role)) is).0 in
           ap (λ last. first (record_refusals S added (user, role) ++ last ∷ [])) (same_last is_user)
+
+  -- the assignments and those that were added are no more than there may be
+  pub added_len : len S.assignments + len added ≤ 20000
+  unfolding with_assignments
+  added_len =
+      let both : len (union S.assignments added) ≡ len S.assignments + len added = len-union pair_total pair_exact S.assignments added apart in
+      let few : len (union S.assignments added) ≤ 20000 = good.limits.assignments in
+      omega (arith, both, few)
+
+-- a pair that is put was not added before
+pub new_to_added : (S : RbacState) (added : Pairs) (pair : Pair) → assignment_verdict (with_assignments S added) pair ≡ None → (contains S.assignments pair ≡ false) × (contains added pair ≡ false)
+unfolding with_assignments
+new_to_added S added pair put = or_none (contains S.assignments pair) (contains added pair)
+    (sym (contains-union pair_total pair_exact S.assignments added pair) ∙ not_assigned (with_assignments S added) pair put)

@@ -18,6 +18,7 @@ pub mod laws;
 mod limits;
 mod lookup;
 pub mod plan;
+mod planning;
 pub mod relations;
 pub mod state;
 #[cfg(test)]

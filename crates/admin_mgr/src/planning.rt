@@ -1,0 +1,3 @@
+//! What an accepted command changes.
+
+pub(crate) mod importing;
