@@ -1,11 +1,11 @@
 -- An import leads from a good state to a good one: the pairs that it assigns are put to the assignments, and no session ends.
-use Rattle.std.proofs.Common.{◌≡◌, ℕ, ◌+◌, ◌≤◌, Bool, true, false, cond, ◌||◌, List, [], ◌∷◌, length, refl, sym, ◌∙◌, ap, subst, arith, inl, inr}
+use Rattle.std.proofs.Common.{◌≡◌, ℕ, ◌+◌, ◌≤◌, Bool, false, cond, List, [], ◌∷◌, length, refl, sym, ◌∙◌, ap, subst, arith, inl, inr}
 use Rattle.std.specs.Prelude.{IsTrue, Option, Some, None, is_none, count_by}
 use Rattle.std.specs.List.{list_any, IsDistinct, AllByRecursion}
 use Rattle.std.specs.Ordering.{eq_by_cmp}
 use Rattle.std.proofs.lemmas.Bool.{or_cases, or_left, or_right, true≢false}
-use Rattle.std.proofs.lemmas.List.Sums.{sum_by-cons, count_by-le-length}
-use Rattle.rbac_sets.specs.Sets.{Pair, Pairs, pair_cmp, contains, insert, insert_all, union, from_list, len, IsDisjoint}
+use Rattle.std.proofs.lemmas.List.Sums.{sum_by-cons}
+use Rattle.rbac_sets.specs.Sets.{Pair, pair_cmp, contains, insert_all, from_list, len, IsDisjoint}
 use Rattle.rbac_sets.specs.NameOrder.{pair_total, pair_exact}
 use Rattle.rbac_sets.specs.declared.refusal.Refusal.{Refusal}
 use Rattle.rbac_sets.proofs.SetLaws.{contains-insert, contains-from_list, tie_Decides}
@@ -24,7 +24,7 @@ use Rattle.admin_mgr.proofs.VerdictLaws.{passed, refuse_if-None}
 use Rattle.admin_mgr.specs.Assignment.{after_assignment, after_record, after_import, assignment_verdict, import_verdicts}
 use Rattle.admin_mgr.specs.Importing.{accepted, with_assignments}
 use Rattle.admin_mgr.specs.Good.{IsGood}
-use Rattle.admin_mgr.proofs.GoodAssignment.{after_assignment_is, good_assignment, good_with_assignment, not_assigned}
+use Rattle.admin_mgr.proofs.GoodAssignment.{after_assignment_is, good_with_assignment, not_assigned}
 use Rattle.admin_mgr.proofs.TouchLaws.{with_assignment}
 use Rattle.admin_mgr.proofs.UnionLaws.{is_false, or_none, union-empty, insert-union, insert_all-union, len-union, len-distinct}
 
@@ -62,6 +62,17 @@ unfolding accepted
 accepted_kept S pair pairs refusal told =
     ap (λ v. cond (is_none v) (pair ∷ accepted (after_record S pair) pairs) (accepted (after_record S pair) pairs)) told
     ∙ ap (λ X. accepted X pairs) (record_kept S pair refusal told)
+
+pub verdicts_put : (S : RbacState) → IsGood S → (pair : Pair) (pairs : List Pair) → assignment_verdict S pair ≡ None →
+    import_verdicts S (pair ∷ pairs) ≡ None ∷ import_verdicts (with_assignment S pair) pairs
+unfolding import_verdicts
+verdicts_put S good pair pairs put = (λ i. put i ∷ import_verdicts (after_record S pair) pairs) ∙ ap (λ X. None ∷ import_verdicts X pairs) (record_put S good pair put)
+
+pub verdicts_kept : (S : RbacState) (pair : Pair) (pairs : List Pair) (refusal : Refusal) → assignment_verdict S pair ≡ Some refusal →
+    import_verdicts S (pair ∷ pairs) ≡ Some refusal ∷ import_verdicts S pairs
+unfolding import_verdicts
+verdicts_kept S pair pairs refusal told =
+    (λ i. told i ∷ import_verdicts (after_record S pair) pairs) ∙ ap (λ X. Some refusal ∷ import_verdicts X pairs) (record_kept S pair refusal told)
 
 -- a fact of the pairs that are assigned, by the verdict on each record
 module _ (P : RbacState → List Pair → List Pair → Type 0)

@@ -4,6 +4,7 @@ pub mod GoodAssignment
 pub mod GoodInheritance
 pub mod HeldLaws
 pub mod ImportLaws
+pub mod ImportSteps
 pub mod InheritLaws
 pub mod KeepLaws
 pub mod Lookups

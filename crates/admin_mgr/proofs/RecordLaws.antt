@@ -1,5 +1,5 @@
 -- One record of an import, judged on the state before and the pairs that were added since.
-use Rattle.std.proofs.Common.{◌≡◌, ℕ, ◌+◌, ◌≤◌, arith, Bool, true, false, ◌||◌, ◌&&◌, not, List, [], ◌∷◌, ◌++◌, refl, sym, ◌∙◌, ap, inl, inr}
+use Rattle.std.proofs.Common.{◌≡◌, ◌+◌, ◌≤◌, arith, Bool, false, ◌||◌, ◌&&◌, not, List, [], ◌∷◌, ◌++◌, refl, sym, ◌∙◌, ap, inl, inr}
 use Rattle.std.specs.Prelude.{IsTrue, Option, Some, None, nat_lt, count_by, find}
 use Rattle.std.specs.Option.{option_map}
 use Rattle.std.proofs.lemmas.Bool.{or_cases, or_left, or_right}
@@ -21,7 +21,7 @@ use Rattle.admin_mgr.proofs.Lookups.{any_seconds}
 use Rattle.admin_mgr.proofs.TouchLaws.{same_test, assignment_breaks}
 use Rattle.admin_mgr.proofs.GoodAssignment.{not_assigned}
 use Rattle.admin_mgr.proofs.UnionLaws.{or_none, len-union}
-use Rattle.admin_mgr.proofs.VerdictLaws.{passed, refuse_unless-None, stopped, last_decides}
+use Rattle.admin_mgr.proofs.VerdictLaws.{passed, refuse_unless-None, stopped}
 
 -- ---- what a user holds of either set
 

@@ -1,5 +1,5 @@
 -- Sets to which entries are put: unions, and how many entries there are.
-use Rattle.std.proofs.Common.{◌≡◌, ℕ, ◌+◌, Bool, true, false, cond, not, ◌||◌, List, [], ◌∷◌, length, refl, sym, ◌∙◌, ap, subst, arith}
+use Rattle.std.proofs.Common.{◌≡◌, ◌+◌, Bool, true, false, cond, ◌||◌, List, [], ◌∷◌, length, refl, sym, ◌∙◌, ap, arith}
 use Rattle.std.specs.Prelude.{IsTrue}
 use Rattle.std.specs.List.{list_any, IsDistinct}
 use Rattle.std.specs.declared.cmp.Ordering.{Ordering}
@@ -8,11 +8,11 @@ use Rattle.std.specs.Cmp.{IsTotalOrder}
 use Rattle.std.specs.FinMap as finmap
 use Rattle.std.specs.FinMap.{IsAntisymmetric}
 use Rattle.std.specs.FinSet.{FinSet}
-use Rattle.std.proofs.Math.Bool.{or_comm, or_assoc}
+use Rattle.std.proofs.Math.Bool.{or_assoc}
 use Rattle.std.proofs.lemmas.Bool.{or_left, or_right, true≢false}
 use Rattle.std.proofs.lemmas.Map.Keys.{IsDistinct-from_sorted}
 use Rattle.rbac_sets.specs.Sets.{IsDisjoint, empty, contains, insert, insert_all, union, from_list, members, len}
-use Rattle.rbac_sets.proofs.SetLaws.{or_turned, contains-empty, contains-insert, contains-from_list, contains-members, contains-union, from_members, same_set, tie_Decides}
+use Rattle.rbac_sets.proofs.SetLaws.{or_turned, contains-empty, contains-insert, contains-from_list, contains-members, contains-union, same_set, tie_Decides}
 use Rattle.rbac_sets.proofs.InOrder.{none_passes}
 use Rattle.rbac_sets.proofs.Members.{len-members}
 use Rattle.role_order.proofs.Members.{members-rise}
