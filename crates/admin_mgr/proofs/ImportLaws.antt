@@ -76,11 +76,11 @@ verdicts_kept S pair pairs refusal told =
 
 -- a fact of the pairs that are assigned, by the verdict on each record
 module _ (P : RbacState → List Pair → List Pair → Type 0)
-  (none : (S : RbacState) → P S [] [])
-  (put : (S : RbacState) (good : IsGood S) (pair : Pair) (pairs assigned : List Pair) → assignment_verdict S pair ≡ None →
-      IsGood (with_assignment S pair) → P (with_assignment S pair) pairs assigned → P S (pair ∷ pairs) (pair ∷ assigned))
-  (kept : (S : RbacState) (good : IsGood S) (pair : Pair) (pairs assigned : List Pair) (refusal : Refusal) → assignment_verdict S pair ≡ Some refusal →
-      P S pairs assigned → P S (pair ∷ pairs) assigned) where
+    (none : (S : RbacState) → P S [] [])
+    (put : (S : RbacState) (good : IsGood S) (pair : Pair) (pairs assigned : List Pair) → assignment_verdict S pair ≡ None →
+    IsGood (with_assignment S pair) → P (with_assignment S pair) pairs assigned → P S (pair ∷ pairs) (pair ∷ assigned))
+    (kept : (S : RbacState) (good : IsGood S) (pair : Pair) (pairs assigned : List Pair) (refusal : Refusal) → assignment_verdict S pair ≡ Some refusal →
+    P S pairs assigned → P S (pair ∷ pairs) assigned) where
   pub by_records : (S : RbacState) → IsGood S → (pairs : List Pair) → P S pairs (accepted S pairs)
   unfolding accepted
   by_records S good [] = none S
@@ -143,8 +143,8 @@ each_other : (pair : Pair) (xs : List Pair) → ((p : Pair) → IsTrue (list_any
 each_other pair [] others = tt
 each_other pair (x ∷ xs) others = (
   is_false (eq_by_cmp pair_cmp pair x) (λ same. true≢false (
-  sym ((tie_Decides pair_total pair_exact x pair).1 (sym ((tie_Decides pair_total pair_exact pair x).0 same)))
-  ∙ others x (or_left (eq_by_cmp pair_cmp x x) _ ((tie_Decides pair_total pair_exact x x).1 refl)))),
+      sym ((tie_Decides pair_total pair_exact x pair).1 (sym ((tie_Decides pair_total pair_exact pair x).0 same)))
+      ∙ others x (or_left (eq_by_cmp pair_cmp x x) _ ((tie_Decides pair_total pair_exact x x).1 refl)))),
   each_other pair xs (λ p h. others p (or_right (eq_by_cmp pair_cmp p x) _ h)),
 )
 

@@ -37,10 +37,18 @@ any_union p s t x =
       | inr new ↦ or_right (any p (seconds s x)) _ (other.1 (found.0, (seconds-Decides t x found.0).1 new, found.2))
     ]))
     (λ h. elim (or_cases (any p (seconds s x)) (any p (seconds t x)) h) [
-      | inl old ↦ (let found = one.0 old in either.1 (found.0, (seconds-Decides (union s t) x found.0).1
-          (contains-union pair_total pair_exact s t (x, found.0) ∙ or_left (contains s (x, found.0)) _ ((seconds-Decides s x found.0).0 found.1)), found.2))
-      | inr new ↦ (let found = other.0 new in either.1 (found.0, (seconds-Decides (union s t) x found.0).1
-          (contains-union pair_total pair_exact s t (x, found.0) ∙ or_right (contains s (x, found.0)) _ ((seconds-Decides t x found.0).0 found.1)), found.2))
+      | inl old ↦ (let found = one.0 old in either.1 (
+        found.0,
+        (seconds-Decides (union s t) x found.0).1
+            (contains-union pair_total pair_exact s t (x, found.0) ∙ or_left (contains s (x, found.0)) _ ((seconds-Decides s x found.0).0 found.1)),
+        found.2,
+      ))
+      | inr new ↦ (let found = other.0 new in either.1 (
+        found.0,
+        (seconds-Decides (union s t) x found.0).1
+            (contains-union pair_total pair_exact s t (x, found.0) ∙ or_right (contains s (x, found.0)) _ ((seconds-Decides t x found.0).0 found.1)),
+        found.2,
+      ))
     ])
 
 -- both runs, one after the other, reach what the run of both reaches

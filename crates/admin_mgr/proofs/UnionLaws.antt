@@ -77,7 +77,7 @@ module _ {K : Type 0} {R : K → K → Ordering} (total : IsTotalOrder R) (exact
       let here : contains s x ≡ false = absent x (or_left (eq_by_cmp R x x) _ ((tie_Decides total exact x x).1 refl)) in
       let rest : len (insert_all s xs) ≡ len s + length xs = len-insert_all s xs distinct.1 (λ y h. absent y (or_right (eq_by_cmp R y x) _ h)) in
       let new : contains (insert_all s xs) x ≡ false = contains-insert_all s xs x ∙ ap (λ b. b || list_any (eq_by_cmp R x) xs) here
-          ∙ none_passes (eq_by_cmp R x) xs distinct.0 in
+      ∙ none_passes (eq_by_cmp R x) xs distinct.0 in
       let more : len (insert (insert_all s xs) x) ≡ len (insert_all s xs) + 1 = len-insert-new (insert_all s xs) x new in
       omega (arith, rest, more)
 
