@@ -7,8 +7,12 @@ pub mod EmptyLaws
 pub mod EndLaws
 pub mod EndedRows
 pub mod EndingLaws
+pub mod GoodAssignment
+pub mod GoodInheritance
 pub mod GoodWithLaws
 pub mod HeldLaws
+pub mod ImportLaws
+pub mod ImportSteps
 pub mod InheritLaws
 pub mod KeepLaws
 pub mod LimitLaws
@@ -19,6 +23,7 @@ pub mod NewSessionLaws
 pub mod OrderTurns
 pub mod PartLaws
 pub mod PlanLaws
+pub mod RecordLaws
 pub mod RoomLaws
 pub mod RowLaws
 pub mod RunLaws
@@ -33,6 +38,7 @@ pub mod StepLaws
 pub mod TakeLaws
 pub mod TouchLaws
 pub mod TurnLaws
+pub mod UnionLaws
 pub mod VerdictLaws
 pub mod ViolationLaws
 pub mod Worked

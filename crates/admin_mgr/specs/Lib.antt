@@ -5,6 +5,7 @@ pub mod Changes
 pub mod Ending
 pub mod Good
 pub mod Held
+pub mod Importing
 pub mod Kept
 pub mod Laws
 pub mod Life

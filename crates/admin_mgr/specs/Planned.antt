@@ -1,8 +1,6 @@
 -- Which state a plan leads to, what is told of it, and the room that it needs.
-use Rattle.std.specs.Prelude.{◌≡◌, ◌⊎◌, Option, Some, None}
+use Rattle.std.specs.Prelude.{◌≡◌, Option, Some, None}
 use Rattle.rbac_sets.specs.declared.command.Command.{Command}
-use Rattle.rbac_sets.specs.declared.refusal.Refusal.{Refusal}
-use Rattle.rbac_sets.specs.declared.refusal.Refusal.TheVariants.{Memory}
 use Rattle.role_order.specs.Planned.{Order, Fits, changed}
 use Rattle.role_order.specs.Planned.{Plan as OrderPlan, HasRoom as OrderHasRoom}
 use Rattle.admin_mgr.specs.declared.plan.Plan.{Plan}
@@ -11,7 +9,6 @@ use Rattle.admin_mgr.specs.RbacState.{RbacState}
 use Rattle.admin_mgr.specs.Kept.{Kept}
 use Rattle.admin_mgr.specs.Assignment.{Tally}
 use Rattle.admin_mgr.specs.Run.{tally}
-use Rattle.admin_mgr.specs.Verdict.{verdict}
 use Rattle.admin_mgr.specs.After.{after}
 use Rattle.admin_mgr.specs.Changes.{Turns}
 use Rattle.admin_mgr.specs.Stepping.{HasRoom}

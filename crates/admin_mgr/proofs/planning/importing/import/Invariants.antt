@@ -1,0 +1,7 @@
+use Rattle.std.proofs.Common.{drop}
+use Rattle.admin_mgr.proofs.ImportSteps.{Stands}
+use Rattle.admin_mgr.proofs.planning.importing.import.Given as goal
+
+-- the records that are left come to the rest
+abbrev pub invariant-loop-i : goal.invariant-loop-i
+invariant-loop-i l = Stands l.state.facts l.pairs.items (drop l.i l.pairs.items) l.i l.imported
