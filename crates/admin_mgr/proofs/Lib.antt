@@ -13,6 +13,7 @@ pub mod GoodWithLaws
 pub mod HeldLaws
 pub mod ImportLaws
 pub mod ImportSteps
+pub mod ImportTurns
 pub mod InheritLaws
 pub mod KeepLaws
 pub mod LimitLaws
