@@ -5,6 +5,7 @@ use Rattle.std.specs.declared.cmp.Ordering.{Ordering}
 use Rattle.std.specs.Ordering.{eq_by_cmp}
 use Rattle.std.specs.Cmp.{IsTotalOrder}
 use Rattle.std.specs.FinSet.{FinSet}
+use Rattle.std.proofs.Math.Bool.{or_comm, and_comm, or-false, and-true}
 use Rattle.std.proofs.lemmas.Bool.{eqb-true, or_cases}
 use Rattle.rbac_sets.specs.Sets.{contains, insert, remove}
 use Rattle.rbac_sets.specs.NameOrder.{name_total, pair_total, triple_total, cardinality_total}
@@ -20,6 +21,7 @@ use Rattle.admin_mgr.specs.Stepping.{is_plain, with_row, without_row, after_chan
 
 -- ---- the kinds of the rows that change one by one
 
+-- a kind that passes the test for a kind is that kind
 one_of : (P : ℕ → Type 0) (k n : ℕ) → P k → nat_eq n k ≡ true → P n
 one_of P k n at is = subst P (sym (eqb-true n k is)) at
 
@@ -62,34 +64,22 @@ plain_sets P at1 at2 kind test = elim (or_cases (nat_eq kind 1) (nat_eq kind 2) 
 
 -- ---- one change
 
+-- no other row is added
 or_false : (b : Bool) → b ≡ (b || false)
-or_false true = refl
-or_false false = refl
+or_false b = sym (or-false b)
 
+-- no other row is lost
 and_true : (b : Bool) → b ≡ (b && true)
-and_true true = refl
-and_true false = refl
+and_true b = sym (and-true b)
 
-or_turned : (a b : Bool) → (a || b) ≡ (b || a)
-or_turned true true = refl
-or_turned true false = refl
-or_turned false true = refl
-or_turned false false = refl
-
-and_turned : (a b : Bool) → (not a && b) ≡ (b && not a)
-and_turned true true = refl
-and_turned true false = refl
-and_turned false true = refl
-and_turned false false = refl
-
--- a set that takes a member on one condition alone
+-- a set that gains or loses a member on one condition alone
 module _ {K : Type 0} {R : K → K → Ordering} (total : IsTotalOrder R) where
   insert_if : (b : Bool) (s : FinSet R) (a x : K) → contains (if b then insert s a else s) x ≡ (contains s x || (b && eq_by_cmp R x a))
-  insert_if true s a x = contains-insert total s a x ∙ or_turned (eq_by_cmp R x a) (contains s x)
+  insert_if true s a x = contains-insert total s a x ∙ or_comm (eq_by_cmp R x a) (contains s x)
   insert_if false s a x = or_false (contains s x)
 
   remove_if : (b : Bool) (s : FinSet R) (a x : K) → contains (if b then remove s a else s) x ≡ (contains s x && not (b && eq_by_cmp R x a))
-  remove_if true s a x = contains-remove total s a x ∙ and_turned (eq_by_cmp R x a) (contains s x)
+  remove_if true s a x = contains-remove total s a x ∙ and_comm (not (eq_by_cmp R x a)) (contains s x)
   remove_if false s a x = and_true (contains s x)
 
 -- after one row is put, the rows are those before and this one
@@ -174,6 +164,7 @@ has_row-without S (LockedRow a) (LockedRow x) plain = remove_if name_total true 
 
 -- ---- a whole list of changes
 
+-- The first change before the others: a row that is put first counts as put, one that is taken first as taken.
 put_first : (has same taken put : Bool) → (taken && (same || put)) ≡ false → ((has || same) && not taken || put) ≡ (has && not taken || (same || put))
 put_first has true true put h = cc
 put_first true true false put h = refl
@@ -188,6 +179,7 @@ take_first true true taken put = refl
 take_first true false taken put = refl
 take_first false same taken put = refl
 
+-- what is not both taken and put by all of the changes is not so by the rest of them
 rest_put : (same taken put : Bool) → (taken && (same || put)) ≡ false → (taken && put) ≡ false
 rest_put same false put h = refl
 rest_put true true put h = cc

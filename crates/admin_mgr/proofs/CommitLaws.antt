@@ -1,7 +1,7 @@
 -- The changes of a plan, made one by one, lead to the state that it names.
-use Rattle.std.proofs.Common.{◌≡◌, Bool, true, false, not, ◌&&◌, ◌||◌, List, [], ◌∷◌, length, refl, sym, ◌∙◌, ap, subst}
-use Rattle.std.specs.Prelude.{nat_eq}
-use Rattle.std.proofs.lemmas.Bool.{eqb-true, eq-eqb, and_parts, and_from, or_left, or_right, true≢false}
+use Rattle.std.proofs.Common.{◌≡◌, Bool, true, false, not, ◌&&◌, ◌||◌, List, [], ◌∷◌, refl, sym, ◌∙◌, ap, subst}
+use Rattle.std.specs.Prelude.{nat_eq, Some, None}
+use Rattle.std.proofs.lemmas.Bool.{eqb-true, eq-eqb, and_parts, and_from, or_left, or_right, true≢false, false_from_ne_true}
 use Rattle.rbac_sets.specs.Sets.{Pairs}
 use Rattle.rbac_sets.specs.NameOrder.{name_total, name_exact, pair_total, pair_exact, triple_total, triple_exact, cardinality_total, cardinality_exact}
 use Rattle.rbac_sets.proofs.SetLaws.{tie_Decides}
@@ -9,17 +9,16 @@ use Rattle.rbac_sets.specs.declared.row.Row.{Row}
 use Rattle.rbac_sets.specs.declared.row.Row.TheVariants.{NameRow, PairRow, GrantRow, SetRow, LockedRow}
 use Rattle.rbac_sets.specs.declared.row.Change.{Change}
 use Rattle.rbac_sets.specs.declared.row.Change.TheVariants.{Put, Take}
+use Rattle.role_order.specs.Planned.{changed}
+use Rattle.role_order.specs.Planned.{Plan as OrderPlan}
+use Rattle.admin_mgr.specs.declared.plan.Plan.{Plan}
 use Rattle.admin_mgr.specs.RbacState.{RbacState}
 use Rattle.admin_mgr.specs.Rows.{has_row}
 use Rattle.admin_mgr.specs.Changes.{same_row, is_put, is_taken, IsOnce, Turns}
 use Rattle.admin_mgr.specs.Stepping.{is_plain, with_row, without_row, with_edges, after_change, after_changes, AreFree}
+use Rattle.admin_mgr.specs.Planned.{TurnsEdges, LeadsTo}
 use Rattle.admin_mgr.proofs.RowLaws.{plain_determine}
 use Rattle.admin_mgr.proofs.ChangeLaws.{plain_pairs, has_row-with, has_row-without, has_row-changes}
-
--- a list of no length has nothing
-pub no_items : {A : Type 0} (xs : List A) → length xs ≡ 0 → xs ≡ []
-no_items [] none = refl
-no_items (x ∷ xs) none = cc
 
 -- ---- equal rows
 
@@ -99,12 +98,13 @@ version_stays S (Take (GrantRow a b c)) = refl
 version_stays S (Take (SetRow k a n)) = refl
 version_stays S (Take (LockedRow a)) = refl
 
--- so does a list of changes
+-- a list of changes leaves the edges
 pub edges-changes : (S : RbacState) (changes : List Change) → (after_changes S changes).edges ≡ S.edges
 unfolding after_changes
 edges-changes S [] = refl
 edges-changes S (change ∷ changes) = edges-changes (after_change S change) changes ∙ edges_stay S change
 
+-- and the version
 pub version-changes : (S : RbacState) (changes : List Change) → (after_changes S changes).version ≡ S.version
 unfolding after_changes
 version-changes S [] = refl
@@ -112,14 +112,17 @@ version-changes S (change ∷ changes) = version-changes (after_change S change)
 
 -- ---- rows that aren't there when they are put
 
+-- a test is not passed where another one rules it out
 by_test : (b c : Bool) → (b ≡ true → c ≡ false) → (b && c) ≡ false
 by_test true c h = h refl
 by_test false c h = refl
 
-is_false : (b : Bool) → (b ≡ true → ⊥) → b ≡ false
-is_false true h = absurd (h refl)
-is_false false h = refl
+-- a row that was absent, and is another one than the row that is put, is still absent
+still_absent : (S : RbacState) (row other : Row) → is_plain other ≡ true → has_row S other ≡ false → (other ≡ row → ⊥) → has_row (with_row S row) other ≡ false
+still_absent S row other plain absent differ =
+    has_row-with S row other plain ∙ (λ i. absent i || false_from_ne_true (same_row row other) (λ same. differ (same_row-is row other same)) i)
 
+-- rows that are put once, and are absent at first, are absent when their turns come
 free_put : (S : RbacState) (changes : List Change) → ((row : Row) → is_plain row ≡ true → is_put changes row ≡ true → has_row S row ≡ false) → IsOnce changes → AreFree S changes
 unfolding is_put
 free_put S [] absent once = tt
@@ -129,33 +132,54 @@ free_put S (Take row ∷ changes) absent once = (
 )
 free_put S (Put row ∷ changes) absent once = (
   by_test (is_plain row) (has_row S row) (λ plain. absent row plain (or_left _ _ (same_row-self row))),
-  free_put (with_row S row) changes (λ other plain put. has_row-with S row other plain
-      ∙ (λ i. absent other plain (or_right (same_row row other) _ put) i
-      || is_false (same_row row other) (λ same. true≢false (sym (subst (λ r. is_put changes r ≡ true) (same_row-is row other same) put) ∙ once.0)) i)) once.1,
+  free_put (with_row S row) changes (λ other plain put. still_absent S row other plain (absent other plain (or_right (same_row row other) _ put))
+      (λ is. true≢false (sym (subst (λ r. is_put changes r ≡ true) is put) ∙ once.0))) once.1,
 )
 
+-- other edges change no row that changes by itself
+kept_rows : (S : RbacState) (edges : Pairs) (row : Row) → is_plain row ≡ true → has_row (with_edges S edges) row ≡ has_row S row
+unfolding has_row
+kept_rows S edges (NameRow k x) plain = refl
+kept_rows S edges (PairRow k x y) plain = plain_pairs (λ kind. has_row (with_edges S edges) (PairRow kind x y) ≡ has_row S (PairRow kind x y)) refl refl refl refl refl refl k plain
+kept_rows S edges (GrantRow x y z) plain = refl
+kept_rows S edges (SetRow k x n) plain = refl
+kept_rows S edges (LockedRow x) plain = refl
+
+-- ---- where they lead
+
 module _ (S T : RbacState) (changes : List Change) (turns : Turns S changes T) where
+  -- each row that is put is absent when its turn comes
   pub free : AreFree S changes
   free = free_put S changes (λ row plain put. turns.absent row put) turns.once
 
+  -- no row is both taken and put
   apart : (row : Row) → (is_taken changes row && is_put changes row) ≡ false
-  apart row = is_false _ (λ both. let parts = and_parts (is_taken changes row) _ both in true≢false (sym (turns.there row parts.0) ∙ turns.absent row parts.1))
+  apart row = false_from_ne_true _ (λ both. let parts = and_parts (is_taken changes row) _ both in true≢false (sym (turns.there row parts.0) ∙ turns.absent row parts.1))
 
+  -- the changes make each row what it is in the state that they lead to
   rows : (row : Row) → is_plain row ≡ true → has_row (after_changes S changes) row ≡ has_row T row
   rows row plain = has_row-changes S changes row plain (apart row) ∙ sym (turns.rows row)
 
-  -- where the edges stay
+  -- where the edges stay, the changes one after the other lead to the state
   pub led_to : S.edges ≡ T.edges → after_changes S changes ≡ T
   led_to edges = plain_determine (after_changes S changes) T (version-changes S changes ∙ turns.version) (edges-changes S changes ∙ edges) rows
 
-  kept_rows : (X : RbacState) (edges : Pairs) (row : Row) → is_plain row ≡ true → has_row (with_edges X edges) row ≡ has_row X row
-  unfolding has_row
-  kept_rows X edges (NameRow k x) plain = refl
-  kept_rows X edges (PairRow k x y) plain = plain_pairs (λ kind. has_row (with_edges X edges) (PairRow kind x y) ≡ has_row X (PairRow kind x y)) refl refl refl refl refl refl k plain
-  kept_rows X edges (GrantRow x y z) plain = refl
-  kept_rows X edges (SetRow k x n) plain = refl
-  kept_rows X edges (LockedRow x) plain = refl
-
-  -- where the order changes them
+  -- and else together with its edges
   pub led_to_edges : (edges : Pairs) → edges ≡ T.edges → with_edges (after_changes S changes) edges ≡ T
-  led_to_edges edges is = plain_determine (with_edges (after_changes S changes) edges) T (version-changes S changes ∙ turns.version) is (λ row plain. kept_rows (after_changes S changes) edges row plain ∙ rows row plain)
+  led_to_edges edges is =
+      plain_determine (with_edges (after_changes S changes) edges) T (version-changes S changes ∙ turns.version) is
+      (λ row plain. kept_rows (after_changes S changes) edges row plain ∙ rows row plain)
+
+-- ---- a whole plan
+
+-- a plan without one of the hierarchy leads by its changes alone
+pub leads : (S T : RbacState) (plan : Plan) → LeadsTo S plan T → plan.order ≡ None → (X : RbacState) → X ≡ after_changes S plan.changes.items → X ≡ T
+leads S T plan to none X made = made ∙ led_to S T plan.changes.items to.rows (subst (λ o. TurnsEdges S o T) none to.edges)
+
+-- and else by its changes and then the hierarchy's
+pub leads_edges : (S T : RbacState) (plan : Plan) (order : OrderPlan) → LeadsTo S plan T → plan.order ≡ Some order →
+    (X : RbacState) → X ≡ after_changes S plan.changes.items → with_edges X (changed X.edges order) ≡ T
+leads_edges S T plan order to some X made =
+    let edges = ap (λ Y. Y.edges) made ∙ edges-changes S plan.changes.items in
+    (λ i. with_edges (made i) (changed (edges i) order))
+    ∙ led_to_edges S T plan.changes.items to.rows (changed S.edges order) (subst (λ o. TurnsEdges S o T) some to.edges).1

@@ -8,6 +8,7 @@ pub mod InheritLaws
 pub mod KeepLaws
 pub mod Lookups
 pub mod OrderTurns
+pub mod RoomLaws
 pub mod RowLaws
 pub mod RunLaws
 pub mod SeparationLaws

@@ -1,13 +1,15 @@
 //! The state of the office.
-ghost use Rattle.std.specs.Prelude.{◌≡◌, ◌⊎◌};
+ghost use Rattle.std.specs.Prelude.{◌≡◌, ◌⊎◌, IfErr, OnOk};
 ghost use Rattle.rbac_sets.specs.Sets.{name_cmp, pair_cmp, triple_cmp, cardinality_cmp};
 ghost use Rattle.rbac_sets.specs.SortedSet.{set_of};
-ghost use Rattle.admin_mgr.specs.RbacState.{empty_state, cardinality_of};
+ghost use Rattle.admin_mgr.specs.RbacState.{RbacState, empty_state, cardinality_of};
 ghost use Rattle.admin_mgr.specs.Good.{IsGood};
+ghost use Rattle.admin_mgr.specs.Planned.{LeadsTo, HasRoomFor};
 
 use crate::lookup::number_of;
+use crate::plan::Plan;
 use crate::relations::Relations;
-use rbac_sets::{CountSet, GrantSet, Name, NameSet, PairSet};
+use rbac_sets::{CountSet, GrantSet, Name, NameSet, PairSet, Refusal};
 use role_order::RoleOrder;
 use std::alloc::Global;
 use std::marker::Model;
@@ -187,5 +189,50 @@ impl State {
         ensures { result ≡ cardinality_of self.now.facts.dsd set.now }
     {
         number_of(self.dsd_cardinalities(), set)
+    }
+
+    /// Makes room for all that a plan puts, in each set and in the role hierarchy, so that `commit`
+    /// needs no memory.
+    ///
+    /// The plan may be any. It is a function of this office and none of the standard: an accepted
+    /// command is first made durable, and by then its changes may no longer fail.
+    ///
+    /// # Errors
+    ///
+    /// `Memory` where memory for the room was refused. The sets and relations are the same in any
+    /// case.
+    pub fn make_room(&mut self, plan: &Plan) -> Result<(), Refusal>
+        ensures keeps { self.new.facts ≡ self.old.facts }
+        ensures room { OnOk result (HasRoomFor self.new plan.now) }
+        ensures cause { IfErr result (λ refusal. refusal ≡ Refusal.Memory) }
+    {
+        self.relations.make_room(&plan.changes)?;
+        match &plan.order {
+            Some(order) => self.relations.make_order_room(order)?,
+            None => {}
+        }
+        Ok(())
+    }
+
+    /// Makes the changes of a plan, in the room that was made: what each administrative command and
+    /// each function of the system on sessions does to the sets and relations, once it is accepted.
+    ///
+    /// The plan is one that leads from this state to a good one, as `plan` gives, and the state is that
+    /// one afterwards. It takes no memory and can't fail.
+    pub fn commit(&mut self, plan: Plan)
+        requires planned { (T : RbacState) × LeadsTo self.old.facts plan T }
+        requires room { HasRoomFor self.old plan }
+        ensures { (T : RbacState) → LeadsTo self.old.facts plan T → self.new.facts ≡ T }
+    {
+        let Plan {
+            changes,
+            report: _,
+            order,
+        } = plan;
+        self.relations.change(changes);
+        match order {
+            Some(order) => self.relations.commit_order(order),
+            None => {}
+        }
     }
 }

@@ -1,0 +1,193 @@
+//! Changes of the sets and relations in place, in room that was made before.
+ghost use Rattle.std.specs.Prelude.{◌≡◌, ◌∷◌, [], Some, IfErr, OnOk};
+ghost use Rattle.rbac_sets.specs.declared.row.Change.TheVariants.{Put, Take};
+ghost use Rattle.role_order.specs.Planned.{Fits, changed};
+ghost use Rattle.admin_mgr.specs.Stepping.{with_row, without_row, with_edges, after_change, after_changes, IsFree, AreFree, HasRoom, Spends, place_of, puts_at, puts_of};
+ghost use Rattle.admin_mgr.specs.Planned.{order_of, HasRoomIn};
+
+use crate::relations::Relations;
+use rbac_sets::{Change, Refusal, Row};
+use role_order::OrderPlan;
+
+impl Relations {
+    // Makes room for the rows that the changes put, but for those of the role hierarchy.
+    pub(crate) fn make_room(&mut self, changes: &[Change]) -> Result<(), Refusal>
+        ensures keeps { self.new.facts ≡ self.old.facts }
+        ensures room { OnOk result (HasRoom self.new.room changes.now) }
+        ensures cause { IfErr result (λ refusal. refusal ≡ Refusal.Memory) }
+    {
+        self.users.reserve(count_puts(changes, 1))?;
+        self.roles.reserve(count_puts(changes, 2))?;
+        self.objects.reserve(count_puts(changes, 3))?;
+        self.permissions.reserve(count_puts(changes, 11))?;
+        self.assignments.reserve(count_puts(changes, 12))?;
+        self.ssd_members.reserve(count_puts(changes, 15))?;
+        self.dsd_members.reserve(count_puts(changes, 16))?;
+        self.sessions.reserve(count_puts(changes, 17))?;
+        self.active.reserve(count_puts(changes, 18))?;
+        self.grants.reserve(count_puts(changes, 20))?;
+        self.ssd_cardinalities.reserve(count_puts(changes, 21))?;
+        self.dsd_cardinalities.reserve(count_puts(changes, 22))?;
+        self.locked.reserve(count_puts(changes, 30))?;
+        Ok(())
+    }
+
+    // Makes room for what the hierarchy's plan puts.
+    pub(crate) fn make_order_room(&mut self, plan: &OrderPlan) -> Result<(), Refusal>
+        ensures keeps { self.new.facts ≡ self.old.facts }
+        ensures sets { self.new.room ≡ self.old.room }
+        ensures room { OnOk result (HasRoomIn self.new (Some plan.now)) }
+        ensures cause { IfErr result (λ refusal. refusal ≡ Refusal.Memory) }
+    {
+        self.order.make_room(plan)
+    }
+
+    // Makes the changes one after the other, but for the rows of the role hierarchy.
+    pub(crate) fn change(&mut self, changes: Vec<Change>)
+        requires free { AreFree self.old.facts changes.items }
+        requires room { HasRoom self.old.room changes.items }
+        ensures facts { self.new.facts ≡ after_changes self.old.facts changes.items }
+        ensures order { order_of self.new ≡ order_of self.old }
+    {
+        for change in changes {
+            self.apply(change);
+        }
+    }
+
+    // Changes the edges, and with them the pairs of their order.
+    pub(crate) fn commit_order(&mut self, plan: OrderPlan)
+        requires fits { Fits self.old.facts.edges plan }
+        requires room { HasRoomIn self.old (Some plan) }
+        ensures { self.new.facts ≡ with_edges self.old.facts (changed self.old.facts.edges plan) }
+    {
+        self.order.commit(plan);
+    }
+
+    // Makes one change.
+    fn apply(&mut self, change: Change)
+        requires free { IsFree self.old.facts change }
+        requires room { HasRoom self.old.room (change ∷ []) }
+        ensures facts { self.new.facts ≡ after_change self.old.facts change }
+        ensures room { Spends change self.old.room self.new.room }
+        ensures order { order_of self.new ≡ order_of self.old }
+    {
+        match change {
+            Change::Put(row) => self.put(row),
+            Change::Take(row) => self.take(&row),
+        }
+    }
+
+    // Puts a row that isn't there. A row of the role hierarchy is left to the hierarchy's plan.
+    #[tactic(auto, unfolding(crate::specs::Stepping::with_row, crate::specs::Rows::has_row))]
+    fn put(&mut self, row: Row)
+        requires free { IsFree self.old.facts (Put row) }
+        requires room { HasRoom self.old.room (Put row ∷ []) }
+        ensures facts { self.new.facts ≡ with_row self.old.facts row }
+        ensures room { Spends (Put row) self.old.room self.new.room }
+        ensures order { order_of self.new ≡ order_of self.old }
+    {
+        match row {
+            Row::NameRow(1, name) => self.users.insert_reserved(name),
+            Row::NameRow(2, name) => self.roles.insert_reserved(name),
+            Row::NameRow(3, name) => self.objects.insert_reserved(name),
+            Row::PairRow(1, a, b) => self.permissions.insert_reserved((a, b)),
+            Row::PairRow(2, a, b) => self.assignments.insert_reserved((a, b)),
+            Row::PairRow(5, a, b) => self.ssd_members.insert_reserved((a, b)),
+            Row::PairRow(6, a, b) => self.dsd_members.insert_reserved((a, b)),
+            Row::PairRow(7, a, b) => self.sessions.insert_reserved((a, b)),
+            Row::PairRow(8, a, b) => self.active.insert_reserved((a, b)),
+            Row::GrantRow(a, b, c) => self.grants.insert_reserved((a, b, c)),
+            Row::SetRow(1, name, n) => self.ssd_cardinalities.insert_reserved((name, n)),
+            Row::SetRow(2, name, n) => self.dsd_cardinalities.insert_reserved((name, n)),
+            Row::LockedRow(name) => self.locked.insert_reserved(name),
+            _ => {}
+        }
+    }
+
+    // Takes a row. A row of the role hierarchy is left to the hierarchy's plan.
+    #[tactic(auto, unfolding(crate::specs::Stepping::without_row), using(crate::proofs::RoomLaws::spends_none))]
+    fn take(&mut self, row: &Row)
+        ensures facts { self.new.facts ≡ without_row self.old.facts row.now }
+        ensures room { Spends (Take row.now) self.old.room self.new.room }
+        ensures order { order_of self.new ≡ order_of self.old }
+    {
+        match row {
+            Row::NameRow(1, name) => {
+                self.users.remove(name);
+            }
+            Row::NameRow(2, name) => {
+                self.roles.remove(name);
+            }
+            Row::NameRow(3, name) => {
+                self.objects.remove(name);
+            }
+            Row::PairRow(1, a, b) => {
+                self.permissions.remove((a, b));
+            }
+            Row::PairRow(2, a, b) => {
+                self.assignments.remove((a, b));
+            }
+            Row::PairRow(5, a, b) => {
+                self.ssd_members.remove((a, b));
+            }
+            Row::PairRow(6, a, b) => {
+                self.dsd_members.remove((a, b));
+            }
+            Row::PairRow(7, a, b) => {
+                self.sessions.remove((a, b));
+            }
+            Row::PairRow(8, a, b) => {
+                self.active.remove((a, b));
+            }
+            Row::GrantRow(a, b, c) => {
+                self.grants.remove((a, b, c));
+            }
+            Row::SetRow(1, name, n) => {
+                self.ssd_cardinalities.remove((name, *n));
+            }
+            Row::SetRow(2, name, n) => {
+                self.dsd_cardinalities.remove((name, *n));
+            }
+            Row::LockedRow(name) => {
+                self.locked.remove(name);
+            }
+            _ => {}
+        }
+    }
+}
+
+// How many of the changes put a row in the set of this number.
+fn count_puts(changes: &[Change], place: usize) -> usize
+    ensures { result ≡ puts_of place changes.now }
+{
+    let mut count = 0;
+    for change in changes {
+        if is_put_at(change, place) {
+            count += 1;
+        }
+    }
+    count
+}
+
+// Whether the change puts a row in the set of this number.
+fn is_put_at(change: &Change, place: usize) -> bool
+    ensures { result ≡ puts_at place change.now }
+{
+    match change {
+        Change::Put(row) => place_of(row) == place,
+        Change::Take(_) => false,
+    }
+}
+
+// The number of the set in which the row is kept.
+fn place_of(row: &Row) -> usize
+    ensures { result ≡ place_of row.now }
+{
+    match row {
+        Row::NameRow(kind, _) => *kind as usize,
+        Row::PairRow(kind, _, _) => 10 + *kind as usize,
+        Row::GrantRow(_, _, _) => 20,
+        Row::SetRow(kind, _, _) => 20 + *kind as usize,
+        Row::LockedRow(_) => 30,
+    }
+}
