@@ -1,5 +1,6 @@
 pub mod BreakLaws
 pub mod ChangeLaws
+pub mod CommandTurns
 pub mod CommitLaws
 pub mod EmptyLaws
 pub mod EndedRows
