@@ -47,7 +47,7 @@ module _ {K : Type 0} {R : K → K → Ordering} (total : IsTotalOrder R) (exact
 -- ---- one session
 
 -- the state without a session and the roles that were activated in it
-abbrev without_session : RbacState → Pair → RbacState
+abbrev pub without_session : RbacState → Pair → RbacState
 without_session S session = record S { sessions = remove S.sessions session; active = retain S.active (λ active. not (same_name active.0 session.0)) }
 
 -- its rows lead there
