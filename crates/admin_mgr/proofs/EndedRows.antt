@@ -47,7 +47,7 @@ module _ {K : Type 0} {R : K → K → Ordering} (total : IsTotalOrder R) (exact
 -- ---- one session
 
 -- the state without a session and the roles that were activated in it
-abbrev without_session : RbacState → Pair → RbacState
+abbrev pub without_session : RbacState → Pair → RbacState
 without_session S session = record S { sessions = remove S.sessions session; active = retain S.active (λ active. not (same_name active.0 session.0)) }
 
 -- its rows lead there
@@ -58,6 +58,7 @@ steps_end_one S session there =
 
 -- ---- many sessions
 
+-- the state without the sessions of a list and the roles that were activated in them
 unfoldable without_sessions : RbacState → List Pair → RbacState
 without_sessions S [] = S
 without_sessions S (session ∷ sessions) = without_sessions (without_session S session) sessions
@@ -154,12 +155,15 @@ module _
         let user : p.1 ≡ q.1 = one_owner q.0 p.1 q.1 (subst (λ (name : Bytes). IsTrue (contains S.sessions (name, p.1))) same here) there in
         λ i. (same i, user i)
 
+    -- they are sessions, and they end
     ended_are : (p : Pair) → list_any (eq_by_cmp pair_cmp p) ended ≡ true → IsTrue (contains S.sessions p) × IsTrue (ends p)
     ended_are p h = and_parts _ _ (sym (any-retain pair_total pair_exact S.sessions ends p) ∙ h)
 
+    -- all of them are there
     there_all : AllByRecursion (λ session. contains S.sessions session ≡ true) ended
     there_all = all_of pair_total pair_exact _ _ (λ p h. (ended_are p h).0)
 
+    -- each has a name of its own
     own_names : HaveOwnNames ended
     own_names = distinct_by (eq_by_cmp pair_cmp) (λ (p : Pair) (q : Pair). same_name p.0 q.0)
         (λ p q here there apart. is_false (same_name p.0 q.0) (λ same. true≢false (sym ((tie_Decides pair_total pair_exact p q).1 (one_session p q here there ((tie_Decides name_total name_exact p.0 q.0).0 same))) ∙ apart)))

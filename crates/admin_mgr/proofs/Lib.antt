@@ -1,6 +1,7 @@
 pub mod AdditionLaws
 pub mod BreakLaws
 pub mod ChangeLaws
+pub mod CommandTurns
 pub mod CommitLaws
 pub mod DynamicSetLaws
 pub mod EmptyLaws
@@ -25,6 +26,7 @@ pub mod OrderTurns
 pub mod PartLaws
 pub mod PlanLaws
 pub mod RecordLaws
+pub mod OrderTurns
 pub mod RoomLaws
 pub mod RowLaws
 pub mod RunLaws

@@ -36,46 +36,54 @@ use Rattle.admin_mgr.proofs.TurnLaws.{taking_puts, putting_takes, turns_taking, 
 abbrev is_listed : Bytes → Bytes → Pairs → Row → Bool
 is_listed asc desc pairs row = same_row (PairRow 3 asc desc) row || list_any (λ pair. same_row (pair_row 4 pair) row) (members pairs)
 
+-- the changes put these rows
 puts_are : (asc desc : Bytes) (pairs : Pairs) (row : Row) → is_put (order_puts asc desc pairs) row ≡ is_listed asc desc pairs row
 unfolding is_put
 puts_are asc desc pairs row = ap (λ b. same_row (PairRow 3 asc desc) row || b) (any_map (λ pair. Put (pair_row 4 pair)) (λ change. puts change row) (members pairs))
 
+-- the changes take these rows
 takes_are : (asc desc : Bytes) (pairs : Pairs) (row : Row) → is_taken (order_takes asc desc pairs) row ≡ is_listed asc desc pairs row
 unfolding is_taken
 takes_are asc desc pairs row = ap (λ b. same_row (PairRow 3 asc desc) row || b) (any_map (λ pair. Take (pair_row 4 pair)) (λ change. takes change row) (members pairs))
 
+-- none passes a test that nothing passes
 none_listed : {X : Type 0} (test : X → Bool) (xs : List X) → ((x : X) → test x ≡ false) → list_any test xs ≡ false
 none_listed test [] none = refl
 none_listed test (x ∷ xs) none = λ i. none x i || none_listed test xs none i
 
--- puts take nothing, and takes put nothing
+-- the rows of pairs that come take nothing
 nothing_taken : (row : Pair → Row) (pairs : List Pair) (other : Row) → is_taken (put_all row pairs) other ≡ false
 unfolding is_taken
 nothing_taken row [] other = refl
 nothing_taken row (pair ∷ pairs) other = nothing_taken row pairs other
 
+-- the rows of pairs that go put nothing
 nothing_put : (row : Pair → Row) (pairs : List Pair) (other : Row) → is_put (take_all row pairs) other ≡ false
 unfolding is_put
 nothing_put row [] other = refl
 nothing_put row (pair ∷ pairs) other = nothing_put row pairs other
 
+-- an edge that comes takes nothing
 order_takes_nothing : (asc desc : Bytes) (pairs : Pairs) (row : Row) → is_taken (order_puts asc desc pairs) row ≡ false
 unfolding is_taken
 order_takes_nothing asc desc pairs row = nothing_taken (pair_row 4) (members pairs) row
 
+-- an edge that goes puts nothing
 order_puts_nothing : (asc desc : Bytes) (pairs : Pairs) (row : Row) → is_put (order_takes asc desc pairs) row ≡ false
 unfolding is_put
 order_puts_nothing asc desc pairs row = nothing_put (pair_row 4) (members pairs) row
 
+-- rows that come have no row behind them that goes
 puts_last : (row : Pair → Row) (pairs : List Pair) → TakesFirst (put_all row pairs)
 puts_last row [] = tt
 puts_last row (pair ∷ pairs) = (nothing_taken row pairs, puts_last row pairs)
 
+-- nor have rows that go a row before them that comes
 takes_alone : (row : Pair → Row) (pairs : List Pair) → TakesFirst (take_all row pairs)
 takes_alone row [] = tt
 takes_alone row (pair ∷ pairs) = takes_alone row pairs
 
--- each pair once
+-- each pair once where they come
 puts_once : (pairs : List Pair) → IsDistinct (eq_by_cmp pair_cmp) pairs → IsOnce (put_all (pair_row 4) pairs)
 unfolding IsDistinct is_put
 puts_once [] distinct = tt
@@ -84,6 +92,7 @@ puts_once (pair ∷ pairs) distinct = (
   puts_once pairs distinct.1,
 )
 
+-- each pair once where they go
 takes_once : (pairs : List Pair) → IsDistinct (eq_by_cmp pair_cmp) pairs → IsOnce (take_all (pair_row 4) pairs)
 unfolding IsDistinct is_taken
 takes_once [] distinct = tt
@@ -98,6 +107,7 @@ edge_apart asc desc pairs = none_listed (λ pair. same_row (pair_row 4 pair) (Pa
 
 -- ---- the kinds of rows
 
+-- two numbers differ both ways round
 flipped : (k l : ℕ) → nat_eq l k ≡ false → nat_eq k l ≡ false
 flipped k l other = is_false (nat_eq k l) (λ same. true≢false (sym (eq-eqb l k (sym (eqb-true k l same))) ∙ other))
 
@@ -116,6 +126,7 @@ listed_other asc desc pairs k x y no_edge no_pair = λ i.
     (flipped 3 k no_edge i && eq_by_cmp pair_cmp (x, y) (asc, desc))
     || none_listed (λ pair. nat_eq 4 k && eq_by_cmp pair_cmp (x, y) pair) (members pairs) (λ pair. ap (λ b. b && eq_by_cmp pair_cmp (x, y) pair) (flipped 4 k no_pair)) i
 
+-- of the edges one is listed
 listed_edge : (asc desc : Bytes) (pairs : Pairs) (x y : Bytes) → is_listed asc desc pairs (PairRow 3 x y) ≡ eq_by_cmp pair_cmp (x, y) (asc, desc)
 listed_edge asc desc pairs x y = ap (λ b. eq_by_cmp pair_cmp (x, y) (asc, desc) || b) (edge_apart x y (members pairs)) ∙ or_none (eq_by_cmp pair_cmp (x, y) (asc, desc))
   where
@@ -123,6 +134,7 @@ listed_edge asc desc pairs x y = ap (λ b. eq_by_cmp pair_cmp (x, y) (asc, desc)
     or_none true = refl
     or_none false = refl
 
+-- of the pairs of the order these are
 listed_pair : (asc desc : Bytes) (pairs : Pairs) (x y : Bytes) → is_listed asc desc pairs (PairRow 4 x y) ≡ contains pairs (x, y)
 listed_pair asc desc pairs x y = sym (contains-members pairs (x, y))
 
@@ -133,29 +145,35 @@ two_skipped a b true d p q r s r' s' t h k = absurd (true≢false h)
 two_skipped a b false true p q r s r' s' t h k = absurd (true≢false k)
 two_skipped a b false false p q r s r' s' t h k = refl
 
+-- the rows of pairs that are of no edge and no pair of the order stay
 others_stay : (S : RbacState) (edges : Pairs) (k : ℕ) (x y : Bytes) → nat_eq k 3 ≡ false → nat_eq k 4 ≡ false → has_row (with_edges S edges) (PairRow k x y) ≡ has_row S (PairRow k x y)
 unfolding has_row
 others_stay S edges k x y no_edge no_pair = two_skipped (nat_eq k 1) (nat_eq k 2) (nat_eq k 3) (nat_eq k 4) _ _ _ _ _ _ _ no_edge no_pair
 
+-- two tests that imply each other answer alike
 same_answer : (a b : Bool) → (a ≡ true → b ≡ true) → (b ≡ true → a ≡ true) → a ≡ b
 same_answer true b there back = sym (there refl)
 same_answer false true there back = back refl
 same_answer false false there back = refl
 
+-- b, or what never holds
 none_or : (b : Bool) → b ≡ (b || false)
 none_or true = refl
 none_or false = refl
 
+-- b, and not what never holds
 and_not_none : (b : Bool) → b ≡ (b && not false)
 and_not_none true = refl
 and_not_none false = refl
 
+-- one of the two, in the other order
 or_turned : (a b : Bool) → (a || b) ≡ (b || a)
 or_turned true true = refl
 or_turned true false = refl
 or_turned false true = refl
 or_turned false false = refl
 
+-- b and not a, in the other order
 and_turned : (a b : Bool) → (not a && b) ≡ (b && not a)
 and_turned true true = refl
 and_turned true false = refl
@@ -167,18 +185,22 @@ other_names : (edges : Pairs) (a b : Bytes) → (Geq edges a b → ⊥) → not 
 other_names edges a b apart = ap not (is_false (same_name a b) (λ same. apart (Leads-from_eq ((tie_Decides name_total name_exact a b).0 same))))
 
 module _ (S : RbacState) (asc desc : Bytes) (pairs : Pairs) where
+  -- no row of another form is listed
   no_row : list_any (λ (pair : Pair). false) (members pairs) ≡ false
   no_row = none_listed (λ pair. false) (members pairs) (λ pair. refl)
 
   -- ---- an edge comes
 
   module _ (absent : contains S.edges (asc, desc) ≡ false) (gained : IsGained S.edges (insert S.edges (asc, desc)) pairs) where
+    -- the edges with the new one
     abbrev more : Pairs
     more = insert S.edges (asc, desc)
 
+    -- more edges lead as far
     mono : (a b : Bytes) → Geq S.edges a b → Geq more a b
     mono a b = Leads-mono (HasPair S.edges) (HasPair more) (λ x y h. (AddsPair-insert S.edges asc desc x y).1 (inl h))
 
+    -- the order after: the pairs before, and those that it gains
     above_put : (x y : Bytes) → (geq more x y && not (same_name x y)) ≡ ((geq S.edges x y && not (same_name x y)) || contains pairs (x, y))
     above_put x y = same_answer _ _
         (λ h. (let parts = and_parts _ _ h in elim (geq_or_not S.edges x y) [
@@ -190,6 +212,7 @@ module _ (S : RbacState) (asc desc : Bytes) (pairs : Pairs) where
           | inr new ↦ let facts = (gained x y).0 new in and_from _ _ ((geq-Decides more x y).1 facts.0) (other_names S.edges x y facts.1)
         ]))
 
+    -- the rows after: those before, and those that are listed
     rows_put : (row : Row) → has_row (with_edges S more) row ≡ (has_row S row || is_listed asc desc pairs row)
     unfolding has_row
     rows_put (NameRow k x) = none_or _ ∙ ap (λ b. has_row S (NameRow k x) || b) (sym (no_row))
@@ -203,6 +226,7 @@ module _ (S : RbacState) (asc desc : Bytes) (pairs : Pairs) where
     rows_put (SetRow k x n) = none_or _ ∙ ap (λ b. has_row S (SetRow k x n) || b) (sym (no_row))
     rows_put (LockedRow x) = none_or _ ∙ ap (λ b. has_row S (LockedRow x) || b) (sym (no_row))
 
+    -- none of those that are listed was there
     listed_absent : (row : Row) → is_listed asc desc pairs row ≡ true → has_row S row ≡ false
     unfolding has_row
     listed_absent (NameRow k x) = λ h. absurd (true≢false (sym h ∙ no_row))
@@ -234,12 +258,15 @@ module _ (S : RbacState) (asc desc : Bytes) (pairs : Pairs) where
   -- ---- an edge goes
 
   module _ (there : contains S.edges (asc, desc) ≡ true) (lost : IsGained (remove S.edges (asc, desc)) S.edges pairs) where
+    -- the edges without this one
     abbrev left : Pairs
     left = remove S.edges (asc, desc)
 
+    -- fewer edges lead no further
     was_so : (a b : Bytes) → Geq left a b → Geq S.edges a b
     was_so a b = Leads-mono (HasPair left) (HasPair S.edges) (λ x y h. ((TakesPair-remove S.edges asc desc x y).0 h).0)
 
+    -- the order after: the pairs before, without those that it loses
     above_take : (x y : Bytes) → (geq left x y && not (same_name x y)) ≡ ((geq S.edges x y && not (same_name x y)) && not (contains pairs (x, y)))
     above_take x y = same_answer _ _
         (λ h. (let parts = and_parts _ _ h in
@@ -252,6 +279,7 @@ module _ (S : RbacState) (asc desc : Bytes) (pairs : Pairs) where
           | inr gone ↦ absurd (true≢false (sym ((lost x y).1 ((geq-Decides S.edges x y).0 was.0, gone)) ∙ not-true (contains pairs (x, y)) parts.1))
         ]))
 
+    -- the rows after: those before, without those that are listed
     rows_take : (row : Row) → has_row (with_edges S left) row ≡ (has_row S row && not (is_listed asc desc pairs row))
     unfolding has_row
     rows_take (NameRow k x) = and_not_none _ ∙ ap (λ b. has_row S (NameRow k x) && not b) (sym (no_row))
@@ -265,6 +293,7 @@ module _ (S : RbacState) (asc desc : Bytes) (pairs : Pairs) where
     rows_take (SetRow k x n) = and_not_none _ ∙ ap (λ b. has_row S (SetRow k x n) && not b) (sym (no_row))
     rows_take (LockedRow x) = and_not_none _ ∙ ap (λ b. has_row S (LockedRow x) && not b) (sym (no_row))
 
+    -- all that are listed were there
     listed_there : (row : Row) → is_listed asc desc pairs row ≡ true → has_row S row ≡ true
     unfolding has_row
     listed_there (NameRow k x) = λ h. absurd (true≢false (sym h ∙ no_row))
@@ -294,6 +323,7 @@ module _ (S : RbacState) (asc desc : Bytes) (pairs : Pairs) where
 
 -- ---- with other rows
 
+-- changes that put rows of other sets leave the edges
 edges_of : {S T : RbacState} {changes : List Change} → Steps putting S changes T → S.edges ≡ T.edges
 edges_of {S} {T} {changes} steps = sym (edges-changes S changes) ∙ ap (λ X. X.edges) steps.leads
 

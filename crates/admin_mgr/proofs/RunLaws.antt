@@ -1,6 +1,6 @@
 -- Many rows of one set that go or come.
 use Rattle.std.proofs.Common.{◌≡◌, Bool, true, false, not, ◌&&◌, ◌||◌, List, [], ◌∷◌, refl, sym, ◌∙◌, ap, subst}
-use Rattle.std.specs.Prelude.{filter}
+use Rattle.std.specs.Prelude.{if◌then◌else◌, filter}
 use Rattle.std.specs.List.{list_any, AllByRecursion, IsDistinct}
 use Rattle.std.specs.declared.cmp.Ordering.{Ordering}
 use Rattle.std.specs.Ordering.{eq_by_cmp}
@@ -9,7 +9,7 @@ use Rattle.std.specs.FinMap.{IsAntisymmetric}
 use Rattle.std.specs.FinSet.{FinSet}
 use Rattle.std.proofs.lemmas.Map.Keys.{IsDistinct-from_sorted}
 use Rattle.std.proofs.lemmas.Bool.{and_parts, and_from, true≢false}
-use Rattle.rbac_sets.specs.Sets.{contains, insert, remove, retain, members, insert_all, union}
+use Rattle.rbac_sets.specs.Sets.{contains, insert, remove, retain, members, insert_all, union, IsDisjoint}
 use Rattle.rbac_sets.proofs.SetLaws.{contains-members, contains-insert, contains-remove, contains-retain, tie_Decides, same_set}
 use Rattle.rbac_sets.proofs.Members.{members-retain}
 use Rattle.role_order.proofs.Members.{members-rise, is_false}
@@ -35,18 +35,21 @@ pub record IsSetOf {K : Type 0} {R : K → K → Ordering} (row : K → Row) (ge
 
 -- ---- lists of entries
 
+-- the same three, one of which, in another order
 or_swap : (a b c : Bool) → (a || (b || c)) ≡ ((b || a) || c)
 or_swap true true c = refl
 or_swap true false c = refl
 or_swap false true c = refl
 or_swap false false c = refl
 
+-- b, and neither a nor c
 and_move : (a b c : Bool) → ((not a && b) && not c) ≡ (b && not (a || c))
 and_move true true c = refl
 and_move true false c = refl
 and_move false true c = refl
 and_move false false c = refl
 
+-- b, and what always holds
 and_true : (b : Bool) → b ≡ (b && true)
 and_true true = refl
 and_true false = refl
@@ -133,6 +136,7 @@ module _ {K : Type 0} {R : K → K → Ordering} (total : IsTotalOrder R) (exact
       later true b h = refl
       later false b h = h
 
+  -- the test of being one is false both ways round
   other_way : (x y : K) → eq_by_cmp R x y ≡ false → eq_by_cmp R y x ≡ false
   other_way x y apart = is_false (eq_by_cmp R y x) (λ h. true≢false (sym ((tie_Decides total exact x y).1 (sym ((tie_Decides total exact y x).0 h))) ∙ apart))
 
@@ -153,6 +157,14 @@ module _ {K : Type 0} {R : K → K → Ordering} (total : IsTotalOrder R) (exact
     absent.0,
     new_each xs (insert s x) distinct.1 (all_two (λ y apart h. contains-insert total s x y ∙ (λ i. other_way x y apart i || h i)) xs distinct.0 absent.1),
   )
+
+  -- to remove what isn't there changes nothing
+  pub remove-absent : (s : FinSet R) (x : K) → contains s x ≡ false → remove s x ≡ s
+  remove-absent s x absent = same_set total exact _ _ (λ y. contains-remove total s x y ∙ by y (eq_by_cmp R y x) refl)
+    where
+      by : (y : K) (b : Bool) → eq_by_cmp R y x ≡ b → (not b && contains s y) ≡ contains s y
+      by y true tie = sym (ap (contains s) ((tie_Decides total exact y x).0 tie) ∙ absent)
+      by y false other = refl
 
   -- the entries of a set are each there once
   pub distinct-members : (s : FinSet R) → IsDistinct (eq_by_cmp R) (members s)
@@ -208,6 +220,14 @@ module _ {K : Type 0} {R : K → K → Ordering} {row : K → Row} {get : RbacSt
     steps_put_list S xs distinct absent = steps_to (steps_put_each xs S (new_each total exact xs (get S) distinct absent)) (ap (set S) (insert_each-all total exact (get S) xs))
 
     -- the rows of a set come, none of which is there
-    pub steps_put_set : (S : RbacState) (more : FinSet R) → ((x : K) → contains more x ≡ true → contains (get S) x ≡ false) → Steps putting S (put_all row (members more)) (set S (union (get S) more))
+    pub steps_put_set : (S : RbacState) (more : FinSet R) → IsDisjoint more (get S) → Steps putting S (put_all row (members more)) (set S (union (get S) more))
     unfolding union
     steps_put_set S more absent = steps_put_list S (members more) (distinct-members total exact more) (all_of total exact _ _ (λ x h. absent x (contains-members more x ∙ h)))
+
+  -- the row goes if it is there
+  pub steps_take_any : IsTotalOrder R → IsAntisymmetric R → (S : RbacState) (x : K) → Steps taking S (if contains (get S) x then Take (row x) ∷ [] else []) (set S (remove (get S) x))
+  steps_take_any total exact S x = by (contains (get S) x) refl
+    where
+      by : (b : Bool) → contains (get S) x ≡ b → Steps taking S (if b then Take (row x) ∷ [] else []) (set S (remove (get S) x))
+      by true there = steps_take_one S x there
+      by false absent = steps_to (steps_nothing S) (sym (rows.same S) ∙ ap (set S) (sym (remove-absent total exact (get S) x absent)))

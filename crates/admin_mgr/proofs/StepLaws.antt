@@ -37,11 +37,13 @@ pub steps_nothing : {way : Way} (S : RbacState) → Steps way S [] S
 unfolding after_changes
 steps_nothing S = record { fits = tt; leads = refl }
 
+-- where one list leads after another
 after_append : (S : RbacState) (xs ys : List Change) → after_changes S (xs ++ ys) ≡ after_changes (after_changes S xs) ys
 unfolding after_changes
 after_append S [] ys = refl
 after_append S (x ∷ xs) ys = after_append (after_change S x) xs ys
 
+-- a list is fitting behind another, where it is fitting at the state that the first leads to
 fitting_append : (way : Way) (S : RbacState) (xs ys : List Change) → AreFitting way S xs → AreFitting way (after_changes S xs) ys → AreFitting way S (xs ++ ys)
 unfolding after_changes
 fitting_append way S [] ys first second = second
@@ -79,6 +81,7 @@ has_row-with_edges S edges (GrantRow x y z) plain = refl
 has_row-with_edges S edges (SetRow k x n) plain = refl
 has_row-with_edges S edges (LockedRow x) plain = refl
 
+-- a change of one row makes the same of the other sets, whatever the edges are
 edges_apart : (S : RbacState) (edges : Pairs) (change : Change) → after_change (with_edges S edges) change ≡ with_edges (after_change S change) edges
 unfolding with_row without_row
 edges_apart S edges (Put (NameRow k a)) = refl
@@ -92,12 +95,14 @@ edges_apart S edges (Take (GrantRow a b c)) = refl
 edges_apart S edges (Take (SetRow k a n)) = refl
 edges_apart S edges (Take (LockedRow a)) = refl
 
+-- a change is fitting whatever the edges are
 fitting_edges : (way : Way) (S : RbacState) (edges : Pairs) (change : Change) → IsFitting way S change → IsFitting way (with_edges S edges) change
 fitting_edges taking S edges (Take row) fits = (fits.0, has_row-with_edges S edges row fits.0 ∙ fits.1)
 fitting_edges taking S edges (Put row) fits = fits
 fitting_edges putting S edges (Take row) fits = fits
 fitting_edges putting S edges (Put row) fits = (fits.0, has_row-with_edges S edges row fits.0 ∙ fits.1)
 
+-- and so are changes
 all_fitting_edges : (way : Way) (S : RbacState) (edges : Pairs) (changes : List Change) → AreFitting way S changes → AreFitting way (with_edges S edges) changes
 all_fitting_edges way S edges [] fits = tt
 all_fitting_edges way S edges (change ∷ changes) fits = (
@@ -105,6 +110,7 @@ all_fitting_edges way S edges (change ∷ changes) fits = (
   subst (λ X. AreFitting way X changes) (sym (edges_apart S edges change)) (all_fitting_edges way (after_change S change) edges changes fits.1),
 )
 
+-- changes make the same of the other sets, whatever the edges are
 all_edges_apart : (S : RbacState) (edges : Pairs) (changes : List Change) → after_changes (with_edges S edges) changes ≡ with_edges (after_changes S changes) edges
 unfolding after_changes
 all_edges_apart S edges [] = refl

@@ -3,7 +3,9 @@ use Rattle.std.proofs.Common.{◌≡◌, Bool, true, false, not, ◌&&◌, ◌||
 use Rattle.std.specs.Prelude.{nat_eq, if◌then◌else◌}
 use Rattle.std.proofs.lemmas.Bool.{or_cases, or_left, or_right, and_parts, and_from, not-true, true≢false}
 use Rattle.std.proofs.lemmas.List.Folds.{list_any-append}
-use Rattle.rbac_sets.specs.Sets.{contains, same_name}
+use Rattle.std.specs.declared.cmp.Ordering.{Ordering}
+use Rattle.std.specs.FinSet.{FinSet}
+use Rattle.rbac_sets.specs.Sets.{contains, insert, same_name}
 use Rattle.role_order.specs.Order.{geq}
 use Rattle.role_order.proofs.Members.{is_false}
 use Rattle.rbac_sets.specs.declared.row.Row.{Row}
@@ -16,8 +18,9 @@ use Rattle.admin_mgr.specs.Changes.{same_row, is_put, is_taken, puts, takes, IsO
 use Rattle.admin_mgr.specs.Stepping.{is_plain, with_row, without_row, after_changes}
 use Rattle.admin_mgr.proofs.ChangeLaws.{has_row-with, has_row-without, has_row-changes}
 use Rattle.admin_mgr.proofs.CommitLaws.{same_row-is, same_row-self, edges-changes, version-changes}
+use Rattle.admin_mgr.proofs.RunLaws.{IsSetOf}
 use Rattle.admin_mgr.proofs.StepLaws.Way.{taking, putting}
-use Rattle.admin_mgr.proofs.StepLaws.{AreFitting, Steps}
+use Rattle.admin_mgr.proofs.StepLaws.{AreFitting, Steps, steps_put}
 
 -- ---- rows that don't change one by one
 
@@ -28,11 +31,13 @@ three false true c p q r s t u h = cc
 three false false true p q r s t u h = cc
 three false false false p q r s t u h = refl
 
+-- the same of two tests
 two : (a b p q s t : Bool) → (a || b) ≡ false → (if a then p else if b then q else false) ≡ (if a then s else if b then t else false)
 two true b p q s t h = cc
 two false true p q s t h = cc
 two false false p q s t h = refl
 
+-- the same of eight tests, of which the third and the fourth answer alike
 eight :
     (a b c d e f g k p q r s t u v w p' q' t' u' v' w' : Bool)
     → (a || b || e || f || g || k) ≡ false
@@ -122,20 +127,24 @@ put_once S (Put first ∷ changes) fits = (
   put_once (with_row S first) changes fits.1,
 )
 
+-- changes that take put nothing before they take
 taking_first : (S : RbacState) (changes : List Change) → AreFitting taking S changes → TakesFirst changes
 taking_first S [] fits = tt
 taking_first S (Put first ∷ changes) fits = absurd fits.0
 taking_first S (Take first ∷ changes) fits = taking_first (without_row S first) changes fits.1
 
+-- changes that put take nothing behind what they put
 putting_last : (S : RbacState) (changes : List Change) → AreFitting putting S changes → TakesFirst changes
 putting_last S [] fits = tt
 putting_last S (Take first ∷ changes) fits = absurd fits.0
 putting_last S (Put first ∷ changes) fits = (putting_takes (with_row S first) changes fits.1, putting_last (with_row S first) changes fits.1)
 
+-- not both, where one does not hold
 not_both : (a b : Bool) → b ≡ false → (a && b) ≡ false
 not_both true b h = h
 not_both false b h = refl
 
+-- what is neither taken nor put is there as before
 unchanged : (has : Bool) → has ≡ (has && not false || false)
 unchanged true = refl
 unchanged false = refl
@@ -180,10 +189,12 @@ turns_putting {S} {T} {changes} steps = record {
 
 -- ---- changes one list after the other
 
+-- what two lists take
 taken_in : (xs ys : List Change) (row : Row) → is_taken (xs ++ ys) row ≡ (is_taken xs row || is_taken ys row)
 unfolding is_taken
 taken_in xs ys row = list_any-append (λ change. takes change row) xs ys
 
+-- what two lists put
 put_in : (xs ys : List Change) (row : Row) → is_put (xs ++ ys) row ≡ (is_put xs row || is_put ys row)
 unfolding is_put
 put_in xs ys row = list_any-append (λ change. puts change row) xs ys
@@ -192,6 +203,7 @@ put_in xs ys row = list_any-append (λ change. puts change row) xs ys
 abbrev pub AreApart : List Change → List Change → Type 0
 AreApart takes puts = (row : Row) → (is_taken takes row && is_put puts row) ≡ false
 
+-- whether a row is there that was, was taken or put, and was taken or put again
 both_rows : (has t p u q : Bool) → (u && p) ≡ false → (t && q) ≡ false → ((has && not t || p) && not u || q) ≡ (has && not (t || u) || (p || q))
 both_rows has t true true q h k = cc
 both_rows has true p u true h k = cc
@@ -204,6 +216,7 @@ both_rows true false false false q h k = refl
 both_rows false t true false q h k = refl
 both_rows false t false u q h k = refl
 
+-- each row once in two lists, where none is put by both or taken by both
 once_append :
     (xs ys : List Change)
     → ((row : Row) → is_put xs row ≡ true → is_put ys row ≡ false) → ((row : Row) → is_taken xs row ≡ true → is_taken ys row ≡ false)
@@ -261,11 +274,13 @@ takes_first_nothing_put [] ys none rest = rest
 takes_first_nothing_put (Put row ∷ xs) ys none rest = absurd (true≢false (sym (or_left _ _ (same_row-self row)) ∙ none row))
 takes_first_nothing_put (Take row ∷ xs) ys none rest = takes_first_nothing_put xs ys none rest
 
+-- the same where the second list takes nothing
 pub takes_first_nothing_taken : (xs ys : List Change) → ((row : Row) → is_taken ys row ≡ false) → TakesFirst xs → TakesFirst ys → TakesFirst (xs ++ ys)
 takes_first_nothing_taken [] ys none first rest = rest
 takes_first_nothing_taken (Put row ∷ xs) ys none first rest = ((λ other. taken_in xs ys other ∙ (λ i. first.0 other i || none other i)), takes_first_nothing_taken xs ys none first.1 rest)
 takes_first_nothing_taken (Take row ∷ xs) ys none first rest = takes_first_nothing_taken xs ys none first rest
 
+-- not both, where the other does not hold
 nothing_and : (a b : Bool) → a ≡ false → (a && b) ≡ false
 nothing_and true b h = absurd (true≢false h)
 nothing_and false b h = refl
@@ -289,3 +304,34 @@ turns_both {S} {M} {T} {xs} {ys} first second apart =
     let none_taken = putting_takes M ys second.fits in
     turns_append (turns_taking first) (turns_putting second) (λ row. not_both (is_taken ys row) (is_put xs row) (none_put row)) apart
     (takes_first_nothing_put xs ys none_put (putting_last M ys second.fits))
+
+-- ---- rows that are taken and one that is put
+
+-- rows that weren't there when the first were taken aren't among these
+pub apart_where_absent : {S M : RbacState} {xs : List Change} (ys : List Change) → Steps taking S xs M → ((row : Row) → is_put ys row ≡ true → has_row S row ≡ false) → AreApart xs ys
+apart_where_absent {S} {M} {xs} ys first absent row = is_false _ (λ both.
+    let parts = and_parts (is_taken xs row) _ both in
+    true≢false (sym (taken_there S xs first.fits row parts.0).1 ∙ absent row parts.1))
+
+-- a row that wasn't there isn't where rows were taken
+still_absent : {S M : RbacState} {xs : List Change} → Steps taking S xs M → (row : Row) → has_row S row ≡ false → has_row M row ≡ false
+still_absent {S} {M} {xs} first row absent =
+    (turns_taking first).rows row ∙ (λ i. absent i && not (is_taken xs row) || taking_puts S xs first.fits row i)
+
+-- rows are taken, and then one is put that wasn't there
+pub turns_taking_then_put : {S M : RbacState} {xs : List Change} → Steps taking S xs M → (row : Row) → is_plain row ≡ true → has_row S row ≡ false → Turns S (xs ++ Put row ∷ []) (with_row M row)
+unfolding is_put
+turns_taking_then_put {S} {M} {xs} first row plain absent = turns_both first (steps_put M row plain (still_absent first row absent))
+    (apart_where_absent (Put row ∷ []) first (λ other put. ap (has_row S) (same_row-is row other (only (same_row row other) put)) ∙ absent))
+  where
+    only : (b : Bool) → (b || false) ≡ true → b ≡ true
+    only true h = refl
+    only false h = h
+
+-- the same, by the set that the row is of
+pub turns_taking_then_put_one :
+    {K : Type 0} {R : K → K → Ordering} {row : K → Row} {get : RbacState → FinSet R} {set : RbacState → FinSet R → RbacState}
+    → IsSetOf row get set
+    → {S M : RbacState} {xs : List Change} → Steps taking S xs M → (x : K) → contains (get S) x ≡ false → Turns S (xs ++ Put (row x) ∷ []) (set M (insert (get M) x))
+turns_taking_then_put_one {row = row} rows {S} {M} {xs} first x absent =
+    subst (Turns S (xs ++ Put (row x) ∷ [])) (rows.put M x) (turns_taking_then_put first (row x) (rows.plain x) (rows.has S x ∙ absent))
