@@ -26,7 +26,6 @@ pub mod OrderTurns
 pub mod PartLaws
 pub mod PlanLaws
 pub mod RecordLaws
-pub mod OrderTurns
 pub mod RoomLaws
 pub mod RowLaws
 pub mod RunLaws
