@@ -1,3 +1,4 @@
+pub mod AcceptedLaws
 pub mod AdditionLaws
 pub mod BreakLaws
 pub mod ChangeLaws

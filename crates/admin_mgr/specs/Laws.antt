@@ -1,12 +1,15 @@
 -- What holds of the sets and relations, however they are stored.
 use Rattle.std.specs.Prelude.{◌≡◌, ◌≤◌, ◌↔◌, IsTrue, ℕ, None}
 use Rattle.rbac_sets.specs.Sets.{Bytes, Names, contains, len}
+use Rattle.rbac_sets.specs.declared.command.Command.{Command}
 use Rattle.rbac_sets.specs.declared.row.Row.{Row}
 use Rattle.admin_mgr.specs.RbacState.{RbacState, members_of}
 use Rattle.admin_mgr.specs.Rows.{has_row}
 use Rattle.admin_mgr.specs.Authorization.{is_authorized}
 use Rattle.admin_mgr.specs.Separation.{static_violation, dynamic_violation}
-use Rattle.admin_mgr.specs.Good.{IsWellFormed, IsStaticallySeparated, IsDynamicallySeparated}
+use Rattle.admin_mgr.specs.Good.{IsWellFormed, IsStaticallySeparated, IsDynamicallySeparated, IsGood}
+use Rattle.admin_mgr.specs.Verdict.{verdict}
+use Rattle.admin_mgr.specs.After.{after}
 
 -- each role of the one set is in the other
 abbrev pub IsWithin : Names → Names → Type 0
@@ -30,6 +33,10 @@ SubsetForm = (S : RbacState) → IsStaticallySeparated S ↔ IsSeparatedBySubset
 -- states of one version with the same rows are equal
 abbrev pub RowsDetermine : Type 0
 RowsDetermine = (S T : RbacState) → S.version ≡ T.version → ((row : Row) → has_row S row ≡ has_row T row) → S ≡ T
+
+-- an accepted command leads from a good state to a good state
+abbrev pub AcceptedIsGood : Type 0
+AcceptedIsGood = (S : RbacState) → IsGood S → (command : Command) → verdict S command ≡ None → IsGood (after S command)
 
 -- where the relations are well formed, no static set is named exactly where none is violated
 abbrev pub StaticTest : Type 0

@@ -1,5 +1,5 @@
 //! What holds of the sets and relations, however they are stored.
-ghost use Rattle.admin_mgr.specs.Laws.{SubsetForm, RowsDetermine, StaticTest, DynamicTest};
+ghost use Rattle.admin_mgr.specs.Laws.{SubsetForm, RowsDetermine, AcceptedIsGood, StaticTest, DynamicTest};
 
 /// Static separation of duty, by counting each user's roles, says what the standard says: as many
 /// roles of a set as its cardinality, or more, have no authorized user in common.
@@ -11,6 +11,11 @@ pub fn subset_form()
 #[tactic(auto, using(crate::proofs::RowLaws::rows_determine))]
 pub fn rows_determine()
     ensures { RowsDetermine }
+{}
+
+/// An accepted command leads from a good state to a good state, whichever it is.
+pub fn accepted_good()
+    ensures { AcceptedIsGood }
 {}
 
 /// The test of a verdict names no static separation of duty set exactly where none is violated.
