@@ -42,7 +42,7 @@ module _ (S : RbacState) (pair : Pair) (accepted : assignment_verdict S pair ≡
   unfolding assignment_refusals
   not_assigned = refuse_if-None (contains S.assignments pair) AlreadyAssigned all_passed.1.1.0
 
-  room_for_assignment : len S.assignments + 1 ≤ limit_of Assignment S.version
+  pub room_for_assignment : len S.assignments + 1 ≤ limit_of Assignment S.version
   unfolding assignment_refusals
   room_for_assignment = ltb-false (limit_of Assignment S.version) (len S.assignments + 1)
       (refuse_if-None (is_too_many S Assignment (len S.assignments + 1)) (TooMany Assignment) all_passed.1.1.1.0)

@@ -5,6 +5,7 @@ pub mod GoodInheritance
 pub mod HeldLaws
 pub mod ImportLaws
 pub mod ImportSteps
+pub mod ImportTwice
 pub mod InheritLaws
 pub mod KeepLaws
 pub mod Lookups
