@@ -5,7 +5,6 @@ use Rattle.std.specs.Option.{option_map}
 use Rattle.std.specs.List.{list_any, enumerate_from, filter_map, cons_option}
 use Rattle.std.specs.Ordering.{eq_by_cmp}
 use Rattle.std.proofs.lemmas.Bool.{and_parts, and_from, or_left, ltb-true, lt-ltb, true≢false}
-use Rattle.std.proofs.lemmas.List.Sums.{sum_by-cons}
 use Rattle.std.proofs.lemmas.List.Folds.{list_any-append}
 use Rattle.rbac_sets.specs.Refusal.{code_of}
 use Rattle.rbac_sets.specs.Sets.{Bytes, Names, Pair, Pairs, Cardinality, pair_cmp, contains, insert, union, retain, from_list, len, count}
@@ -31,7 +30,7 @@ use Rattle.admin_mgr.specs.Laws.{IsSameCode, RefuseTheSame, IsIdleAgain, ImportT
 use Rattle.admin_mgr.specs.Held.{run_of, is_reached, first_with_one}
 use Rattle.admin_mgr.proofs.HeldLaws.{authorized_reached}
 use Rattle.admin_mgr.proofs.GoodAssignment.{good_with_assignment, room_for_assignment, assigned_user, assigned_role}
-use Rattle.admin_mgr.proofs.ImportLaws.{record_put, record_kept, good_record, by_records, import_is, accepted_apart, good_import, after_import_assignments}
+use Rattle.admin_mgr.proofs.ImportLaws.{one_if, counted, record_put, record_kept, good_record, by_records, import_is, accepted_apart, good_import, after_import_assignments}
 use Rattle.admin_mgr.proofs.RecordLaws.{named_last, record_verdict, reached_union}
 use Rattle.admin_mgr.proofs.SeparationLaws.{least_violated-None, kept_statically}
 use Rattle.admin_mgr.proofs.TouchLaws.{with_assignment, authorized-assigned}
@@ -118,22 +117,27 @@ abbrev judged : Bool → Bool → Bool → Bool → Option Refusal → Option Re
 judged is_user is_role is_assigned is_full last =
     first (refuse_unless is_user NoUser ∷ refuse_unless is_role NoRole ∷ refuse_if is_assigned AlreadyAssigned ∷ refuse_if is_full (TooMany Assignment) ∷ last ∷ [])
 
+-- the number of a refusal, if there is one
 abbrev code : Option Refusal → ℕ
 code None = 0
 code (Some refusal) = code_of refusal
 
+-- the same refusal again
 told_same : (refusal other : Refusal) → Some other ≡ Some refusal → Again (Some refusal) (Some other)
 told_same refusal other is = (other, refl, inl (sym (ap code is)))
 
+-- static separation again
 told_last : (o o' : Option Bytes) (refusal : Refusal) → option_map StaticSeparation o ≡ Some refusal → (option_map StaticSeparation o' ≡ None → ⊥) → Again (Some refusal) (first (option_map StaticSeparation o' ∷ []))
 told_last None o' refusal is some = cc
 told_last (Some name) None refusal is some = absurd (some refl)
 told_last (Some name) (Some other) refusal is some = (StaticSeparation other, refl, inl (sym (ap code is)))
 
+-- too many assignments where static separation refused
 told_full : (o : Option Bytes) (refusal : Refusal) → option_map StaticSeparation o ≡ Some refusal → Again (Some refusal) (Some (TooMany Assignment))
 told_full None refusal is = cc
 told_full (Some name) refusal is = (TooMany Assignment, refl, inr (sym (ap code is), refl))
 
+-- the first of one
 first_alone : (l : Option Refusal) → first (l ∷ []) ≡ l
 first_alone None = refl
 first_alone (Some refusal) = refl
@@ -175,6 +179,7 @@ put_again S good pair rest put =
         let here : contains X.assignments pair ≡ true = (contains-insert-Decides pair_total pair_exact S.assignments pair pair).1 (inl refl) in
         λ i. judged (is_user i) (is_role i) (here i || contains added pair) (is_too_many X Assignment (len X.assignments + len added + 1)) (named_last X added pair.0 pair.1)
 
+-- where the record was refused
 kept_again : (S : RbacState) → IsGood S → (pair : Pair) (rest : List Pair) (refusal : Refusal) → assignment_verdict S pair ≡ Some refusal → Again (Some refusal) (assignment_verdict (after_import S rest) pair)
 unfolding assignment_verdict assignment_refusals
 kept_again S good pair rest refusal is =
@@ -211,11 +216,13 @@ record_again S good pair rest = by (assignment_verdict S pair) refl
 
 -- ---- all records
 
+-- the verdicts on records, and those of the second time
 abbrev AllAgain : List (Option Refusal) → List (Option Refusal) → Type 0
 AllAgain [] [] = Unit {0}
 AllAgain (v ∷ vs) (w ∷ ws) = Again v w × AllAgain vs ws
 AllAgain _ _ = ⊥
 
+-- each record is refused the second time, in the state once all were judged
 all_again : (S : RbacState) → IsGood S → (pairs : List Pair) (T : RbacState) → after_import S pairs ≡ T → AllAgain (import_verdicts S pairs) (map (assignment_verdict T) pairs)
 unfolding after_import import_verdicts
 all_again S good [] T is = tt
@@ -224,6 +231,7 @@ all_again S good (pair ∷ pairs) T is = (
   all_again (after_record S pair) (good_record S good pair) pairs T is,
 )
 
+-- there is a refusal the second time
 refused_again_by : (v w : Option Refusal) → Again v w → (refusal : Refusal) × (w ≡ Some refusal)
 refused_again_by None w again = (AlreadyAssigned, again)
 refused_again_by (Some refusal) w again = (again.0, again.1)
@@ -238,6 +246,7 @@ idle_verdicts T (pair ∷ pairs) (v ∷ vs) again =
     ap (λ X. assignment_verdict T pair ∷ import_verdicts X pairs) (record_kept T pair refused.0 refused.1)
     ∙ ap (λ ws. assignment_verdict T pair ∷ ws) (idle_verdicts T pairs vs again.1)
 
+-- and the state stays
 idle_state : (T : RbacState) (pairs : List Pair) (vs : List (Option Refusal)) → AllAgain vs (map (assignment_verdict T) pairs) → after_import T pairs ≡ T
 unfolding after_import
 idle_state T [] vs again = refl
@@ -248,15 +257,11 @@ idle_state T (pair ∷ pairs) (v ∷ vs) again =
 
 -- ---- what is told
 
-abbrev one_if : Bool → ℕ
-one_if b = cond b 1 0
-
-counted : (p : Option Refusal → Bool) (v : Option Refusal) (rest : List (Option Refusal)) → count_by p (v ∷ rest) ≡ one_if (p v) + count_by p rest
-counted p v rest = sum_by-cons (λ (x : Option Refusal). one_if (p x)) v rest
-
+-- the second time the record is not counted as assigned
 again_none : (v w : Option Refusal) → Again v w → one_if (is_none w) ≡ 0
 again_none v w again = let refused = refused_again_by v w again in ap (λ x. one_if (is_none x)) refused.1
 
+-- it is counted as assigned before where it was assigned or counted so the first time
 again_already : (v w : Option Refusal) → Again v w → one_if (is_already w) ≡ one_if (is_none v) + one_if (is_already v)
 again_already None w again = ap (λ x. one_if (is_already x)) again
 again_already (Some refusal) w (other, is, codes) = ap (λ x. one_if (is_already x)) is ∙ by codes
@@ -268,6 +273,7 @@ again_already (Some refusal) w (other, is, codes) = ap (λ x. one_if (is_already
         let f : one_if (nat_eq (code_of refusal) 10) ≡ 0 = ap (λ n. one_if (nat_eq n 10)) changed.0 in
         omega (arith, e, f)
 
+-- none is counted as assigned
 none_assigned : (vs ws : List (Option Refusal)) → AllAgain vs ws → count_by is_none ws ≡ 0
 none_assigned [] [] again = refl
 none_assigned [] (w ∷ ws) again = absurd again
@@ -278,6 +284,7 @@ none_assigned (v ∷ vs) (w ∷ ws) again =
     let rest = none_assigned vs ws again.1 in
     omega (arith, more, one, rest)
 
+-- those are counted as assigned before that were assigned or counted so the first time
 assigned_before : (vs ws : List (Option Refusal)) → AllAgain vs ws → count_by is_already ws ≡ count_by is_none vs + count_by is_already vs
 assigned_before [] [] again = refl
 assigned_before [] (w ∷ ws) again = absurd again
@@ -290,6 +297,7 @@ assigned_before (v ∷ vs) (w ∷ ws) again =
     let rest = assigned_before vs ws again.1 in
     omega (arith, more, put, already, one, rest)
 
+-- what is told of one record, before the others
 told_again : (n : ℕ) (v w : Option Refusal) (xs ys : List (ℕ × ℕ)) → Again v w → RefuseTheSame xs ys → RefuseTheSame (cons_option (refused_record (n, v)) xs) (cons_option (refused_record (n, w)) ys)
 told_again n None w xs ys again rest = subst (λ x. RefuseTheSame xs (cons_option (refused_record (n, x)) ys)) (sym again) rest
 told_again n (Some refusal) w xs ys (other, is, codes) rest =
@@ -306,6 +314,7 @@ told_again n (Some refusal) w xs ys (other, is, codes) rest =
     by k l (inl e) = subst (λ m. RefuseTheSame (told k xs) (told m ys)) e (same (nat_eq k 10) k)
     by k l (inr e) = subst (λ m. RefuseTheSame (told m xs) (told l ys)) (sym e.0) (subst (λ m. RefuseTheSame (told 24 xs) (told m ys)) (sym e.1) (refl, inr (refl, refl), rest))
 
+-- the same records are told as refused
 refused_the_same : (n : ℕ) (vs ws : List (Option Refusal)) → AllAgain vs ws → RefuseTheSame (filter_map refused_record (enumerate_from n vs)) (filter_map refused_record (enumerate_from n ws))
 refused_the_same n [] [] again = tt
 refused_the_same n [] (w ∷ ws) again = absurd again
@@ -314,6 +323,7 @@ refused_the_same n (v ∷ vs) (w ∷ ws) again = told_again n v w _ _ again.0 (r
 
 -- ---- the law
 
+-- a second import of the same records changes nothing
 pub import_twice : ImportTwice
 unfolding verdict refusals tally tally_of
 import_twice S pairs good accepted_one =
