@@ -16,6 +16,7 @@ pub mod HeldLaws
 pub mod ImportLaws
 pub mod ImportSteps
 pub mod ImportTurns
+pub mod ImportTwice
 pub mod InheritLaws
 pub mod KeepLaws
 pub mod LimitLaws

@@ -25,6 +25,7 @@ use Rattle.admin_mgr.proofs.VerdictLaws.{passed, refuse_unless-None, stopped}
 
 -- ---- what a user holds of either set
 
+-- what stands behind a name in either set passes a test where it does in one of them
 any_union : (p : Bytes → Bool) (s t : Pairs) (x : Bytes) → any p (seconds (union s t) x) ≡ (any p (seconds s x) || any p (seconds t x))
 any_union p s t x =
     let either = any-Decides name_total name_exact p (seconds (union s t) x) in
@@ -72,6 +73,7 @@ abbrev pub named_last : RbacState → Pairs → Bytes → Bytes → Option Refus
 named_last S added user role = option_map StaticSeparation (option_map (λ (x : Cardinality). x.0) (first_with_one S.edges (run_of S.assignments user ++ run_of added user) role S.ssd))
 
 module _ (S : RbacState) (added : Pairs) (good : IsGood (with_assignments S added)) (apart : IsDisjoint S.assignments added) (user role : Bytes) where
+  -- but for static separation the record is judged so
   same_refusals : assign_user_refusals (with_assignments S added) (user, role) ≡ record_refusals S added (user, role)
   unfolding with_assignments
   same_refusals = λ i.
@@ -81,6 +83,7 @@ module _ (S : RbacState) (added : Pairs) (good : IsGood (with_assignments S adde
       ∷ too_many S Assignment (len-union pair_total pair_exact S.assignments added apart i + 1)
       ∷ []
 
+  -- and then by the same static set
   same_last : IsTrue (contains S.users user) → breaks_static (after_assignment (with_assignments S added) (user, role)) ≡ named_last S added user role
   unfolding with_assignments
   same_last is_user =
