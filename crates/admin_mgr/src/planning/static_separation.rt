@@ -57,11 +57,13 @@ pub(crate) fn plan_set_ssd_set_cardinality(alloc: Global, state: &State, set: &N
     state.is_good();
     let mut changes = Vec::new(alloc);
     match state.ssd_n(set) {
-        Some(before) if before != cardinality => {
-            take(&mut changes, set_row(alloc, 1, set, before)?)?;
-            put(&mut changes, set_row(alloc, 1, set, cardinality)?)?;
+        Some(before) => {
+            if before != cardinality {
+                take(&mut changes, set_row(alloc, 1, set, before)?)?;
+                put(&mut changes, set_row(alloc, 1, set, cardinality)?)?;
+            }
         }
-        _ => {}
+        None => {}
     }
     Ok(plain(alloc, changes))
 }
