@@ -2,7 +2,7 @@
 use Rattle.std.proofs.Common.{◌≡◌, ◌≢◌, ℕ, true, false, List, [], ◌∷◌, map, refl, sym, ◌∙◌, ap, subst}
 use Rattle.std.specs.Prelude.{Bool, not, ◌||◌, Some, None, is_some}
 use Rattle.std.proofs.lemmas.Bool.{and_parts, true≢false}
-use Rattle.rbac_sets.specs.Sets.{Bytes, Pair, Pairs, Names, Cardinality, Cardinalities, pair_cmp, same_name, contains, members, insert, remove, retain, union, IsDisjoint}
+use Rattle.rbac_sets.specs.Sets.{Bytes, Pair, Pairs, Names, Cardinality, Cardinalities, same_name, contains, members, insert, remove, retain, union, IsDisjoint}
 use Rattle.rbac_sets.specs.NameOrder.{pair_total, pair_exact}
 use Rattle.rbac_sets.specs.declared.row.Row.{Row}
 use Rattle.rbac_sets.specs.declared.row.Row.TheVariants.{PairRow, SetRow}

@@ -1,12 +1,10 @@
 -- What the commands on static separation of duty sets put and take leads to the state after them.
-use Rattle.std.proofs.Common.{◌≡◌, ◌≢◌, ℕ, List, [], ◌∷◌, refl, sym, ◌∙◌, ap, subst}
+use Rattle.std.proofs.Common.{◌≡◌, ◌≢◌, ℕ, [], ◌∷◌, refl, sym, subst}
 use Rattle.std.specs.Prelude.{Some, None}
 use Rattle.rbac_sets.specs.Sets.{Bytes, name_cmp, members}
 use Rattle.rbac_sets.specs.SortedSet.{Stored, set_of}
-use Rattle.rbac_sets.specs.declared.command.Command.{Command}
 use Rattle.rbac_sets.specs.declared.command.Command.TheVariants.{CreateSsdSet, AddSsdRoleMember, DeleteSsdRoleMember, SetSsdSetCardinality, DeleteSsdSet}
 use Rattle.rbac_sets.specs.declared.row.Row.TheVariants.{PairRow, SetRow}
-use Rattle.rbac_sets.specs.declared.row.Change.{Change}
 use Rattle.rbac_sets.specs.declared.row.Change.TheVariants.{Put, Take}
 use Rattle.admin_mgr.specs.declared.plan.Plan.{Plan}
 use Rattle.admin_mgr.specs.RbacState.{RbacState, Separation, cardinality_of}

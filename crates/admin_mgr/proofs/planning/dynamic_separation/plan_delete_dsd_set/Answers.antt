@@ -13,6 +13,6 @@ returns-clause-planned c = elim c.match-dsd_n.branch [
       (sym c.dsd_n.ensures ∙ w.in-Some.is)
       (c.plain.ensures.changes ∙ c.in_ok-take_pairs.ensures.ok
       ∙ (λ i. (ap (λ changes. changes.items) w.changes-is ∙ w.in_ok-take-in-Some.ensures.ok ∙ (λ j. c.new-changes.ensures.items j ++ Take (w.in_ok-set_row-in-Some.ensures.ok j) ∷ [])) i
-          ++ take_all (pair_row 6) ((c.with_first.ensures ∙ ap (λ pairs. run_of pairs c.args.set.now) c.dsd_members.ensures) i)))
+      ++ take_all (pair_row 6) ((c.with_first.ensures ∙ ap (λ pairs. run_of pairs c.args.set.now) c.dsd_members.ensures) i)))
   | in-None w ↦ absurd (none_deleted_dsd c.args.state.now.facts c.args.set.now (sym c.dsd_n.ensures ∙ w.in-None.is) c.requires.accepted)
 ]

@@ -1,5 +1,4 @@
 use Rattle.std.proofs.Common.{◌++◌, ◌∷◌, [], sym, ◌∙◌, ap, Some}
-use Rattle.rbac_sets.specs.declared.row.Change.{Change}
 use Rattle.rbac_sets.specs.declared.row.Change.TheVariants.{Put, Take}
 use Rattle.admin_mgr.proofs.DynamicSetTurns.{plan_of_set_dsd_set_cardinality, plan_of_same_dsd_set_cardinality, none_set_dsd}
 use Rattle.admin_mgr.proofs.planning.dynamic_separation.plan_set_dsd_set_cardinality.Goals as goal
