@@ -5,6 +5,7 @@ pub mod ChangeLaws
 pub mod CommandTurns
 pub mod CommitLaws
 pub mod DynamicSetLaws
+pub mod DynamicSetTurns
 pub mod EmptyLaws
 pub mod EndLaws
 pub mod EndedRows
@@ -32,12 +33,14 @@ pub mod RoomLaws
 pub mod RowLaws
 pub mod RunLaws
 pub mod SeparationLaws
+pub mod SeparationTurns
 pub mod SessionCommandLaws
 pub mod SessionLaws
 pub mod SetRowLaws
 pub mod SetRows
 pub mod SoundSetLaws
 pub mod StaticSetLaws
+pub mod StaticSetTurns
 pub mod StepLaws
 pub mod TakeLaws
 pub mod TouchLaws
