@@ -2,6 +2,9 @@ pub mod After
 pub mod Assignment
 pub mod Authorization
 pub mod Changes
+pub mod Checked
+pub mod Gathered
+pub mod GatheredView
 pub mod Good
 pub mod Held
 pub mod Kept
@@ -14,5 +17,6 @@ pub mod Rows
 pub mod Run
 pub mod Separation
 pub mod Stepping
+pub mod Tested
 pub mod Verdict
 pub mod View

@@ -9,6 +9,8 @@ use role_order::RoleOrder;
 use std::alloc::Global;
 use std::marker::Model;
 
+pub(crate) mod gathered;
+
 /// The sets and relations of core RBAC, of the role hierarchy and of separation of duty, between the
 /// changes of one command: they may be anything.
 ///
