@@ -2,6 +2,7 @@ pub mod AcceptedLaws
 pub mod AdditionLaws
 pub mod BreakLaws
 pub mod ChangeLaws
+pub mod CheckLaws
 pub mod CommandTurns
 pub mod CommitLaws
 pub mod DynamicSetLaws
@@ -10,6 +11,7 @@ pub mod EmptyLaws
 pub mod EndLaws
 pub mod EndedRows
 pub mod EndingLaws
+pub mod GatherLaws
 pub mod GoodAssignment
 pub mod GoodInheritance
 pub mod GoodWithLaws
@@ -20,6 +22,7 @@ pub mod ImportTurns
 pub mod ImportTwice
 pub mod InheritLaws
 pub mod KeepLaws
+pub mod KeyLaws
 pub mod LimitLaws
 pub mod ListLaws
 pub mod Lookups
@@ -31,6 +34,7 @@ pub mod PlanLaws
 pub mod RecordLaws
 pub mod RoomLaws
 pub mod RowLaws
+pub mod RowSteps
 pub mod RunLaws
 pub mod SeparationLaws
 pub mod SeparationTurns
@@ -42,10 +46,13 @@ pub mod SoundSetLaws
 pub mod StaticSetLaws
 pub mod StaticSetTurns
 pub mod StepLaws
+pub mod StoredLaws
 pub mod TakeLaws
+pub mod TestLaws
 pub mod TouchLaws
 pub mod TurnLaws
 pub mod UnionLaws
 pub mod VerdictLaws
 pub mod ViolationLaws
+pub mod WithinLimits
 pub mod Worked

@@ -2,7 +2,10 @@ pub mod After
 pub mod Assignment
 pub mod Authorization
 pub mod Changes
+pub mod Checked
 pub mod Ending
+pub mod Gathered
+pub mod GatheredView
 pub mod Good
 pub mod Held
 pub mod Importing
@@ -17,5 +20,6 @@ pub mod Rows
 pub mod Run
 pub mod Separation
 pub mod Stepping
+pub mod Tested
 pub mod Verdict
 pub mod View
