@@ -1,4 +1,5 @@
 pub mod AdditionLaws
+pub mod AdditionPlans
 pub mod BreakLaws
 pub mod ChangeLaws
 pub mod CommitLaws
@@ -16,8 +17,10 @@ pub mod ListLaws
 pub mod Lookups
 pub mod NewRoleLaws
 pub mod NewSessionLaws
+pub mod NewSessionPlans
 pub mod OrderTurns
 pub mod PartLaws
+pub mod PlainPlans
 pub mod PlanLaws
 pub mod RoomLaws
 pub mod RowLaws
@@ -31,6 +34,7 @@ pub mod SoundSetLaws
 pub mod StaticSetLaws
 pub mod StepLaws
 pub mod TakeLaws
+pub mod TakePlans
 pub mod TouchLaws
 pub mod TurnLaws
 pub mod VerdictLaws
