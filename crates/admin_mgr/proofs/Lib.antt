@@ -1,5 +1,6 @@
 pub mod AdditionLaws
 pub mod AdditionPlans
+pub mod AssignPlans
 pub mod BreakLaws
 pub mod ChangeLaws
 pub mod CommitLaws

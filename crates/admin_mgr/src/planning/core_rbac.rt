@@ -171,6 +171,7 @@ pub(crate) fn plan_revoke_permission(
 }
 
 // The plan of AssignUser.
+#[tactic(auto, using(crate::proofs::AssignPlans::done_assign_user))]
 pub(crate) fn plan_assign_user(
     alloc: Global,
     state: &State,
@@ -182,9 +183,7 @@ pub(crate) fn plan_assign_user(
     ensures cause { IfErr result (λ refusal. refusal ≡ Refusal.Memory) }
 {
     state.is_good();
-    let mut changes = Vec::new(alloc);
-    put(&mut changes, pair_row(alloc, 2, user, role)?)?;
-    Ok(plain(alloc, changes))
+    one_put(alloc, pair_row(alloc, 2, user, role)?)
 }
 
 // The plan of DeassignUser: sessions of the user may end.
