@@ -1,5 +1,7 @@
 pub mod AcceptedLaws
 pub mod AdditionLaws
+pub mod AdditionPlans
+pub mod AssignPlans
 pub mod BreakLaws
 pub mod ChangeLaws
 pub mod CheckLaws
@@ -28,8 +30,10 @@ pub mod ListLaws
 pub mod Lookups
 pub mod NewRoleLaws
 pub mod NewSessionLaws
+pub mod NewSessionPlans
 pub mod OrderTurns
 pub mod PartLaws
+pub mod PlainPlans
 pub mod PlanLaws
 pub mod RecordLaws
 pub mod RoomLaws
@@ -49,6 +53,7 @@ pub mod StepLaws
 pub mod StoredLaws
 pub mod TakeLaws
 pub mod TestLaws
+pub mod TakePlans
 pub mod TouchLaws
 pub mod TurnLaws
 pub mod UnionLaws

@@ -13,6 +13,7 @@ pub mod Kept
 pub mod Laws
 pub mod Life
 pub mod Listing
+pub mod PlainPlan
 pub mod Planned
 pub mod RbacState
 pub mod Refusing
