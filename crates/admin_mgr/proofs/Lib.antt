@@ -3,10 +3,12 @@ pub mod BreakLaws
 pub mod ChangeLaws
 pub mod CommitLaws
 pub mod DynamicSetLaws
+pub mod EdgeTurns
 pub mod EmptyLaws
 pub mod EndLaws
 pub mod EndedRows
 pub mod EndingLaws
+pub mod EndingTurns
 pub mod GoodWithLaws
 pub mod HeldLaws
 pub mod InheritLaws
