@@ -9,6 +9,7 @@ pub mod CommandTurns
 pub mod CommitLaws
 pub mod DynamicSetLaws
 pub mod DynamicSetTurns
+pub mod EdgeTurns
 pub mod EmptyLaws
 pub mod EndLaws
 pub mod EndedRows
@@ -16,6 +17,7 @@ pub mod EndingLaws
 pub mod GatherLaws
 pub mod GoodAssignment
 pub mod GoodInheritance
+pub mod EndingTurns
 pub mod GoodWithLaws
 pub mod HeldLaws
 pub mod ImportLaws

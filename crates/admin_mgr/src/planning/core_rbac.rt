@@ -1,7 +1,7 @@
 //! The plans of the commands of core RBAC but for those on sessions, with the locks.
 ghost use Rattle.std.specs.Prelude.{◌≡◌, ◌++◌, None, IfOk, IfErr, OnOk};
 ghost use Rattle.rbac_sets.specs.declared.command.Command.TheVariants.{AddUser, DeleteUser, AddRole, DeleteRole, AddPermObj, DeletePermObj, AddPermission, DeletePermission, GrantPermission, RevokePermission, AssignUser, DeassignUser, LockUserAccount, UnlockUserAccount};
-ghost use Rattle.admin_mgr.specs.Listing.{lock_rows};
+ghost use Rattle.admin_mgr.specs.Listing.{lock_rows, new_lock_rows};
 ghost use Rattle.admin_mgr.specs.Verdict.{verdict};
 ghost use Rattle.admin_mgr.specs.Planned.{IsPlanOf};
 
@@ -217,9 +217,7 @@ pub(crate) fn plan_lock_user_account(
     state.is_good();
     let mut changes = Vec::new(alloc);
     take_ended(alloc, &mut changes, state, Loss::User(user))?;
-    if !state.locked().contains(user) {
-        put(&mut changes, locked_row(alloc, user)?)?;
-    }
+    put_lock(alloc, &mut changes, state, user)?;
     Ok(plain(alloc, changes))
 }
 
@@ -251,6 +249,17 @@ fn take_lock(
 {
     if state.locked().contains(user) {
         take(changes, locked_row(alloc, user)?)?;
+    }
+    Ok(())
+}
+
+// The lock of a user comes, where there is none.
+fn put_lock(alloc: Global, changes: &mut Vec<Change>, state: &State, user: &Name) -> Result<(), Refusal>
+    ensures ok { OnOk result (changes.new.items ≡ changes.old.items ++ new_lock_rows state.now.facts user.now) }
+    ensures cause { IfErr result (λ refusal. refusal ≡ Refusal.Memory) }
+{
+    if !state.locked().contains(user) {
+        put(changes, locked_row(alloc, user)?)?;
     }
     Ok(())
 }
