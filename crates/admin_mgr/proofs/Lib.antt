@@ -14,10 +14,10 @@ pub mod EmptyLaws
 pub mod EndLaws
 pub mod EndedRows
 pub mod EndingLaws
+pub mod EndingTurns
 pub mod GatherLaws
 pub mod GoodAssignment
 pub mod GoodInheritance
-pub mod EndingTurns
 pub mod GoodWithLaws
 pub mod HeldLaws
 pub mod ImportLaws
@@ -54,8 +54,8 @@ pub mod StaticSetTurns
 pub mod StepLaws
 pub mod StoredLaws
 pub mod TakeLaws
-pub mod TestLaws
 pub mod TakePlans
+pub mod TestLaws
 pub mod TouchLaws
 pub mod TurnLaws
 pub mod UnionLaws
