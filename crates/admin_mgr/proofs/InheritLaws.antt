@@ -138,13 +138,13 @@ module _ (S : RbacState) (good : IsGood S) (asc desc : Bytes) (no_back : geq S.e
   sessions_untouched x there none = (all-Decides pair_total pair_exact (λ (session : Pair). keeps_below S.edges (run_of S.active session.0) asc desc (run_of S.dsd.members x.0) x.1) S.sessions).1
       (λ session owner. untouched_keeps (run_of S.active session.0) (run_of S.dsd.members x.0) x.1 (session_before session x there owner) none)
 
-  still_authorized : (user role : Bytes) → IsTrue (is_authorized S user role) → IsTrue (is_authorized (with_edge S asc desc) user role)
+  pub still_authorized : (user role : Bytes) → IsTrue (is_authorized S user role) → IsTrue (is_authorized (with_edge S asc desc) user role)
   unfolding with_edge
   still_authorized user role h =
       authorized_reached (with_edge S asc desc) user role ∙ reached_more (run_of S.assignments user) role
       ∙ or_left (is_reached S.edges (run_of S.assignments user) role) _ (sym (authorized_reached S user role) ∙ h)
 
-  goes_on_below : (p : Pair) → IsTrue (contains S.sessions p) → IsTrue (may_go_on (with_edge S asc desc) p)
+  pub goes_on_below : (p : Pair) → IsTrue (contains S.sessions p) → IsTrue (may_go_on (with_edge S asc desc) p)
   unfolding may_go_on with_edge
   goes_on_below p there = and_from _ _ (and_from _ _ (good.well_formed.sessions p.0 p.1 there) (ap not (good.unlocked p.0 p.1 there)))
       ((all-Decides name_total name_exact (is_authorized (with_edge S asc desc) p.1) (active_roles S p.0)).1 (λ role active.

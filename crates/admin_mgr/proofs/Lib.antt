@@ -9,6 +9,7 @@ pub mod EndLaws
 pub mod EndedRows
 pub mod EndingLaws
 pub mod EndingTurns
+pub mod GoodInheritance
 pub mod GoodWithLaws
 pub mod HeldLaws
 pub mod InheritLaws
