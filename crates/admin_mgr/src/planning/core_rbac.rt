@@ -9,8 +9,8 @@ use crate::plan::Plan;
 use crate::planning::ending::{Loss, take_ended};
 use crate::planning::making::plain;
 use crate::planning::rows::{
-    grant_row, locked_row, name_row, pair_row, put, take, take_grants, take_grants_of_role, take_pairs,
-    take_pairs_with_second,
+    grant_row, locked_row, name_row, pair_row, put, take, take_grants, take_grants_of_role,
+    take_pairs, take_pairs_with_second,
 };
 use crate::state::State;
 use rbac_sets::{Change, Name, Refusal};
@@ -156,7 +156,12 @@ pub(crate) fn plan_assign_user(alloc: Global, state: &State, user: &Name, role: 
 }
 
 // The plan of DeassignUser: sessions of the user may end.
-pub(crate) fn plan_deassign_user(alloc: Global, state: &State, user: &Name, role: &Name) -> Result<Plan, Refusal>
+pub(crate) fn plan_deassign_user(
+    alloc: Global,
+    state: &State,
+    user: &Name,
+    role: &Name,
+) -> Result<Plan, Refusal>
     requires accepted { verdict state.now.facts (DeassignUser user.now role.now) ≡ None }
     ensures planned { IfOk result (IsPlanOf state.now.facts (DeassignUser user.now role.now)) }
     ensures cause { IfErr result (λ refusal. refusal ≡ Refusal.Memory) }
@@ -169,7 +174,11 @@ pub(crate) fn plan_deassign_user(alloc: Global, state: &State, user: &Name, role
 }
 
 // The plan of a lock: the user's sessions end. A user that is locked stays so.
-pub(crate) fn plan_lock_user_account(alloc: Global, state: &State, user: &Name) -> Result<Plan, Refusal>
+pub(crate) fn plan_lock_user_account(
+    alloc: Global,
+    state: &State,
+    user: &Name,
+) -> Result<Plan, Refusal>
     requires accepted { verdict state.now.facts (LockUserAccount user.now) ≡ None }
     ensures planned { IfOk result (IsPlanOf state.now.facts (LockUserAccount user.now)) }
     ensures cause { IfErr result (λ refusal. refusal ≡ Refusal.Memory) }
@@ -194,7 +203,12 @@ pub(crate) fn plan_unlock_user_account(alloc: Global, state: &State, user: &Name
 }
 
 // The lock of a user goes, where there is one.
-fn take_lock(alloc: Global, changes: &mut Vec<Change>, state: &State, user: &Name) -> Result<(), Refusal>
+fn take_lock(
+    alloc: Global,
+    changes: &mut Vec<Change>,
+    state: &State,
+    user: &Name,
+) -> Result<(), Refusal>
     ensures ok { OnOk result (changes.new.items ≡ changes.old.items ++ lock_rows state.now.facts user.now) }
     ensures cause { IfErr result (λ refusal. refusal ≡ Refusal.Memory) }
 {
@@ -205,7 +219,12 @@ fn take_lock(alloc: Global, changes: &mut Vec<Change>, state: &State, user: &Nam
 }
 
 // The lock of a user comes, where there is none.
-fn put_lock(alloc: Global, changes: &mut Vec<Change>, state: &State, user: &Name) -> Result<(), Refusal>
+fn put_lock(
+    alloc: Global,
+    changes: &mut Vec<Change>,
+    state: &State,
+    user: &Name,
+) -> Result<(), Refusal>
     ensures ok { OnOk result (changes.new.items ≡ changes.old.items ++ new_lock_rows state.now.facts user.now) }
     ensures cause { IfErr result (λ refusal. refusal ≡ Refusal.Memory) }
 {
