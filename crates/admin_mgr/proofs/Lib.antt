@@ -8,8 +8,8 @@ pub mod EmptyLaws
 pub mod EndLaws
 pub mod EndedRows
 pub mod EndingLaws
-pub mod EndingTurns
 pub mod GoodInheritance
+pub mod EndingTurns
 pub mod GoodWithLaws
 pub mod HeldLaws
 pub mod InheritLaws
