@@ -35,6 +35,7 @@ use Rattle.admin_mgr.proofs.TurnLaws.{turns_taking, turns_both, AreApart}
 
 -- ---- a set that has a name already, or not
 
+-- what is there may be put
 keeps-insert : (s : Names) (x : Bytes) → contains s x ≡ true → insert s x ≡ s
 keeps-insert s x there = same_set name_total name_exact _ _ (λ y. contains-insert name_total s x y ∙ by y (eq_by_cmp name_cmp y x) refl)
   where
@@ -42,6 +43,7 @@ keeps-insert s x there = same_set name_total name_exact _ _ (λ y. contains-inse
     by y true same = sym (ap (contains s) ((tie_Decides name_total name_exact y x).0 same) ∙ there)
     by y false other = refl
 
+-- what isn't there may be taken
 keeps-remove : (s : Names) (x : Bytes) → contains s x ≡ false → remove s x ≡ s
 keeps-remove s x absent = same_set name_total name_exact _ _ (λ y. contains-remove name_total s x y ∙ by y (eq_by_cmp name_cmp y x) refl)
   where
@@ -121,9 +123,11 @@ module _ (S : RbacState) (good : IsGood S) where
       ended : RbacState
       ended = record (after S (LockUserAccount user)) { locked = S.locked }
 
+      -- the sessions of other users go on
       stays : Pair → Bool
       stays session = not (same_name session.1 user)
 
+      -- the rows of the user's sessions lead there
       steps : Steps taking S (ended_rows S stays) ended
       steps = subst (λ (rows : List Change). Steps taking S rows ended)
           (ended_rows-same S (may_go_on locked) stays (λ session there. goes_on_lock_user_account S good session there user))
@@ -138,6 +142,7 @@ module _ (S : RbacState) (good : IsGood S) where
             | inr none ↦ true≢false (sym none)
           ])
 
+      -- where the user is locked no row comes
       by : (b : Bool) → contains S.locked user ≡ b → Turns S (ended_rows S stays ++ (if b then [] else Put (LockedRow user) ∷ [])) (after S (LockUserAccount user))
       by true there = turns_taking (steps_append steps (steps_to (steps_nothing ended) (λ i. record ended { locked = sym (keeps-insert S.locked user there) i })))
       by false absent = turns_both steps (steps_put_one locked_rows ended user absent) (apart absent)

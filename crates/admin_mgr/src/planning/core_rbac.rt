@@ -254,7 +254,12 @@ fn take_lock(
 }
 
 // The lock of a user comes, where there is none.
-fn put_lock(alloc: Global, changes: &mut Vec<Change>, state: &State, user: &Name) -> Result<(), Refusal>
+fn put_lock(
+    alloc: Global,
+    changes: &mut Vec<Change>,
+    state: &State,
+    user: &Name,
+) -> Result<(), Refusal>
     ensures ok { OnOk result (changes.new.items ≡ changes.old.items ++ new_lock_rows state.now.facts user.now) }
     ensures cause { IfErr result (λ refusal. refusal ≡ Refusal.Memory) }
 {
