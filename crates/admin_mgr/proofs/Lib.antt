@@ -14,7 +14,6 @@ pub mod EmptyLaws
 pub mod EndLaws
 pub mod EndedRows
 pub mod EndingLaws
-pub mod GoodInheritance
 pub mod EndingTurns
 pub mod GatherLaws
 pub mod GoodAssignment
