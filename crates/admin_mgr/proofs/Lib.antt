@@ -5,7 +5,6 @@ pub mod AssignPlans
 pub mod BreakLaws
 pub mod ChangeLaws
 pub mod CheckLaws
-pub mod CommandTurns
 pub mod CommitLaws
 pub mod DynamicSetLaws
 pub mod DynamicSetTurns
