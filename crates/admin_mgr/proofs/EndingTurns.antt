@@ -1,14 +1,13 @@
 -- The changes of the commands of core RBAC after which sessions end turn the rows of a good state into those of the state after.
-use Rattle.std.proofs.Common.{◌≡◌, Bool, true, false, not, ◌&&◌, ◌||◌, List, [], ◌∷◌, ◌++◌, refl, sym, ◌∙◌, ap, subst, inl, inr}
+use Rattle.std.proofs.Common.{◌≡◌, Bool, true, false, not, ◌||◌, List, [], ◌∷◌, ◌++◌, refl, sym, ◌∙◌, ap, subst, inl, inr}
 use Rattle.std.specs.Prelude.{IsTrue, None, filter, if◌then◌else◌}
 use Rattle.std.specs.Ordering.{eq_by_cmp}
 use Rattle.std.proofs.lemmas.Bool.{and_parts, or_cases, true≢false}
 use Rattle.rbac_sets.specs.Sets.{Bytes, Names, Pair, Triple, contains, insert, remove, members, same_name, name_cmp}
 use Rattle.rbac_sets.specs.NameOrder.{name_total, name_exact, pair_total, pair_exact, triple_total, triple_exact}
-use Rattle.rbac_sets.proofs.SetLaws.{contains-insert, contains-remove, tie_Decides, same_set}
+use Rattle.rbac_sets.proofs.SetLaws.{contains-insert, tie_Decides, same_set}
 use Rattle.rbac_sets.specs.declared.command.Command.TheVariants.{DeleteUser, DeleteRole, DeassignUser, LockUserAccount}
 use Rattle.rbac_sets.specs.declared.refusal.Refusal.TheVariants.{NoUser, NoRole, NotAssigned}
-use Rattle.rbac_sets.specs.declared.row.Row.{Row}
 use Rattle.rbac_sets.specs.declared.row.Row.TheVariants.{NameRow, PairRow, LockedRow}
 use Rattle.rbac_sets.specs.declared.row.Change.{Change}
 use Rattle.rbac_sets.specs.declared.row.Change.TheVariants.{Put, Take}
@@ -26,10 +25,10 @@ use Rattle.admin_mgr.specs.Good.{IsGood}
 use Rattle.admin_mgr.proofs.CommitLaws.{same_row-is}
 use Rattle.admin_mgr.proofs.VerdictLaws.{passed, refuse_unless-None}
 use Rattle.admin_mgr.proofs.EndingLaws.{goes_on_delete_user, goes_on_lock_user_account, goes_on_deassign_user, goes_on_delete_role}
-use Rattle.admin_mgr.proofs.RunLaws.{steps_take_one, steps_take_some, steps_put_one}
+use Rattle.admin_mgr.proofs.RunLaws.{steps_take_any, steps_take_one, steps_take_some, steps_put_one}
 use Rattle.admin_mgr.proofs.SetRows.{user_rows, role_rows, locked_rows, assignment_rows, grant_rows}
 use Rattle.admin_mgr.proofs.EndedRows.{steps_ended, steps_end_sessions, ended_rows-same}
-use Rattle.admin_mgr.proofs.StepLaws.Way.{taking, putting}
+use Rattle.admin_mgr.proofs.StepLaws.Way.{taking}
 use Rattle.admin_mgr.proofs.StepLaws.{Steps, steps_nothing, steps_append, steps_to}
 use Rattle.admin_mgr.proofs.TurnLaws.{turns_taking, turns_both, AreApart}
 
@@ -43,21 +42,9 @@ keeps-insert s x there = same_set name_total name_exact _ _ (λ y. contains-inse
     by y true same = sym (ap (contains s) ((tie_Decides name_total name_exact y x).0 same) ∙ there)
     by y false other = refl
 
--- what isn't there may be taken
-keeps-remove : (s : Names) (x : Bytes) → contains s x ≡ false → remove s x ≡ s
-keeps-remove s x absent = same_set name_total name_exact _ _ (λ y. contains-remove name_total s x y ∙ by y (eq_by_cmp name_cmp y x) refl)
-  where
-    by : (y : Bytes) (b : Bool) → eq_by_cmp name_cmp y x ≡ b → (not b && contains s y) ≡ contains s y
-    by y true same = sym (ap (contains s) ((tie_Decides name_total name_exact y x).0 same) ∙ absent)
-    by y false other = refl
-
 -- the lock of a user goes, where there is one
 pub steps_take_lock : (S : RbacState) (user : Bytes) → Steps taking S (lock_rows S user) (record S { locked = remove S.locked user })
-steps_take_lock S user = by (contains S.locked user) refl
-  where
-    by : (b : Bool) → contains S.locked user ≡ b → Steps taking S (if b then Take (LockedRow user) ∷ [] else []) (record S { locked = remove S.locked user })
-    by true there = steps_take_one locked_rows S user there
-    by false absent = steps_to (steps_nothing S) (λ i. record S { locked = sym (keeps-remove S.locked user absent) i })
+steps_take_lock S user = steps_take_any locked_rows name_total name_exact S user
 
 -- ---- the sessions end that lose what their roles stand on
 

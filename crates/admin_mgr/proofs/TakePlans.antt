@@ -1,16 +1,15 @@
 -- The plans for an object, a permission, a grant, a lock, a session or an activated role less: rows are taken.
-use Rattle.std.proofs.Common.{◌≡◌, Bool, true, false, not, ◌&&◌, [], ◌∷◌, refl, sym, ◌∙◌, ap}
-use Rattle.std.specs.Prelude.{IsTrue, None, filter, if◌then◌else◌}
+use Rattle.std.proofs.Common.{◌≡◌, Bool, not, ◌&&◌, ◌∷◌, refl}
+use Rattle.std.specs.Prelude.{IsTrue, None, filter}
 use Rattle.std.specs.declared.cmp.Ordering.{Ordering}
 use Rattle.std.specs.declared.cmp.Ordering.TheVariants.{Less, Equal, Greater}
 use Rattle.std.specs.Ordering.{eq_by_cmp, is_eq, ordering_then}
-use Rattle.rbac_sets.specs.Sets.{Bytes, Names, Triple, name_cmp, pair_cmp, same_name, contains, remove, retain, members}
+use Rattle.rbac_sets.specs.Sets.{Bytes, Triple, name_cmp, pair_cmp, same_name, contains, remove, retain, members}
 use Rattle.rbac_sets.specs.NameOrder.{name_total, name_exact, triple_total, triple_exact}
 use Rattle.rbac_sets.specs.declared.command.Command.TheVariants.{DeletePermObj, DeletePermission, RevokePermission, DeleteSession, DropActiveRole, UnlockUserAccount}
 use Rattle.rbac_sets.specs.declared.refusal.Refusal.TheVariants.{NoObject, NoPermission, NotGranted, NotOwner, NotActive}
-use Rattle.rbac_sets.specs.declared.row.Row.TheVariants.{NameRow, PairRow, GrantRow, LockedRow}
+use Rattle.rbac_sets.specs.declared.row.Row.TheVariants.{NameRow, PairRow, GrantRow}
 use Rattle.rbac_sets.specs.declared.row.Change.TheVariants.{Take}
-use Rattle.rbac_sets.proofs.SetLaws.{contains-remove, tie_Decides, same_set}
 use Rattle.admin_mgr.specs.RbacState.{RbacState}
 use Rattle.admin_mgr.specs.Run.{tally}
 use Rattle.admin_mgr.specs.After.{changed}
@@ -19,9 +18,8 @@ use Rattle.admin_mgr.specs.Good.{IsGood}
 use Rattle.admin_mgr.specs.Listing.{grant_row, take_all, session_rows, lock_rows}
 use Rattle.admin_mgr.proofs.VerdictLaws.{passed, refuse_unless-None}
 use Rattle.admin_mgr.proofs.TakeLaws.{after_delete_perm_obj, good_after_delete_perm_obj, after_delete_permission, good_after_delete_permission, after_revoke_permission, good_after_revoke_permission, after_delete_session, good_after_delete_session, after_drop_active_role, good_after_drop_active_role, after_unlock_user_account, good_after_unlock_user_account}
-use Rattle.admin_mgr.proofs.StepLaws.Way.{taking}
-use Rattle.admin_mgr.proofs.StepLaws.{Steps, steps_nothing, steps_append, steps_to}
-use Rattle.admin_mgr.proofs.RunLaws.{steps_take_one, steps_take_some}
+use Rattle.admin_mgr.proofs.StepLaws.{steps_append, steps_to}
+use Rattle.admin_mgr.proofs.RunLaws.{steps_take_any, steps_take_one, steps_take_some}
 use Rattle.admin_mgr.proofs.SetRows.{object_rows, permission_rows, grant_rows, active_rows, locked_rows}
 use Rattle.admin_mgr.proofs.EndedRows.{steps_end_one}
 use Rattle.admin_mgr.proofs.PlainPlans.{IsDoneBy, IsDoneByOne, done_by, done_by_one}
@@ -117,24 +115,8 @@ done_drop_active_role S good user session role accepted = done_by_one S (DropAct
 
 -- ---- a lock
 
--- names from which one goes that isn't there stay as they are
-remove-other : (names : Names) (name : Bytes) → contains names name ≡ false → names ≡ remove names name
-remove-other names name absent = same_set name_total name_exact names (remove names name) (λ x. by x (eq_by_cmp name_cmp x name) refl ∙ sym (contains-remove name_total names name x))
-  where
-    by : (x : Bytes) (b : Bool) → eq_by_cmp name_cmp x name ≡ b → contains names x ≡ (not b && contains names x)
-    by x true tie = ap (contains names) ((tie_Decides name_total name_exact x name).0 tie) ∙ absent
-    by x false apart = refl
-
--- where there is a lock it goes
-steps_unlock : (S : RbacState) (user : Bytes) → Steps taking S (lock_rows S user) (record S { locked = remove S.locked user })
-steps_unlock S user = by (contains S.locked user) refl
-  where
-    by : (b : Bool) → contains S.locked user ≡ b → Steps taking S (if b then Take (LockedRow user) ∷ [] else []) (record S { locked = remove S.locked user })
-    by true there = steps_take_one locked_rows S user there
-    by false absent = steps_to (steps_nothing S) (λ i. record S { locked = remove-other S.locked user absent i })
-
 -- its row is taken, where there is one
 pub done_unlock_user_account : (S : RbacState) → IsGood S → (user : Bytes) → verdict S (UnlockUserAccount user) ≡ None → IsDoneBy S (UnlockUserAccount user) (lock_rows S user)
 unfolding tally changed
 done_unlock_user_account S good user accepted = done_by S (UnlockUserAccount user) refl (after_unlock_user_account S good user) (good_after_unlock_user_account S good user accepted) refl
-    (steps_unlock S user)
+    (steps_take_any locked_rows name_total name_exact S user)
