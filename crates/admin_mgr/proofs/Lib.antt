@@ -1,3 +1,4 @@
+pub mod AcceptLaws
 pub mod BreakLaws
 pub mod CheckLaws
 pub mod EmptyLaws

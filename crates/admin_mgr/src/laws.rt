@@ -1,5 +1,6 @@
 //! What holds of the sets and relations, however they are stored.
 ghost use Rattle.admin_mgr.specs.Laws.{SubsetForm, RowsDetermine, StaticTest, DynamicTest};
+ghost use Rattle.admin_mgr.specs.Checked.{GoodRowsAreRead};
 
 /// Static separation of duty, by counting each user's roles, says what the standard says: as many
 /// roles of a set as its cardinality, or more, have no authorized user in common.
@@ -23,4 +24,11 @@ pub fn static_test()
 #[tactic(auto, using(crate::proofs::SeparationLaws::dynamic_test))]
 pub fn dynamic_test()
     ensures { DynamicTest }
+{}
+
+/// The rows of a good state, each once and in any order, are refused by `State::of_rows` for want of
+/// memory alone.
+#[tactic(auto, using(crate::proofs::AcceptLaws::good_rows_are_read))]
+pub fn good_rows_are_read()
+    ensures { GoodRowsAreRead }
 {}
