@@ -11,11 +11,11 @@ use Rattle.rbac_sets.specs.declared.refusal.Refusal.{Refusal}
 use Rattle.rbac_sets.specs.declared.refusal.Refusal.TheVariants.{TooMany, Memory, Damaged}
 use Rattle.admin_mgr.specs.Good.{IsWellFormed}
 use Rattle.admin_mgr.specs.Gathered.{Gathered, gathered}
-use Rattle.admin_mgr.specs.Checked.{Either, AreReadable, Passes, RefusesSets, RefusesRows, IsStateOf, first_passed}
+use Rattle.admin_mgr.specs.Checked.{Choose, AreReadable, Passes, RefusesSets, RefusesRows, IsStateOf, first_passed}
 use Rattle.admin_mgr.specs.Tested.{is_complete, have_one_user, has_cardinalities, have_authorized_users, are_kept_statically, are_kept_dynamically, have_unlocked_users, early_refusal, late_refusal}
 use Rattle.admin_mgr.proofs.TestLaws.{complete, one_user, cardinalities_fit, authorized_users_are, static_sets_are, dynamic_sets_are, unlocked_users_are, RefusesOrder}
 use Rattle.admin_mgr.proofs.WithinLimits.{within_limits}
-use Rattle.admin_mgr.proofs.StoredLaws.{rows_are_among, one_cardinality, no_locks}
+use Rattle.admin_mgr.proofs.StoredLaws.{occur_once, rows_are_among, one_cardinality, no_locks}
 
 -- each check before this number passes
 abbrev pub PassBefore : Gathered → ℕ → Type 0
@@ -151,8 +151,7 @@ module _ (version : ℕ) (rows : List Row) (readable : AreReadable version rows)
   unfolding gathered
   is_state_of known all = record {
     version_is = refl;
-    readable = readable;
-    rows_are = rows_are_among version rows readable.known (all 6 (omega arith));
+    stored = record { rows_are = rows_are_among version rows readable.known (all 6 (omega arith)); once = occur_once rows readable.keys };
     good = record {
       well_formed = well_formed version rows readable (λ k less. all k (omega (arith, less)));
       acyclic = all 5 (omega arith);
@@ -173,7 +172,7 @@ pub refuses_rows : (version : ℕ) (rows : List Row) (refusal : Refusal) → Are
 refuses_rows version rows Memory readable told = tt
 refuses_rows version rows (Damaged number) readable told = by (nat_eq number 1) refl
   where
-    by : (b : Bool) → nat_eq number 1 ≡ b → Either b (AreReadable version rows → ⊥) (AreReadable version rows × RefusesSets (gathered version rows) (Damaged number))
+    by : (b : Bool) → nat_eq number 1 ≡ b → Choose b (AreReadable version rows → ⊥) (AreReadable version rows × RefusesSets (gathered version rows) (Damaged number))
     by true e = let least = told.0 in let one = eqb-true number 1 e in absurd (omega (arith, least, one))
     by false e = (readable, told)
 refuses_rows version rows (TooMany kind) readable told = (readable, told)

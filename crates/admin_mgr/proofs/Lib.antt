@@ -1,3 +1,4 @@
+pub mod AcceptLaws
 pub mod AcceptedLaws
 pub mod AdditionLaws
 pub mod AdditionPlans

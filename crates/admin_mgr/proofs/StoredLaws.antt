@@ -11,10 +11,11 @@ use Rattle.rbac_sets.specs.declared.row.Row.{Row}
 use Rattle.rbac_sets.specs.declared.row.Row.TheVariants.{NameRow, PairRow, GrantRow, SetRow, LockedRow}
 use Rattle.role_order.specs.Order.{geq, IsClosure}
 use Rattle.role_order.proofs.Deciding.{geq-Decides}
+use Rattle.admin_mgr.specs.RbacState.{RbacState}
 use Rattle.admin_mgr.specs.Rows.{has_row}
 use Rattle.admin_mgr.specs.Changes.{same_row}
 use Rattle.admin_mgr.specs.Gathered.{gathered, cardinalities_of, locks_of, is_known, is_among, same_key, HaveKeysOnce}
-use Rattle.admin_mgr.specs.Checked.{AreReadable}
+use Rattle.admin_mgr.specs.Checked.{AreReadable, OccurOnce}
 use Rattle.admin_mgr.proofs.KeyLaws.{of_three, of_eight, of_two, names_among, pairs_among, grants_among, cardinalities_among, locks_among}
 
 is_false : (b : Bool) → (b ≡ true → ⊥) → b ≡ false
@@ -35,6 +36,26 @@ unless known k n A rest unknown known_n is = by (nat_eq k n) refl
     by : (b : Bool) → nat_eq k n ≡ b → cond b A rest ≡ false
     by true e = absurd (true≢false (sym known_n ∙ ap known (sym (eqb-true k n e)) ∙ unknown))
     by false e = is
+
+-- a state has no row of an unknown kind
+pub unknown_name : (S : RbacState) (k : ℕ) (x : Bytes) → (nat_le 1 k && nat_le k 3) ≡ false → has_row S (NameRow k x) ≡ false
+unfolding has_row
+unknown_name S k x unknown =
+    let kinds : ℕ → Bool = λ n. nat_le 1 n && nat_le n 3 in
+    unless kinds k 1 _ _ unknown refl (unless kinds k 2 _ _ unknown refl (unless kinds k 3 _ _ unknown refl refl))
+
+pub unknown_pair : (S : RbacState) (k : ℕ) (x y : Bytes) → (nat_le 1 k && nat_le k 8) ≡ false → has_row S (PairRow k x y) ≡ false
+unfolding has_row
+unknown_pair S k x y unknown =
+    let kinds : ℕ → Bool = λ n. nat_le 1 n && nat_le n 8 in
+    unless kinds k 1 _ _ unknown refl (unless kinds k 2 _ _ unknown refl (unless kinds k 3 _ _ unknown refl (unless kinds k 4 _ _ unknown refl
+    (unless kinds k 5 _ _ unknown refl (unless kinds k 6 _ _ unknown refl (unless kinds k 7 _ _ unknown refl (unless kinds k 8 _ _ unknown refl refl)))))))
+
+pub unknown_set : (S : RbacState) (k : ℕ) (x : Bytes) (n : ℕ) → (nat_le 1 k && nat_le k 2) ≡ false → has_row S (SetRow k x n) ≡ false
+unfolding has_row
+unknown_set S k x n unknown =
+    let kinds : ℕ → Bool = λ i. nat_le 1 i && nat_le i 2 in
+    unless kinds k 1 _ _ unknown refl (unless kinds k 2 _ _ unknown refl refl)
 
 known_same : (version : ℕ) (row other : Row) → same_row row other ≡ true → is_known version row ≡ is_known version other
 known_same version (NameRow k a) (NameRow l x) h = ap (λ n. nat_le 1 n && nat_le n 3) (eqb-true k l (and_parts (nat_eq k l) _ h).0)
@@ -73,9 +94,7 @@ module _ (version : ℕ) (rows : List Row) (known : IsTrue (list_all (is_known v
     where
       by : (b : Bool) → (nat_le 1 k && nat_le k 3) ≡ b → has_row (gathered version rows).facts (NameRow k x) ≡ is_among rows (NameRow k x)
       by true known_kind = of_three (λ n. has_row (gathered version rows).facts (NameRow n x) ≡ is_among rows (NameRow n x)) (names_among 1 rows x) (names_among 2 rows x) (names_among 3 rows x) k known_kind
-      by false unknown =
-          let kinds : ℕ → Bool = λ n. nat_le 1 n && nat_le n 3 in
-          unless kinds k 1 _ _ unknown refl (unless kinds k 2 _ _ unknown refl (unless kinds k 3 _ _ unknown refl refl)) ∙ sym (unknown_none (NameRow k x) unknown)
+      by false unknown = unknown_name (gathered version rows).facts k x unknown ∙ sym (unknown_none (NameRow k x) unknown)
   rows_are_among (PairRow k x y) = by (nat_le 1 k && nat_le k 8) refl
     where
       by : (b : Bool) → (nat_le 1 k && nat_le k 8) ≡ b → has_row (gathered version rows).facts (PairRow k x y) ≡ is_among rows (PairRow k x y)
@@ -83,20 +102,48 @@ module _ (version : ℕ) (rows : List Row) (known : IsTrue (list_all (is_known v
           (pairs_among 1 rows x y) (pairs_among 2 rows x y) (pairs_among 3 rows x y)
           (above_pairs (gathered version rows).facts.edges (gathered version rows).pairs closed x y ∙ pairs_among 4 rows x y)
           (pairs_among 5 rows x y) (pairs_among 6 rows x y) (pairs_among 7 rows x y) (pairs_among 8 rows x y) k known_kind
-      by false unknown =
-          let kinds : ℕ → Bool = λ n. nat_le 1 n && nat_le n 8 in
-          unless kinds k 1 _ _ unknown refl (unless kinds k 2 _ _ unknown refl (unless kinds k 3 _ _ unknown refl (unless kinds k 4 _ _ unknown refl
-          (unless kinds k 5 _ _ unknown refl (unless kinds k 6 _ _ unknown refl (unless kinds k 7 _ _ unknown refl (unless kinds k 8 _ _ unknown refl refl)))))))
-          ∙ sym (unknown_none (PairRow k x y) unknown)
+      by false unknown = unknown_pair (gathered version rows).facts k x y unknown ∙ sym (unknown_none (PairRow k x y) unknown)
   rows_are_among (GrantRow x y z) = grants_among rows x y z
   rows_are_among (SetRow k x n) = by (nat_le 1 k && nat_le k 2) refl
     where
       by : (b : Bool) → (nat_le 1 k && nat_le k 2) ≡ b → has_row (gathered version rows).facts (SetRow k x n) ≡ is_among rows (SetRow k x n)
       by true known_kind = of_two (λ i. has_row (gathered version rows).facts (SetRow i x n) ≡ is_among rows (SetRow i x n)) (cardinalities_among 1 rows x n) (cardinalities_among 2 rows x n) k known_kind
-      by false unknown =
-          let kinds : ℕ → Bool = λ i. nat_le 1 i && nat_le i 2 in
-          unless kinds k 1 _ _ unknown refl (unless kinds k 2 _ _ unknown refl refl) ∙ sym (unknown_none (SetRow k x n) unknown)
+      by false unknown = unknown_set (gathered version rows).facts k x n unknown ∙ sym (unknown_none (SetRow k x n) unknown)
   rows_are_among (LockedRow x) = locks_among rows x
+
+-- ---- rows that occur once
+
+-- rows of two keys are two
+other_row : (row other : Row) → same_key row other ≡ false → same_row row other ≡ false
+other_row (NameRow k a) other apart = apart
+other_row (PairRow k a b) other apart = apart
+other_row (GrantRow a b c) other apart = apart
+other_row (SetRow k a m) (NameRow l x) apart = apart
+other_row (SetRow k a m) (PairRow l x y) apart = apart
+other_row (SetRow k a m) (GrantRow x y z) apart = apart
+other_row (SetRow k a m) (SetRow l x n) apart = is_false _ (λ same.
+    (let parts = and_parts (nat_eq k l) (eq_by_cmp cardinality_cmp (x, n) (a, m)) same in
+    true≢false (sym (and_from _ _ parts.0 ((tie_Decides name_total name_exact x a).1 (ap (λ (q : Cardinality). q.0) ((tie_Decides cardinality_total cardinality_exact (x, n) (a, m)).0 parts.1)))) ∙ apart)))
+other_row (SetRow k a m) (LockedRow x) apart = apart
+other_row (LockedRow a) other apart = apart
+
+or_parts : (a b : Bool) → (a || b) ≡ false → (a ≡ false) × (b ≡ false)
+or_parts true b h = absurd (true≢false h)
+or_parts false b h = (refl, h)
+
+neither : (a b : Bool) → a ≡ false → b ≡ false → (a || b) ≡ false
+neither true b h k = absurd (true≢false h)
+neither false b h k = k
+
+none_other : (row : Row) (rows : List Row) → list_any (λ (other : Row). same_key row other) rows ≡ false → list_any (λ (other : Row). same_row row other) rows ≡ false
+none_other row [] free = refl
+none_other row (first ∷ rows) free =
+    let parts = or_parts (same_key row first) (list_any (λ (other : Row). same_key row other) rows) free in
+    neither _ _ (other_row row first parts.0) (none_other row rows parts.1)
+
+pub occur_once : (rows : List Row) → HaveKeysOnce rows → OccurOnce rows
+occur_once [] keys = tt
+occur_once (row ∷ rows) keys = (none_other row rows keys.0, occur_once rows keys.1)
 
 -- ---- a set has one cardinality
 

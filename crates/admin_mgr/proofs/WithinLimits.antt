@@ -7,6 +7,7 @@ use Rattle.rbac_sets.specs.NameOrder.{name_total, name_exact, pair_total, pair_e
 use Rattle.rbac_sets.proofs.SetLaws.{any-Decides, seconds-Decides}
 use Rattle.rbac_sets.proofs.Members.{a_member}
 use Rattle.rbac_sets.specs.Kind.{limit_of}
+use Rattle.rbac_sets.specs.declared.kind.Kind.{Kind}
 use Rattle.rbac_sets.specs.declared.kind.Kind.TheVariants.{User, Role, Object, Permission, Grant, Assignment, Edge, SsdSet, DsdSet, Member, Session, ActiveRole}
 use Rattle.admin_mgr.specs.RbacState.{RbacState}
 use Rattle.admin_mgr.specs.Good.{IsWithinLimits}
@@ -93,3 +94,42 @@ within_limits S none =
       sessions = ltb-false (limit_of Session S.version) (len S.sessions) rest.1.1.0;
       active_roles = few_behind (limit_of ActiveRole S.version) S.active rest.1.1.1.0;
     }
+
+pub no_limit_passed : (S : RbacState) (kind : Kind) → IsWithinLimits S → first_passed S ≡ Some kind → ⊥
+no_limit_passed S kind within found = one_found (is_passed S) limited_kinds kind found (
+  not_more (limit_of User S.version) (len S.users) within.users,
+  (
+    not_more (limit_of Role S.version) (len S.roles) within.roles,
+    (
+      not_more (limit_of Object S.version) (len S.objects) within.objects,
+      (
+        not_more (limit_of Permission S.version) (len S.permissions) within.permissions,
+        (
+          not_more (limit_of Grant S.version) (len S.grants) within.grants,
+          (
+            not_more (limit_of Assignment S.version) (len S.assignments) within.assignments,
+            (
+              not_more (limit_of Edge S.version) (len S.edges) within.edges,
+              (
+                not_more (limit_of SsdSet S.version) (len S.ssd.cardinalities) within.ssd_sets,
+                (
+                  not_more (limit_of DsdSet S.version) (len S.dsd.cardinalities) within.dsd_sets,
+                  (
+                    neither _ _ (behind_few (limit_of Member S.version) S.ssd.members within.ssd_members) (behind_few (limit_of Member S.version) S.dsd.members within.dsd_members),
+                    (
+                      not_more (limit_of Session S.version) (len S.sessions) within.sessions,
+                      (
+                        behind_few (limit_of ActiveRole S.version) S.active within.active_roles,
+                        tt,
+                      ),
+                    ),
+                  ),
+                ),
+              ),
+            ),
+          ),
+        ),
+      ),
+    ),
+  ),
+)

@@ -1,6 +1,6 @@
 -- Which rows are those of a good state, and what is answered on others.
 use Rattle.std.specs.Prelude.{◌≡◌, ℕ, ◌<◌, ◌≤◌, Bool, true, false, ◌||◌, nat_eq, nat_lt, List, [], ◌∷◌, Option, Some, find, IsTrue}
-use Rattle.std.specs.List.{list_all}
+use Rattle.std.specs.List.{list_any, list_all}
 use Rattle.rbac_sets.specs.Sets.{Bytes, Names, Pair, Pairs, contains, len, any, seconds}
 use Rattle.rbac_sets.specs.Kind.{limit_of}
 use Rattle.rbac_sets.specs.declared.row.Row.{Row}
@@ -11,6 +11,7 @@ use Rattle.rbac_sets.specs.declared.refusal.Refusal.TheVariants.{TooMany, Memory
 use Rattle.role_order.specs.Order.{IsAcyclic, IsClosure}
 use Rattle.admin_mgr.specs.RbacState.{RbacState, Separation, members_of, has_set, has_session}
 use Rattle.admin_mgr.specs.Rows.{has_row}
+use Rattle.admin_mgr.specs.Changes.{same_row}
 use Rattle.admin_mgr.specs.Authorization.{is_authorized}
 use Rattle.admin_mgr.specs.Good.{IsGood, IsWithinLimits, IsStaticallySeparated, IsDynamicallySeparated}
 use Rattle.admin_mgr.specs.Gathered.{Gathered, gathered, is_among, is_known, HaveKeysOnce}
@@ -85,23 +86,23 @@ abbrev pub HaveUnlockedUsers : RbacState → Type 0
 HaveUnlockedUsers S = (session user : Bytes) → IsTrue (contains S.sessions (session, user)) → contains S.locked user ≡ false
 
 -- the first statement where the test holds, and else the second
-abbrev pub Either : Bool → Type 0 → Type 0 → Type 0
-Either true Then Else = Then
-Either false Then Else = Else
+abbrev pub Choose : Bool → Type 0 → Type 0 → Type 0
+Choose true Then Else = Then
+Choose false Then Else = Else
 
 -- the check of this number
 abbrev pub Passes : Gathered → ℕ → Type 0
 Passes g number =
-    Either (nat_eq number 2) (IsWithinLimits g.facts)
-    (Either (nat_eq number 3) (IsComplete g)
-    (Either (nat_eq number 4) (HaveOneUser g.facts)
-    (Either (nat_eq number 5) (IsAcyclic g.facts.edges)
-    (Either (nat_eq number 6) (IsClosure g.facts.edges g.pairs)
-    (Either (nat_eq number 7) (HasCardinalities g.facts.ssd × HasCardinalities g.facts.dsd)
-    (Either (nat_eq number 8) (HaveAuthorizedUsers g.facts)
-    (Either (nat_eq number 9) (IsStaticallySeparated g.facts)
-    (Either (nat_eq number 10) (IsDynamicallySeparated g.facts)
-    (Either (nat_eq number 11) (HaveUnlockedUsers g.facts) (Unit {0}))))))))))
+    Choose (nat_eq number 2) (IsWithinLimits g.facts)
+    (Choose (nat_eq number 3) (IsComplete g)
+    (Choose (nat_eq number 4) (HaveOneUser g.facts)
+    (Choose (nat_eq number 5) (IsAcyclic g.facts.edges)
+    (Choose (nat_eq number 6) (IsClosure g.facts.edges g.pairs)
+    (Choose (nat_eq number 7) (HasCardinalities g.facts.ssd × HasCardinalities g.facts.dsd)
+    (Choose (nat_eq number 8) (HaveAuthorizedUsers g.facts)
+    (Choose (nat_eq number 9) (IsStaticallySeparated g.facts)
+    (Choose (nat_eq number 10) (IsDynamicallySeparated g.facts)
+    (Choose (nat_eq number 11) (HaveUnlockedUsers g.facts) (Unit {0}))))))))))
 
 -- ---- the answers
 
@@ -122,12 +123,25 @@ RefusesSets g _ = ⊥
 abbrev pub RefusesRows : ℕ → List Row → Refusal → Type 0
 RefusesRows version rows Memory = Unit {0}
 RefusesRows version rows (Damaged number) =
-    Either (nat_eq number 1) (AreReadable version rows → ⊥) (AreReadable version rows × RefusesSets (gathered version rows) (Damaged number))
+    Choose (nat_eq number 1) (AreReadable version rows → ⊥) (AreReadable version rows × RefusesSets (gathered version rows) (Damaged number))
 RefusesRows version rows refusal = AreReadable version rows × RefusesSets (gathered version rows) refusal
 
--- the state has these rows and no others, and none occurs twice
+-- no row occurs twice
+abbrev pub OccurOnce : List Row → Type 0
+OccurOnce [] = Unit {0}
+OccurOnce (row ∷ rows) = (list_any (λ (other : Row). same_row row other) rows ≡ false) × OccurOnce rows
+
+-- the rows are those of the state, each once
+pub record AreRowsOf (S : RbacState) (rows : List Row) : Type 0 where
+  pub rows_are : (row : Row) → has_row S row ≡ is_among rows row
+  pub once : OccurOnce rows
+
+-- the state is the good one of this version that has these rows
 pub record IsStateOf (version : ℕ) (rows : List Row) (S : RbacState) : Type 0 where
   pub version_is : S.version ≡ version
-  pub readable : AreReadable version rows
-  pub rows_are : (row : Row) → has_row S row ≡ is_among rows row
+  pub stored : AreRowsOf S rows
   pub good : IsGood S
+
+-- the rows of a good state are refused for want of memory alone
+abbrev pub GoodRowsAreRead : Type 0
+GoodRowsAreRead = (S : RbacState) (rows : List Row) (refusal : Refusal) → IsGood S → AreRowsOf S rows → RefusesRows S.version rows refusal → refusal ≡ Memory
