@@ -21,17 +21,20 @@ use Rattle.admin_mgr.proofs.StoredLaws.{occur_once, rows_are_among, one_cardinal
 abbrev pub PassBefore : Gathered → ℕ → Type 0
 PassBefore g number = (earlier : ℕ) → earlier < number → Passes g earlier
 
+-- there is no check before the second but the one that the rows can be read
 pub before_two : (g : Gathered) → PassBefore g 2
 before_two g zero less = tt
 before_two g (suc zero) less = tt
 before_two g (suc (suc k)) less = absurd (omega (arith, less))
 
+-- one check more
 pub before_next : (g : Gathered) (number : ℕ) → PassBefore g number → Passes g number → PassBefore g (number + 1)
 before_next g number before passes earlier less = elim (cases_lt earlier number) [
   | inl sooner ↦ before earlier sooner
   | inr no_sooner ↦ let same : number ≡ earlier = omega (arith, less, no_sooner) in subst (Passes g) same passes
 ]
 
+-- equal answers are of equal refusals
 some_is : {X : Type 0} (x y : X) → ◌≡◌ {A = Option X} (Some x) (Some y) → x ≡ y
 some_is {X} x y h = ap at h
   where
@@ -53,16 +56,20 @@ by_tests false rest refusal h = cc
 
 -- ---- before the hierarchy is asked
 
+-- the refusal by the first limit that is passed, or else by the checks behind it
 abbrev early : Gathered → Option Kind → Option Refusal
 early g (Some kind) = Some (TooMany kind)
 early g None = cond (is_complete g) (cond (have_one_user g.facts) None (Some (Damaged 4))) (Some (Damaged 3))
 
+-- the limits are asked first
 early_is : (g : Gathered) (found : Option Kind) → first_passed g.facts ≡ found → early_refusal g ≡ early g found
 early_is g found is = ap (early g) is
 
+-- no refusal is none
 none_refused : {X : Type 0} (x : X) {A : Type 0} → ◌≡◌ {A = Option X} None (Some x) → A
 none_refused x h = cc
 
+-- what is refused early is the first failure
 pub early_told : (g : Gathered) (refusal : Refusal) → early_refusal g ≡ Some refusal → RefusesSets g refusal
 early_told g refusal h = by (first_passed g.facts) refl
   where
@@ -72,6 +79,7 @@ early_told g refusal h = by (first_passed g.facts) refl
         (λ before. by_test g 4 (have_one_user g.facts) None refusal (omega arith) before (one_user g.facts) (λ _ none. none_refused refusal none))
         (sym (early_is g None is) ∙ h)
 
+-- where nothing is refused early, four checks pass
 pub early_passed : (g : Gathered) → early_refusal g ≡ None → PassBefore g 5
 early_passed g h = by (first_passed g.facts) refl
   where
@@ -84,6 +92,7 @@ early_passed g h = by (first_passed g.facts) refl
 
 -- ---- the hierarchy
 
+-- what the hierarchy refuses is the first failure
 pub order_told : (g : Gathered) (refusal : Refusal) → PassBefore g 5 → RefusesOrder g refusal → RefusesSets g refusal
 order_told g refusal before (inl memory) = subst (RefusesSets g) (sym memory) tt
 order_told g refusal before (inr (inl five)) = subst (RefusesSets g) (sym five.0) (omega arith, record { passed = before; failed = five.1 })
@@ -114,10 +123,12 @@ well_formed version rows readable before =
       dsd = record { members = all.dsd; cardinality = numbers.1; one_cardinality = one_cardinality 2 rows readable.keys };
     }
 
+-- two tests at once
 both : (A B : Bool) {P Q : Type 0} → IsTrue A ↔ P → IsTrue B ↔ Q → IsTrue (A && B) ↔ (P × Q)
 both A B p q = (λ h. (let parts = and_parts A B h in (p.0 parts.0, q.0 parts.1)), λ h. and_from _ _ (p.1 h.0) (q.1 h.1))
 
 module _ (version : ℕ) (rows : List Row) (readable : AreReadable version rows) where
+  -- what is refused late is the first failure
   pub late_told : (refusal : Refusal) → PassBefore (gathered version rows) 7 → late_refusal (gathered version rows).facts ≡ Some refusal → RefusesSets (gathered version rows) refusal
   late_told refusal before h =
       let g = gathered version rows in
@@ -130,6 +141,7 @@ module _ (version : ℕ) (rows : List Row) (readable : AreReadable version rows)
       (λ _ none. none_refused refusal none)))))
       h
 
+  -- where nothing is refused late, all checks pass
   pub late_passed : PassBefore (gathered version rows) 7 → late_refusal (gathered version rows).facts ≡ None → PassBefore (gathered version rows) 12
   late_passed before h =
       let g = gathered version rows in

@@ -10,17 +10,14 @@ use Rattle.std.proofs.lemmas.Bool.{or_cases, or_left, or_right, and_parts, leb-t
 use Rattle.rbac_sets.specs.Sets.{Bytes, Cardinality, Cardinalities, cardinality_cmp, any, contains, from_list, same_name, name_cmp, pair_cmp, triple_cmp}
 use Rattle.rbac_sets.specs.NameOrder.{name_total, name_exact, pair_total, triple_total, cardinality_total, cardinality_exact}
 use Rattle.rbac_sets.proofs.SetLaws.{any-Decides, contains-from_list, tie_Decides}
-use Rattle.role_order.proofs.Members.{same_name-flips}
+use Rattle.role_order.proofs.Members.{is_false, same_name-flips}
 use Rattle.rbac_sets.specs.declared.row.Row.{Row}
 use Rattle.rbac_sets.specs.declared.row.Row.TheVariants.{NameRow, PairRow, GrantRow, SetRow, LockedRow}
 use Rattle.admin_mgr.specs.Changes.{same_row}
 use Rattle.admin_mgr.specs.Gathered.{Gathered, gathered, has_key, names_of, pairs_of, grants_of, cardinalities_of, locks_of, is_known, is_among, same_key}
 
-is_false : (b : Bool) → (b ≡ true → ⊥) → b ≡ false
-is_false true h = absurd (h refl)
-is_false false h = refl
-
-same_test : (a b : Bool) → (IsTrue a → IsTrue b) → (IsTrue b → IsTrue a) → a ≡ b
+-- tests that hold together are one
+pub same_test : (a b : Bool) → (IsTrue a → IsTrue b) → (IsTrue b → IsTrue a) → a ≡ b
 same_test true b there back = sym (there refl)
 same_test false true there back = back refl
 same_test false false there back = refl
@@ -31,10 +28,12 @@ no_cardinality cardinalities name n none = is_false _ (λ there. true≢false (
     sym ((any-Decides cardinality_total cardinality_exact (λ (entry : Cardinality). same_name entry.0 name) cardinalities).1 ((name, n), there, (tie_Decides name_total name_exact name name).1 refl))
     ∙ none))
 
+-- a static set of no key has no cardinality
 pub no_static_key : (g : Gathered) (name : Bytes) (n : ℕ) → has_key g (SetRow 1 name n) ≡ false → contains g.facts.ssd.cardinalities (name, n) ≡ false
 unfolding has_key
 no_static_key g name n none = no_cardinality g.facts.ssd.cardinalities name n none
 
+-- nor has a dynamic one
 pub no_dynamic_key : (g : Gathered) (name : Bytes) (n : ℕ) → has_key g (SetRow 2 name n) ≡ false → contains g.facts.dsd.cardinalities (name, n) ≡ false
 unfolding has_key
 no_dynamic_key g name n none = no_cardinality g.facts.dsd.cardinalities name n none
@@ -51,6 +50,7 @@ of_three P one two three (suc (suc (suc (suc k)))) h =
     let most : nat_le (suc (suc (suc (suc k)))) 3 ≡ true = (and_parts (nat_le 1 (suc (suc (suc (suc k))))) (nat_le (suc (suc (suc (suc k)))) 3) h).1 in
     let le = leb-true (suc (suc (suc (suc k)))) 3 most in absurd (omega (arith, le))
 
+-- a number from one to two
 pub of_two : (P : ℕ → Type 0) → P 1 → P 2 → (k : ℕ) → (nat_le 1 k && nat_le k 2) ≡ true → P k
 of_two P one two zero h = cc
 of_two P one two (suc zero) h = one
@@ -59,6 +59,7 @@ of_two P one two (suc (suc (suc k))) h =
     let most : nat_le (suc (suc (suc k))) 2 ≡ true = (and_parts (nat_le 1 (suc (suc (suc k)))) (nat_le (suc (suc (suc k))) 2) h).1 in
     let le = leb-true (suc (suc (suc k))) 2 most in absurd (omega (arith, le))
 
+-- a number from one to eight
 pub of_eight : (P : ℕ → Type 0) → P 1 → P 2 → P 3 → P 4 → P 5 → P 6 → P 7 → P 8 → (k : ℕ) → (nat_le 1 k && nat_le k 8) ≡ true → P k
 of_eight P p1 p2 p3 p4 p5 p6 p7 p8 zero h = cc
 of_eight P p1 p2 p3 p4 p5 p6 p7 p8 (suc zero) h = p1
@@ -75,10 +76,12 @@ of_eight P p1 p2 p3 p4 p5 p6 p7 p8 (suc (suc (suc (suc (suc (suc (suc (suc (suc 
 
 -- ---- membership
 
+-- a test of a list that begins with an item where another test holds
 one_more : {K : Type 0} (p : K → Bool) (b : Bool) (x : K) (xs : List K) (rest : Bool) → list_any p xs ≡ rest → list_any p (cond b (x ∷ xs) xs) ≡ (b && p x || rest)
 one_more p true x xs rest is = ap (λ r. p x || r) is
 one_more p false x xs rest is = is
 
+-- a name is listed exactly if its row is among the rows
 any_names : (kind : ℕ) (x : Bytes) (rows : List Row) → list_any (same_name x) (names_of kind rows) ≡ is_among rows (NameRow kind x)
 any_names kind x [] = refl
 any_names kind x (NameRow k a ∷ rows) = one_more (same_name x) (nat_eq k kind) a (names_of kind rows) _ (any_names kind x rows)
@@ -87,6 +90,7 @@ any_names kind x (GrantRow a b c ∷ rows) = any_names kind x rows
 any_names kind x (SetRow k a n ∷ rows) = any_names kind x rows
 any_names kind x (LockedRow a ∷ rows) = any_names kind x rows
 
+-- so is a pair
 any_pairs : (kind : ℕ) (x y : Bytes) (rows : List Row) → list_any (eq_by_cmp pair_cmp (x, y)) (pairs_of kind rows) ≡ is_among rows (PairRow kind x y)
 any_pairs kind x y [] = refl
 any_pairs kind x y (NameRow k a ∷ rows) = any_pairs kind x y rows
@@ -95,6 +99,7 @@ any_pairs kind x y (GrantRow a b c ∷ rows) = any_pairs kind x y rows
 any_pairs kind x y (SetRow k a n ∷ rows) = any_pairs kind x y rows
 any_pairs kind x y (LockedRow a ∷ rows) = any_pairs kind x y rows
 
+-- so is a grant
 any_grants : (x y z : Bytes) (rows : List Row) → list_any (eq_by_cmp triple_cmp (x, y, z)) (grants_of rows) ≡ is_among rows (GrantRow x y z)
 any_grants x y z [] = refl
 any_grants x y z (NameRow k a ∷ rows) = any_grants x y z rows
@@ -103,6 +108,7 @@ any_grants x y z (GrantRow a b c ∷ rows) = ap (λ r. eq_by_cmp triple_cmp (x, 
 any_grants x y z (SetRow k a n ∷ rows) = any_grants x y z rows
 any_grants x y z (LockedRow a ∷ rows) = any_grants x y z rows
 
+-- so is a cardinality
 any_cardinalities : (kind : ℕ) (x : Bytes) (n : ℕ) (rows : List Row) → list_any (eq_by_cmp cardinality_cmp (x, n)) (cardinalities_of kind rows) ≡ is_among rows (SetRow kind x n)
 any_cardinalities kind x n [] = refl
 any_cardinalities kind x n (NameRow k a ∷ rows) = any_cardinalities kind x n rows
@@ -111,6 +117,7 @@ any_cardinalities kind x n (GrantRow a b c ∷ rows) = any_cardinalities kind x 
 any_cardinalities kind x n (SetRow k a m ∷ rows) = one_more (eq_by_cmp cardinality_cmp (x, n)) (nat_eq k kind) (a, m) (cardinalities_of kind rows) _ (any_cardinalities kind x n rows)
 any_cardinalities kind x n (LockedRow a ∷ rows) = any_cardinalities kind x n rows
 
+-- so is a lock
 any_locks : (x : Bytes) (rows : List Row) → list_any (same_name x) (locks_of rows) ≡ is_among rows (LockedRow x)
 any_locks x [] = refl
 any_locks x (NameRow k a ∷ rows) = any_locks x rows
@@ -123,20 +130,25 @@ any_locks x (LockedRow a ∷ rows) = ap (λ r. same_name x a || r) (any_locks x 
 pub names_among : (kind : ℕ) (rows : List Row) (x : Bytes) → contains (from_list {R = name_cmp} (names_of kind rows)) x ≡ is_among rows (NameRow kind x)
 names_among kind rows x = contains-from_list name_total (names_of kind rows) x ∙ any_names kind x rows
 
+-- a pair
 pub pairs_among : (kind : ℕ) (rows : List Row) (x y : Bytes) → contains (from_list {R = pair_cmp} (pairs_of kind rows)) (x, y) ≡ is_among rows (PairRow kind x y)
 pairs_among kind rows x y = contains-from_list pair_total (pairs_of kind rows) (x, y) ∙ any_pairs kind x y rows
 
+-- a grant
 pub grants_among : (rows : List Row) (x y z : Bytes) → contains (from_list {R = triple_cmp} (grants_of rows)) (x, y, z) ≡ is_among rows (GrantRow x y z)
 grants_among rows x y z = contains-from_list triple_total (grants_of rows) (x, y, z) ∙ any_grants x y z rows
 
+-- a cardinality
 pub cardinalities_among : (kind : ℕ) (rows : List Row) (x : Bytes) (n : ℕ) → contains (from_list {R = cardinality_cmp} (cardinalities_of kind rows)) (x, n) ≡ is_among rows (SetRow kind x n)
 cardinalities_among kind rows x n = contains-from_list cardinality_total (cardinalities_of kind rows) (x, n) ∙ any_cardinalities kind x n rows
 
+-- a lock
 pub locks_among : (rows : List Row) (x : Bytes) → contains (from_list {R = name_cmp} (locks_of rows)) x ≡ is_among rows (LockedRow x)
 locks_among rows x = contains-from_list name_total (locks_of rows) x ∙ any_locks x rows
 
 -- ---- keys
 
+-- a row that is no cardinality is its own key
 key_of_row : (row : Row) → ((kind : ℕ) (name : Bytes) (n : ℕ) → row ≡ SetRow kind name n → ⊥) → (other : Row) → same_row other row ≡ same_key other row
 key_of_row row plain (NameRow k a) = refl
 key_of_row row plain (PairRow k a b) = refl
@@ -148,10 +160,12 @@ key_of_row (SetRow k x m) plain (SetRow l a n) = absurd (plain k x m refl)
 key_of_row (LockedRow x) plain (SetRow l a n) = refl
 key_of_row row plain (LockedRow a) = refl
 
+-- so it is among the rows exactly if its key is
 among_by_key : (row : Row) → ((kind : ℕ) (name : Bytes) (n : ℕ) → row ≡ SetRow kind name n → ⊥) → (rows : List Row) → is_among rows row ≡ list_any (λ (other : Row). same_key other row) rows
 among_by_key row plain [] = refl
 among_by_key row plain (first ∷ rows) = λ i. key_of_row row plain first i || among_by_key row plain rows i
 
+-- a set is listed exactly if its key is
 any_sets : (kind : ℕ) (x : Bytes) (n : ℕ) (rows : List Row) → list_any (λ (entry : Cardinality). same_name entry.0 x) (cardinalities_of kind rows) ≡ list_any (λ (other : Row). same_key other (SetRow kind x n)) rows
 any_sets kind x n [] = refl
 any_sets kind x n (NameRow k a ∷ rows) = any_sets kind x n rows
@@ -163,6 +177,7 @@ any_sets kind x n (SetRow k a m ∷ rows) =
 any_sets kind x n (LockedRow a ∷ rows) = any_sets kind x n rows
 
 module _ {K : Type 0} {R : K → K → Ordering} (total : IsTotalOrder R) (exact : IsAntisymmetric R) where
+  -- a list that passes a test has an item that does
   one_of : (p : K → Bool) (xs : List K) → list_any p xs ≡ true → (x : K) × (list_any (eq_by_cmp R x) xs ≡ true) × (p x ≡ true)
   one_of p [] h = absurd (true≢false (sym h))
   one_of p (x ∷ xs) h = elim (or_cases (p x) (list_any p xs) h) [
@@ -170,6 +185,7 @@ module _ {K : Type 0} {R : K → K → Ordering} (total : IsTotalOrder R) (exact
     | inr rest ↦ let found = one_of p xs rest in (found.0, or_right _ _ found.1, found.2)
   ]
 
+  -- a list with an item that passes a test passes it
   some_of : (p : K → Bool) (xs : List K) (x : K) → list_any (eq_by_cmp R x) xs ≡ true → p x ≡ true → list_any p xs ≡ true
   some_of p [] x h px = absurd (true≢false (sym h))
   some_of p (y ∷ ys) x h px = elim (or_cases (eq_by_cmp R x y) (list_any (eq_by_cmp R x) ys) h) [

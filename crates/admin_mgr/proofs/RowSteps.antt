@@ -13,10 +13,12 @@ use Rattle.admin_mgr.proofs.KeyLaws.{key_among}
 abbrev pub SoFar : ℕ → List Row → List Row → List Row → Gathered → Type 0
 SoFar version rows done rest made = (rows ≡ done ++ rest) × (made ≡ gathered version done) × AreReadable version done
 
+-- rows make no other version
 pub version-gathered : (version : ℕ) (rows : List Row) → (gathered version rows).facts.version ≡ version
 unfolding gathered
 version-gathered version rows = refl
 
+-- before the first row
 pub none_so_far : (version : ℕ) (rows : List Row) (made : Gathered) → made ≡ gathered version [] → SoFar version rows [] rows made
 none_so_far version rows made is = (refl, is, readable_none version)
 
@@ -25,6 +27,7 @@ abbrev pub fits : Gathered → Row → Bool
 fits made row = is_known made.facts.version row && not (has_key made row)
 
 module _ (version : ℕ) (rows done rest left : List Row) (row : Row) (made : Gathered) (so_far : SoFar version rows done left made) (next : left ≡ row ∷ rest) where
+  -- the version stays the same
   version_is : made.facts.version ≡ version
   version_is = ap (λ (g : Gathered). g.facts.version) so_far.1 ∙ version-gathered version done
 

@@ -1,6 +1,6 @@
 -- Readable rows: what their sets have, and what they have not.
-use Rattle.std.proofs.Common.{◌≡◌, ℕ, Bool, true, false, cond, not, ◌&&◌, ◌||◌, List, [], ◌∷◌, refl, sym, ◌∙◌, ap, subst, inl, inr}
-use Rattle.std.specs.Prelude.{IsTrue, nat_eq, nat_le, if◌then◌else◌}
+use Rattle.std.proofs.Common.{◌≡◌, ◌≢◌, ℕ, Bool, true, false, cond, not, ◌&&◌, ◌||◌, List, [], ◌∷◌, refl, sym, ◌∙◌, ap, subst, inl, inr}
+use Rattle.std.specs.Prelude.{IsTrue, ◌↔◌, nat_eq, nat_le, if◌then◌else◌}
 use Rattle.std.specs.List.{list_any, list_all}
 use Rattle.std.specs.Ordering.{eq_by_cmp}
 use Rattle.std.proofs.lemmas.Bool.{or_cases, or_left, or_right, and_parts, and_from, eqb-true, eq-eqb, not-true, true≢false}
@@ -9,23 +9,16 @@ use Rattle.rbac_sets.specs.NameOrder.{name_total, name_exact, cardinality_total,
 use Rattle.rbac_sets.proofs.SetLaws.{contains-from_list, tie_Decides}
 use Rattle.rbac_sets.specs.declared.row.Row.{Row}
 use Rattle.rbac_sets.specs.declared.row.Row.TheVariants.{NameRow, PairRow, GrantRow, SetRow, LockedRow}
-use Rattle.role_order.specs.Order.{geq, IsClosure}
+use Rattle.role_order.specs.Order.{Geq, geq, IsClosure}
 use Rattle.role_order.proofs.Deciding.{geq-Decides}
+use Rattle.role_order.proofs.Members.{is_false}
 use Rattle.admin_mgr.specs.RbacState.{RbacState}
 use Rattle.admin_mgr.specs.Rows.{has_row}
 use Rattle.admin_mgr.specs.Changes.{same_row}
 use Rattle.admin_mgr.specs.Gathered.{gathered, cardinalities_of, locks_of, is_known, is_among, same_key, HaveKeysOnce}
 use Rattle.admin_mgr.specs.Checked.{AreReadable, OccurOnce}
-use Rattle.admin_mgr.proofs.KeyLaws.{of_three, of_eight, of_two, names_among, pairs_among, grants_among, cardinalities_among, locks_among}
-
-is_false : (b : Bool) → (b ≡ true → ⊥) → b ≡ false
-is_false true h = absurd (h refl)
-is_false false h = refl
-
-same_test : (a b : Bool) → (IsTrue a → IsTrue b) → (IsTrue b → IsTrue a) → a ≡ b
-same_test true b there back = sym (there refl)
-same_test false true there back = back refl
-same_test false false there back = refl
+use Rattle.admin_mgr.proofs.GatherLaws.{or_parts, neither}
+use Rattle.admin_mgr.proofs.KeyLaws.{same_test, of_three, of_eight, of_two, names_among, pairs_among, grants_among, cardinalities_among, locks_among}
 
 -- ---- a row that the version doesn't know
 
@@ -37,13 +30,14 @@ unless known k n A rest unknown known_n is = by (nat_eq k n) refl
     by true e = absurd (true≢false (sym known_n ∙ ap known (sym (eqb-true k n e)) ∙ unknown))
     by false e = is
 
--- a state has no row of an unknown kind
+-- a state has no row of an unknown kind: no name,
 pub unknown_name : (S : RbacState) (k : ℕ) (x : Bytes) → (nat_le 1 k && nat_le k 3) ≡ false → has_row S (NameRow k x) ≡ false
 unfolding has_row
 unknown_name S k x unknown =
     let kinds : ℕ → Bool = λ n. nat_le 1 n && nat_le n 3 in
     unless kinds k 1 _ _ unknown refl (unless kinds k 2 _ _ unknown refl (unless kinds k 3 _ _ unknown refl refl))
 
+-- no pair,
 pub unknown_pair : (S : RbacState) (k : ℕ) (x y : Bytes) → (nat_le 1 k && nat_le k 8) ≡ false → has_row S (PairRow k x y) ≡ false
 unfolding has_row
 unknown_pair S k x y unknown =
@@ -51,12 +45,14 @@ unknown_pair S k x y unknown =
     unless kinds k 1 _ _ unknown refl (unless kinds k 2 _ _ unknown refl (unless kinds k 3 _ _ unknown refl (unless kinds k 4 _ _ unknown refl
     (unless kinds k 5 _ _ unknown refl (unless kinds k 6 _ _ unknown refl (unless kinds k 7 _ _ unknown refl (unless kinds k 8 _ _ unknown refl refl)))))))
 
+-- and no cardinality
 pub unknown_set : (S : RbacState) (k : ℕ) (x : Bytes) (n : ℕ) → (nat_le 1 k && nat_le k 2) ≡ false → has_row S (SetRow k x n) ≡ false
 unfolding has_row
 unknown_set S k x n unknown =
     let kinds : ℕ → Bool = λ i. nat_le 1 i && nat_le i 2 in
     unless kinds k 1 _ _ unknown refl (unless kinds k 2 _ _ unknown refl refl)
 
+-- equal rows are known alike
 known_same : (version : ℕ) (row other : Row) → same_row row other ≡ true → is_known version row ≡ is_known version other
 known_same version (NameRow k a) (NameRow l x) h = ap (λ n. nat_le 1 n && nat_le n 3) (eqb-true k l (and_parts (nat_eq k l) _ h).0)
 known_same version (PairRow k a b) (PairRow l x y) h = ap (λ n. nat_le 1 n && nat_le n 8) (eqb-true k l (and_parts (nat_eq k l) _ h).0)
@@ -65,6 +61,7 @@ known_same version (SetRow k a m) (SetRow l x n) h = ap (λ i. nat_le 1 i && nat
 known_same version (LockedRow a) (LockedRow x) h = refl
 known_same version _ _ h = absurd (true≢false (sym h))
 
+-- each of the rows is known
 among_known : (version : ℕ) (rows : List Row) (row : Row) → IsTrue (list_all (is_known version) rows) → is_among rows row ≡ true → is_known version row ≡ true
 among_known version [] row known there = absurd (true≢false (sym there))
 among_known version (first ∷ rows) row known there =
@@ -76,14 +73,20 @@ among_known version (first ∷ rows) row known there =
 
 -- ---- the rows of the sets
 
+-- a role is above another one exactly if the test of the stored pairs says so
+pub apart_and_above : (edges : Pairs) (a b : Bytes) → IsTrue (geq edges a b && not (same_name a b)) ↔ ((a ≢ b) × Geq edges a b)
+apart_and_above edges a b = (
+  λ h. (let parts = and_parts (geq edges a b) (not (same_name a b)) h in
+      (λ same. true≢false (sym ((tie_Decides name_total name_exact a b).1 same) ∙ not-true _ parts.1), (geq-Decides edges a b).0 parts.0)),
+  λ h. and_from _ _ ((geq-Decides edges a b).1 h.1) (ap not (is_false (same_name a b) (λ tie. h.0 ((tie_Decides name_total name_exact a b).0 tie)))),
+)
+
+-- the pairs of a closure are those that the state has
 above_pairs : (edges pairs : Pairs) → IsClosure edges pairs → (a b : Bytes) → (geq edges a b && not (same_name a b)) ≡ contains pairs (a, b)
-above_pairs edges pairs closed a b = same_test _ _
-    (λ h. (let parts = and_parts (geq edges a b) (not (same_name a b)) h in
-    (closed a b).1 (λ same. true≢false (sym ((tie_Decides name_total name_exact a b).1 same) ∙ not-true _ parts.1), (geq-Decides edges a b).0 parts.0)))
-    (λ h. (let parts = (closed a b).0 h in
-    and_from _ _ ((geq-Decides edges a b).1 parts.1) (ap not (is_false (same_name a b) (λ tie. parts.0 ((tie_Decides name_total name_exact a b).0 tie))))))
+above_pairs edges pairs closed a b = same_test _ _ (λ h. (closed a b).1 ((apart_and_above edges a b).0 h)) (λ h. (apart_and_above edges a b).1 ((closed a b).0 h))
 
 module _ (version : ℕ) (rows : List Row) (known : IsTrue (list_all (is_known version) rows)) (closed : IsClosure (gathered version rows).facts.edges (gathered version rows).pairs) where
+  -- an unknown row is not among them
   unknown_none : (row : Row) → is_known version row ≡ false → is_among rows row ≡ false
   unknown_none row unknown = is_false _ (λ there. true≢false (sym (among_known version rows row known there) ∙ unknown))
 
@@ -127,26 +130,21 @@ other_row (SetRow k a m) (SetRow l x n) apart = is_false _ (λ same.
 other_row (SetRow k a m) (LockedRow x) apart = apart
 other_row (LockedRow a) other apart = apart
 
-or_parts : (a b : Bool) → (a || b) ≡ false → (a ≡ false) × (b ≡ false)
-or_parts true b h = absurd (true≢false h)
-or_parts false b h = (refl, h)
-
-neither : (a b : Bool) → a ≡ false → b ≡ false → (a || b) ≡ false
-neither true b h k = absurd (true≢false h)
-neither false b h k = k
-
+-- where no row has the key, none is the row
 none_other : (row : Row) (rows : List Row) → list_any (λ (other : Row). same_key row other) rows ≡ false → list_any (λ (other : Row). same_row row other) rows ≡ false
 none_other row [] free = refl
 none_other row (first ∷ rows) free =
     let parts = or_parts (same_key row first) (list_any (λ (other : Row). same_key row other) rows) free in
     neither _ _ (other_row row first parts.0) (none_other row rows parts.1)
 
+-- rows whose keys occur once occur once
 pub occur_once : (rows : List Row) → HaveKeysOnce rows → OccurOnce rows
 occur_once [] keys = tt
 occur_once (row ∷ rows) keys = (none_other row rows keys.0, occur_once rows keys.1)
 
 -- ---- a set has one cardinality
 
+-- a later entry of the same set has the same key
 same_set_later : (kind k : ℕ) (a : Bytes) (m n : ℕ) (rows : List Row) → nat_eq k kind ≡ true → list_any (eq_by_cmp cardinality_cmp (a, n)) (cardinalities_of kind rows) ≡ true →
     list_any (λ (other : Row). same_key (SetRow k a m) other) rows ≡ true
 same_set_later kind k a m n [] here there = absurd (true≢false (sym there))
@@ -166,6 +164,7 @@ same_set_later kind k a m n (SetRow l x j ∷ rows) here there = by (same_set_la
     by behind false e h = or_right _ _ (behind h)
 same_set_later kind k a m n (LockedRow x ∷ rows) here there = same_set_later kind k a m n rows here there
 
+-- two entries of one set are one
 once : (kind : ℕ) (rows : List Row) (a : Bytes) (m n : ℕ) → HaveKeysOnce rows →
     list_any (eq_by_cmp cardinality_cmp (a, m)) (cardinalities_of kind rows) ≡ true → list_any (eq_by_cmp cardinality_cmp (a, n)) (cardinalities_of kind rows) ≡ true → m ≡ n
 once kind [] a m n keys here there = absurd (true≢false (sym here))
@@ -198,6 +197,7 @@ once kind (SetRow l x j ∷ rows) a m n keys here there = by (once kind rows a m
     by behind false e h k = behind h k
 once kind (LockedRow x ∷ rows) a m n keys here there = once kind rows a m n keys.1 here there
 
+-- two cardinalities of one set are one
 pub one_cardinality : (kind : ℕ) (rows : List Row) → HaveKeysOnce rows → (name : Bytes) (n other : ℕ) →
     IsTrue (contains (from_list {R = cardinality_cmp} (cardinalities_of kind rows)) (name, n)) → IsTrue (contains (from_list {R = cardinality_cmp} (cardinalities_of kind rows)) (name, other)) → n ≡ other
 one_cardinality kind rows keys name n other here there = once kind rows name n other keys
@@ -206,6 +206,7 @@ one_cardinality kind rows keys name n other here there = once kind rows name n o
 
 -- ---- version 1 has no locks
 
+-- rows that version 1 knows name no lock
 unlocked_rows : (version : ℕ) (rows : List Row) → version ≡ 1 → IsTrue (list_all (is_known version) rows) → locks_of rows ≡ []
 unlocked_rows version [] first known = refl
 unlocked_rows version (NameRow k a ∷ rows) first known = unlocked_rows version rows first (and_parts (is_known version (NameRow k a)) _ known).1
@@ -215,6 +216,7 @@ unlocked_rows version (SetRow k a n ∷ rows) first known = unlocked_rows versio
 unlocked_rows version (LockedRow a ∷ rows) first known =
     absurd (true≢false (sym (eq-eqb version 1 first) ∙ not-true _ (and_parts (is_known version (LockedRow a)) _ known).0))
 
+-- readable rows of version 1 make no lock
 pub no_locks : (version : ℕ) (rows : List Row) → AreReadable version rows → version ≡ 1 → (gathered version rows).facts.locked ≡ empty
 unfolding gathered from_list
 no_locks version rows readable first = ap from_list (unlocked_rows version rows first readable.known)

@@ -40,16 +40,19 @@ authorized_active S session user =
 
 -- ---- what is spoken of is there
 
+-- each pair begins with one of the names
 firsts : (names : Names) (pairs : Pairs) → IsTrue (are_firsts_in names pairs) ↔ ((a b : Bytes) → IsTrue (contains pairs (a, b)) → IsTrue (contains names a))
 firsts names pairs =
     let each = all-Decides pair_total pair_exact (λ (pair : Pair). contains names pair.0) pairs in
     (λ h a b there. each.0 h (a, b) there, λ h. each.1 (λ pair there. h pair.0 pair.1 there))
 
+-- each pair ends with one of the names
 lasts : (names : Names) (pairs : Pairs) → IsTrue (are_seconds_in names pairs) ↔ ((a b : Bytes) → IsTrue (contains pairs (a, b)) → IsTrue (contains names b))
 lasts names pairs =
     let each = all-Decides pair_total pair_exact (λ (pair : Pair). contains names pair.1) pairs in
     (λ h a b there. each.0 h (a, b) there, λ h. each.1 (λ pair there. h pair.0 pair.1 there))
 
+-- members are roles of sets that are there
 pub members_there : (roles : Names) (separation : Separation) → IsTrue (have_sets separation && are_seconds_in roles separation.members) ↔ HasMembersThere roles separation
 members_there roles separation =
     let sets = all-Decides pair_total pair_exact (λ (pair : Pair). any (λ (entry : Cardinality). same_name entry.0 pair.0) separation.cardinalities) separation.members in
@@ -58,6 +61,7 @@ members_there roles separation =
       λ h. and_from _ _ (sets.1 (λ pair there. (h pair.0 pair.1 there).0)) (ends.1 (λ a b there. (h a b there).1)),
     )
 
+-- the test whether what is spoken of is there
 pub complete : (g : Gathered) → IsTrue (is_complete g) ↔ IsComplete g
 complete g =
     let S = g.facts in
@@ -127,10 +131,12 @@ complete g =
 
 -- ---- sessions with one user
 
+-- the empty set has no entry
 len-empty : {K : Type 0} (R : K → K → Ordering) → len (empty {R = R}) ≡ 0
 unfolding len empty
 len-empty R = finmap.len-empty R (Unit {0})
 
+-- a set of two names has two
 two_names : (x y : Bytes) → contains {R = name_cmp} (insert empty x) y ≡ false → len {R = name_cmp} (insert (insert empty x) y) ≡ 2
 two_names x y apart =
     let one : len {R = name_cmp} (insert empty x) ≡ len {R = name_cmp} empty + 1 = len-new empty x (contains-empty name_cmp x) in
@@ -172,6 +178,7 @@ one_at_most names same = elim (cases_lt 0 (len names)) [
   | inr none ↦ omega (arith, none)
 ]
 
+-- the test whether a session has one user
 pub one_user : (S : RbacState) → IsTrue (have_one_user S) ↔ HaveOneUser S
 one_user S =
     let each = all-Decides pair_total pair_exact (λ (session : Pair). nat_le (len (seconds S.sessions session.0)) 1) S.sessions in (
@@ -183,6 +190,7 @@ one_user S =
 
 -- ---- the last checks
 
+-- the test of the cardinalities
 pub cardinalities_fit : (separation : Separation) → IsTrue (has_cardinalities separation) ↔ HasCardinalities separation
 cardinalities_fit separation =
     let each = all-Decides cardinality_total cardinality_exact (λ (entry : Cardinality). nat_le 2 entry.1 && nat_le entry.1 (len (members_of separation entry.0))) separation.cardinalities in (
@@ -190,6 +198,7 @@ cardinalities_fit separation =
       λ h. each.1 (λ entry there. and_from _ _ (le-leb 2 entry.1 (h entry.0 entry.1 there).0) (le-leb entry.1 (len (members_of separation entry.0)) (h entry.0 entry.1 there).1)),
     )
 
+-- the test of the users of sessions
 pub authorized_users_are : (S : RbacState) → IsTrue (have_authorized_users S) ↔ HaveAuthorizedUsers S
 authorized_users_are S =
     let each = all-Decides pair_total pair_exact (λ (session : Pair). all (is_authorized S session.1) (active_roles S session.0)) S.sessions in
@@ -199,11 +208,13 @@ authorized_users_are S =
       λ h. each.1 (λ session there. (roles session.0 session.1).1 (λ role active. h session.0 session.1 role there ((seconds-Decides S.active session.0 role).0 active))),
     )
 
+-- the test of locked users
 pub unlocked_users_are : (S : RbacState) → IsTrue (have_unlocked_users S) ↔ HaveUnlockedUsers S
 unlocked_users_are S =
     let each = all-Decides pair_total pair_exact (λ (session : Pair). not (contains S.locked session.1)) S.sessions in
     (λ h session user there. not-true _ (each.0 h (session, user) there), λ h. each.1 (λ session there. ap not (h session.0 session.1 there)))
 
+-- the test of the static sets
 pub static_sets_are : (S : RbacState) → IsWellFormed S → IsTrue (are_kept_statically S) ↔ IsStaticallySeparated S
 static_sets_are S formed =
     let each = all-Decides cardinality_total cardinality_exact (λ (entry : Cardinality). is_kept_statically S (members_of S.ssd entry.0) entry.1) S.ssd.cardinalities in
@@ -213,6 +224,7 @@ static_sets_are S formed =
       λ h. each.1 (λ entry there. named.0 (test.1 h) entry.0 entry.1 there),
     )
 
+-- the test of the dynamic sets
 pub dynamic_sets_are : (S : RbacState) → IsTrue (are_kept_dynamically S) ↔ IsDynamicallySeparated S
 dynamic_sets_are S =
     let each = all-Decides cardinality_total cardinality_exact (λ (entry : Cardinality). is_kept_dynamically S (members_of S.dsd entry.0) entry.1) S.dsd.cardinalities in
@@ -224,11 +236,13 @@ dynamic_sets_are S =
 
 -- ---- why the hierarchy is refused
 
+-- want of memory, a cycle, or pairs that are no closure
 abbrev pub RefusesOrder : Gathered → Refusal → Type 0
 RefusesOrder g refusal = (refusal ≡ Memory)
     ⊎ (((refusal ≡ Damaged 5) × (IsAcyclic g.facts.edges → ⊥))
     ⊎ ((refusal ≡ Damaged 6) × IsAcyclic g.facts.edges × (IsClosure g.facts.edges g.pairs → ⊥)))
 
+-- equal errors are of equal causes
 err_is : {X : Type 0} (x y : Refusal) → ◌≡◌ {A = Result X Refusal} (Err x) (Err y) → x ≡ y
 err_is {X} x y h = ap at h
   where
@@ -236,6 +250,7 @@ err_is {X} x y h = ap at h
     at (Ok _) = x
     at (Err z) = z
 
+-- what the hierarchy says of its refusal
 pub order_refused : {X : Type 0} (g : Gathered) (refusal : Refusal) → let Told : Refusal → Type 0 = (λ other. ◌≡◌ {A = Result X Refusal} (Err refusal) (Err other)) in
     (Told (Damaged 5) ⊎ (Told (Damaged 6) ⊎ Told Memory)) → (Told (Damaged 5) → IsAcyclic g.facts.edges → ⊥)
     → (Told (Damaged 6) → IsAcyclic g.facts.edges × (IsClosure g.facts.edges g.pairs → ⊥)) → RefusesOrder g refusal

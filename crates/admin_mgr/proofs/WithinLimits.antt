@@ -1,5 +1,5 @@
 -- No limit is passed exactly where the relations are within the limits.
-use Rattle.std.proofs.Common.{◌≡◌, ℕ, ◌≤◌, Bool, true, false, cond, ◌||◌, List, [], ◌∷◌, refl, sym, ◌∙◌, inl, inr, arith}
+use Rattle.std.proofs.Common.{◌≡◌, ℕ, ◌≤◌, Bool, true, false, cond, List, [], ◌∷◌, refl, sym, ◌∙◌, inl, inr, arith}
 use Rattle.std.specs.Prelude.{Some, None, find, nat_lt}
 use Rattle.std.proofs.lemmas.Bool.{cases_lt, lt-ltb, ltb-false, ltb-true, true≢false}
 use Rattle.rbac_sets.specs.Sets.{Bytes, Pair, Pairs, len, seconds}
@@ -9,8 +9,10 @@ use Rattle.rbac_sets.proofs.Members.{a_member}
 use Rattle.rbac_sets.specs.Kind.{limit_of}
 use Rattle.rbac_sets.specs.declared.kind.Kind.{Kind}
 use Rattle.rbac_sets.specs.declared.kind.Kind.TheVariants.{User, Role, Object, Permission, Grant, Assignment, Edge, SsdSet, DsdSet, Member, Session, ActiveRole}
+use Rattle.role_order.proofs.Members.{is_false}
 use Rattle.admin_mgr.specs.RbacState.{RbacState}
 use Rattle.admin_mgr.specs.Good.{IsWithinLimits}
+use Rattle.admin_mgr.proofs.GatherLaws.{or_parts, neither}
 use Rattle.admin_mgr.specs.Checked.{first_passed, is_passed, has_more_behind, limited_kinds}
 
 -- no item of the list passes the test
@@ -18,6 +20,7 @@ abbrev NonePass : {X : Type 0} → (X → Bool) → List X → Type 0
 NonePass p [] = Unit {0}
 NonePass p (x ∷ xs) = (p x ≡ false) × NonePass p xs
 
+-- where nothing is found, no item passes
 none_found : {X : Type 0} (p : X → Bool) (xs : List X) → find p xs ≡ None → NonePass p xs
 none_found p [] h = tt
 none_found {X} p (x ∷ xs) h = by (none_found p xs) (p x) refl h
@@ -26,6 +29,7 @@ none_found {X} p (x ∷ xs) h = by (none_found p xs) (p x) refl h
     by rest true e h = cc
     by rest false e h = (e, rest h)
 
+-- where something is found, not all fail
 one_found : {X : Type 0} (p : X → Bool) (xs : List X) (x : X) → find p xs ≡ Some x → NonePass p xs → ⊥
 one_found p [] x h none = cc
 one_found {X} p (y ∷ xs) x h none = by (one_found p xs x) (p y) refl h
@@ -33,18 +37,6 @@ one_found {X} p (y ∷ xs) x h none = by (one_found p xs x) (p y) refl h
     by : (find p xs ≡ Some x → NonePass p xs → ⊥) → (b : Bool) → p y ≡ b → cond b (Some y) (find p xs) ≡ Some x → ⊥
     by rest true e h = true≢false (sym e ∙ none.0)
     by rest false e h = rest h none.1
-
-or_parts : (a b : Bool) → (a || b) ≡ false → (a ≡ false) × (b ≡ false)
-or_parts true b h = absurd (true≢false h)
-or_parts false b h = (refl, h)
-
-neither : (a b : Bool) → a ≡ false → b ≡ false → (a || b) ≡ false
-neither true b h k = absurd (true≢false h)
-neither false b h k = k
-
-is_false : (b : Bool) → (b ≡ true → ⊥) → b ≡ false
-is_false true h = absurd (h refl)
-is_false false h = refl
 
 -- a number that is no more than the limit doesn't pass it
 not_more : (limit n : ℕ) → n ≤ limit → nat_lt limit n ≡ false
@@ -60,12 +52,14 @@ few_behind limit pairs none first = elim (cases_lt limit (len (seconds pairs fir
   | inr few ↦ few
 ]
 
+-- and the other way round
 behind_few : (limit : ℕ) (pairs : Pairs) → ((first : Bytes) → len (seconds pairs first) ≤ limit) → has_more_behind limit pairs ≡ false
 behind_few limit pairs few = is_false _ (λ h.
     (let one = (any-Decides pair_total pair_exact (λ (pair : Pair). nat_lt limit (len (seconds pairs pair.0))) pairs).0 h in
     let more = ltb-true limit (len (seconds pairs one.0.0)) one.2 in
     let most = few one.0.0 in absurd (omega (arith, more, most))))
 
+-- where no limit is passed, all are kept
 pub within_limits : (S : RbacState) → first_passed S ≡ None → IsWithinLimits S
 within_limits S none =
     let each = none_found (is_passed S) limited_kinds none in
@@ -95,6 +89,7 @@ within_limits S none =
       active_roles = few_behind (limit_of ActiveRole S.version) S.active rest.1.1.1.0;
     }
 
+-- where all are kept, no limit is passed
 pub no_limit_passed : (S : RbacState) (kind : Kind) → IsWithinLimits S → first_passed S ≡ Some kind → ⊥
 no_limit_passed S kind within found = one_found (is_passed S) limited_kinds kind found (
   not_more (limit_of User S.version) (len S.users) within.users,
