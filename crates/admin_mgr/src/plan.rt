@@ -1,5 +1,6 @@
 //! What a command does to a state, as changes of rows.
 ghost use Rattle.std.specs.Prelude.{◌≡◌};
+
 use rbac_sets::Change;
 use role_order::OrderPlan;
 

@@ -9,12 +9,27 @@ ghost use Rattle.admin_mgr.specs.Planned.{IsPlanOf};
 
 use crate::judge::judge;
 use crate::plan::Plan;
-use crate::planning::core_rbac::{plan_add_user, plan_delete_user, plan_add_role, plan_delete_role, plan_add_perm_obj, plan_delete_perm_obj, plan_add_permission, plan_delete_permission, plan_grant_permission, plan_revoke_permission, plan_assign_user, plan_deassign_user, plan_lock_user_account, plan_unlock_user_account};
-use crate::planning::dynamic_separation::{plan_create_dsd_set, plan_add_dsd_role_member, plan_delete_dsd_role_member, plan_set_dsd_set_cardinality, plan_delete_dsd_set};
-use crate::planning::hierarchy::{plan_add_inheritance, plan_delete_inheritance, plan_add_ascendant, plan_add_descendant};
+use crate::planning::core_rbac::{
+    plan_add_perm_obj, plan_add_permission, plan_add_role, plan_add_user, plan_assign_user,
+    plan_deassign_user, plan_delete_perm_obj, plan_delete_permission, plan_delete_role,
+    plan_delete_user, plan_grant_permission, plan_lock_user_account, plan_revoke_permission,
+    plan_unlock_user_account,
+};
+use crate::planning::dynamic_separation::{
+    plan_add_dsd_role_member, plan_create_dsd_set, plan_delete_dsd_role_member,
+    plan_delete_dsd_set, plan_set_dsd_set_cardinality,
+};
+use crate::planning::hierarchy::{
+    plan_add_ascendant, plan_add_descendant, plan_add_inheritance, plan_delete_inheritance,
+};
 use crate::planning::importing::plan_import_assignments;
-use crate::planning::sessions::{plan_create_session, plan_delete_session, plan_add_active_role, plan_drop_active_role};
-use crate::planning::static_separation::{plan_create_ssd_set, plan_add_ssd_role_member, plan_delete_ssd_role_member, plan_set_ssd_set_cardinality, plan_delete_ssd_set};
+use crate::planning::sessions::{
+    plan_add_active_role, plan_create_session, plan_delete_session, plan_drop_active_role,
+};
+use crate::planning::static_separation::{
+    plan_add_ssd_role_member, plan_create_ssd_set, plan_delete_ssd_role_member,
+    plan_delete_ssd_set, plan_set_ssd_set_cardinality,
+};
 use crate::state::State;
 use rbac_sets::{Command, Refusal};
 use std::alloc::Global;
@@ -67,30 +82,84 @@ fn make(alloc: Global, state: &State, command: &Command) -> Result<Plan, Refusal
         Command::DeleteRole { role } => plan_delete_role(alloc, state, role),
         Command::AddPermObj { object } => plan_add_perm_obj(alloc, state, object),
         Command::DeletePermObj { object } => plan_delete_perm_obj(alloc, state, object),
-        Command::AddPermission { object, operation } => plan_add_permission(alloc, state, object, operation),
-        Command::DeletePermission { object, operation } => plan_delete_permission(alloc, state, object, operation),
-        Command::GrantPermission { object, operation, role } => plan_grant_permission(alloc, state, object, operation, role),
-        Command::RevokePermission { object, operation, role } => plan_revoke_permission(alloc, state, object, operation, role),
+        Command::AddPermission { object, operation } => plan_add_permission(
+            alloc, state, object, operation,
+        ),
+        Command::DeletePermission { object, operation } => plan_delete_permission(
+            alloc, state, object, operation,
+        ),
+        Command::GrantPermission {
+            object,
+            operation,
+            role,
+        } => plan_grant_permission(alloc, state, object, operation, role),
+        Command::RevokePermission {
+            object,
+            operation,
+            role,
+        } => plan_revoke_permission(alloc, state, object, operation, role),
         Command::AssignUser { user, role } => plan_assign_user(alloc, state, user, role),
         Command::DeassignUser { user, role } => plan_deassign_user(alloc, state, user, role),
         Command::AddInheritance { asc, desc } => plan_add_inheritance(alloc, state, asc, desc),
-        Command::DeleteInheritance { asc, desc } => plan_delete_inheritance(alloc, state, asc, desc),
+        Command::DeleteInheritance { asc, desc } => plan_delete_inheritance(
+            alloc, state, asc, desc,
+        ),
         Command::AddAscendant { asc, desc } => plan_add_ascendant(alloc, state, asc, desc),
         Command::AddDescendant { asc, desc } => plan_add_descendant(alloc, state, asc, desc),
-        Command::CreateSsdSet { set, roles, cardinality } => plan_create_ssd_set(alloc, state, set, roles, *cardinality),
-        Command::AddSsdRoleMember { set, role } => plan_add_ssd_role_member(alloc, state, set, role),
-        Command::DeleteSsdRoleMember { set, role } => plan_delete_ssd_role_member(alloc, state, set, role),
-        Command::SetSsdSetCardinality { set, cardinality } => plan_set_ssd_set_cardinality(alloc, state, set, *cardinality),
+        Command::CreateSsdSet {
+            set,
+            roles,
+            cardinality,
+        } => plan_create_ssd_set(alloc, state, set, roles, *cardinality),
+        Command::AddSsdRoleMember { set, role } => plan_add_ssd_role_member(
+            alloc, state, set, role,
+        ),
+        Command::DeleteSsdRoleMember { set, role } => plan_delete_ssd_role_member(
+            alloc, state, set, role,
+        ),
+        Command::SetSsdSetCardinality { set, cardinality } => plan_set_ssd_set_cardinality(
+            alloc,
+            state,
+            set,
+            *cardinality,
+        ),
         Command::DeleteSsdSet { set } => plan_delete_ssd_set(alloc, state, set),
-        Command::CreateDsdSet { set, roles, cardinality } => plan_create_dsd_set(alloc, state, set, roles, *cardinality),
-        Command::AddDsdRoleMember { set, role } => plan_add_dsd_role_member(alloc, state, set, role),
-        Command::DeleteDsdRoleMember { set, role } => plan_delete_dsd_role_member(alloc, state, set, role),
-        Command::SetDsdSetCardinality { set, cardinality } => plan_set_dsd_set_cardinality(alloc, state, set, *cardinality),
+        Command::CreateDsdSet {
+            set,
+            roles,
+            cardinality,
+        } => plan_create_dsd_set(alloc, state, set, roles, *cardinality),
+        Command::AddDsdRoleMember { set, role } => plan_add_dsd_role_member(
+            alloc, state, set, role,
+        ),
+        Command::DeleteDsdRoleMember { set, role } => plan_delete_dsd_role_member(
+            alloc, state, set, role,
+        ),
+        Command::SetDsdSetCardinality { set, cardinality } => plan_set_dsd_set_cardinality(
+            alloc,
+            state,
+            set,
+            *cardinality,
+        ),
         Command::DeleteDsdSet { set } => plan_delete_dsd_set(alloc, state, set),
-        Command::CreateSession { user, roles, session } => plan_create_session(alloc, state, user, roles, session),
-        Command::DeleteSession { user, session } => plan_delete_session(alloc, state, user, session),
-        Command::AddActiveRole { user, session, role } => plan_add_active_role(alloc, state, user, session, role),
-        Command::DropActiveRole { user, session, role } => plan_drop_active_role(alloc, state, user, session, role),
+        Command::CreateSession {
+            user,
+            roles,
+            session,
+        } => plan_create_session(alloc, state, user, roles, session),
+        Command::DeleteSession { user, session } => plan_delete_session(
+            alloc, state, user, session,
+        ),
+        Command::AddActiveRole {
+            user,
+            session,
+            role,
+        } => plan_add_active_role(alloc, state, user, session, role),
+        Command::DropActiveRole {
+            user,
+            session,
+            role,
+        } => plan_drop_active_role(alloc, state, user, session, role),
         Command::LockUserAccount { user } => plan_lock_user_account(alloc, state, user),
         Command::UnlockUserAccount { user } => plan_unlock_user_account(alloc, state, user),
         Command::ImportAssignments(pairs) => plan_import_assignments(alloc, state, pairs),

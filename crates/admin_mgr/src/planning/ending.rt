@@ -99,15 +99,11 @@ fn are_held_without_role(
 }
 
 // Whether the role, or one above it, is the second part of one of the pairs, but for one role.
-fn is_held_without_role(
-    order: &RoleOrder,
-    held: &[(Name, Name)],
-    gone: &Name,
-    role: &Name,
-) -> bool
+fn is_held_without_role(order: &RoleOrder, held: &[(Name, Name)], gone: &Name, role: &Name) -> bool
     ensures { result ≡ is_held_without_role order.now.edges held.now gone.now role.now }
 {
-    held.iter().any(|pair| !is_same(&pair.1, gone) && order.geq(&pair.1, role))
+    held.iter()
+        .any(|pair| !is_same(&pair.1, gone) && order.geq(&pair.1, role))
 }
 
 // Whether the session's user is authorized for each of its roles without these pairs of the order.
@@ -142,6 +138,5 @@ fn is_held_without_pairs(
 ) -> bool
     ensures { result ≡ is_held_without_pairs order.now.edges held.now (set_of pair_cmp lost.now) role.now }
 {
-    held.iter()
-        .any(|pair| order.geq(&pair.1, role) && !lost.contains((&pair.1, role)))
+    held.iter().any(|pair| order.geq(&pair.1, role) && !lost.contains((&pair.1, role)))
 }
