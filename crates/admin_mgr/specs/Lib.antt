@@ -18,3 +18,4 @@ pub mod Separation
 pub mod Stepping
 pub mod Verdict
 pub mod View
+pub mod Importing

@@ -34,7 +34,7 @@ use std::alloc::{AllocError, Global};
 pub mod core_rbac;
 pub mod dynamic_separation;
 pub mod hierarchy;
-mod naming;
+pub(crate) mod naming;
 mod separation;
 pub mod sessions;
 pub mod static_separation;
