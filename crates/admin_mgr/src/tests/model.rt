@@ -82,29 +82,11 @@ impl Model {
         Ok(())
     }
 
-    pub(super) fn take(&mut self, of: Of, a: u64, b: u64, c: u64) {
-        self.facts.retain(|fact| *fact != (of, a, b, c));
-    }
-
-    // Takes the entries with this first part.
-    pub(super) fn take_first(&mut self, of: Of, a: u64) {
-        self.facts.retain(|fact| !(fact.0 == of && fact.1 == a));
-    }
-
-    // Takes the entries with this second part.
-    pub(super) fn take_second(&mut self, of: Of, b: u64) {
-        self.facts.retain(|fact| !(fact.0 == of && fact.2 == b));
-    }
-
-    // Takes the entries with these first two parts, and any third.
-    pub(super) fn take_pair(&mut self, of: Of, a: u64, b: u64) {
-        self.facts
-            .retain(|fact| !(fact.0 == of && fact.1 == a && fact.2 == b));
-    }
-
-    // Takes the entries with this third part.
-    pub(super) fn take_third(&mut self, of: Of, c: u64) {
-        self.facts.retain(|fact| !(fact.0 == of && fact.3 == c));
+    // Takes the entries with these parts; `None` stands for any.
+    pub(super) fn take(&mut self, of: Of, a: Option<u64>, b: Option<u64>, c: Option<u64>) {
+        self.facts.retain(|fact| {
+            !(fact.0 == of && fits(fact.1, a) && fits(fact.2, b) && fits(fact.3, c))
+        });
     }
 
     // Whether an entry has this first part.
@@ -202,8 +184,8 @@ impl Model {
         for session in 0..NAMES {
             for user in 0..NAMES {
                 if self.has(Of::Session, session, user, 0) && self.must_end(session, user) {
-                    self.take_first(Of::Session, session);
-                    self.take_first(Of::Active, session);
+                    self.take(Of::Session, Some(session), None, None);
+                    self.take(Of::Active, Some(session), None, None);
                 }
             }
         }
@@ -283,6 +265,14 @@ impl Model {
             push_count(alloc, &mut text, '+', word, put)?;
         }
         Ok(text)
+    }
+}
+
+// Whether a part is the one that is wanted.
+fn fits(part: u64, want: Option<u64>) -> bool {
+    match want {
+        Some(want) => part == want,
+        None => true,
     }
 }
 

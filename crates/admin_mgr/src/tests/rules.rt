@@ -13,6 +13,64 @@ pub(super) struct Verdict {
     pub(super) report: String,
 }
 
+// What each command puts (`+`) and takes (`-`), with the parts of each entry: the command's keys, which are
+// the letters from `a` on, or any part (`*`). Sessions that end stand elsewhere.
+const STEPS: [(&str, char, Of, &str); 53] = [
+    ("addUser", '+', Of::User, "a"),
+    ("deleteUser", '-', Of::User, "a"),
+    ("deleteUser", '-', Of::Locked, "a"),
+    ("deleteUser", '-', Of::Assignment, "a*"),
+    ("lockUserAccount", '+', Of::Locked, "a"),
+    ("unlockUserAccount", '-', Of::Locked, "a"),
+    ("addRole", '+', Of::Role, "a"),
+    ("deleteRole", '-', Of::Role, "a"),
+    ("deleteRole", '-', Of::Assignment, "*a"),
+    ("deleteRole", '-', Of::Grant, "**a"),
+    ("addPermObj", '+', Of::Object, "a"),
+    ("deletePermObj", '-', Of::Object, "a"),
+    ("addPermission", '+', Of::Permission, "ab"),
+    ("deletePermission", '-', Of::Permission, "ab"),
+    ("deletePermission", '-', Of::Grant, "ab*"),
+    ("grantPermission", '+', Of::Grant, "abc"),
+    ("revokePermission", '-', Of::Grant, "abc"),
+    ("assignUser", '+', Of::Assignment, "ab"),
+    ("deassignUser", '-', Of::Assignment, "ab"),
+    ("addInheritance", '+', Of::Edge, "ab"),
+    ("deleteInheritance", '-', Of::Edge, "ab"),
+    ("addAscendant", '+', Of::Role, "a"),
+    ("addAscendant", '+', Of::Edge, "ab"),
+    ("addDescendant", '+', Of::Role, "b"),
+    ("addDescendant", '+', Of::Edge, "ab"),
+    ("createSsdSet", '+', Of::SsdSet, "ae"),
+    ("createSsdSet", '+', Of::SsdMember, "ab"),
+    ("createSsdSet", '+', Of::SsdMember, "ac"),
+    ("createSsdSet", '+', Of::SsdMember, "ad"),
+    ("addSsdRoleMember", '+', Of::SsdMember, "ab"),
+    ("deleteSsdRoleMember", '-', Of::SsdMember, "ab"),
+    ("setSsdSetCardinality", '-', Of::SsdSet, "a*"),
+    ("setSsdSetCardinality", '+', Of::SsdSet, "ab"),
+    ("deleteSsdSet", '-', Of::SsdSet, "a*"),
+    ("deleteSsdSet", '-', Of::SsdMember, "a*"),
+    ("createDsdSet", '+', Of::DsdSet, "ae"),
+    ("createDsdSet", '+', Of::DsdMember, "ab"),
+    ("createDsdSet", '+', Of::DsdMember, "ac"),
+    ("createDsdSet", '+', Of::DsdMember, "ad"),
+    ("addDsdRoleMember", '+', Of::DsdMember, "ab"),
+    ("deleteDsdRoleMember", '-', Of::DsdMember, "ab"),
+    ("setDsdSetCardinality", '-', Of::DsdSet, "a*"),
+    ("setDsdSetCardinality", '+', Of::DsdSet, "ab"),
+    ("deleteDsdSet", '-', Of::DsdSet, "a*"),
+    ("deleteDsdSet", '-', Of::DsdMember, "a*"),
+    ("createSession", '+', Of::Session, "ea"),
+    ("createSession", '+', Of::Active, "eb"),
+    ("createSession", '+', Of::Active, "ec"),
+    ("createSession", '+', Of::Active, "ed"),
+    ("deleteSession", '-', Of::Session, "b*"),
+    ("deleteSession", '-', Of::Active, "b*"),
+    ("addActiveRole", '+', Of::Active, "bc"),
+    ("dropActiveRole", '-', Of::Active, "bc"),
+];
+
 // The first code whose condition holds, and 0 where none does.
 fn first(conditions: &[(bool, u32)]) -> u32 {
     for (holds, code) in conditions {
@@ -267,103 +325,37 @@ impl Model {
 
     // Makes the change of a command that is not refused.
     fn act(&mut self, function: &str, keys: Keys) -> Result<(), AllocError> {
-        let [a, b, _, _, _, _] = keys;
-        match function {
-            "addUser" => self.put(Of::User, a, 0, 0)?,
-            "deleteUser" => {
-                self.take(Of::User, a, 0, 0);
-                self.take(Of::Locked, a, 0, 0);
-                self.take_first(Of::Assignment, a);
+        for (of_function, sign, of, parts) in STEPS {
+            if of_function == function {
+                self.step(sign, of, parts, keys)?;
             }
-            "lockUserAccount" => self.put(Of::Locked, a, 0, 0)?,
-            "unlockUserAccount" => self.take(Of::Locked, a, 0, 0),
-            "addRole" => self.put(Of::Role, a, 0, 0)?,
-            "deleteRole" => {
-                self.take(Of::Role, a, 0, 0);
-                self.take_second(Of::Assignment, a);
-                self.take_third(Of::Grant, a);
-            }
-            "addPermObj" => self.put(Of::Object, a, 0, 0)?,
-            "deletePermObj" => self.take(Of::Object, a, 0, 0),
-            "addPermission" => self.put(Of::Permission, a, b, 0)?,
-            "deletePermission" => {
-                self.take(Of::Permission, a, b, 0);
-                self.take_pair(Of::Grant, a, b);
-            }
-            "assignUser" => self.put(Of::Assignment, a, b, 0)?,
-            "deassignUser" => self.take(Of::Assignment, a, b, 0),
-            _ => self.act_on_roles(function, keys)?,
         }
         Ok(())
     }
 
-    fn act_on_roles(&mut self, function: &str, keys: Keys) -> Result<(), AllocError> {
-        let [a, b, c, _, _, _] = keys;
-        match function {
-            "grantPermission" => self.put(Of::Grant, a, b, c)?,
-            "revokePermission" => self.take(Of::Grant, a, b, c),
-            "addInheritance" => self.put(Of::Edge, a, b, 0)?,
-            "deleteInheritance" => self.take(Of::Edge, a, b, 0),
-            "addAscendant" => {
-                self.put(Of::Role, a, 0, 0)?;
-                self.put(Of::Edge, a, b, 0)?;
-            }
-            "addDescendant" => {
-                self.put(Of::Role, b, 0, 0)?;
-                self.put(Of::Edge, a, b, 0)?;
-            }
-            "createSsdSet" => self.make_set(Of::SsdSet, Of::SsdMember, keys)?,
-            "addSsdRoleMember" => self.put(Of::SsdMember, a, b, 0)?,
-            "deleteSsdRoleMember" => self.take(Of::SsdMember, a, b, 0),
-            "createDsdSet" => self.make_set(Of::DsdSet, Of::DsdMember, keys)?,
-            "addDsdRoleMember" => self.put(Of::DsdMember, a, b, 0)?,
-            "deleteDsdRoleMember" => self.take(Of::DsdMember, a, b, 0),
-            _ => self.act_on_sessions(function, keys)?,
+    // Puts or takes entries with these parts.
+    fn step(&mut self, sign: char, of: Of, parts: &str, keys: Keys) -> Result<(), AllocError> {
+        let a = part(parts, 0, keys);
+        let b = part(parts, 1, keys);
+        let c = part(parts, 2, keys);
+        if sign == '+' {
+            return self.put(of, a.unwrap_or(0), b.unwrap_or(0), c.unwrap_or(0));
         }
+        self.take(of, a, b, c);
         Ok(())
     }
+}
 
-    fn make_set(&mut self, sets: Of, members: Of, keys: Keys) -> Result<(), AllocError> {
-        let [set, a, b, c, number, _] = keys;
-        self.put(sets, set, number, 0)?;
-        self.put(members, set, a, 0)?;
-        self.put(members, set, b, 0)?;
-        self.put(members, set, c, 0)
-    }
-
-    fn act_on_sessions(&mut self, function: &str, keys: Keys) -> Result<(), AllocError> {
-        let [a, b, c, d, e, _] = keys;
-        match function {
-            "setSsdSetCardinality" => {
-                self.take_first(Of::SsdSet, a);
-                self.put(Of::SsdSet, a, b, 0)?;
-            }
-            "deleteSsdSet" => {
-                self.take_first(Of::SsdSet, a);
-                self.take_first(Of::SsdMember, a);
-            }
-            "setDsdSetCardinality" => {
-                self.take_first(Of::DsdSet, a);
-                self.put(Of::DsdSet, a, b, 0)?;
-            }
-            "deleteDsdSet" => {
-                self.take_first(Of::DsdSet, a);
-                self.take_first(Of::DsdMember, a);
-            }
-            "createSession" => {
-                self.put(Of::Session, e, a, 0)?;
-                self.put(Of::Active, e, b, 0)?;
-                self.put(Of::Active, e, c, 0)?;
-                self.put(Of::Active, e, d, 0)?;
-            }
-            "deleteSession" => {
-                self.take_first(Of::Session, b);
-                self.take_first(Of::Active, b);
-            }
-            "addActiveRole" => self.put(Of::Active, b, c, 0)?,
-            "dropActiveRole" => self.take(Of::Active, b, c, 0),
-            _ => {}
-        }
-        Ok(())
+// The part at this place of a step: a key by its letter, any part for `*`, and 0 where there is none.
+fn part(parts: &str, at: usize, keys: Keys) -> Option<u64> {
+    let [a, b, c, d, e, _] = keys;
+    match parts.chars().nth(at) {
+        None => Some(0),
+        Some('a') => Some(a),
+        Some('b') => Some(b),
+        Some('c') => Some(c),
+        Some('d') => Some(d),
+        Some('e') => Some(e),
+        Some(_) => None,
     }
 }

@@ -2,10 +2,10 @@
 //!
 //! A line `COMMAND = ANSWER` has the command judged, planned and committed; the answer is 0, or the
 //! number of the refusal with the set, kind or version that comes with it. Before a command may stand
-//! one number or two: it is then repeated, with `#` and `@` standing for the numbers from 1 up to them, and
-//! `&` for one more than `#`. A line
-//! `QUESTION: ANSWER` asks for what `showing` shows of the state, for the rows that the last accepted
-//! command took and put (`changes`), or for what is told of an import (`report`).
+//! one number or two: it is then repeated, with `#` and `@` standing for the numbers from 1 up to them,
+//! and `&` for one more than `#`. A line `QUESTION: ANSWER` asks for what `showing` shows of the state,
+//! for the rows that the last accepted command took and put (`changes`), or for what is told of it as
+//! an import (`report`).
 use super::naming::read_command;
 use super::showing::{show, show_changes, show_refusal, show_report};
 use crate::State;
