@@ -8,10 +8,7 @@
 # More allocations than any of these runs makes.
 most=100000
 
-cc -O1 -Wall -Wextra -Werror -shared -fPIC -o "$work/refuse.so" "$tests/refuse.c" || {
-    fail "refuse.c cannot be built"
-    finish
-}
+make_shim
 
 # check_run NAME: what was wrong with this run of a row, or nothing.
 check_run() {
@@ -47,10 +44,8 @@ check_row() {
     stopped=0
     while [ "$number" -lt "$most" ]; do
         number=$((number + 1))
-        rm -f "$work/refused"
-        # `env` gives the shim to the program alone, and not to `timeout`.
-        timeout 60 env REFUSE="$number" REFUSED="$work/refused" LD_PRELOAD="$work/refuse.so" \
-            "$program" replay --memory <"$tests/rows/$1.jsonl" >"$work/stdout" 2>"$work/stderr"
+        refusing "$number" "$program" replay --memory \
+            <"$tests/rows/$1.jsonl" >"$work/stdout" 2>"$work/stderr"
         status=$?
         wrong=$(check_run "$1")
         if [ -n "$wrong" ]; then

@@ -1,10 +1,13 @@
 ghost use Rattle.std.specs.Prelude.{◌≡◌, ◌⊎◌};
 
 use crate::state::State;
-use crate::tests::name;
-use rbac_sets::{Kind, Refusal, Row};
+use rbac_sets::{Kind, Name, Refusal, Row};
 use std::alloc::Global;
 use std::test::Fail;
+
+fn name(alloc: Global, text: &str) -> Result<Name, Fail> {
+    Ok(Name::new(alloc, text).ok().ok_or("name")?)
+}
 
 // A row in short: its form, its kind, and its first names.
 type Line = (char, u8, &'static str, &'static str);

@@ -1,0 +1,236 @@
+//! The commands of a script, from their words. What is no command is refused by `BadRequest`.
+//!
+//! A command is written as its function with its keys in the order of its arguments. A list of roles
+//! is written `a,b,c`, `-` is the empty list, and `r*32` stands for `r1,r2` and so on up to `r32`. The
+//! records of an import are words such as `ann/clerk`, and with `*` on either side all pairs of both.
+use rbac_sets::{Command, Name, NameSet, Refusal};
+use std::alloc::Global;
+
+// The command of these words.
+pub(super) fn read_command(alloc: Global, text: &str) -> Result<Command, Refusal> {
+    let words: Vec<&str> = text.split_whitespace().collect(alloc)?;
+    match words.as_slice() {
+        ["importAssignments", records @ ..] => read_import(alloc, records),
+        [function, name] => of_name(function, Name::new(alloc, name)?),
+        [function, first, second] => {
+            let first = Name::new(alloc, first)?;
+            match second.parse::<u32>() {
+                Ok(number) => of_number(function, first, number),
+                Err(_) => of_pair(function, first, Name::new(alloc, second)?),
+            }
+        }
+        [function, first, second, third] => match third.parse::<u32>() {
+            Ok(number) => {
+                let roles = read_names(alloc, second)?;
+                of_members(function, Name::new(alloc, first)?, roles, number)
+            }
+            Err(_) => read_triple(alloc, function, first, second, third),
+        },
+        _ => Err(Refusal::BadRequest),
+    }
+}
+
+// The names of a list, each once.
+fn read_names(alloc: Global, text: &str) -> Result<NameSet, Refusal> {
+    let mut set = NameSet::new(alloc);
+    if text == "-" {
+        return Ok(set);
+    }
+    for part in text.split(',') {
+        for name in spread(alloc, part)? {
+            put_name(&mut set, name)?;
+        }
+    }
+    Ok(set)
+}
+
+fn put_name(set: &mut NameSet, name: Name) -> Result<(), Refusal> {
+    set.reserve(1)?;
+    if set.room() > 0 && !set.contains(&name) {
+        set.insert_reserved(name);
+    }
+    Ok(())
+}
+
+// The names that a word stands for: `r*3` for `r1`, `r2`, `r3`, and another word for itself.
+fn spread(alloc: Global, word: &str) -> Result<Vec<Name>, Refusal> {
+    let mut names = Vec::new(alloc);
+    match word.split_once('*') {
+        None => names.push(Name::new(alloc, word)?)?,
+        Some((stem, count)) => {
+            for number in 1..=count.parse::<u32>().ok().ok_or(Refusal::BadRequest)? {
+                let text = format!(in alloc; "{stem}{number}")?;
+                names.push(Name::new(alloc, &text)?)?;
+            }
+        }
+    }
+    Ok(names)
+}
+
+fn read_import(alloc: Global, records: &[&str]) -> Result<Command, Refusal> {
+    let mut pairs = Vec::new(alloc);
+    for record in records {
+        let (users, roles) = record.split_once('/').ok_or(Refusal::BadRequest)?;
+        let roles = spread(alloc, roles)?;
+        for user in spread(alloc, users)? {
+            for role in &roles {
+                pairs.push((user.copy(alloc)?, role.copy(alloc)?))?;
+            }
+        }
+    }
+    Ok(Command::ImportAssignments(pairs))
+}
+
+fn of_name(function: &str, name: Name) -> Result<Command, Refusal> {
+    Ok(match function {
+        "addUser" => Command::AddUser { user: name },
+        "deleteUser" => Command::DeleteUser { user: name },
+        "addRole" => Command::AddRole { role: name },
+        "deleteRole" => Command::DeleteRole { role: name },
+        "addPermObj" => Command::AddPermObj { object: name },
+        "deletePermObj" => Command::DeletePermObj { object: name },
+        "deleteSsdSet" => Command::DeleteSsdSet { set: name },
+        "deleteDsdSet" => Command::DeleteDsdSet { set: name },
+        "lockUserAccount" => Command::LockUserAccount { user: name },
+        "unlockUserAccount" => Command::UnlockUserAccount { user: name },
+        _ => return Err(Refusal::BadRequest),
+    })
+}
+
+fn of_pair(function: &str, first: Name, second: Name) -> Result<Command, Refusal> {
+    Ok(match function {
+        "addPermission" => Command::AddPermission {
+            object: first,
+            operation: second,
+        },
+        "deletePermission" => Command::DeletePermission {
+            object: first,
+            operation: second,
+        },
+        "assignUser" => Command::AssignUser {
+            user: first,
+            role: second,
+        },
+        "deassignUser" => Command::DeassignUser {
+            user: first,
+            role: second,
+        },
+        "deleteSession" => Command::DeleteSession {
+            user: first,
+            session: second,
+        },
+        _ => return of_roles(function, first, second),
+    })
+}
+
+fn of_roles(function: &str, first: Name, second: Name) -> Result<Command, Refusal> {
+    Ok(match function {
+        "addInheritance" => Command::AddInheritance {
+            asc: first,
+            desc: second,
+        },
+        "deleteInheritance" => Command::DeleteInheritance {
+            asc: first,
+            desc: second,
+        },
+        "addAscendant" => Command::AddAscendant {
+            asc: first,
+            desc: second,
+        },
+        "addDescendant" => Command::AddDescendant {
+            asc: first,
+            desc: second,
+        },
+        "addSsdRoleMember" => Command::AddSsdRoleMember {
+            set: first,
+            role: second,
+        },
+        "deleteSsdRoleMember" => Command::DeleteSsdRoleMember {
+            set: first,
+            role: second,
+        },
+        "addDsdRoleMember" => Command::AddDsdRoleMember {
+            set: first,
+            role: second,
+        },
+        "deleteDsdRoleMember" => Command::DeleteDsdRoleMember {
+            set: first,
+            role: second,
+        },
+        _ => return Err(Refusal::BadRequest),
+    })
+}
+
+fn of_number(function: &str, set: Name, cardinality: u32) -> Result<Command, Refusal> {
+    Ok(match function {
+        "setSsdSetCardinality" => Command::SetSsdSetCardinality { set, cardinality },
+        "setDsdSetCardinality" => Command::SetDsdSetCardinality { set, cardinality },
+        _ => return Err(Refusal::BadRequest),
+    })
+}
+
+fn of_members(
+    function: &str,
+    set: Name,
+    roles: NameSet,
+    cardinality: u32,
+) -> Result<Command, Refusal> {
+    Ok(match function {
+        "createSsdSet" => Command::CreateSsdSet {
+            set,
+            roles,
+            cardinality,
+        },
+        "createDsdSet" => Command::CreateDsdSet {
+            set,
+            roles,
+            cardinality,
+        },
+        _ => return Err(Refusal::BadRequest),
+    })
+}
+
+fn read_triple(
+    alloc: Global,
+    function: &str,
+    first: &str,
+    second: &str,
+    third: &str,
+) -> Result<Command, Refusal> {
+    let name = Name::new(alloc, first)?;
+    let last = Name::new(alloc, third)?;
+    if function == "createSession" {
+        return Ok(Command::CreateSession {
+            user: name,
+            roles: read_names(alloc, second)?,
+            session: last,
+        });
+    }
+    of_triple(function, name, Name::new(alloc, second)?, last)
+}
+
+fn of_triple(function: &str, first: Name, second: Name, third: Name) -> Result<Command, Refusal> {
+    Ok(match function {
+        "grantPermission" => Command::GrantPermission {
+            object: first,
+            operation: second,
+            role: third,
+        },
+        "revokePermission" => Command::RevokePermission {
+            object: first,
+            operation: second,
+            role: third,
+        },
+        "addActiveRole" => Command::AddActiveRole {
+            user: first,
+            session: second,
+            role: third,
+        },
+        "dropActiveRole" => Command::DropActiveRole {
+            user: first,
+            session: second,
+            role: third,
+        },
+        _ => return Err(Refusal::BadRequest),
+    })
+}
