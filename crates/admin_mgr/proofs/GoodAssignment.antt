@@ -25,14 +25,17 @@ use Rattle.admin_mgr.proofs.VerdictLaws.{AllPassed, passed, refuse_if-None, refu
 
 -- what an assignment had to pass
 module _ (S : RbacState) (pair : Pair) (accepted : assignment_verdict S pair ≡ None) where
+  -- none of the refusals of an assignment holds
   all_passed : AllPassed (assignment_refusals S pair)
   unfolding assignment_verdict
   all_passed = passed (assignment_refusals S pair) accepted
 
+  -- the user is there
   pub assigned_user : IsTrue (contains S.users pair.0)
   unfolding assignment_refusals
   assigned_user = refuse_unless-None (contains S.users pair.0) NoUser all_passed.0
 
+  -- the role is there
   pub assigned_role : IsTrue (contains S.roles pair.1)
   unfolding assignment_refusals
   assigned_role = refuse_unless-None (contains S.roles pair.1) NoRole all_passed.1.0
@@ -42,7 +45,8 @@ module _ (S : RbacState) (pair : Pair) (accepted : assignment_verdict S pair ≡
   unfolding assignment_refusals
   not_assigned = refuse_if-None (contains S.assignments pair) AlreadyAssigned all_passed.1.1.0
 
-  room_for_assignment : len S.assignments + 1 ≤ limit_of Assignment S.version
+  -- there are not too many assignments with it
+  pub room_for_assignment : len S.assignments + 1 ≤ limit_of Assignment S.version
   unfolding assignment_refusals
   room_for_assignment = ltb-false (limit_of Assignment S.version) (len S.assignments + 1)
       (refuse_if-None (is_too_many S Assignment (len S.assignments + 1)) (TooMany Assignment) all_passed.1.1.1.0)
@@ -57,6 +61,7 @@ module _ (S : RbacState) (good : IsGood S) (pair : Pair) (accepted : assignment_
   still_authorized : (user role : Bytes) → IsTrue (is_authorized S user role) → IsTrue (is_authorized (with_assignment S pair) user role)
   still_authorized user role h = (authorized-assigned S pair.0 pair.1 user role).1 (inl h)
 
+  -- so each session may go on
   assigned_goes_on : (p : Pair) → IsTrue (contains S.sessions p) → IsTrue (may_go_on (with_assignment S pair) p)
   unfolding may_go_on with_assignment
   assigned_goes_on p there = and_from _ _ (and_from _ _ (good.well_formed.sessions p.0 p.1 there) (ap not (good.unlocked p.0 p.1 there)))
@@ -68,6 +73,7 @@ module _ (S : RbacState) (good : IsGood S) (pair : Pair) (accepted : assignment_
   unfolding after_assignment with_assignment
   after_assignment_is = none_ends_where (with_assignment S pair) assigned_goes_on good.well_formed.owned
 
+  -- what the relations speak of is there
   well_formed_with : IsWellFormed (with_assignment S pair)
   unfolding with_assignment
   well_formed_with =
@@ -92,6 +98,7 @@ module _ (S : RbacState) (good : IsGood S) (pair : Pair) (accepted : assignment_
         dsd = formed.dsd;
       }
 
+  -- the state with the assignment is good
   pub good_with_assignment : IsGood (with_assignment S pair)
   unfolding with_assignment
   good_with_assignment =
@@ -130,17 +137,21 @@ module _ (S : RbacState) (good : IsGood S) (pair : Pair) (accepted : assignment_
 -- ---- the command
 
 module _ (S : RbacState) (good : IsGood S) (user role : Bytes) (accepted : verdict S (AssignUser user role) ≡ None) where
+  -- the command is judged as one assignment
   is_verdict : verdict S (AssignUser user role) ≡ assignment_verdict S (user, role)
   unfolding verdict refusals assignment_verdict
   is_verdict = refl
 
+  -- there is one more assignment, and no session ends
   pub after_assign_user : after S (AssignUser user role) ≡ changed S (AssignUser user role)
   unfolding after changed after_assignment
   after_assign_user = after_assignment_is S good (user, role) (sym is_verdict ∙ accepted)
 
+  -- and the state is good
   pub good_after_assign_user : IsGood (after S (AssignUser user role))
   unfolding after changed after_assignment
   good_after_assign_user = good_assignment S good (user, role) (sym is_verdict ∙ accepted)
 
+  -- the pair was not assigned before
   pub new_assignment : contains S.assignments (user, role) ≡ false
   new_assignment = not_assigned S (user, role) (sym is_verdict ∙ accepted)

@@ -28,10 +28,12 @@ use Rattle.admin_mgr.proofs.VerdictLaws.{AllPassed, passed, refuse_if-None, refu
 
 -- what the command had to pass
 module _ (S : RbacState) (asc desc : Bytes) (accepted : verdict S (AddInheritance asc desc) ≡ None) where
+  -- none of the refusals of the command holds
   all_passed : AllPassed (refusals S (AddInheritance asc desc))
   unfolding verdict
   all_passed = passed (refusals S (AddInheritance asc desc)) accepted
 
+  -- both roles are there
   pub inheriting_roles : IsTrue (contains S.roles asc) × IsTrue (contains S.roles desc)
   unfolding refusals
   inheriting_roles = (refuse_unless-None (contains S.roles asc) NoRole all_passed.0, refuse_unless-None (contains S.roles desc) NoRole all_passed.1.0)
@@ -46,6 +48,7 @@ module _ (S : RbacState) (asc desc : Bytes) (accepted : verdict S (AddInheritanc
   unfolding refusals
   no_way_back = refuse_if-None (geq S.edges desc asc) Cycle all_passed.1.1.1.0
 
+  -- there are not too many immediate inheritances with it
   room_for_edge : len S.edges + 1 ≤ limit_of Edge S.version
   unfolding refusals
   room_for_edge = ltb-false (limit_of Edge S.version) (len S.edges + 1)
@@ -56,6 +59,7 @@ module _ (S : RbacState) (asc desc : Bytes) (accepted : verdict S (AddInheritanc
   unfolding refusals after changed end_sessions is_kept_statically authorized_users with_edge
   none_violated = (unmapped StaticSeparation (static_violation (with_edge S asc desc))).0 all_passed.1.1.1.1.1.0
 
+  -- no dynamic set is named
   none_broken : breaks_dynamic (after S (AddInheritance asc desc)) ≡ None
   unfolding refusals
   none_broken = all_passed.1.1.1.1.1.1.0
@@ -67,6 +71,7 @@ module _ (S : RbacState) (good : IsGood S) (asc desc : Bytes) (accepted : verdic
   after_add_inheritance =
       none_ends_where (with_edge S asc desc) (goes_on_below S good asc desc (no_way_back S asc desc accepted)) good.well_formed.owned
 
+  -- what the relations speak of is there
   well_formed_with : IsWellFormed (with_edge S asc desc)
   unfolding with_edge
   well_formed_with =
@@ -98,6 +103,7 @@ module _ (S : RbacState) (good : IsGood S) (asc desc : Bytes) (accepted : verdic
   none_violated_dynamically = (unmapped DynamicSeparation (dynamic_violation (with_edge S asc desc))).0
       (sym (ap breaks_dynamic after_add_inheritance) ∙ none_broken S asc desc accepted)
 
+  -- the state with the immediate inheritance is good
   good_with_edge : IsGood (with_edge S asc desc)
   unfolding with_edge
   good_with_edge =

@@ -28,6 +28,16 @@ use Rattle.admin_mgr.proofs.GoodAssignment.{after_assignment_is, good_with_assig
 use Rattle.admin_mgr.proofs.TouchLaws.{with_assignment}
 use Rattle.admin_mgr.proofs.UnionLaws.{is_false, or_none, union-empty, insert-union, insert_all-union, len-union, len-distinct}
 
+-- ---- counting
+
+-- 1 where a test holds
+abbrev pub one_if : Bool → ℕ
+one_if b = cond b 1 0
+
+-- the first counts, and then the others
+pub counted : {X : Type 0} (p : X → Bool) (x : X) (xs : List X) → count_by p (x ∷ xs) ≡ one_if (p x) + count_by p xs
+counted {X} p x xs = sum_by-cons (λ (y : X). one_if (p y)) x xs
+
 -- ---- one record
 
 -- an accepted record is assigned
@@ -40,6 +50,7 @@ pub record_kept : (S : RbacState) (pair : Pair) (refusal : Refusal) → assignme
 unfolding after_record
 record_kept S pair refusal told = ap (λ v. cond (is_none v) (after_assignment S pair) S) told
 
+-- either way the state is good
 pub good_record : (S : RbacState) → IsGood S → (pair : Pair) → IsGood (after_record S pair)
 good_record S good pair = by (assignment_verdict S pair) refl
   where
@@ -49,6 +60,7 @@ good_record S good pair = by (assignment_verdict S pair) refl
 
 -- ---- the pairs that are assigned
 
+-- the first record is one of them where it is accepted
 pub accepted_put : (S : RbacState) → IsGood S → (pair : Pair) (pairs : List Pair) → assignment_verdict S pair ≡ None →
     accepted S (pair ∷ pairs) ≡ pair ∷ accepted (with_assignment S pair) pairs
 unfolding accepted
@@ -56,6 +68,7 @@ accepted_put S good pair pairs put =
     ap (λ v. cond (is_none v) (pair ∷ accepted (after_record S pair) pairs) (accepted (after_record S pair) pairs)) put
     ∙ ap (λ X. pair ∷ accepted X pairs) (record_put S good pair put)
 
+-- and none where it is refused
 pub accepted_kept : (S : RbacState) (pair : Pair) (pairs : List Pair) (refusal : Refusal) → assignment_verdict S pair ≡ Some refusal →
     accepted S (pair ∷ pairs) ≡ accepted S pairs
 unfolding accepted
@@ -63,11 +76,13 @@ accepted_kept S pair pairs refusal told =
     ap (λ v. cond (is_none v) (pair ∷ accepted (after_record S pair) pairs) (accepted (after_record S pair) pairs)) told
     ∙ ap (λ X. accepted X pairs) (record_kept S pair refusal told)
 
+-- the verdicts from an accepted record on
 pub verdicts_put : (S : RbacState) → IsGood S → (pair : Pair) (pairs : List Pair) → assignment_verdict S pair ≡ None →
     import_verdicts S (pair ∷ pairs) ≡ None ∷ import_verdicts (with_assignment S pair) pairs
 unfolding import_verdicts
 verdicts_put S good pair pairs put = (λ i. put i ∷ import_verdicts (after_record S pair) pairs) ∙ ap (λ X. None ∷ import_verdicts X pairs) (record_put S good pair put)
 
+-- the verdicts from a refused record on
 pub verdicts_kept : (S : RbacState) (pair : Pair) (pairs : List Pair) (refusal : Refusal) → assignment_verdict S pair ≡ Some refusal →
     import_verdicts S (pair ∷ pairs) ≡ Some refusal ∷ import_verdicts S pairs
 unfolding import_verdicts
@@ -94,6 +109,7 @@ module _ (P : RbacState → List Pair → List Pair → Type 0)
 
 -- ---- the state after an import
 
+-- each record leads to a good state, so all do
 pub good_import : (S : RbacState) → IsGood S → (pairs : List Pair) → IsGood (after_import S pairs)
 unfolding after_import
 good_import S good [] = good
@@ -139,6 +155,7 @@ accepted_new = by_records (λ S pairs assigned. AreNew S assigned) (λ S p h. ab
     ])
     (λ S good pair pairs assigned refusal is rest. rest)
 
+-- a pair that is none of a list differs from each
 each_other : (pair : Pair) (xs : List Pair) → ((p : Pair) → IsTrue (list_any (eq_by_cmp pair_cmp p) xs) → eq_by_cmp pair_cmp p pair ≡ false) → AllByRecursion (λ y. eq_by_cmp pair_cmp pair y ≡ false) xs
 each_other pair [] others = tt
 each_other pair (x ∷ xs) others = (
@@ -168,9 +185,6 @@ accepted_distinct S good pairs = (by_records (λ S pairs assigned. AreNew S assi
 
 -- ---- how many they are
 
-abbrev one_if : Bool → ℕ
-one_if b = cond b 1 0
-
 -- as many as there are records that are not refused
 pub accepted_count : (S : RbacState) → IsGood S → (pairs : List Pair) → length (accepted S pairs) ≡ count_by is_none (import_verdicts S pairs)
 unfolding import_verdicts
@@ -179,13 +193,10 @@ accepted_count = by_records (λ S pairs assigned. length assigned ≡ count_by i
     none : (S : RbacState) → length {A = Pair} [] ≡ count_by is_none (import_verdicts S [])
     none S = refl
 
-    counted : (v : Option Refusal) (rest : List (Option Refusal)) → count_by is_none (v ∷ rest) ≡ one_if (is_none v) + count_by is_none rest
-    counted v rest = sum_by-cons (λ (x : Option Refusal). one_if (is_none x)) v rest
-
     put : (S : RbacState) (good : IsGood S) (pair : Pair) (pairs assigned : List Pair) → assignment_verdict S pair ≡ None → IsGood (with_assignment S pair) →
         length assigned ≡ count_by is_none (import_verdicts (with_assignment S pair) pairs) → length (pair ∷ assigned) ≡ count_by is_none (import_verdicts S (pair ∷ pairs))
     put S good pair pairs assigned is better rest =
-        let more = counted (assignment_verdict S pair) (import_verdicts (after_record S pair) pairs) in
+        let more = counted is_none (assignment_verdict S pair) (import_verdicts (after_record S pair) pairs) in
         let one : one_if (is_none (assignment_verdict S pair)) ≡ 1 = ap (λ v. one_if (is_none v)) is in
         let same : count_by is_none (import_verdicts (after_record S pair) pairs) ≡ count_by is_none (import_verdicts (with_assignment S pair) pairs) =
         ap (λ X. count_by is_none (import_verdicts X pairs)) (record_put S good pair is) in
@@ -194,7 +205,7 @@ accepted_count = by_records (λ S pairs assigned. length assigned ≡ count_by i
     kept : (S : RbacState) (good : IsGood S) (pair : Pair) (pairs assigned : List Pair) (refusal : Refusal) → assignment_verdict S pair ≡ Some refusal →
         length assigned ≡ count_by is_none (import_verdicts S pairs) → length assigned ≡ count_by is_none (import_verdicts S (pair ∷ pairs))
     kept S good pair pairs assigned refusal is rest =
-        let more = counted (assignment_verdict S pair) (import_verdicts (after_record S pair) pairs) in
+        let more = counted is_none (assignment_verdict S pair) (import_verdicts (after_record S pair) pairs) in
         let nothing : one_if (is_none (assignment_verdict S pair)) ≡ 0 = ap (λ v. one_if (is_none v)) is in
         let same : count_by is_none (import_verdicts (after_record S pair) pairs) ≡ count_by is_none (import_verdicts S pairs) =
         ap (λ X. count_by is_none (import_verdicts X pairs)) (record_kept S pair refusal is) in
@@ -231,6 +242,7 @@ module _ (S : RbacState) (good : IsGood S) (pairs : Vec Pair Global) where
   unfolding after changed
   after_import_assignments = none_ends (after_import S pairs.items) (good_import S good pairs.items)
 
+  -- and the state is good
   pub good_after_import : IsGood (after S (ImportAssignments pairs))
   good_after_import = subst IsGood (sym after_import_assignments) (good_import S good pairs.items)
 
@@ -238,6 +250,7 @@ module _ (S : RbacState) (good : IsGood S) (pairs : Vec Pair Global) where
   pub after_import_is : after S (ImportAssignments pairs) ≡ with_assignments S (from_list (accepted S pairs.items))
   after_import_is = after_import_assignments ∙ import_is S good pairs.items
 
+  -- likewise, as a list that is put in its order
   pub after_import_puts : after S (ImportAssignments pairs) ≡ record S { assignments = insert_all S.assignments (accepted S pairs.items) }
   after_import_puts = after_import_assignments ∙ import_puts S good pairs.items
 

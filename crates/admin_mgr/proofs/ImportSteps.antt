@@ -1,12 +1,11 @@
 -- Where an import stands between two of its records: with what is left, it comes to what the whole import does.
-use Rattle.std.proofs.Common.{◌≡◌, ℕ, suc, ◌+◌, ◌<◌, ◌≤◌, drop, get_or, Bool, true, false, cond, ◌||◌, List, [], ◌∷◌, ◌++◌, map, length, refl, sym, ◌∙◌, ap, subst, arith}
+use Rattle.std.proofs.Common.{◌≡◌, ℕ, suc, ◌+◌, ◌<◌, ◌≤◌, drop, get_or, Bool, true, false, ◌||◌, List, [], ◌∷◌, ◌++◌, map, length, refl, sym, ◌∙◌, ap, subst, arith}
 use Rattle.std.specs.Prelude.{Option, Some, None, is_none, count_by}
 use Rattle.std.specs.List.{cons_option, enumerate_from, filter_map}
 use Rattle.std.specs.Ordering.{eq_by_cmp}
 use Rattle.std.proofs.lemmas.Bool.{true≢false}
 use Rattle.std.proofs.Math.Seq.{drop-cons}
 use Rattle.std.proofs.lemmas.List.{append_assoc, append-nil, drop_all}
-use Rattle.std.proofs.lemmas.List.Sums.{sum_by-cons}
 use Rattle.rbac_sets.specs.Sets.{Pair, pair_cmp, contains, union, IsDisjoint}
 use Rattle.rbac_sets.specs.SortedSet.{set_of}
 use Rattle.rbac_sets.specs.NameOrder.{pair_total, pair_exact}
@@ -20,7 +19,7 @@ use Rattle.admin_mgr.specs.Planned.{IsReportOf}
 use Rattle.admin_mgr.specs.Good.{IsGood}
 use Rattle.admin_mgr.proofs.TouchLaws.{with_assignment}
 use Rattle.admin_mgr.proofs.GoodAssignment.{good_with_assignment}
-use Rattle.admin_mgr.proofs.ImportLaws.{accepted_put, accepted_kept, verdicts_put, verdicts_kept}
+use Rattle.admin_mgr.proofs.ImportLaws.{one_if, counted, accepted_put, accepted_kept, verdicts_put, verdicts_kept}
 use Rattle.admin_mgr.proofs.RecordLaws.{new_to_added}
 use Rattle.admin_mgr.proofs.UnionLaws.{is_false, union-empty, union-insert}
 
@@ -43,12 +42,6 @@ pub record Stands (S : RbacState) (all rest : List Pair) (number : ℕ) (now : I
   pub few_assigned : now.report.assigned ≤ number
   pub few_already : now.report.already ≤ number
 
-abbrev one_if : Bool → ℕ
-one_if b = cond b 1 0
-
-counted : (p : Option Refusal → Bool) (v : Option Refusal) (rest : List (Option Refusal)) → count_by p (v ∷ rest) ≡ one_if (p v) + count_by p rest
-counted p v rest = sum_by-cons (λ (x : Option Refusal). one_if (p x)) v rest
-
 -- at the start all are left
 pub begins : (S : RbacState) → IsGood S → (all : List Pair) (now : Imported) → IsBegun now → Stands S all all 0 now
 unfolding with_assignments
@@ -69,11 +62,13 @@ begins S good all now begun =
       few_already = omega (arith, none_already);
     }
 
+-- what is told of one record stands between what was told and what will be
 told_before : {X : Type 0} (xs : List X) (o : Option X) (ys : List X) → (xs ++ cons_option o []) ++ ys ≡ xs ++ cons_option o ys
 told_before xs None ys = ap (λ l. l ++ ys) (append-nil xs)
 told_before xs (Some x) ys = append_assoc xs (x ∷ []) ys
 
 module _ (S : RbacState) (all rest : List Pair) (pair : Pair) (number : ℕ) (before later : Imported) (stands : Stands S all (pair ∷ rest) number before) where
+  -- where the next record is assigned
   assigned_step : assignment_verdict (state_now S before) pair ≡ None → IsAssigned pair before later → Stands S all rest (number + 1) later
   unfolding with_assignments with_assignment
   assigned_step put assigned =
@@ -110,6 +105,7 @@ module _ (S : RbacState) (all rest : List Pair) (pair : Pair) (number : ℕ) (be
         few_already = omega (arith, as_many, few_already);
       }
 
+  -- where the next record is refused
   told_step : (refusal : Refusal) → assignment_verdict (state_now S before) pair ≡ Some refusal → IsTold (number + 1) refusal before later → Stands S all rest (number + 1) later
   told_step refusal is told =
       let X : RbacState = state_now S before in
@@ -160,6 +156,7 @@ pub ends_with_changes : (S : RbacState) (all : List Pair) (number : ℕ) (now : 
 unfolding accepted
 ends_with_changes S all number now stands = sym (append-nil now.changes.items) ∙ stands.changes
 
+-- and told
 pub ends_with_report : (S : RbacState) (all : List Pair) (number : ℕ) (now : Imported) → Stands S all [] number now → IsReportOf (tally_of (import_verdicts S all)) now.report
 unfolding import_verdicts tally_of
 ends_with_report S all number now stands =
@@ -178,6 +175,7 @@ next_record all i pair within is = drop-cons all i pair within ∙ (λ k. sym is
     one_more : suc i ≡ i + 1
     one_more = omega arith
 
+-- one record further, by its place
 pub goes_on_at : (S : RbacState) (all : List Pair) (i : ℕ) (pair : Pair) (before later : Imported) → i < length all → pair ≡ get_or all i pair → Stands S all (drop i all) i before →
     Follows (assignment_verdict (state_now S before) pair) (i + 1) pair before later → Stands S all (drop (i + 1) all) (i + 1) later
 goes_on_at S all i pair before later within is stands follows =

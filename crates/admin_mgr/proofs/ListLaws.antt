@@ -51,3 +51,7 @@ each_failing {K} h test = record { none = refl; more = λ x xs. by x xs (test x)
     by : (x : K) (xs : List K) (b : Bool) → test x ≡ b → flat_map h (filter (λ y. not (test y)) (x ∷ xs)) ≡ cond (test x) [] (h x) ++ flat_map h (filter (λ y. not (test y)) xs)
     by x xs true is = rw is refl
     by x xs false is = rw is refl
+
+-- a list to which more was appended, where both are known
+pub listed_then : {C : Type 0} {after before more was rows : List C} → after ≡ before ++ more → before ≡ was → more ≡ rows → after ≡ was ++ rows
+listed_then next before more = next ∙ (λ i. before i ++ more i)

@@ -25,6 +25,7 @@ use Rattle.admin_mgr.proofs.VerdictLaws.{passed, refuse_unless-None, stopped}
 
 -- ---- what a user holds of either set
 
+-- what stands behind a name in either set passes a test where it does in one of them
 any_union : (p : Bytes → Bool) (s t : Pairs) (x : Bytes) → any p (seconds (union s t) x) ≡ (any p (seconds s x) || any p (seconds t x))
 any_union p s t x =
     let either = any-Decides name_total name_exact p (seconds (union s t) x) in
@@ -72,6 +73,7 @@ abbrev pub named_last : RbacState → Pairs → Bytes → Bytes → Option Refus
 named_last S added user role = option_map StaticSeparation (option_map (λ (x : Cardinality). x.0) (first_with_one S.edges (run_of S.assignments user ++ run_of added user) role S.ssd))
 
 module _ (S : RbacState) (added : Pairs) (good : IsGood (with_assignments S added)) (apart : IsDisjoint S.assignments added) (user role : Bytes) where
+  -- but for static separation the record is judged so
   same_refusals : assign_user_refusals (with_assignments S added) (user, role) ≡ record_refusals S added (user, role)
   unfolding with_assignments
   same_refusals = λ i.
@@ -81,6 +83,7 @@ module _ (S : RbacState) (added : Pairs) (good : IsGood (with_assignments S adde
       ∷ too_many S Assignment (len-union pair_total pair_exact S.assignments added apart i + 1)
       ∷ []
 
+  -- and then by the same static set
   same_last : IsTrue (contains S.users user) → breaks_static (after_assignment (with_assignments S added) (user, role)) ≡ named_last S added user role
   unfolding with_assignments
   same_last is_user =
@@ -102,13 +105,13 @@ module _ (S : RbacState) (added : Pairs) (good : IsGood (with_assignments S adde
           let is_user = refuse_unless-None (contains S.users user) NoUser (passed (record_refusals S added (user, role)) is).0 in
           ap (λ last. first (record_refusals S added (user, role) ++ last ∷ [])) (same_last is_user)
 
-  -- the assignments and those that were added are no more than there may be
-  pub added_len : len S.assignments + len added ≤ 20000
-  unfolding with_assignments
-  added_len =
-      let both : len (union S.assignments added) ≡ len S.assignments + len added = len-union pair_total pair_exact S.assignments added apart in
-      let few : len (union S.assignments added) ≤ 20000 = good.limits.assignments in
-      omega (arith, both, few)
+-- the assignments and those that were added are no more than there may be
+pub added_len : (S : RbacState) (added : Pairs) → IsGood (with_assignments S added) → IsDisjoint S.assignments added → len S.assignments + len added ≤ 20000
+unfolding with_assignments
+added_len S added good apart =
+    let both : len (union S.assignments added) ≡ len S.assignments + len added = len-union pair_total pair_exact S.assignments added apart in
+    let few : len (union S.assignments added) ≤ 20000 = good.limits.assignments in
+    omega (arith, both, few)
 
 -- a pair that is put was not added before
 pub new_to_added : (S : RbacState) (added : Pairs) (pair : Pair) → assignment_verdict (with_assignments S added) pair ≡ None → (contains S.assignments pair ≡ false) × (contains added pair ≡ false)

@@ -17,14 +17,17 @@ use Rattle.rbac_sets.proofs.InOrder.{none_passes}
 use Rattle.rbac_sets.proofs.Members.{len-members}
 use Rattle.role_order.proofs.Members.{members-rise}
 
+-- to add "or false" changes no test
 or_false : (a : Bool) → (a || false) ≡ a
 or_false true = refl
 or_false false = refl
 
+-- a test that can not hold is false
 pub is_false : (b : Bool) → (b ≡ true → ⊥) → b ≡ false
 is_false true h = absurd (h refl)
 is_false false h = refl
 
+-- where none of two tests holds, each is false
 pub or_none : (a b : Bool) → (a || b) ≡ false → (a ≡ false) × (b ≡ false)
 or_none true b h = absurd (true≢false h)
 or_none false b h = (refl, h)
@@ -60,10 +63,12 @@ module _ {K : Type 0} {R : K → K → Ordering} (total : IsTotalOrder R) (exact
   insert_all-union s [] = sym (union-empty s)
   insert_all-union s (x ∷ xs) = ap (λ t. insert t x) (insert_all-union s xs) ∙ sym (union-insert s (from_list xs) x)
 
+  -- an entry that is not there counts
   pub len-insert-new : (s : FinSet R) (x : K) → contains s x ≡ false → len (insert s x) ≡ len s + 1
   unfolding len insert contains
   len-insert-new s x absent = finmap.len-insert total s x tt ∙ ap (λ b. cond b (finmap.len s) (finmap.len s + 1)) absent
 
+  -- what was there and what is of the list is there
   contains-insert_all : (s : FinSet R) (xs : List K) (y : K) → contains (insert_all s xs) y ≡ (contains s y || list_any (eq_by_cmp R y) xs)
   contains-insert_all s xs y = ap (λ t. contains t y) (insert_all-union s xs) ∙ contains-union total exact s (from_list xs) y
       ∙ ap (λ b. contains s y || b) (contains-from_list total xs y)

@@ -1,12 +1,22 @@
 -- What holds of the sets and relations, however they are stored.
-use Rattle.std.specs.Prelude.{◌≡◌, ◌≤◌, ◌↔◌, IsTrue, ℕ, None}
-use Rattle.rbac_sets.specs.Sets.{Bytes, Names, contains, len}
+use Rattle.std.specs.Prelude.{◌≡◌, ◌+◌, ◌≤◌, ◌↔◌, ◌⊎◌, IsTrue, ℕ, List, [], ◌∷◌, None}
+use Rattle.std.specs.declared.alloc.Global.{Global}
+use Rattle.std.specs.declared.vec.Vec.{Vec}
+use Rattle.rbac_sets.specs.Refusal.{code_of}
+use Rattle.rbac_sets.specs.declared.command.Command.{Command}
+use Rattle.rbac_sets.specs.declared.command.Command.TheVariants.{ImportAssignments}
+use Rattle.rbac_sets.specs.declared.kind.Kind.TheVariants.{Assignment}
+use Rattle.rbac_sets.specs.declared.refusal.Refusal.TheVariants.{StaticSeparation, TooMany}
+use Rattle.rbac_sets.specs.Sets.{Bytes, Names, Pair, contains, len}
 use Rattle.rbac_sets.specs.declared.row.Row.{Row}
 use Rattle.admin_mgr.specs.RbacState.{RbacState, members_of}
 use Rattle.admin_mgr.specs.Rows.{has_row}
 use Rattle.admin_mgr.specs.Authorization.{is_authorized}
 use Rattle.admin_mgr.specs.Separation.{static_violation, dynamic_violation}
-use Rattle.admin_mgr.specs.Good.{IsWellFormed, IsStaticallySeparated, IsDynamicallySeparated}
+use Rattle.admin_mgr.specs.After.{after}
+use Rattle.admin_mgr.specs.Verdict.{verdict}
+use Rattle.admin_mgr.specs.Run.{tally}
+use Rattle.admin_mgr.specs.Good.{IsGood, IsWellFormed, IsStaticallySeparated, IsDynamicallySeparated}
 
 -- each role of the one set is in the other
 abbrev pub IsWithin : Names → Names → Type 0
@@ -31,6 +41,10 @@ SubsetForm = (S : RbacState) → IsStaticallySeparated S ↔ IsSeparatedBySubset
 abbrev pub RowsDetermine : Type 0
 RowsDetermine = (S T : RbacState) → S.version ≡ T.version → ((row : Row) → has_row S row ≡ has_row T row) → S ≡ T
 
+-- an accepted command leads from a good state to a good state
+abbrev pub AcceptedIsGood : Type 0
+AcceptedIsGood = (S : RbacState) → IsGood S → (command : Command) → verdict S command ≡ None → IsGood (after S command)
+
 -- where the relations are well formed, no static set is named exactly where none is violated
 abbrev pub StaticTest : Type 0
 StaticTest = (S : RbacState) → IsWellFormed S → (static_violation S ≡ None) ↔ IsStaticallySeparated S
@@ -38,3 +52,31 @@ StaticTest = (S : RbacState) → IsWellFormed S → (static_violation S ≡ None
 -- no dynamic set is named exactly where none is violated
 abbrev pub DynamicTest : Type 0
 DynamicTest = (S : RbacState) → (dynamic_violation S ≡ None) ↔ IsDynamicallySeparated S
+
+-- ---- an import that is made twice
+
+-- the number of a refusal, and what it may be the second time: where static separation refused, there may be too many
+-- assignments by then
+abbrev pub IsSameCode : ℕ → ℕ → Type 0
+IsSameCode code again = (code ≡ again) ⊎ ((code ≡ code_of (StaticSeparation [])) × (again ≡ code_of (TooMany Assignment)))
+
+-- the same records are refused, in the same order
+abbrev pub RefuseTheSame : List (ℕ × ℕ) → List (ℕ × ℕ) → Type 0
+RefuseTheSame [] [] = Unit {0}
+RefuseTheSame (record_told ∷ told) (record_again ∷ again) =
+    (record_told.0 ≡ record_again.0) × IsSameCode record_told.1 record_again.1 × RefuseTheSame told again
+RefuseTheSame _ _ = ⊥
+
+-- in T, the state after the import in S, the same import is accepted, and changes nothing: each record that was assigned
+-- is told as assigned before, and the others are refused as they were
+pub record IsIdleAgain (S T : RbacState) (pairs : Vec Pair Global) : Type 0 where
+  pub accepted : verdict T (ImportAssignments pairs) ≡ None
+  pub state : after T (ImportAssignments pairs) ≡ T
+  pub assigned : (tally T (ImportAssignments pairs)).assigned ≡ 0
+  pub already : (tally T (ImportAssignments pairs)).already ≡ (tally S (ImportAssignments pairs)).assigned + (tally S (ImportAssignments pairs)).already
+  pub refused : RefuseTheSame (tally S (ImportAssignments pairs)).refused (tally T (ImportAssignments pairs)).refused
+
+-- an import that is made again changes nothing
+abbrev pub ImportTwice : Type 0
+ImportTwice = (S : RbacState) (pairs : Vec Pair Global) → IsGood S → verdict S (ImportAssignments pairs) ≡ None →
+    IsIdleAgain S (after S (ImportAssignments pairs)) pairs

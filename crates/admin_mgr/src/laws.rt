@@ -1,5 +1,5 @@
 //! What holds of the sets and relations, however they are stored.
-ghost use Rattle.admin_mgr.specs.Laws.{SubsetForm, RowsDetermine, StaticTest, DynamicTest};
+ghost use Rattle.admin_mgr.specs.Laws.{SubsetForm, RowsDetermine, AcceptedIsGood, StaticTest, DynamicTest, ImportTwice};
 
 /// Static separation of duty, by counting each user's roles, says what the standard says: as many
 /// roles of a set as its cardinality, or more, have no authorized user in common.
@@ -13,6 +13,11 @@ pub fn rows_determine()
     ensures { RowsDetermine }
 {}
 
+/// An accepted command leads from a good state to a good state, whichever it is.
+pub fn accepted_good()
+    ensures { AcceptedIsGood }
+{}
+
 /// The test of a verdict names no static separation of duty set exactly where none is violated.
 #[tactic(auto, using(crate::proofs::SeparationLaws::static_test))]
 pub fn static_test()
@@ -23,4 +28,11 @@ pub fn static_test()
 #[tactic(auto, using(crate::proofs::SeparationLaws::dynamic_test))]
 pub fn dynamic_test()
     ensures { DynamicTest }
+{}
+
+/// An import of assignments that is made again changes nothing: it assigns no record, tells those that
+/// were assigned as assigned before, and refuses the same records as the first time. Where static
+/// separation of duty refused one, there may be too many assignments by then.
+pub fn import_twice()
+    ensures { ImportTwice }
 {}
