@@ -198,12 +198,14 @@ pub struct Report {
     pub refused: Vec<(u32, Refusal)>,
 }
 
+#[allow(dead_code)]
 pub struct Plan {
     pub changes: Vec<Change>,
     pub report: Report,
     pub order: Option<OrderChange>,
 }
 
+#[allow(dead_code)]
 impl Plan {
     /// How many rows are changed, those of the closure included.
     pub fn count(&self) -> usize {
@@ -386,12 +388,14 @@ impl Office {
             }
         }
         match plan.order {
-            Some(OrderChange::Puts(pairs)) => {
+            Some(OrderChange::Puts(pairs)) if !pairs.is_empty() => {
                 let closure = std::mem::take(&mut self.closure);
                 self.closure = merge(closure, pairs);
             }
-            Some(OrderChange::Takes(pairs)) => without(&mut self.closure, &pairs),
-            None => {}
+            Some(OrderChange::Takes(pairs)) if !pairs.is_empty() => {
+                without(&mut self.closure, &pairs);
+            }
+            _ => {}
         }
     }
 }

@@ -191,6 +191,17 @@ def on_sessions(sizes):
     time("deleteSession", "deleteSession", owner, "session-new")
 
 
+def all_sessions_end(sizes):
+    """Locks a user who has all sessions, each with as many roles as before."""
+    for number in range(sizes.sets):
+        say("deleteDsdSet", f"set{number:02}")
+    for number in range(sizes.sessions):
+        say("deleteSession", user(number), f"session{number:05}")
+    for number in range(sizes.sessions):
+        say("createSession", user(20), f"session{number:05}", *sizes.first_active(20))
+    time("lockUserAccount/all-sessions", "lockUserAccount", user(20))
+
+
 def limits(part):
     """Each command at the limits, or at a part of them."""
     sizes = Sizes(part)
@@ -201,6 +212,7 @@ def limits(part):
         on_hierarchy(sizes)
         on_sets(sizes)
         on_sessions(sizes)
+    all_sessions_end(sizes)
 
 
 def imports():
