@@ -1,0 +1,238 @@
+#!/usr/bin/env python3
+"""bench/state_lines.py WHAT: prints the lines of the benchmark `state`: a label and a command each.
+
+`limits`   makes a state that has one less of everything than an office of version 2 may have, and then
+           does each command once, each round, taking back what it did; `quarter` is a fourth of that
+`import`   10,000 records, all pairs of 100 users and 100 roles, with 64 static separation sets
+"""
+
+import sys
+
+ROUNDS = 3
+
+
+def say(*words):
+    """Prints a line that is not timed."""
+    print("-", *words)
+
+
+def time(label, *words):
+    """Prints a line whose times are told under the label."""
+    print(label, *words)
+
+
+def user(number):
+    """The name of a user."""
+    return f"user{number:05}"
+
+
+def role(number):
+    """The name of a role."""
+    return f"role{number:04}"
+
+
+class Sizes:
+    """How many there are of each thing, one less than the limits of version 2 or a part of them."""
+
+    def __init__(self, part):
+        self.users = 20_000 // part - 1
+        self.roles = 1_024 // part - 1
+        self.edges = 4_096 // part - 1
+        self.objects = 2_000 // part - 1
+        self.permissions = 5_000 // part - 1
+        self.grants = 20_000 // part - 1
+        self.sessions = 1_000 // part - 1
+        self.active = 32 // part - 1
+        self.sets = 64 // part - 1
+        self.members = 32 // part - 1
+        # the first of the roles of the lower chain
+        self.lower = 512 // part
+
+    def assigned(self, number):
+        """The role of a user: one in twenty has one in the upper chain, but none of its first 32."""
+        if number % 20 == 0:
+            return role(32 + number // 20 % (self.lower // 2 - 32))
+        return role(self.lower + number % ((self.roles - self.lower) // 2))
+
+    def permission(self, number):
+        """The object and the operation of a permission."""
+        return f"object{number % self.objects:04}", f"operation{number // self.objects}"
+
+    def first_active(self, number):
+        """The roles that are activated in the session of a user: the lowest of the user's chain."""
+        end = self.lower if number % 20 == 0 else self.roles
+        return [role(it) for it in range(end - self.active, end)]
+
+    def members_of(self, number, count):
+        """The members of a separation of duty set: two that no user has, and others of the upper chain."""
+        rest = range(count - 2)
+        return [role(0), role(1)] + [role(2 + (7 * number + 5 * it) % (self.lower - 2)) for it in rest]
+
+
+def hierarchy(sizes):
+    """Makes two chains of roles, with edges that pass over one to four roles, from the bottom up."""
+    for number in range(sizes.roles):
+        say("addRole", role(number))
+    edges = []
+    for step in range(1, 6):
+        for first in range(sizes.roles - step):
+            if (first < sizes.lower) == (first + step < sizes.lower):
+                edges.append((first, first + step))
+    edges = sorted(edges[: sizes.edges], key=lambda edge: (-edge[0], edge[1]))
+    assert len(edges) == sizes.edges
+    for first, second in edges:
+        say("addInheritance", role(first), role(second))
+
+
+def session(sizes, number):
+    """The words that make the session of a user."""
+    return "createSession", user(number), f"session{number:05}", *sizes.first_active(number)
+
+
+def build(sizes):
+    """Makes the state."""
+    hierarchy(sizes)
+    for number in range(sizes.users):
+        say("addUser", user(number))
+        say("assignUser", user(number), sizes.assigned(number))
+    for number in range(sizes.objects):
+        say("addPermObj", f"object{number:04}")
+    for number in range(sizes.permissions):
+        say("addPermission", *sizes.permission(number))
+    for number in range(sizes.grants):
+        granted = (number * 7 + number // sizes.permissions) % sizes.roles
+        say("grantPermission", *sizes.permission(number % sizes.permissions), role(granted))
+    for number in range(sizes.sessions):
+        say(*session(sizes, number))
+    for kind in ("Ssd", "Dsd"):
+        for number in range(sizes.sets):
+            members = sizes.members_of(number, sizes.members)
+            say(f"create{kind}Set", f"set{number:02}", sizes.members, *members)
+
+
+def on_users(sizes):
+    """The commands of users and roles, and of the assignments of one to another."""
+    someone = user(1)
+    their = sizes.assigned(1)
+    time("addUser", "addUser", "user-new")
+    say("assignUser", "user-new", role(2))
+    say("deassignUser", "user-new", role(2))
+    say("deleteUser", "user-new")
+    time("deleteUser", "deleteUser", someone)
+    say("addUser", someone)
+    say("assignUser", someone, their)
+    say(*session(sizes, 1))
+    time("addRole", "addRole", "role-new")
+    say("assignUser", user(3), "role-new")
+    say("grantPermission", *sizes.permission(0), "role-new")
+    time("deleteRole", "deleteRole", "role-new")
+    time("assignUser", "assignUser", user(sizes.users - 1), role(40))
+    say("deassignUser", user(sizes.users - 1), role(40))
+    time("deassignUser", "deassignUser", someone, their)
+    say("assignUser", someone, their)
+    say(*session(sizes, 1))
+    time("lockUserAccount", "lockUserAccount", someone)
+    time("unlockUserAccount", "unlockUserAccount", someone)
+    say(*session(sizes, 1))
+    records = [f"{user(it)} {sizes.assigned(it)}" for it in range(sizes.users // 2)]
+    time("importAssignments", "importAssignments", f"{someone} {role(40)}", *records[1:])
+    say("deassignUser", someone, role(40))
+
+
+def on_permissions(sizes):
+    """The commands of objects and permissions."""
+    time("addPermObj", "addPermObj", "object-new")
+    time("deletePermObj", "deletePermObj", "object-new")
+    first = sizes.permission(0)
+    time("addPermission", "addPermission", first[0], "operation-new")
+    say("grantPermission", first[0], "operation-new", role(7))
+    time("deletePermission", "deletePermission", first[0], "operation-new")
+    time("grantPermission", "grantPermission", *first, role(9))
+    time("revokePermission", "revokePermission", *first, role(9))
+
+
+def on_hierarchy(sizes):
+    """The commands of the hierarchy: an edge that joins the chains, and one that is there already in the order."""
+    ends = role(sizes.lower - 1), role(sizes.lower)
+    time("addInheritance/joining", "addInheritance", *ends)
+    time("deleteInheritance/parting", "deleteInheritance", *ends)
+    near = role(40), role(47)
+    time("addInheritance/judged", "addInheritance", *near)
+    time("deleteInheritance/judged", "deleteInheritance", *near)
+    time("addAscendant", "addAscendant", "role-new", role(0))
+    say("deleteInheritance", "role-new", role(0))
+    say("deleteRole", "role-new")
+    time("addDescendant", "addDescendant", role(sizes.roles - 1), "role-new")
+    say("deleteInheritance", role(sizes.roles - 1), "role-new")
+    say("deleteRole", "role-new")
+
+
+def on_sets(sizes):
+    """The commands of separation of duty sets."""
+    for kind in ("Ssd", "Dsd"):
+        members = sizes.members_of(sizes.sets, sizes.members + 1)
+        time(f"create{kind}Set", f"create{kind}Set", "set-new", sizes.members + 1, *members)
+        time(f"delete{kind}Set", f"delete{kind}Set", "set-new")
+        member = role(sizes.lower + 100 % sizes.members)
+        time(f"add{kind}RoleMember", f"add{kind}RoleMember", "set00", member)
+        time(f"delete{kind}RoleMember", f"delete{kind}RoleMember", "set00", member)
+        lower = sizes.members - 1
+        time(f"set{kind}SetCardinality", f"set{kind}SetCardinality", "set00", lower)
+        say(f"set{kind}SetCardinality", "set00", sizes.members)
+
+
+def on_sessions(sizes):
+    """The commands of sessions."""
+    owner = user(20)
+    words = session(sizes, 20)
+    time("createSession", "createSession", owner, "session-new", *words[3:])
+    time("addActiveRole", "addActiveRole", owner, "session-new", role(sizes.lower - sizes.active - 1))
+    time("dropActiveRole", "dropActiveRole", owner, "session-new", role(sizes.lower - 1))
+    time("deleteSession", "deleteSession", owner, "session-new")
+
+
+def all_sessions_end(sizes):
+    """Locks a user who has all sessions, each with as many roles as before."""
+    for number in range(sizes.sets):
+        say("deleteDsdSet", f"set{number:02}")
+    for number in range(sizes.sessions):
+        say("deleteSession", user(number), f"session{number:05}")
+    for number in range(sizes.sessions):
+        say("createSession", user(20), f"session{number:05}", *sizes.first_active(20))
+    time("lockUserAccount/all-sessions", "lockUserAccount", user(20))
+
+
+def limits(part):
+    """Each command at the limits, or at a part of them."""
+    sizes = Sizes(part)
+    build(sizes)
+    for _ in range(ROUNDS):
+        on_users(sizes)
+        on_permissions(sizes)
+        on_hierarchy(sizes)
+        on_sets(sizes)
+        on_sessions(sizes)
+    all_sessions_end(sizes)
+
+
+def imports():
+    """An import of all pairs of 100 users and 100 roles, and its repetition."""
+    for number in range(100):
+        say("addUser", user(number))
+        say("addRole", role(number))
+    for number in range(64):
+        members = sorted({(number + 3 * it) % 100 for it in range(32)})
+        say("createSsdSet", f"set{number:02}", 32, *map(role, members))
+    records = [f"{user(first)} {role(second)}" for first in range(100) for second in range(100)]
+    time("import", "importAssignments", *records)
+    time("import/again", "importAssignments", *records)
+
+
+def main():
+    """Prints the lines that are asked for."""
+    what = {"limits": lambda: limits(1), "quarter": lambda: limits(4), "import": imports}
+    what[sys.argv[1]]()
+
+
+if __name__ == "__main__":
+    main()
