@@ -1,11 +1,11 @@
 -- An import leads from a good state to a good one: the pairs that it assigns are put to the assignments, and no session ends.
-use Rattle.std.proofs.Common.{◌≡◌, ℕ, ◌+◌, ◌≤◌, Bool, false, cond, List, [], ◌∷◌, length, refl, sym, ◌∙◌, ap, subst, arith, inl, inr}
+use Rattle.std.proofs.Common.{◌≡◌, ℕ, ◌+◌, ◌≤◌, Bool, false, cond, List, [], ◌∷◌, length, refl, sym, ◌∙◌, ap, subst, inl, inr}
 use Rattle.std.specs.Prelude.{IsTrue, Option, Some, None, is_none, count_by}
 use Rattle.std.specs.List.{list_any, IsDistinct, AllByRecursion}
 use Rattle.std.specs.Ordering.{eq_by_cmp}
 use Rattle.std.proofs.lemmas.Bool.{or_cases, or_left, or_right, true≢false}
 use Rattle.std.proofs.lemmas.List.Sums.{sum_by-cons}
-use Rattle.rbac_sets.specs.Sets.{Pair, pair_cmp, contains, insert_all, from_list, len, IsDisjoint}
+use Rattle.rbac_sets.specs.Sets.{Pair, pair_cmp, contains, insert_all, from_list, IsDisjoint}
 use Rattle.rbac_sets.specs.NameOrder.{pair_total, pair_exact}
 use Rattle.rbac_sets.specs.declared.refusal.Refusal.{Refusal}
 use Rattle.rbac_sets.proofs.SetLaws.{contains-insert, contains-from_list, tie_Decides}
@@ -26,7 +26,7 @@ use Rattle.admin_mgr.specs.Importing.{accepted, with_assignments}
 use Rattle.admin_mgr.specs.Good.{IsGood}
 use Rattle.admin_mgr.proofs.GoodAssignment.{after_assignment_is, good_with_assignment, not_assigned}
 use Rattle.admin_mgr.proofs.TouchLaws.{with_assignment}
-use Rattle.admin_mgr.proofs.UnionLaws.{is_false, or_none, union-empty, insert-union, insert_all-union, len-union, len-distinct}
+use Rattle.admin_mgr.proofs.UnionLaws.{is_false, or_none, union-empty, insert-union, insert_all-union}
 
 -- ---- counting
 
@@ -183,51 +183,11 @@ accepted_distinct S good pairs = (by_records (λ S pairs assigned. AreNew S assi
       (each_other pair assigned (λ p h. (new_before S pair assigned rest.0 p h).0), rest.1),
     )
 
--- ---- how many they are
-
--- as many as there are records that are not refused
-pub accepted_count : (S : RbacState) → IsGood S → (pairs : List Pair) → length (accepted S pairs) ≡ count_by is_none (import_verdicts S pairs)
-unfolding import_verdicts
-accepted_count = by_records (λ S pairs assigned. length assigned ≡ count_by is_none (import_verdicts S pairs)) none put kept
-  where
-    none : (S : RbacState) → length {A = Pair} [] ≡ count_by is_none (import_verdicts S [])
-    none S = refl
-
-    put : (S : RbacState) (good : IsGood S) (pair : Pair) (pairs assigned : List Pair) → assignment_verdict S pair ≡ None → IsGood (with_assignment S pair) →
-        length assigned ≡ count_by is_none (import_verdicts (with_assignment S pair) pairs) → length (pair ∷ assigned) ≡ count_by is_none (import_verdicts S (pair ∷ pairs))
-    put S good pair pairs assigned is better rest =
-        let more = counted is_none (assignment_verdict S pair) (import_verdicts (after_record S pair) pairs) in
-        let one : one_if (is_none (assignment_verdict S pair)) ≡ 1 = ap (λ v. one_if (is_none v)) is in
-        let same : count_by is_none (import_verdicts (after_record S pair) pairs) ≡ count_by is_none (import_verdicts (with_assignment S pair) pairs) =
-        ap (λ X. count_by is_none (import_verdicts X pairs)) (record_put S good pair is) in
-        omega (arith, more, one, same, rest)
-
-    kept : (S : RbacState) (good : IsGood S) (pair : Pair) (pairs assigned : List Pair) (refusal : Refusal) → assignment_verdict S pair ≡ Some refusal →
-        length assigned ≡ count_by is_none (import_verdicts S pairs) → length assigned ≡ count_by is_none (import_verdicts S (pair ∷ pairs))
-    kept S good pair pairs assigned refusal is rest =
-        let more = counted is_none (assignment_verdict S pair) (import_verdicts (after_record S pair) pairs) in
-        let nothing : one_if (is_none (assignment_verdict S pair)) ≡ 0 = ap (λ v. one_if (is_none v)) is in
-        let same : count_by is_none (import_verdicts (after_record S pair) pairs) ≡ count_by is_none (import_verdicts S pairs) =
-        ap (λ X. count_by is_none (import_verdicts X pairs)) (record_kept S pair refusal is) in
-        omega (arith, more, nothing, same, rest)
-
--- no more than there are records
-pub accepted_fewer : (S : RbacState) → IsGood S → (pairs : List Pair) → length (accepted S pairs) ≤ length pairs
-accepted_fewer = by_records (λ S pairs assigned. length assigned ≤ length pairs) (λ S. omega arith)
-    (λ S good pair pairs assigned is better rest. omega (arith, rest))
-    (λ S good pair pairs assigned refusal is rest. omega (arith, rest))
+-- ---- the state after it, as one set
 
 -- the assignments have none of them before
 pub accepted_apart : (S : RbacState) → IsGood S → (pairs : List Pair) → IsDisjoint S.assignments (from_list (accepted S pairs))
 accepted_apart S good pairs p there = is_false _ (λ h. true≢false (sym there ∙ accepted_new S good pairs p (sym (contains-from_list pair_total (accepted S pairs) p) ∙ h)))
-
--- each counts
-pub import_len : (S : RbacState) → IsGood S → (pairs : List Pair) → len (after_import S pairs).assignments ≡ len S.assignments + length (accepted S pairs)
-unfolding with_assignments
-import_len S good pairs =
-    ap (λ (X : RbacState). len X.assignments) (import_is S good pairs)
-    ∙ len-union pair_total pair_exact S.assignments (from_list (accepted S pairs)) (accepted_apart S good pairs)
-    ∙ ap (λ n. len S.assignments + n) (len-distinct pair_total pair_exact (accepted S pairs) (accepted_distinct S good pairs))
 
 -- the same set as a list that is put in its order
 pub import_puts : (S : RbacState) → IsGood S → (pairs : List Pair) → after_import S pairs ≡ record S { assignments = insert_all S.assignments (accepted S pairs) }
@@ -245,10 +205,6 @@ module _ (S : RbacState) (good : IsGood S) (pairs : Vec Pair Global) where
   -- and the state is good
   pub good_after_import : IsGood (after S (ImportAssignments pairs))
   good_after_import = subst IsGood (sym after_import_assignments) (good_import S good pairs.items)
-
-  -- the state has the assignments before with those that the import puts
-  pub after_import_is : after S (ImportAssignments pairs) ≡ with_assignments S (from_list (accepted S pairs.items))
-  after_import_is = after_import_assignments ∙ import_is S good pairs.items
 
   -- likewise, as a list that is put in its order
   pub after_import_puts : after S (ImportAssignments pairs) ≡ record S { assignments = insert_all S.assignments (accepted S pairs.items) }

@@ -1,7 +1,6 @@
 -- Lists that a loop makes entry by entry.
-use Rattle.std.proofs.Common.{◌≡◌, ℕ, ◌+◌, ◌<◌, ◌≤◌, Bool, true, false, cond, List, [], ◌∷◌, ◌++◌, length, drop, map, get_or, refl, sym, ◌∙◌, ap, subst}
-use Rattle.std.specs.Prelude.{not, filter}
-use Rattle.std.specs.List.{flat_map}
+use Rattle.std.proofs.Common.{◌≡◌, ℕ, ◌+◌, ◌<◌, ◌≤◌, Bool, true, false, cond, List, [], ◌∷◌, ◌++◌, length, drop, map, get_or, refl, sym, ◌∙◌, ap}
+use Rattle.std.specs.Prelude.{filter}
 use Rattle.std.proofs.lemmas.List.{append_assoc, append-nil, drop_more}
 use Rattle.std.proofs.Math.ListN.{drop_of_length-le}
 
@@ -44,10 +43,6 @@ each_filter {K} g test = record { none = refl; more = λ x xs. by x xs (test x) 
     by x xs true is = rw is refl
     by x xs false is = rw is refl
 
--- an entry of what is made of the entries that fail a test
-pub each_failing : {K C : Type 0} (h : K → List C) (test : K → Bool) → MakesEach (λ xs. flat_map h (filter (λ x. not (test x)) xs)) (λ x. cond (test x) [] (h x))
-each_failing {K} h test = record { none = refl; more = λ x xs. by x xs (test x) refl }
-  where
-    by : (x : K) (xs : List K) (b : Bool) → test x ≡ b → flat_map h (filter (λ y. not (test y)) (x ∷ xs)) ≡ cond (test x) [] (h x) ++ flat_map h (filter (λ y. not (test y)) xs)
-    by x xs true is = rw is refl
-    by x xs false is = rw is refl
+-- a list to which more was appended, where both are known
+pub listed_then : {C : Type 0} {after before more was rows : List C} → after ≡ before ++ more → before ≡ was → more ≡ rows → after ≡ was ++ rows
+listed_then next before more = next ∙ (λ i. before i ++ more i)

@@ -2,7 +2,7 @@
 use Rattle.std.proofs.Common.{◌≡◌, ◌+◌, ◌≤◌, false, refl, sym, ◌∙◌, ap, subst, inl, inr}
 use Rattle.std.specs.Prelude.{IsTrue, Option, Some, None}
 use Rattle.std.specs.Option.{option_map}
-use Rattle.std.proofs.lemmas.Bool.{or_cases, true≢false}
+use Rattle.std.proofs.lemmas.Bool.{or_cases}
 use Rattle.rbac_sets.specs.Sets.{Bytes, Pair, Pairs, Names, name_cmp, contains, insert, union, seconds, len, all, IsDisjoint}
 use Rattle.rbac_sets.specs.SortedSet.{Stored, set_of}
 use Rattle.rbac_sets.specs.Kind.{limit_of}
@@ -95,10 +95,6 @@ module _ (S : RbacState) (user : Bytes) (roles : Stored Bytes) (session : Bytes)
     create_session_apart pair new =
         let at : pair.0 ≡ session = ((paired-Decides session (set_of name_cmp roles) pair.0 pair.1).0 new).0 in
         ap (λ s. contains S.active (s, pair.1)) at ∙ create_session_inactive pair.1
-
-    pub create_session_apart_from : IsDisjoint S.active (paired session (set_of name_cmp roles))
-    create_session_apart_from pair old =
-        is_false (contains (paired session (set_of name_cmp roles)) pair) (λ new. true≢false (sym old ∙ create_session_apart pair new))
 
     -- the sessions after it
     new_sessions : Pairs

@@ -105,13 +105,13 @@ module _ (S : RbacState) (added : Pairs) (good : IsGood (with_assignments S adde
           let is_user = refuse_unless-None (contains S.users user) NoUser (passed (record_refusals S added (user, role)) is).0 in
           ap (λ last. first (record_refusals S added (user, role) ++ last ∷ [])) (same_last is_user)
 
-  -- the assignments and those that were added are no more than there may be
-  pub added_len : len S.assignments + len added ≤ 20000
-  unfolding with_assignments
-  added_len =
-      let both : len (union S.assignments added) ≡ len S.assignments + len added = len-union pair_total pair_exact S.assignments added apart in
-      let few : len (union S.assignments added) ≤ 20000 = good.limits.assignments in
-      omega (arith, both, few)
+-- the assignments and those that were added are no more than there may be
+pub added_len : (S : RbacState) (added : Pairs) → IsGood (with_assignments S added) → IsDisjoint S.assignments added → len S.assignments + len added ≤ 20000
+unfolding with_assignments
+added_len S added good apart =
+    let both : len (union S.assignments added) ≡ len S.assignments + len added = len-union pair_total pair_exact S.assignments added apart in
+    let few : len (union S.assignments added) ≤ 20000 = good.limits.assignments in
+    omega (arith, both, few)
 
 -- a pair that is put was not added before
 pub new_to_added : (S : RbacState) (added : Pairs) (pair : Pair) → assignment_verdict (with_assignments S added) pair ≡ None → (contains S.assignments pair ≡ false) × (contains added pair ≡ false)

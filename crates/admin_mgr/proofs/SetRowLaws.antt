@@ -1,7 +1,7 @@
 -- Which rows of a separation of duty set are there, before a command on it puts or takes some.
 use Rattle.std.proofs.Common.{◌≡◌, ◌≢◌, ℕ, Bool, true, false, not, ◌&&◌, List, [], ◌∷◌, map, refl, sym, ◌∙◌, ap, subst, inl, inr}
 use Rattle.std.specs.Prelude.{IsTrue, Option, Some, None, is_some}
-use Rattle.std.specs.List.{list_any, filter, AllByRecursion}
+use Rattle.std.specs.List.{list_any, AllByRecursion}
 use Rattle.std.specs.List.Sorted.{IsStrictlySortedBy}
 use Rattle.std.specs.declared.cmp.Ordering.TheVariants.{Less}
 use Rattle.std.specs.Ordering.{ordering_then, eq_by_cmp}
@@ -50,10 +50,6 @@ module _ (separation : Separation) (name : Bytes) (absent : has_set separation n
     pub paired_apart : (roles : Names) → IsDisjoint (paired name roles) separation.members
     paired_apart roles pair new =
         subst (λ first. contains separation.members (first, pair.1) ≡ false) (sym ((paired-Decides name roles pair.0 pair.1).0 new).0) (no_members pair.1)
-
-    -- and none that is there is one of them
-    pub apart_paired : (roles : Names) → IsDisjoint separation.members (paired name roles)
-    apart_paired roles pair old = is_false _ (λ new. true≢false (sym old ∙ paired_apart roles pair new))
 
 -- what is above a name is above it behind one first name too
 paired_above : (name x : Bytes) (ys : List Bytes) → AllByRecursion (λ y. name_cmp x y ≡ Less) ys → AllByRecursion (λ p. pair_cmp (name, x) p ≡ Less) (map (λ y. (name, y)) ys)
@@ -138,10 +134,6 @@ module _ (separation : Separation) (all_roles : Names) (formed : IsSeparation al
   pub told_cardinality-remove : without_cardinality name separation.cardinalities ≡ remove separation.cardinalities (name, before)
   told_cardinality-remove = without_cardinality-remove separation all_roles formed name before (cardinality_there separation name before told)
 
-  -- another one is not there yet
-  pub no_other_cardinality : (n : ℕ) → before ≢ n → contains separation.cardinalities (name, n) ≡ false
-  no_other_cardinality = no_second_cardinality separation all_roles formed name before (cardinality_there separation name before told)
-
   -- nor once the old one is taken
   pub no_cardinality_left : (n : ℕ) → contains (remove separation.cardinalities (name, before)) (name, n) ≡ false
   no_cardinality_left n = is_false _ (λ h. (other_cardinality name separation.cardinalities (name, n) (subst (λ s. IsTrue (contains s (name, n))) (sym told_cardinality-remove) h)).1 refl)
@@ -163,14 +155,6 @@ told_cardinality separation all_roles formed name n there =
     by None is h = cc
     by (Some k) is h = is ∙ ap Some (formed.one_cardinality name k n (cardinality_there separation name k is) there)
 
--- a set that is there has a cardinality that is told
-pub told_set : (separation : Separation) (name : Bytes) → has_set separation name ≡ true → (n : ℕ) × (cardinality_of separation name ≡ Some n)
-told_set separation name there = by (cardinality_of separation name) refl (is_some_cardinality separation name ∙ there)
-  where
-    by : (o : Option ℕ) → cardinality_of separation name ≡ o → is_some o ≡ true → (n : ℕ) × (cardinality_of separation name ≡ Some n)
-    by None is h = cc
-    by (Some n) is h = (n, is)
-
 -- ---- the members of one set
 
 -- the pairs of a run are those that begin with its name
@@ -180,10 +164,6 @@ contains-run pairs name pair =
     ∙ sym (contains-members (retain pairs (λ (p : Pair). same_name p.0 name)) pair)
     ∙ contains-retain pair_total pair_exact pairs (λ (p : Pair). same_name p.0 name) pair
 
--- the pairs of other names are in the order of the whole
-pub members_without_first : (pairs : Pairs) (name : Bytes) → members (without_first name pairs) ≡ filter (λ (p : Pair). not (same_name p.0 name)) (members pairs)
-members_without_first pairs name = members-retain pair_total pair_exact pairs (λ (p : Pair). not (same_name p.0 name))
-
 -- the pairs of other names are those that begin with another name
 pub contains-without_first : (pairs : Pairs) (name : Bytes) (pair : Pair) → contains (without_first name pairs) pair ≡ (contains pairs pair && not (same_name pair.0 name))
 contains-without_first pairs name pair = contains-retain pair_total pair_exact pairs (λ (p : Pair). not (same_name p.0 name)) pair
@@ -192,10 +172,3 @@ contains-without_first pairs name pair = contains-retain pair_total pair_exact p
 not_in_run : (has same : Bool) → (has && not same) ≡ (has && not (has && same))
 not_in_run true same = refl
 not_in_run false same = refl
-
--- which is all but the run of this name
-pub without_first-run : (pairs : Pairs) (name : Bytes) (pair : Pair) →
-    contains (without_first name pairs) pair ≡ (contains pairs pair && not (list_any (eq_by_cmp pair_cmp pair) (run_of pairs name)))
-without_first-run pairs name pair =
-    contains-without_first pairs name pair ∙ not_in_run (contains pairs pair) (same_name pair.0 name)
-    ∙ ap (λ b. contains pairs pair && not b) (sym (contains-run pairs name pair))

@@ -2,7 +2,10 @@ pub mod After
 pub mod Assignment
 pub mod Authorization
 pub mod Changes
+pub mod Checked
 pub mod Ending
+pub mod Gathered
+pub mod GatheredView
 pub mod Good
 pub mod Held
 pub mod Importing
@@ -10,6 +13,7 @@ pub mod Kept
 pub mod Laws
 pub mod Life
 pub mod Listing
+pub mod PlainPlan
 pub mod Planned
 pub mod RbacState
 pub mod Refusing
@@ -17,5 +21,6 @@ pub mod Rows
 pub mod Run
 pub mod Separation
 pub mod Stepping
+pub mod Tested
 pub mod Verdict
 pub mod View

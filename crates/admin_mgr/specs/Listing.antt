@@ -38,6 +38,10 @@ ended_rows S goes_on = flat_map (session_rows S) (filter (λ session. not (goes_
 abbrev pub lock_rows : RbacState → Bytes → List Change
 lock_rows S user = if contains S.locked user then Take (LockedRow user) ∷ [] else []
 
+-- the lock of a user comes, where there is none
+abbrev pub new_lock_rows : RbacState → Bytes → List Change
+new_lock_rows S user = if contains S.locked user then [] else Put (LockedRow user) ∷ []
+
 -- the row of an edge comes, and those of the pairs that the order gains by it
 abbrev pub order_puts : Bytes → Bytes → Pairs → List Change
 order_puts asc desc pairs = Put (PairRow 3 asc desc) ∷ put_all (pair_row 4) (members pairs)

@@ -35,7 +35,7 @@ pub mod core_rbac;
 pub mod dynamic_separation;
 pub mod hierarchy;
 pub(crate) mod naming;
-mod separation;
+pub(crate) mod separation;
 pub mod sessions;
 pub mod static_separation;
 

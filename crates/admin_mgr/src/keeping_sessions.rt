@@ -8,6 +8,7 @@ ghost use Rattle.admin_mgr.specs.Authorization.{is_session_role};
 ghost use Rattle.admin_mgr.specs.Separation.{is_kept_dynamically};
 
 use crate::held::{is_reached, reached_members, reached_roles};
+use crate::relations::Relations;
 use crate::state::State;
 use rbac_sets::{Name, NameSet};
 
@@ -35,7 +36,6 @@ fn keeps_session(state: &State, session: &Name, roles: &NameSet, cardinality: u3
 
 // Whether each session has fewer than so many of the set's roles, where the set has
 // the cardinality `before`.
-#[tactic(auto, unfolding(crate::specs::Separation::is_kept_dynamically, rbac_sets::specs::Sets::all))]
 pub(crate) fn keep_sessions_of(state: &State, set: &Name, before: u32, cardinality: u32) -> bool
     requires there { IsTrue (contains state.now.facts.dsd.cardinalities (set.now, before)) }
     ensures { result ≡ is_kept_dynamically state.now.facts (members_of state.now.facts.dsd set.now) cardinality }
@@ -44,8 +44,16 @@ pub(crate) fn keep_sessions_of(state: &State, set: &Name, before: u32, cardinali
     if cardinality >= before {
         return true;
     }
-    state.sessions().as_slice().iter().all(|session| keeps_session_of(
-        state,
+    keep_sessions_from(state.relations(), set, cardinality)
+}
+
+// Whether each session has fewer than so many of the set's roles. The relations may be anything.
+#[tactic(auto, unfolding(crate::specs::Separation::is_kept_dynamically, rbac_sets::specs::Sets::all))]
+pub(crate) fn keep_sessions_from(relations: &Relations, set: &Name, cardinality: u32) -> bool
+    ensures { result ≡ is_kept_dynamically relations.now.facts (members_of relations.now.facts.dsd set.now) cardinality }
+{
+    relations.sessions().as_slice().iter().all(|session| keeps_session_of(
+        relations,
         &session.0,
         set,
         cardinality,
@@ -53,12 +61,12 @@ pub(crate) fn keep_sessions_of(state: &State, set: &Name, before: u32, cardinali
 }
 
 // Whether the session has fewer than so many of the set's roles.
-fn keeps_session_of(state: &State, session: &Name, set: &Name, cardinality: u32) -> bool
-    ensures { result ≡ nat_lt (count (is_session_role state.now.facts session.now) (members_of state.now.facts.dsd set.now)) cardinality }
+fn keeps_session_of(relations: &Relations, session: &Name, set: &Name, cardinality: u32) -> bool
+    ensures { result ≡ nat_lt (count (is_session_role relations.now.facts session.now) (members_of relations.now.facts.dsd set.now)) cardinality }
 {
-    let held = state.active().with_first(session);
-    let members = state.dsd_members().with_first(set);
-    let count = reached_members(state.order(), held, members);
+    let held = relations.active().with_first(session);
+    let members = relations.dsd_members().with_first(set);
+    let count = reached_members(relations.order(), held, members);
     count < cardinality as usize
 }
 

@@ -8,6 +8,7 @@ ghost use Rattle.admin_mgr.specs.Authorization.{is_authorized};
 ghost use Rattle.admin_mgr.specs.Separation.{is_kept_statically};
 
 use crate::held::{is_reached, reached_members, reached_roles};
+use crate::relations::Relations;
 use crate::state::State;
 use rbac_sets::{Name, NameSet};
 
@@ -34,7 +35,6 @@ fn keeps_user(state: &State, user: &Name, roles: &NameSet, cardinality: u32) -> 
 
 // Whether each user is authorized for fewer than so many of the set's roles, where the set has
 // the cardinality `before`.
-#[tactic(auto, unfolding(crate::specs::Separation::is_kept_statically, rbac_sets::specs::Sets::all))]
 pub(crate) fn keep_users_of(state: &State, set: &Name, before: u32, cardinality: u32) -> bool
     requires there { IsTrue (contains state.now.facts.ssd.cardinalities (set.now, before)) }
     ensures { result ≡ is_kept_statically state.now.facts (members_of state.now.facts.ssd set.now) cardinality }
@@ -43,20 +43,29 @@ pub(crate) fn keep_users_of(state: &State, set: &Name, before: u32, cardinality:
     if cardinality >= before {
         return true;
     }
-    state
+    keep_users_from(state.relations(), set, cardinality)
+}
+
+// Whether each user is authorized for fewer than so many of the set's roles. The relations may be
+// anything.
+#[tactic(auto, unfolding(crate::specs::Separation::is_kept_statically, rbac_sets::specs::Sets::all))]
+pub(crate) fn keep_users_from(relations: &Relations, set: &Name, cardinality: u32) -> bool
+    ensures { result ≡ is_kept_statically relations.now.facts (members_of relations.now.facts.ssd set.now) cardinality }
+{
+    relations
         .users()
         .as_slice()
         .iter()
-        .all(|user| keeps_user_of(state, user, set, cardinality))
+        .all(|user| keeps_user_of(relations, user, set, cardinality))
 }
 
 // Whether the user is authorized for fewer than so many of the set's roles.
-fn keeps_user_of(state: &State, user: &Name, set: &Name, cardinality: u32) -> bool
-    ensures { result ≡ nat_lt (count (is_authorized state.now.facts user.now) (members_of state.now.facts.ssd set.now)) cardinality }
+fn keeps_user_of(relations: &Relations, user: &Name, set: &Name, cardinality: u32) -> bool
+    ensures { result ≡ nat_lt (count (is_authorized relations.now.facts user.now) (members_of relations.now.facts.ssd set.now)) cardinality }
 {
-    let held = state.assignments().with_first(user);
-    let members = state.ssd_members().with_first(set);
-    let count = reached_members(state.order(), held, members);
+    let held = relations.assignments().with_first(user);
+    let members = relations.ssd_members().with_first(set);
+    let count = reached_members(relations.order(), held, members);
     count < cardinality as usize
 }
 

@@ -1,5 +1,6 @@
 //! What holds of the sets and relations, however they are stored.
 ghost use Rattle.admin_mgr.specs.Laws.{SubsetForm, RowsDetermine, AcceptedIsGood, StaticTest, DynamicTest, ImportTwice};
+ghost use Rattle.admin_mgr.specs.Checked.{GoodRowsAreRead};
 
 /// Static separation of duty, by counting each user's roles, says what the standard says: as many
 /// roles of a set as its cardinality, or more, have no authorized user in common.
@@ -35,4 +36,11 @@ pub fn dynamic_test()
 /// separation of duty refused one, there may be too many assignments by then.
 pub fn import_twice()
     ensures { ImportTwice }
+{}
+
+/// The rows of a good state, each once and in any order, are refused by `State::of_rows` for want of
+/// memory alone.
+#[tactic(auto, using(crate::proofs::AcceptLaws::good_rows_are_read))]
+pub fn good_rows_are_read()
+    ensures { GoodRowsAreRead }
 {}

@@ -9,6 +9,7 @@ pub use plan::{Plan, Report};
 pub use relations::Relations;
 pub use state::State;
 
+mod checking;
 mod held;
 mod inheriting;
 pub mod judge;

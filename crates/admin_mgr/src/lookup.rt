@@ -4,6 +4,7 @@ ghost use Rattle.std.specs.List.{list_any, list_all};
 ghost use Rattle.std.specs.Option.{option_map};
 ghost use Rattle.rbac_sets.specs.Sets.{Pair, Cardinality, name_cmp, pair_cmp, cardinality_cmp, any, all, contains, members, same_name};
 ghost use Rattle.rbac_sets.specs.SortedSet.{set_of};
+ghost use Rattle.admin_mgr.specs.Tested.{are_firsts_in, are_seconds_in};
 
 use rbac_sets::{CountSet, Name, NameSet, PairSet};
 
@@ -37,6 +38,30 @@ pub(crate) fn has_part(pairs: &[(Name, Name)], name: &Name) -> bool
     pairs
         .iter()
         .any(|pair| is_same(&pair.0, name) || is_same(&pair.1, name))
+}
+
+// Whether each pair begins with one of the names.
+#[tactic(auto, unfolding(rbac_sets::specs::Sets::all))]
+pub(crate) fn are_firsts_in(names: &NameSet, pairs: &PairSet) -> bool
+    ensures { result ≡ are_firsts_in (set_of name_cmp names.now) (set_of pair_cmp pairs.now) }
+{
+    pairs.as_slice().iter().all(|pair| names.contains(&pair.0))
+}
+
+// Whether each pair ends with one of the names.
+#[tactic(auto, unfolding(rbac_sets::specs::Sets::all))]
+pub(crate) fn are_seconds_in(names: &NameSet, pairs: &PairSet) -> bool
+    ensures { result ≡ are_seconds_in (set_of name_cmp names.now) (set_of pair_cmp pairs.now) }
+{
+    pairs.as_slice().iter().all(|pair| names.contains(&pair.1))
+}
+
+// Whether each of the names is one of the others.
+#[tactic(auto, unfolding(rbac_sets::specs::Sets::all))]
+pub(crate) fn are_among(names: &NameSet, others: &NameSet) -> bool
+    ensures { result ≡ all (contains (set_of name_cmp others.now)) (set_of name_cmp names.now) }
+{
+    are_in(names.as_slice(), others)
 }
 
 // Whether each of the names is in the set.

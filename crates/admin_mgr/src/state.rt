@@ -1,15 +1,18 @@
 //! The state of the office.
-ghost use Rattle.std.specs.Prelude.{◌≡◌, ◌⊎◌, IfErr, OnOk};
+ghost use Rattle.std.specs.Prelude.{◌≡◌, ◌⊎◌, IfOk, IfErr, OnOk};
 ghost use Rattle.rbac_sets.specs.Sets.{name_cmp, pair_cmp, triple_cmp, cardinality_cmp};
 ghost use Rattle.rbac_sets.specs.SortedSet.{set_of};
 ghost use Rattle.admin_mgr.specs.RbacState.{RbacState, empty_state, cardinality_of};
 ghost use Rattle.admin_mgr.specs.Good.{IsGood};
+ghost use Rattle.admin_mgr.specs.Checked.{IsStateOf, RefusesRows};
 ghost use Rattle.admin_mgr.specs.Planned.{LeadsTo, HasRoomFor};
 
+use crate::checking::late_refusal;
 use crate::lookup::number_of;
 use crate::plan::Plan;
 use crate::relations::Relations;
-use rbac_sets::{CountSet, GrantSet, Name, NameSet, PairSet, Refusal};
+use crate::relations::gathered::Gathered;
+use rbac_sets::{CountSet, GrantSet, Name, NameSet, PairSet, Refusal, Row};
 use role_order::RoleOrder;
 use std::alloc::Global;
 use std::marker::Model;
@@ -55,6 +58,43 @@ impl State {
         State {
             relations: Relations::empty(alloc, 1),
         }
+    }
+
+    /// The state that is stored as these rows, in an office of this version.
+    ///
+    /// # Errors
+    ///
+    /// The first of the checks that fails is named. `Damaged(1)` where a row is of a kind that the version
+    /// hasn't, or two rows have one key; then `TooMany` where there is more of a kind than its limit; then
+    /// `Damaged` by 3 where a row speaks of what isn't there, 4 where a session has two users, 5 where the
+    /// immediate inheritances have a cycle, 6 where the stored pairs of the order aren't those that the
+    /// immediate inheritances lead over, 7 where the cardinality of a separation of duty set isn't from
+    /// two to the number of its members, 8 where a session's user isn't authorized for a role that was
+    /// activated in it, 9 where a static and 10 where a dynamic separation of duty set is violated, and 11
+    /// where a locked user has a session. `Memory` where memory was refused.
+    pub fn of_rows(alloc: Global, version: u32, rows: Vec<Row>) -> Result<State, Refusal>
+        requires { (version ≡ 1) ⊎ (version ≡ 2) }
+        ensures ok { IfOk result (λ state. IsStateOf version rows.items state.facts) }
+        ensures err { IfErr result (λ refusal. RefusesRows version rows.items refusal) }
+    {
+        let made = Gathered::of_rows(alloc, version, rows)?;
+        match made.early_refusal() {
+            Some(refusal) => return Err(refusal),
+            None => {}
+        }
+        let relations = made.into_relations(alloc)?;
+        match late_refusal(&relations) {
+            Some(refusal) => return Err(refusal),
+            None => {}
+        }
+        Ok(State { relations })
+    }
+
+    // The relations alone, for what asks no more of them.
+    pub(crate) fn relations(&self) -> &Relations
+        ensures { result.now ≡ self.now }
+    {
+        &self.relations
     }
 
     /// What holds of every state.

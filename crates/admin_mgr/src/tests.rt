@@ -10,6 +10,8 @@ use rbac_sets::{Command, Name, NameSet, Refusal};
 use std::alloc::Global;
 use std::test::Fail;
 
+mod rows;
+
 fn name(alloc: Global, text: &str) -> Result<Name, Fail> {
     Ok(Name::new(alloc, text).ok().ok_or("name")?)
 }

@@ -161,7 +161,7 @@ pub(crate) fn refuse_dynamic(
 }
 
 // Whether a cardinality is from two to the number of roles.
-fn is_cardinality(cardinality: u32, roles: usize) -> bool
+pub(crate) fn is_cardinality(cardinality: u32, roles: usize) -> bool
     ensures { result ≡ (nat_le 2 cardinality && nat_le cardinality roles) }
 {
     cardinality >= 2 && cardinality as usize <= roles

@@ -1,31 +1,30 @@
 //! The plans of the commands of core RBAC but for those on sessions, with the locks.
 ghost use Rattle.std.specs.Prelude.{◌≡◌, ◌++◌, None, IfOk, IfErr, OnOk};
 ghost use Rattle.rbac_sets.specs.declared.command.Command.TheVariants.{AddUser, DeleteUser, AddRole, DeleteRole, AddPermObj, DeletePermObj, AddPermission, DeletePermission, GrantPermission, RevokePermission, AssignUser, DeassignUser, LockUserAccount, UnlockUserAccount};
-ghost use Rattle.admin_mgr.specs.Listing.{lock_rows};
+ghost use Rattle.admin_mgr.specs.Listing.{lock_rows, new_lock_rows};
 ghost use Rattle.admin_mgr.specs.Verdict.{verdict};
 ghost use Rattle.admin_mgr.specs.Planned.{IsPlanOf};
 
 use crate::plan::Plan;
 use crate::planning::ending::{Loss, take_ended};
-use crate::planning::making::plain;
+use crate::planning::making::{one_put, one_taken, plain};
 use crate::planning::rows::{
-    grant_row, locked_row, name_row, pair_row, put, take, take_grants, take_grants_of_role, take_pairs,
-    take_pairs_with_second,
+    grant_row, locked_row, name_row, pair_row, put, take, take_grants, take_grants_of_role,
+    take_pairs, take_pairs_with_second,
 };
 use crate::state::State;
 use rbac_sets::{Change, Name, Refusal};
 use std::alloc::Global;
 
 // The plan of AddUser.
+#[tactic(auto, using(crate::proofs::AdditionPlans::done_add_user))]
 pub(crate) fn plan_add_user(alloc: Global, state: &State, user: &Name) -> Result<Plan, Refusal>
     requires accepted { verdict state.now.facts (AddUser user.now) ≡ None }
     ensures planned { IfOk result (IsPlanOf state.now.facts (AddUser user.now)) }
     ensures cause { IfErr result (λ refusal. refusal ≡ Refusal.Memory) }
 {
     state.is_good();
-    let mut changes = Vec::new(alloc);
-    put(&mut changes, name_row(alloc, 1, user)?)?;
-    Ok(plain(alloc, changes))
+    one_put(alloc, name_row(alloc, 1, user)?)
 }
 
 // The plan of DeleteUser: the user goes with its lock, its assignments and its sessions.
@@ -44,15 +43,14 @@ pub(crate) fn plan_delete_user(alloc: Global, state: &State, user: &Name) -> Res
 }
 
 // The plan of AddRole.
+#[tactic(auto, using(crate::proofs::AdditionPlans::done_add_role))]
 pub(crate) fn plan_add_role(alloc: Global, state: &State, role: &Name) -> Result<Plan, Refusal>
     requires accepted { verdict state.now.facts (AddRole role.now) ≡ None }
     ensures planned { IfOk result (IsPlanOf state.now.facts (AddRole role.now)) }
     ensures cause { IfErr result (λ refusal. refusal ≡ Refusal.Memory) }
 {
     state.is_good();
-    let mut changes = Vec::new(alloc);
-    put(&mut changes, name_row(alloc, 2, role)?)?;
-    Ok(plain(alloc, changes))
+    one_put(alloc, name_row(alloc, 2, role)?)
 }
 
 // The plan of DeleteRole: the role goes with its assignments and grants, and sessions may end.
@@ -71,43 +69,58 @@ pub(crate) fn plan_delete_role(alloc: Global, state: &State, role: &Name) -> Res
 }
 
 // The plan for one more object.
-pub(crate) fn plan_add_perm_obj(alloc: Global, state: &State, object: &Name) -> Result<Plan, Refusal>
+#[tactic(auto, using(crate::proofs::AdditionPlans::done_add_perm_obj))]
+pub(crate) fn plan_add_perm_obj(
+    alloc: Global,
+    state: &State,
+    object: &Name,
+) -> Result<Plan, Refusal>
     requires accepted { verdict state.now.facts (AddPermObj object.now) ≡ None }
     ensures planned { IfOk result (IsPlanOf state.now.facts (AddPermObj object.now)) }
     ensures cause { IfErr result (λ refusal. refusal ≡ Refusal.Memory) }
 {
     state.is_good();
-    let mut changes = Vec::new(alloc);
-    put(&mut changes, name_row(alloc, 3, object)?)?;
-    Ok(plain(alloc, changes))
+    one_put(alloc, name_row(alloc, 3, object)?)
 }
 
 // The plan for one object less.
-pub(crate) fn plan_delete_perm_obj(alloc: Global, state: &State, object: &Name) -> Result<Plan, Refusal>
+#[tactic(auto, using(crate::proofs::TakePlans::done_delete_perm_obj))]
+pub(crate) fn plan_delete_perm_obj(
+    alloc: Global,
+    state: &State,
+    object: &Name,
+) -> Result<Plan, Refusal>
     requires accepted { verdict state.now.facts (DeletePermObj object.now) ≡ None }
     ensures planned { IfOk result (IsPlanOf state.now.facts (DeletePermObj object.now)) }
     ensures cause { IfErr result (λ refusal. refusal ≡ Refusal.Memory) }
 {
     state.is_good();
-    let mut changes = Vec::new(alloc);
-    take(&mut changes, name_row(alloc, 3, object)?)?;
-    Ok(plain(alloc, changes))
+    one_taken(alloc, name_row(alloc, 3, object)?)
 }
 
 // The plan for one more permission.
-pub(crate) fn plan_add_permission(alloc: Global, state: &State, object: &Name, operation: &Name) -> Result<Plan, Refusal>
+#[tactic(auto, using(crate::proofs::AdditionPlans::done_add_permission))]
+pub(crate) fn plan_add_permission(
+    alloc: Global,
+    state: &State,
+    object: &Name,
+    operation: &Name,
+) -> Result<Plan, Refusal>
     requires accepted { verdict state.now.facts (AddPermission object.now operation.now) ≡ None }
     ensures planned { IfOk result (IsPlanOf state.now.facts (AddPermission object.now operation.now)) }
     ensures cause { IfErr result (λ refusal. refusal ≡ Refusal.Memory) }
 {
     state.is_good();
-    let mut changes = Vec::new(alloc);
-    put(&mut changes, pair_row(alloc, 1, object, operation)?)?;
-    Ok(plain(alloc, changes))
+    one_put(alloc, pair_row(alloc, 1, object, operation)?)
 }
 
 // The plan for one permission less: it goes with its grants.
-pub(crate) fn plan_delete_permission(alloc: Global, state: &State, object: &Name, operation: &Name) -> Result<Plan, Refusal>
+pub(crate) fn plan_delete_permission(
+    alloc: Global,
+    state: &State,
+    object: &Name,
+    operation: &Name,
+) -> Result<Plan, Refusal>
     requires accepted { verdict state.now.facts (DeletePermission object.now operation.now) ≡ None }
     ensures planned { IfOk result (IsPlanOf state.now.facts (DeletePermission object.now operation.now)) }
     ensures cause { IfErr result (λ refusal. refusal ≡ Refusal.Memory) }
@@ -115,48 +128,71 @@ pub(crate) fn plan_delete_permission(alloc: Global, state: &State, object: &Name
     state.is_good();
     let mut changes = Vec::new(alloc);
     take(&mut changes, pair_row(alloc, 1, object, operation)?)?;
-    take_grants(alloc, &mut changes, state.grants().with_first((object, operation)))?;
+    take_grants(
+        alloc,
+        &mut changes,
+        state.grants().with_first((object, operation)),
+    )?;
     Ok(plain(alloc, changes))
 }
 
 // The plan of GrantPermission.
-pub(crate) fn plan_grant_permission(alloc: Global, state: &State, object: &Name, operation: &Name, role: &Name) -> Result<Plan, Refusal>
+#[tactic(auto, using(crate::proofs::AdditionPlans::done_grant_permission))]
+pub(crate) fn plan_grant_permission(
+    alloc: Global,
+    state: &State,
+    object: &Name,
+    operation: &Name,
+    role: &Name,
+) -> Result<Plan, Refusal>
     requires accepted { verdict state.now.facts (GrantPermission object.now operation.now role.now) ≡ None }
     ensures planned { IfOk result (IsPlanOf state.now.facts (GrantPermission object.now operation.now role.now)) }
     ensures cause { IfErr result (λ refusal. refusal ≡ Refusal.Memory) }
 {
     state.is_good();
-    let mut changes = Vec::new(alloc);
-    put(&mut changes, grant_row(alloc, object, operation, role)?)?;
-    Ok(plain(alloc, changes))
+    one_put(alloc, grant_row(alloc, object, operation, role)?)
 }
 
 // The plan of RevokePermission.
-pub(crate) fn plan_revoke_permission(alloc: Global, state: &State, object: &Name, operation: &Name, role: &Name) -> Result<Plan, Refusal>
+#[tactic(auto, using(crate::proofs::TakePlans::done_revoke_permission))]
+pub(crate) fn plan_revoke_permission(
+    alloc: Global,
+    state: &State,
+    object: &Name,
+    operation: &Name,
+    role: &Name,
+) -> Result<Plan, Refusal>
     requires accepted { verdict state.now.facts (RevokePermission object.now operation.now role.now) ≡ None }
     ensures planned { IfOk result (IsPlanOf state.now.facts (RevokePermission object.now operation.now role.now)) }
     ensures cause { IfErr result (λ refusal. refusal ≡ Refusal.Memory) }
 {
     state.is_good();
-    let mut changes = Vec::new(alloc);
-    take(&mut changes, grant_row(alloc, object, operation, role)?)?;
-    Ok(plain(alloc, changes))
+    one_taken(alloc, grant_row(alloc, object, operation, role)?)
 }
 
 // The plan of AssignUser.
-pub(crate) fn plan_assign_user(alloc: Global, state: &State, user: &Name, role: &Name) -> Result<Plan, Refusal>
+#[tactic(auto, using(crate::proofs::AssignPlans::done_assign_user))]
+pub(crate) fn plan_assign_user(
+    alloc: Global,
+    state: &State,
+    user: &Name,
+    role: &Name,
+) -> Result<Plan, Refusal>
     requires accepted { verdict state.now.facts (AssignUser user.now role.now) ≡ None }
     ensures planned { IfOk result (IsPlanOf state.now.facts (AssignUser user.now role.now)) }
     ensures cause { IfErr result (λ refusal. refusal ≡ Refusal.Memory) }
 {
     state.is_good();
-    let mut changes = Vec::new(alloc);
-    put(&mut changes, pair_row(alloc, 2, user, role)?)?;
-    Ok(plain(alloc, changes))
+    one_put(alloc, pair_row(alloc, 2, user, role)?)
 }
 
 // The plan of DeassignUser: sessions of the user may end.
-pub(crate) fn plan_deassign_user(alloc: Global, state: &State, user: &Name, role: &Name) -> Result<Plan, Refusal>
+pub(crate) fn plan_deassign_user(
+    alloc: Global,
+    state: &State,
+    user: &Name,
+    role: &Name,
+) -> Result<Plan, Refusal>
     requires accepted { verdict state.now.facts (DeassignUser user.now role.now) ≡ None }
     ensures planned { IfOk result (IsPlanOf state.now.facts (DeassignUser user.now role.now)) }
     ensures cause { IfErr result (λ refusal. refusal ≡ Refusal.Memory) }
@@ -169,7 +205,11 @@ pub(crate) fn plan_deassign_user(alloc: Global, state: &State, user: &Name, role
 }
 
 // The plan of a lock: the user's sessions end. A user that is locked stays so.
-pub(crate) fn plan_lock_user_account(alloc: Global, state: &State, user: &Name) -> Result<Plan, Refusal>
+pub(crate) fn plan_lock_user_account(
+    alloc: Global,
+    state: &State,
+    user: &Name,
+) -> Result<Plan, Refusal>
     requires accepted { verdict state.now.facts (LockUserAccount user.now) ≡ None }
     ensures planned { IfOk result (IsPlanOf state.now.facts (LockUserAccount user.now)) }
     ensures cause { IfErr result (λ refusal. refusal ≡ Refusal.Memory) }
@@ -177,14 +217,16 @@ pub(crate) fn plan_lock_user_account(alloc: Global, state: &State, user: &Name) 
     state.is_good();
     let mut changes = Vec::new(alloc);
     take_ended(alloc, &mut changes, state, Loss::User(user))?;
-    if !state.locked().contains(user) {
-        put(&mut changes, locked_row(alloc, user)?)?;
-    }
+    put_lock(alloc, &mut changes, state, user)?;
     Ok(plain(alloc, changes))
 }
 
 // The plan of a lock that goes. A user that is not locked stays so.
-pub(crate) fn plan_unlock_user_account(alloc: Global, state: &State, user: &Name) -> Result<Plan, Refusal>
+pub(crate) fn plan_unlock_user_account(
+    alloc: Global,
+    state: &State,
+    user: &Name,
+) -> Result<Plan, Refusal>
     requires accepted { verdict state.now.facts (UnlockUserAccount user.now) ≡ None }
     ensures planned { IfOk result (IsPlanOf state.now.facts (UnlockUserAccount user.now)) }
     ensures cause { IfErr result (λ refusal. refusal ≡ Refusal.Memory) }
@@ -196,12 +238,33 @@ pub(crate) fn plan_unlock_user_account(alloc: Global, state: &State, user: &Name
 }
 
 // The lock of a user goes, where there is one.
-fn take_lock(alloc: Global, changes: &mut Vec<Change>, state: &State, user: &Name) -> Result<(), Refusal>
+fn take_lock(
+    alloc: Global,
+    changes: &mut Vec<Change>,
+    state: &State,
+    user: &Name,
+) -> Result<(), Refusal>
     ensures ok { OnOk result (changes.new.items ≡ changes.old.items ++ lock_rows state.now.facts user.now) }
     ensures cause { IfErr result (λ refusal. refusal ≡ Refusal.Memory) }
 {
     if state.locked().contains(user) {
         take(changes, locked_row(alloc, user)?)?;
+    }
+    Ok(())
+}
+
+// The lock of a user comes, where there is none.
+fn put_lock(
+    alloc: Global,
+    changes: &mut Vec<Change>,
+    state: &State,
+    user: &Name,
+) -> Result<(), Refusal>
+    ensures ok { OnOk result (changes.new.items ≡ changes.old.items ++ new_lock_rows state.now.facts user.now) }
+    ensures cause { IfErr result (λ refusal. refusal ≡ Refusal.Memory) }
+{
+    if !state.locked().contains(user) {
+        put(changes, locked_row(alloc, user)?)?;
     }
     Ok(())
 }

@@ -12,7 +12,13 @@ use rbac_sets::{Name, NameSet, Refusal};
 use std::alloc::Global;
 
 // The plan of CreateDsdSet.
-pub(crate) fn plan_create_dsd_set(alloc: Global, state: &State, set: &Name, roles: &NameSet, cardinality: u32) -> Result<Plan, Refusal>
+pub(crate) fn plan_create_dsd_set(
+    alloc: Global,
+    state: &State,
+    set: &Name,
+    roles: &NameSet,
+    cardinality: u32,
+) -> Result<Plan, Refusal>
     requires accepted { verdict state.now.facts (CreateDsdSet set.now roles.now cardinality) ≡ None }
     ensures planned { IfOk result (IsPlanOf state.now.facts (CreateDsdSet set.now roles.now cardinality)) }
     ensures cause { IfErr result (λ refusal. refusal ≡ Refusal.Memory) }
@@ -25,7 +31,12 @@ pub(crate) fn plan_create_dsd_set(alloc: Global, state: &State, set: &Name, role
 }
 
 // The plan of AddDsdRoleMember.
-pub(crate) fn plan_add_dsd_role_member(alloc: Global, state: &State, set: &Name, role: &Name) -> Result<Plan, Refusal>
+pub(crate) fn plan_add_dsd_role_member(
+    alloc: Global,
+    state: &State,
+    set: &Name,
+    role: &Name,
+) -> Result<Plan, Refusal>
     requires accepted { verdict state.now.facts (AddDsdRoleMember set.now role.now) ≡ None }
     ensures planned { IfOk result (IsPlanOf state.now.facts (AddDsdRoleMember set.now role.now)) }
     ensures cause { IfErr result (λ refusal. refusal ≡ Refusal.Memory) }
@@ -37,7 +48,12 @@ pub(crate) fn plan_add_dsd_role_member(alloc: Global, state: &State, set: &Name,
 }
 
 // The plan of DeleteDsdRoleMember.
-pub(crate) fn plan_delete_dsd_role_member(alloc: Global, state: &State, set: &Name, role: &Name) -> Result<Plan, Refusal>
+pub(crate) fn plan_delete_dsd_role_member(
+    alloc: Global,
+    state: &State,
+    set: &Name,
+    role: &Name,
+) -> Result<Plan, Refusal>
     requires accepted { verdict state.now.facts (DeleteDsdRoleMember set.now role.now) ≡ None }
     ensures planned { IfOk result (IsPlanOf state.now.facts (DeleteDsdRoleMember set.now role.now)) }
     ensures cause { IfErr result (λ refusal. refusal ≡ Refusal.Memory) }
@@ -49,7 +65,12 @@ pub(crate) fn plan_delete_dsd_role_member(alloc: Global, state: &State, set: &Na
 }
 
 // The plan of SetDsdSetCardinality. The same cardinality changes nothing.
-pub(crate) fn plan_set_dsd_set_cardinality(alloc: Global, state: &State, set: &Name, cardinality: u32) -> Result<Plan, Refusal>
+pub(crate) fn plan_set_dsd_set_cardinality(
+    alloc: Global,
+    state: &State,
+    set: &Name,
+    cardinality: u32,
+) -> Result<Plan, Refusal>
     requires accepted { verdict state.now.facts (SetDsdSetCardinality set.now cardinality) ≡ None }
     ensures planned { IfOk result (IsPlanOf state.now.facts (SetDsdSetCardinality set.now cardinality)) }
     ensures cause { IfErr result (λ refusal. refusal ≡ Refusal.Memory) }
@@ -57,11 +78,13 @@ pub(crate) fn plan_set_dsd_set_cardinality(alloc: Global, state: &State, set: &N
     state.is_good();
     let mut changes = Vec::new(alloc);
     match state.dsd_n(set) {
-        Some(before) if before != cardinality => {
-            take(&mut changes, set_row(alloc, 2, set, before)?)?;
-            put(&mut changes, set_row(alloc, 2, set, cardinality)?)?;
+        Some(before) => {
+            if before != cardinality {
+                take(&mut changes, set_row(alloc, 2, set, before)?)?;
+                put(&mut changes, set_row(alloc, 2, set, cardinality)?)?;
+            }
         }
-        _ => {}
+        None => {}
     }
     Ok(plain(alloc, changes))
 }

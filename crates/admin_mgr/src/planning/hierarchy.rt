@@ -1,5 +1,8 @@
 //! The plans of the commands on the role hierarchy.
-ghost use Rattle.std.specs.Prelude.{◌≡◌, ◌++◌, None, IfOk, IfErr, OnOk};
+ghost use Rattle.std.specs.Prelude.{◌≡◌, ◌++◌, true, false, None, IfOk, IfErr, OnOk};
+ghost use Rattle.rbac_sets.specs.Sets.{contains};
+ghost use Rattle.role_order.specs.Order.{geq};
+ghost use Rattle.role_order.specs.Planned.{IsPlanOf as IsOrderPlanOf};
 ghost use Rattle.rbac_sets.specs.declared.command.Command.TheVariants.{AddInheritance, DeleteInheritance, AddAscendant, AddDescendant};
 ghost use Rattle.admin_mgr.specs.Listing.{order_puts, order_takes};
 ghost use Rattle.admin_mgr.specs.Verdict.{verdict};
@@ -15,26 +18,38 @@ use role_order::OrderPlan;
 use std::alloc::Global;
 
 // The plan of AddInheritance.
-pub(crate) fn plan_add_inheritance(alloc: Global, state: &State, asc: &Name, desc: &Name) -> Result<Plan, Refusal>
+#[tactic(auto, using(crate::proofs::GoodInheritance::no_edge, crate::proofs::GoodInheritance::no_way_back))]
+pub(crate) fn plan_add_inheritance(
+    alloc: Global,
+    state: &State,
+    asc: &Name,
+    desc: &Name,
+) -> Result<Plan, Refusal>
     requires accepted { verdict state.now.facts (AddInheritance asc.now desc.now) ≡ None }
     ensures planned { IfOk result (IsPlanOf state.now.facts (AddInheritance asc.now desc.now)) }
     ensures cause { IfErr result (λ refusal. refusal ≡ Refusal.Memory) }
 {
     state.is_good();
-    let order = state.order().plan_add(alloc, asc, desc)?;
+    let order = order_with_edge(alloc, state, asc, desc)?;
     let mut changes = Vec::new(alloc);
     put_edge(alloc, &mut changes, asc, desc, &order)?;
     Ok(with_order(alloc, changes, order))
 }
 
 // The plan of DeleteInheritance: sessions may end.
-pub(crate) fn plan_delete_inheritance(alloc: Global, state: &State, asc: &Name, desc: &Name) -> Result<Plan, Refusal>
+#[tactic(auto, using(crate::proofs::EdgeTurns::edge_there))]
+pub(crate) fn plan_delete_inheritance(
+    alloc: Global,
+    state: &State,
+    asc: &Name,
+    desc: &Name,
+) -> Result<Plan, Refusal>
     requires accepted { verdict state.now.facts (DeleteInheritance asc.now desc.now) ≡ None }
     ensures planned { IfOk result (IsPlanOf state.now.facts (DeleteInheritance asc.now desc.now)) }
     ensures cause { IfErr result (λ refusal. refusal ≡ Refusal.Memory) }
 {
     state.is_good();
-    let order = state.order().plan_remove(alloc, asc, desc)?;
+    let order = order_without_edge(alloc, state, asc, desc)?;
     let mut changes = Vec::new(alloc);
     take_edge(alloc, &mut changes, asc, desc, &order)?;
     take_ended(alloc, &mut changes, state, Loss::Pairs(order.takes()))?;
@@ -42,13 +57,19 @@ pub(crate) fn plan_delete_inheritance(alloc: Global, state: &State, asc: &Name, 
 }
 
 // The plan of AddAscendant: the role `asc` comes with its edge.
-pub(crate) fn plan_add_ascendant(alloc: Global, state: &State, asc: &Name, desc: &Name) -> Result<Plan, Refusal>
+#[tactic(auto, using(crate::proofs::NewRoleLaws::add_ascendant_no_edge, crate::proofs::EdgeTurns::ascendant_makes_no_cycle))]
+pub(crate) fn plan_add_ascendant(
+    alloc: Global,
+    state: &State,
+    asc: &Name,
+    desc: &Name,
+) -> Result<Plan, Refusal>
     requires accepted { verdict state.now.facts (AddAscendant asc.now desc.now) ≡ None }
     ensures planned { IfOk result (IsPlanOf state.now.facts (AddAscendant asc.now desc.now)) }
     ensures cause { IfErr result (λ refusal. refusal ≡ Refusal.Memory) }
 {
     state.is_good();
-    let order = state.order().plan_add(alloc, asc, desc)?;
+    let order = order_with_edge(alloc, state, asc, desc)?;
     let mut changes = Vec::new(alloc);
     put(&mut changes, name_row(alloc, 2, asc)?)?;
     put_edge(alloc, &mut changes, asc, desc, &order)?;
@@ -56,21 +77,62 @@ pub(crate) fn plan_add_ascendant(alloc: Global, state: &State, asc: &Name, desc:
 }
 
 // The plan of AddDescendant: the role `desc` comes with its edge.
-pub(crate) fn plan_add_descendant(alloc: Global, state: &State, asc: &Name, desc: &Name) -> Result<Plan, Refusal>
+#[tactic(auto, using(crate::proofs::NewRoleLaws::add_descendant_no_edge, crate::proofs::EdgeTurns::descendant_makes_no_cycle))]
+pub(crate) fn plan_add_descendant(
+    alloc: Global,
+    state: &State,
+    asc: &Name,
+    desc: &Name,
+) -> Result<Plan, Refusal>
     requires accepted { verdict state.now.facts (AddDescendant asc.now desc.now) ≡ None }
     ensures planned { IfOk result (IsPlanOf state.now.facts (AddDescendant asc.now desc.now)) }
     ensures cause { IfErr result (λ refusal. refusal ≡ Refusal.Memory) }
 {
     state.is_good();
-    let order = state.order().plan_add(alloc, asc, desc)?;
+    let order = order_with_edge(alloc, state, asc, desc)?;
     let mut changes = Vec::new(alloc);
     put(&mut changes, name_row(alloc, 2, desc)?)?;
     put_edge(alloc, &mut changes, asc, desc, &order)?;
     Ok(with_order(alloc, changes, order))
 }
 
+// The plan of the hierarchy by which an edge comes.
+fn order_with_edge(
+    alloc: Global,
+    state: &State,
+    asc: &Name,
+    desc: &Name,
+) -> Result<OrderPlan, Refusal>
+    requires absent { contains state.now.facts.edges (asc.now, desc.now) ≡ false }
+    requires no_cycle { geq state.now.facts.edges desc.now asc.now ≡ false }
+    ensures planned { IfOk result (IsOrderPlanOf state.now.facts.edges true asc.now desc.now) }
+    ensures cause { IfErr result (λ refusal. refusal ≡ Refusal.Memory) }
+{
+    state.order().plan_add(alloc, asc, desc)
+}
+
+// The plan of the hierarchy by which an edge goes.
+fn order_without_edge(
+    alloc: Global,
+    state: &State,
+    asc: &Name,
+    desc: &Name,
+) -> Result<OrderPlan, Refusal>
+    requires there { contains state.now.facts.edges (asc.now, desc.now) ≡ true }
+    ensures planned { IfOk result (IsOrderPlanOf state.now.facts.edges false asc.now desc.now) }
+    ensures cause { IfErr result (λ refusal. refusal ≡ Refusal.Memory) }
+{
+    state.order().plan_remove(alloc, asc, desc)
+}
+
 // An edge comes with the pairs that its plan puts into the order.
-fn put_edge(alloc: Global, changes: &mut Vec<Change>, asc: &Name, desc: &Name, order: &OrderPlan) -> Result<(), Refusal>
+fn put_edge(
+    alloc: Global,
+    changes: &mut Vec<Change>,
+    asc: &Name,
+    desc: &Name,
+    order: &OrderPlan,
+) -> Result<(), Refusal>
     ensures ok { OnOk result (changes.new.items ≡ changes.old.items ++ order_puts asc.now desc.now order.now.puts) }
     ensures cause { IfErr result (λ refusal. refusal ≡ Refusal.Memory) }
 {
@@ -79,7 +141,13 @@ fn put_edge(alloc: Global, changes: &mut Vec<Change>, asc: &Name, desc: &Name, o
 }
 
 // An edge goes with the pairs that its plan takes from the order.
-fn take_edge(alloc: Global, changes: &mut Vec<Change>, asc: &Name, desc: &Name, order: &OrderPlan) -> Result<(), Refusal>
+fn take_edge(
+    alloc: Global,
+    changes: &mut Vec<Change>,
+    asc: &Name,
+    desc: &Name,
+    order: &OrderPlan,
+) -> Result<(), Refusal>
     ensures ok { OnOk result (changes.new.items ≡ changes.old.items ++ order_takes asc.now desc.now order.now.takes) }
     ensures cause { IfErr result (λ refusal. refusal ≡ Refusal.Memory) }
 {

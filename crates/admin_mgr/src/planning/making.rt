@@ -1,10 +1,13 @@
 //! A plan from its changes.
-ghost use Rattle.std.specs.Prelude.{◌≡◌, [], None, Some};
+ghost use Rattle.std.specs.Prelude.{◌≡◌, ◌∷◌, [], None, Some, IfOk, IfErr};
+ghost use Rattle.rbac_sets.specs.declared.row.Change.TheVariants.{Put, Take};
 ghost use Rattle.admin_mgr.specs.Assignment.{no_tally};
+ghost use Rattle.admin_mgr.specs.PlainPlan.{IsPlain};
 ghost use Rattle.admin_mgr.specs.Planned.{IsReportOf};
 
 use crate::plan::{Plan, Report};
-use rbac_sets::Change;
+use crate::planning::rows::{put, take};
+use rbac_sets::{Change, Refusal, Row};
 use role_order::OrderPlan;
 use std::alloc::Global;
 
@@ -19,6 +22,26 @@ pub(crate) fn plain(alloc: Global, changes: Vec<Change>) -> Plan
         report: nothing_told(alloc),
         order: None,
     }
+}
+
+// The plan of a command that puts one row.
+pub(crate) fn one_put(alloc: Global, row: Row) -> Result<Plan, Refusal>
+    ensures ok { IfOk result (IsPlain (Put row ∷ [])) }
+    ensures cause { IfErr result (λ refusal. refusal ≡ Refusal.Memory) }
+{
+    let mut changes = Vec::new(alloc);
+    put(&mut changes, row)?;
+    Ok(plain(alloc, changes))
+}
+
+// The plan of a command that takes one row.
+pub(crate) fn one_taken(alloc: Global, row: Row) -> Result<Plan, Refusal>
+    ensures ok { IfOk result (IsPlain (Take row ∷ [])) }
+    ensures cause { IfErr result (λ refusal. refusal ≡ Refusal.Memory) }
+{
+    let mut changes = Vec::new(alloc);
+    take(&mut changes, row)?;
+    Ok(plain(alloc, changes))
 }
 
 // The plan of a command that changes the hierarchy.

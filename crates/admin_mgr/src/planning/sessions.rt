@@ -6,14 +6,20 @@ ghost use Rattle.admin_mgr.specs.Planned.{IsPlanOf};
 
 use crate::plan::Plan;
 use crate::planning::ending::take_session;
-use crate::planning::making::plain;
-use crate::planning::rows::{pair_row, put, put_paired, take};
+use crate::planning::making::{one_put, one_taken, plain};
+use crate::planning::rows::{pair_row, put, put_paired};
 use crate::state::State;
 use rbac_sets::{Name, NameSet, Refusal};
 use std::alloc::Global;
 
 // The plan of CreateSession.
-pub(crate) fn plan_create_session(alloc: Global, state: &State, user: &Name, roles: &NameSet, session: &Name) -> Result<Plan, Refusal>
+pub(crate) fn plan_create_session(
+    alloc: Global,
+    state: &State,
+    user: &Name,
+    roles: &NameSet,
+    session: &Name,
+) -> Result<Plan, Refusal>
     requires accepted { verdict state.now.facts (CreateSession user.now roles.now session.now) ≡ None }
     ensures planned { IfOk result (IsPlanOf state.now.facts (CreateSession user.now roles.now session.now)) }
     ensures cause { IfErr result (λ refusal. refusal ≡ Refusal.Memory) }
@@ -26,7 +32,12 @@ pub(crate) fn plan_create_session(alloc: Global, state: &State, user: &Name, rol
 }
 
 // The plan of DeleteSession.
-pub(crate) fn plan_delete_session(alloc: Global, state: &State, user: &Name, session: &Name) -> Result<Plan, Refusal>
+pub(crate) fn plan_delete_session(
+    alloc: Global,
+    state: &State,
+    user: &Name,
+    session: &Name,
+) -> Result<Plan, Refusal>
     requires accepted { verdict state.now.facts (DeleteSession user.now session.now) ≡ None }
     ensures planned { IfOk result (IsPlanOf state.now.facts (DeleteSession user.now session.now)) }
     ensures cause { IfErr result (λ refusal. refusal ≡ Refusal.Memory) }
@@ -38,25 +49,35 @@ pub(crate) fn plan_delete_session(alloc: Global, state: &State, user: &Name, ses
 }
 
 // The plan of AddActiveRole.
-pub(crate) fn plan_add_active_role(alloc: Global, state: &State, user: &Name, session: &Name, role: &Name) -> Result<Plan, Refusal>
+#[tactic(auto, using(crate::proofs::AdditionPlans::done_add_active_role))]
+pub(crate) fn plan_add_active_role(
+    alloc: Global,
+    state: &State,
+    user: &Name,
+    session: &Name,
+    role: &Name,
+) -> Result<Plan, Refusal>
     requires accepted { verdict state.now.facts (AddActiveRole user.now session.now role.now) ≡ None }
     ensures planned { IfOk result (IsPlanOf state.now.facts (AddActiveRole user.now session.now role.now)) }
     ensures cause { IfErr result (λ refusal. refusal ≡ Refusal.Memory) }
 {
     state.is_good();
-    let mut changes = Vec::new(alloc);
-    put(&mut changes, pair_row(alloc, 8, session, role)?)?;
-    Ok(plain(alloc, changes))
+    one_put(alloc, pair_row(alloc, 8, session, role)?)
 }
 
 // The plan of DropActiveRole.
-pub(crate) fn plan_drop_active_role(alloc: Global, state: &State, user: &Name, session: &Name, role: &Name) -> Result<Plan, Refusal>
+#[tactic(auto, using(crate::proofs::TakePlans::done_drop_active_role))]
+pub(crate) fn plan_drop_active_role(
+    alloc: Global,
+    state: &State,
+    user: &Name,
+    session: &Name,
+    role: &Name,
+) -> Result<Plan, Refusal>
     requires accepted { verdict state.now.facts (DropActiveRole user.now session.now role.now) ≡ None }
     ensures planned { IfOk result (IsPlanOf state.now.facts (DropActiveRole user.now session.now role.now)) }
     ensures cause { IfErr result (λ refusal. refusal ≡ Refusal.Memory) }
 {
     state.is_good();
-    let mut changes = Vec::new(alloc);
-    take(&mut changes, pair_row(alloc, 8, session, role)?)?;
-    Ok(plain(alloc, changes))
+    one_taken(alloc, pair_row(alloc, 8, session, role)?)
 }

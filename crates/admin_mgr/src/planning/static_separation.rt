@@ -12,7 +12,13 @@ use rbac_sets::{Name, NameSet, Refusal};
 use std::alloc::Global;
 
 // The plan of CreateSsdSet.
-pub(crate) fn plan_create_ssd_set(alloc: Global, state: &State, set: &Name, roles: &NameSet, cardinality: u32) -> Result<Plan, Refusal>
+pub(crate) fn plan_create_ssd_set(
+    alloc: Global,
+    state: &State,
+    set: &Name,
+    roles: &NameSet,
+    cardinality: u32,
+) -> Result<Plan, Refusal>
     requires accepted { verdict state.now.facts (CreateSsdSet set.now roles.now cardinality) ≡ None }
     ensures planned { IfOk result (IsPlanOf state.now.facts (CreateSsdSet set.now roles.now cardinality)) }
     ensures cause { IfErr result (λ refusal. refusal ≡ Refusal.Memory) }
@@ -25,7 +31,12 @@ pub(crate) fn plan_create_ssd_set(alloc: Global, state: &State, set: &Name, role
 }
 
 // The plan of AddSsdRoleMember.
-pub(crate) fn plan_add_ssd_role_member(alloc: Global, state: &State, set: &Name, role: &Name) -> Result<Plan, Refusal>
+pub(crate) fn plan_add_ssd_role_member(
+    alloc: Global,
+    state: &State,
+    set: &Name,
+    role: &Name,
+) -> Result<Plan, Refusal>
     requires accepted { verdict state.now.facts (AddSsdRoleMember set.now role.now) ≡ None }
     ensures planned { IfOk result (IsPlanOf state.now.facts (AddSsdRoleMember set.now role.now)) }
     ensures cause { IfErr result (λ refusal. refusal ≡ Refusal.Memory) }
@@ -37,7 +48,12 @@ pub(crate) fn plan_add_ssd_role_member(alloc: Global, state: &State, set: &Name,
 }
 
 // The plan of DeleteSsdRoleMember.
-pub(crate) fn plan_delete_ssd_role_member(alloc: Global, state: &State, set: &Name, role: &Name) -> Result<Plan, Refusal>
+pub(crate) fn plan_delete_ssd_role_member(
+    alloc: Global,
+    state: &State,
+    set: &Name,
+    role: &Name,
+) -> Result<Plan, Refusal>
     requires accepted { verdict state.now.facts (DeleteSsdRoleMember set.now role.now) ≡ None }
     ensures planned { IfOk result (IsPlanOf state.now.facts (DeleteSsdRoleMember set.now role.now)) }
     ensures cause { IfErr result (λ refusal. refusal ≡ Refusal.Memory) }
@@ -49,7 +65,12 @@ pub(crate) fn plan_delete_ssd_role_member(alloc: Global, state: &State, set: &Na
 }
 
 // The plan of SetSsdSetCardinality. The same cardinality changes nothing.
-pub(crate) fn plan_set_ssd_set_cardinality(alloc: Global, state: &State, set: &Name, cardinality: u32) -> Result<Plan, Refusal>
+pub(crate) fn plan_set_ssd_set_cardinality(
+    alloc: Global,
+    state: &State,
+    set: &Name,
+    cardinality: u32,
+) -> Result<Plan, Refusal>
     requires accepted { verdict state.now.facts (SetSsdSetCardinality set.now cardinality) ≡ None }
     ensures planned { IfOk result (IsPlanOf state.now.facts (SetSsdSetCardinality set.now cardinality)) }
     ensures cause { IfErr result (λ refusal. refusal ≡ Refusal.Memory) }
@@ -57,11 +78,13 @@ pub(crate) fn plan_set_ssd_set_cardinality(alloc: Global, state: &State, set: &N
     state.is_good();
     let mut changes = Vec::new(alloc);
     match state.ssd_n(set) {
-        Some(before) if before != cardinality => {
-            take(&mut changes, set_row(alloc, 1, set, before)?)?;
-            put(&mut changes, set_row(alloc, 1, set, cardinality)?)?;
+        Some(before) => {
+            if before != cardinality {
+                take(&mut changes, set_row(alloc, 1, set, before)?)?;
+                put(&mut changes, set_row(alloc, 1, set, cardinality)?)?;
+            }
         }
-        _ => {}
+        None => {}
     }
     Ok(plain(alloc, changes))
 }

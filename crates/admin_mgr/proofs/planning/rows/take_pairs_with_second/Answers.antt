@@ -1,4 +1,4 @@
-use Rattle.std.proofs.Common.{◌++◌, ◌∷◌, [], ap, refl, sym, ◌∙◌, cond, map, filter}
+use Rattle.std.proofs.Common.{◌++◌, ◌∷◌, [], ap, refl, sym, ◌∙◌, cond}
 use Rattle.rbac_sets.specs.Sets.{Pair, same_name}
 use Rattle.rbac_sets.specs.declared.row.Row.TheVariants.{PairRow}
 use Rattle.rbac_sets.specs.declared.row.Change.TheVariants.{Take}

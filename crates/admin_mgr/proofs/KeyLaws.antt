@@ -1,0 +1,203 @@
+-- What the gathered sets have is what is among the rows.
+use Rattle.std.proofs.Common.{◌≡◌, ℕ, zero, suc, Bool, true, false, cond, ◌&&◌, ◌||◌, List, [], ◌∷◌, refl, sym, ◌∙◌, ap, subst, inl, inr, arith}
+use Rattle.std.specs.Prelude.{IsTrue, nat_eq, nat_le}
+use Rattle.std.specs.List.{list_any}
+use Rattle.std.specs.declared.cmp.Ordering.{Ordering}
+use Rattle.std.specs.Ordering.{eq_by_cmp}
+use Rattle.std.specs.Cmp.{IsTotalOrder}
+use Rattle.std.specs.FinMap.{IsAntisymmetric}
+use Rattle.std.proofs.lemmas.Bool.{or_cases, or_left, or_right, and_parts, leb-true, true≢false}
+use Rattle.rbac_sets.specs.Sets.{Bytes, Cardinality, Cardinalities, cardinality_cmp, any, contains, from_list, same_name, name_cmp, pair_cmp, triple_cmp}
+use Rattle.rbac_sets.specs.NameOrder.{name_total, name_exact, pair_total, triple_total, cardinality_total, cardinality_exact}
+use Rattle.rbac_sets.proofs.SetLaws.{any-Decides, contains-from_list, tie_Decides}
+use Rattle.role_order.proofs.Members.{same_name-flips}
+use Rattle.rbac_sets.specs.declared.row.Row.{Row}
+use Rattle.rbac_sets.specs.declared.row.Row.TheVariants.{NameRow, PairRow, GrantRow, SetRow, LockedRow}
+use Rattle.admin_mgr.specs.Changes.{same_row}
+use Rattle.admin_mgr.specs.Gathered.{Gathered, gathered, has_key, names_of, pairs_of, grants_of, cardinalities_of, locks_of, is_known, is_among, same_key}
+
+is_false : (b : Bool) → (b ≡ true → ⊥) → b ≡ false
+is_false true h = absurd (h refl)
+is_false false h = refl
+
+same_test : (a b : Bool) → (IsTrue a → IsTrue b) → (IsTrue b → IsTrue a) → a ≡ b
+same_test true b there back = sym (there refl)
+same_test false true there back = back refl
+same_test false false there back = refl
+
+-- a set of no name has no cardinality
+pub no_cardinality : (cardinalities : Cardinalities) (name : Bytes) (n : ℕ) → any (λ (entry : Cardinality). same_name entry.0 name) cardinalities ≡ false → contains cardinalities (name, n) ≡ false
+no_cardinality cardinalities name n none = is_false _ (λ there. true≢false (
+    sym ((any-Decides cardinality_total cardinality_exact (λ (entry : Cardinality). same_name entry.0 name) cardinalities).1 ((name, n), there, (tie_Decides name_total name_exact name name).1 refl))
+    ∙ none))
+
+pub no_static_key : (g : Gathered) (name : Bytes) (n : ℕ) → has_key g (SetRow 1 name n) ≡ false → contains g.facts.ssd.cardinalities (name, n) ≡ false
+unfolding has_key
+no_static_key g name n none = no_cardinality g.facts.ssd.cardinalities name n none
+
+pub no_dynamic_key : (g : Gathered) (name : Bytes) (n : ℕ) → has_key g (SetRow 2 name n) ≡ false → contains g.facts.dsd.cardinalities (name, n) ≡ false
+unfolding has_key
+no_dynamic_key g name n none = no_cardinality g.facts.dsd.cardinalities name n none
+
+-- ---- kinds
+
+-- a number from one to three, to eight, or to two
+pub of_three : (P : ℕ → Type 0) → P 1 → P 2 → P 3 → (k : ℕ) → (nat_le 1 k && nat_le k 3) ≡ true → P k
+of_three P one two three zero h = cc
+of_three P one two three (suc zero) h = one
+of_three P one two three (suc (suc zero)) h = two
+of_three P one two three (suc (suc (suc zero))) h = three
+of_three P one two three (suc (suc (suc (suc k)))) h =
+    let most : nat_le (suc (suc (suc (suc k)))) 3 ≡ true = (and_parts (nat_le 1 (suc (suc (suc (suc k))))) (nat_le (suc (suc (suc (suc k)))) 3) h).1 in
+    let le = leb-true (suc (suc (suc (suc k)))) 3 most in absurd (omega (arith, le))
+
+pub of_two : (P : ℕ → Type 0) → P 1 → P 2 → (k : ℕ) → (nat_le 1 k && nat_le k 2) ≡ true → P k
+of_two P one two zero h = cc
+of_two P one two (suc zero) h = one
+of_two P one two (suc (suc zero)) h = two
+of_two P one two (suc (suc (suc k))) h =
+    let most : nat_le (suc (suc (suc k))) 2 ≡ true = (and_parts (nat_le 1 (suc (suc (suc k)))) (nat_le (suc (suc (suc k))) 2) h).1 in
+    let le = leb-true (suc (suc (suc k))) 2 most in absurd (omega (arith, le))
+
+pub of_eight : (P : ℕ → Type 0) → P 1 → P 2 → P 3 → P 4 → P 5 → P 6 → P 7 → P 8 → (k : ℕ) → (nat_le 1 k && nat_le k 8) ≡ true → P k
+of_eight P p1 p2 p3 p4 p5 p6 p7 p8 zero h = cc
+of_eight P p1 p2 p3 p4 p5 p6 p7 p8 (suc zero) h = p1
+of_eight P p1 p2 p3 p4 p5 p6 p7 p8 (suc (suc zero)) h = p2
+of_eight P p1 p2 p3 p4 p5 p6 p7 p8 (suc (suc (suc zero))) h = p3
+of_eight P p1 p2 p3 p4 p5 p6 p7 p8 (suc (suc (suc (suc zero)))) h = p4
+of_eight P p1 p2 p3 p4 p5 p6 p7 p8 (suc (suc (suc (suc (suc zero))))) h = p5
+of_eight P p1 p2 p3 p4 p5 p6 p7 p8 (suc (suc (suc (suc (suc (suc zero)))))) h = p6
+of_eight P p1 p2 p3 p4 p5 p6 p7 p8 (suc (suc (suc (suc (suc (suc (suc zero))))))) h = p7
+of_eight P p1 p2 p3 p4 p5 p6 p7 p8 (suc (suc (suc (suc (suc (suc (suc (suc zero)))))))) h = p8
+of_eight P p1 p2 p3 p4 p5 p6 p7 p8 (suc (suc (suc (suc (suc (suc (suc (suc (suc k))))))))) h =
+    let most : nat_le (suc (suc (suc (suc (suc (suc (suc (suc (suc k))))))))) 8 ≡ true = (and_parts (nat_le 1 (suc (suc (suc (suc (suc (suc (suc (suc (suc k)))))))))) (nat_le (suc (suc (suc (suc (suc (suc (suc (suc (suc k))))))))) 8) h).1 in
+    let le = leb-true (suc (suc (suc (suc (suc (suc (suc (suc (suc k))))))))) 8 most in absurd (omega (arith, le))
+
+-- ---- membership
+
+one_more : {K : Type 0} (p : K → Bool) (b : Bool) (x : K) (xs : List K) (rest : Bool) → list_any p xs ≡ rest → list_any p (cond b (x ∷ xs) xs) ≡ (b && p x || rest)
+one_more p true x xs rest is = ap (λ r. p x || r) is
+one_more p false x xs rest is = is
+
+any_names : (kind : ℕ) (x : Bytes) (rows : List Row) → list_any (same_name x) (names_of kind rows) ≡ is_among rows (NameRow kind x)
+any_names kind x [] = refl
+any_names kind x (NameRow k a ∷ rows) = one_more (same_name x) (nat_eq k kind) a (names_of kind rows) _ (any_names kind x rows)
+any_names kind x (PairRow k a b ∷ rows) = any_names kind x rows
+any_names kind x (GrantRow a b c ∷ rows) = any_names kind x rows
+any_names kind x (SetRow k a n ∷ rows) = any_names kind x rows
+any_names kind x (LockedRow a ∷ rows) = any_names kind x rows
+
+any_pairs : (kind : ℕ) (x y : Bytes) (rows : List Row) → list_any (eq_by_cmp pair_cmp (x, y)) (pairs_of kind rows) ≡ is_among rows (PairRow kind x y)
+any_pairs kind x y [] = refl
+any_pairs kind x y (NameRow k a ∷ rows) = any_pairs kind x y rows
+any_pairs kind x y (PairRow k a b ∷ rows) = one_more (eq_by_cmp pair_cmp (x, y)) (nat_eq k kind) (a, b) (pairs_of kind rows) _ (any_pairs kind x y rows)
+any_pairs kind x y (GrantRow a b c ∷ rows) = any_pairs kind x y rows
+any_pairs kind x y (SetRow k a n ∷ rows) = any_pairs kind x y rows
+any_pairs kind x y (LockedRow a ∷ rows) = any_pairs kind x y rows
+
+any_grants : (x y z : Bytes) (rows : List Row) → list_any (eq_by_cmp triple_cmp (x, y, z)) (grants_of rows) ≡ is_among rows (GrantRow x y z)
+any_grants x y z [] = refl
+any_grants x y z (NameRow k a ∷ rows) = any_grants x y z rows
+any_grants x y z (PairRow k a b ∷ rows) = any_grants x y z rows
+any_grants x y z (GrantRow a b c ∷ rows) = ap (λ r. eq_by_cmp triple_cmp (x, y, z) (a, b, c) || r) (any_grants x y z rows)
+any_grants x y z (SetRow k a n ∷ rows) = any_grants x y z rows
+any_grants x y z (LockedRow a ∷ rows) = any_grants x y z rows
+
+any_cardinalities : (kind : ℕ) (x : Bytes) (n : ℕ) (rows : List Row) → list_any (eq_by_cmp cardinality_cmp (x, n)) (cardinalities_of kind rows) ≡ is_among rows (SetRow kind x n)
+any_cardinalities kind x n [] = refl
+any_cardinalities kind x n (NameRow k a ∷ rows) = any_cardinalities kind x n rows
+any_cardinalities kind x n (PairRow k a b ∷ rows) = any_cardinalities kind x n rows
+any_cardinalities kind x n (GrantRow a b c ∷ rows) = any_cardinalities kind x n rows
+any_cardinalities kind x n (SetRow k a m ∷ rows) = one_more (eq_by_cmp cardinality_cmp (x, n)) (nat_eq k kind) (a, m) (cardinalities_of kind rows) _ (any_cardinalities kind x n rows)
+any_cardinalities kind x n (LockedRow a ∷ rows) = any_cardinalities kind x n rows
+
+any_locks : (x : Bytes) (rows : List Row) → list_any (same_name x) (locks_of rows) ≡ is_among rows (LockedRow x)
+any_locks x [] = refl
+any_locks x (NameRow k a ∷ rows) = any_locks x rows
+any_locks x (PairRow k a b ∷ rows) = any_locks x rows
+any_locks x (GrantRow a b c ∷ rows) = any_locks x rows
+any_locks x (SetRow k a n ∷ rows) = any_locks x rows
+any_locks x (LockedRow a ∷ rows) = ap (λ r. same_name x a || r) (any_locks x rows)
+
+-- a name, a pair and so on is in the set of its kind exactly if its row is among the rows
+pub names_among : (kind : ℕ) (rows : List Row) (x : Bytes) → contains (from_list {R = name_cmp} (names_of kind rows)) x ≡ is_among rows (NameRow kind x)
+names_among kind rows x = contains-from_list name_total (names_of kind rows) x ∙ any_names kind x rows
+
+pub pairs_among : (kind : ℕ) (rows : List Row) (x y : Bytes) → contains (from_list {R = pair_cmp} (pairs_of kind rows)) (x, y) ≡ is_among rows (PairRow kind x y)
+pairs_among kind rows x y = contains-from_list pair_total (pairs_of kind rows) (x, y) ∙ any_pairs kind x y rows
+
+pub grants_among : (rows : List Row) (x y z : Bytes) → contains (from_list {R = triple_cmp} (grants_of rows)) (x, y, z) ≡ is_among rows (GrantRow x y z)
+grants_among rows x y z = contains-from_list triple_total (grants_of rows) (x, y, z) ∙ any_grants x y z rows
+
+pub cardinalities_among : (kind : ℕ) (rows : List Row) (x : Bytes) (n : ℕ) → contains (from_list {R = cardinality_cmp} (cardinalities_of kind rows)) (x, n) ≡ is_among rows (SetRow kind x n)
+cardinalities_among kind rows x n = contains-from_list cardinality_total (cardinalities_of kind rows) (x, n) ∙ any_cardinalities kind x n rows
+
+pub locks_among : (rows : List Row) (x : Bytes) → contains (from_list {R = name_cmp} (locks_of rows)) x ≡ is_among rows (LockedRow x)
+locks_among rows x = contains-from_list name_total (locks_of rows) x ∙ any_locks x rows
+
+-- ---- keys
+
+key_of_row : (row : Row) → ((kind : ℕ) (name : Bytes) (n : ℕ) → row ≡ SetRow kind name n → ⊥) → (other : Row) → same_row other row ≡ same_key other row
+key_of_row row plain (NameRow k a) = refl
+key_of_row row plain (PairRow k a b) = refl
+key_of_row row plain (GrantRow a b c) = refl
+key_of_row (NameRow k x) plain (SetRow l a n) = refl
+key_of_row (PairRow k x y) plain (SetRow l a n) = refl
+key_of_row (GrantRow x y z) plain (SetRow l a n) = refl
+key_of_row (SetRow k x m) plain (SetRow l a n) = absurd (plain k x m refl)
+key_of_row (LockedRow x) plain (SetRow l a n) = refl
+key_of_row row plain (LockedRow a) = refl
+
+among_by_key : (row : Row) → ((kind : ℕ) (name : Bytes) (n : ℕ) → row ≡ SetRow kind name n → ⊥) → (rows : List Row) → is_among rows row ≡ list_any (λ (other : Row). same_key other row) rows
+among_by_key row plain [] = refl
+among_by_key row plain (first ∷ rows) = λ i. key_of_row row plain first i || among_by_key row plain rows i
+
+any_sets : (kind : ℕ) (x : Bytes) (n : ℕ) (rows : List Row) → list_any (λ (entry : Cardinality). same_name entry.0 x) (cardinalities_of kind rows) ≡ list_any (λ (other : Row). same_key other (SetRow kind x n)) rows
+any_sets kind x n [] = refl
+any_sets kind x n (NameRow k a ∷ rows) = any_sets kind x n rows
+any_sets kind x n (PairRow k a b ∷ rows) = any_sets kind x n rows
+any_sets kind x n (GrantRow a b c ∷ rows) = any_sets kind x n rows
+any_sets kind x n (SetRow k a m ∷ rows) =
+    one_more (λ (entry : Cardinality). same_name entry.0 x) (nat_eq k kind) (a, m) (cardinalities_of kind rows) _ (any_sets kind x n rows)
+    ∙ ap (λ b. nat_eq k kind && b || list_any (λ (other : Row). same_key other (SetRow kind x n)) rows) (same_name-flips a x)
+any_sets kind x n (LockedRow a ∷ rows) = any_sets kind x n rows
+
+module _ {K : Type 0} {R : K → K → Ordering} (total : IsTotalOrder R) (exact : IsAntisymmetric R) where
+  one_of : (p : K → Bool) (xs : List K) → list_any p xs ≡ true → (x : K) × (list_any (eq_by_cmp R x) xs ≡ true) × (p x ≡ true)
+  one_of p [] h = absurd (true≢false (sym h))
+  one_of p (x ∷ xs) h = elim (or_cases (p x) (list_any p xs) h) [
+    | inl px ↦ (x, or_left _ _ ((tie_Decides total exact x x).1 refl), px)
+    | inr rest ↦ let found = one_of p xs rest in (found.0, or_right _ _ found.1, found.2)
+  ]
+
+  some_of : (p : K → Bool) (xs : List K) (x : K) → list_any (eq_by_cmp R x) xs ≡ true → p x ≡ true → list_any p xs ≡ true
+  some_of p [] x h px = absurd (true≢false (sym h))
+  some_of p (y ∷ ys) x h px = elim (or_cases (eq_by_cmp R x y) (list_any (eq_by_cmp R x) ys) h) [
+    | inl same ↦ or_left _ _ (subst (λ z. p z ≡ true) ((tie_Decides total exact x y).0 same) px)
+    | inr rest ↦ or_right _ _ (some_of p ys x rest px)
+  ]
+
+  -- a test of the members of a list's set is one of the list
+  pub any-from_list : (p : K → Bool) (xs : List K) → any p (from_list {R = R} xs) ≡ list_any p xs
+  any-from_list p xs =
+      let some = any-Decides total exact p (from_list {R = R} xs) in
+      same_test _ _
+      (λ h. (let one = some.0 h in some_of p xs one.0 (sym (contains-from_list total xs one.0) ∙ one.1) one.2))
+      (λ h. (let one = one_of p xs h in some.1 (one.0, contains-from_list total xs one.0 ∙ one.1, one.2)))
+
+-- a key is there exactly if a row has it
+pub key_among : (version : ℕ) (rows : List Row) (row : Row) → is_known version row ≡ true → has_key (gathered version rows) row ≡ list_any (λ (other : Row). same_key other row) rows
+unfolding gathered has_key
+key_among version rows (NameRow k x) known =
+    of_three (λ k. has_key (gathered version rows) (NameRow k x) ≡ is_among rows (NameRow k x)) (names_among 1 rows x) (names_among 2 rows x) (names_among 3 rows x) k known
+    ∙ among_by_key (NameRow k x) (λ l a n h. cc) rows
+key_among version rows (PairRow k x y) known =
+    of_eight (λ k. has_key (gathered version rows) (PairRow k x y) ≡ is_among rows (PairRow k x y)) (pairs_among 1 rows x y) (pairs_among 2 rows x y) (pairs_among 3 rows x y) (pairs_among 4 rows x y)
+    (pairs_among 5 rows x y) (pairs_among 6 rows x y) (pairs_among 7 rows x y) (pairs_among 8 rows x y) k known
+    ∙ among_by_key (PairRow k x y) (λ l a n h. cc) rows
+key_among version rows (GrantRow x y z) known = grants_among rows x y z ∙ among_by_key (GrantRow x y z) (λ l a n h. cc) rows
+key_among version rows (SetRow k x n) known =
+    of_two (λ k. has_key (gathered version rows) (SetRow k x n) ≡ list_any (λ (other : Row). same_key other (SetRow k x n)) rows)
+    (any-from_list cardinality_total cardinality_exact (λ (entry : Cardinality). same_name entry.0 x) (cardinalities_of 1 rows) ∙ any_sets 1 x n rows)
+    (any-from_list cardinality_total cardinality_exact (λ (entry : Cardinality). same_name entry.0 x) (cardinalities_of 2 rows) ∙ any_sets 2 x n rows) k known
+key_among version rows (LockedRow x) known = locks_among rows x ∙ among_by_key (LockedRow x) (λ l a n h. cc) rows

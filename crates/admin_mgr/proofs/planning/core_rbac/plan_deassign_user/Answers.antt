@@ -1,0 +1,23 @@
+use Rattle.std.proofs.Common.{◌∷◌, [], ◌∙◌, refl}
+use Rattle.rbac_sets.specs.declared.command.Command.TheVariants.{DeassignUser}
+use Rattle.rbac_sets.specs.declared.row.Change.TheVariants.{Take}
+use Rattle.admin_mgr.specs.Assignment.{end_sessions}
+use Rattle.admin_mgr.specs.Run.{tally}
+use Rattle.admin_mgr.specs.After.{changed, after}
+use Rattle.admin_mgr.proofs.ListLaws.{listed_then}
+use Rattle.admin_mgr.proofs.PlanLaws.{plan_of}
+use Rattle.admin_mgr.proofs.TakeLaws.{good_after_deassign_user}
+use Rattle.admin_mgr.proofs.EndingTurns.{turns_deassign_user}
+use Rattle.admin_mgr.proofs.planning.core_rbac.plan_deassign_user.Goals as goal
+
+pub returns-clause-planned : goal.returns-clause-planned
+unfolding after changed end_sessions tally
+returns-clause-planned c =
+    let S = c.args.state.now.facts in
+    let taken = listed_then c.in_ok-take.ensures.ok c.new-changes.ensures.items (λ i. Take (c.in_ok-pair_row.ensures.ok i) ∷ []) in
+    plan_of S (DeassignUser c.args.user.now c.args.role.now) c.plain.result _ refl
+    (c.plain.ensures.changes ∙ listed_then c.in_ok-take_ended.ensures.ok taken refl)
+    c.plain.ensures.report
+    (turns_deassign_user S c.is_good.ensures c.args.user.now c.args.role.now c.requires.accepted)
+    (good_after_deassign_user S c.is_good.ensures c.args.user.now c.args.role.now c.requires.accepted)
+    c.plain.ensures.order refl

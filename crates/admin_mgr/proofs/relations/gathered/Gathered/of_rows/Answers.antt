@@ -1,0 +1,35 @@
+use Rattle.std.proofs.Common.{◌≡◌, [], ◌++◌, length, rules, inl, inr, sym, ap, subst, ◌∙◌}
+use Rattle.std.proofs.lemmas.List.{append-nil}
+use Rattle.std.proofs.lemmas.Result.{err_from_is_err_and}
+use Rattle.rbac_sets.proofs.SetLaws.{no_items}
+use Rattle.admin_mgr.specs.Gathered.{gathered}
+use Rattle.admin_mgr.specs.Checked.{AreReadable}
+use Rattle.admin_mgr.proofs.RowSteps.{SoFar, none_so_far, one_so_far, stopped}
+use Rattle.admin_mgr.proofs.relations.gathered.Gathered.of_rows.Goals as goal
+
+pub loop-row-init : goal.loop-row-init
+loop-row-init c =
+    let all : c.into_iter-row-iterator.result.rest.items ≡ c.args.rows.items = search rules in
+    subst (λ left. SoFar c.args.version c.args.rows.items [] left c.new-made.result) (sym all) (none_so_far c.args.version c.args.rows.items c.new-made.result c.new-made.ensures)
+
+pub loop-row-preserved : goal.loop-row-preserved
+loop-row-preserved c =
+    one_so_far c.args.version c.args.rows.items c.loop-row.yielded c.next.new.self.rest.items c.loop-row.row-iterator.rest.items c.in-Some.row c.loop-row.made
+    c.loop-row.invariant c.in-Some.ensures.steps.0 c.add.new.self c.in_ok-add.ensures.fits c.in_ok-add.ensures.put
+
+pub returns-in_err-add-clause-err : goal.returns-in_err-add-clause-err
+returns-in_err-add-clause-err c =
+    let p = err_from_is_err_and c.from_residual.result c.from_residual.ensures.1 in
+    let unfit = stopped c.args.version c.args.rows.items c.loop-row.yielded c.next.new.self.rest.items c.loop-row.row-iterator.rest.items c.in-Some.row c.loop-row.made
+    c.loop-row.invariant c.in-Some.ensures.steps.0 in
+    rw (p.1, p.2) (elim c.in_err-add.ensures.err [
+      | inl memory ↦ inl memory
+      | inr failed ↦ inr (failed.0, unfit failed.1)
+    ])
+
+pub returns-clause-ok : goal.returns-clause-ok
+returns-clause-ok c =
+    let counted : c.loop-row.row-iterator.rest.len ≡ length c.loop-row.row-iterator.rest.items = search rules in
+    let none = no_items c.loop-row.row-iterator.rest.items (sym counted ∙ c.in-None.ensures.steps.0) in
+    let all = c.loop-row.invariant.0 ∙ ap (λ xs. c.loop-row.yielded ++ xs) none ∙ append-nil c.loop-row.yielded in
+    (c.loop-row.invariant.1 ∙ ap (gathered c.args.version) (sym all), subst (AreReadable c.args.version) (sym all) c.loop-row.invariant.2)

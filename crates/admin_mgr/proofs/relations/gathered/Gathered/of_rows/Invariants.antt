@@ -1,0 +1,5 @@
+use Rattle.admin_mgr.proofs.RowSteps.{SoFar}
+use Rattle.admin_mgr.proofs.relations.gathered.Gathered.of_rows.Given as goal
+
+abbrev pub invariant-loop-row : goal.invariant-loop-row
+invariant-loop-row l = SoFar l.version l.fn.rows.items l.yielded l.row-iterator.rest.items l.made

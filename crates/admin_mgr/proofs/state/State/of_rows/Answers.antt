@@ -1,0 +1,69 @@
+use Rattle.std.proofs.Common.{◌≡◌, ℕ, List, ◌⊎◌, sym, ap, subst, ◌∙◌}
+use Rattle.std.specs.Prelude.{None}
+use Rattle.rbac_sets.specs.declared.row.Row.{Row}
+use Rattle.role_order.specs.Order.{IsAcyclic, IsClosure}
+use Rattle.std.proofs.lemmas.Result.{err_from_is_err_and}
+use Rattle.admin_mgr.specs.RbacState.{RbacState}
+use Rattle.admin_mgr.specs.Gathered.{Gathered, gathered}
+use Rattle.admin_mgr.specs.Checked.{AreReadable, IsStateOf}
+use Rattle.admin_mgr.specs.Tested.{early_refusal, late_refusal}
+use Rattle.admin_mgr.proofs.TestLaws.{RefusesOrder}
+use Rattle.admin_mgr.proofs.RowSteps.{version-gathered}
+use Rattle.admin_mgr.proofs.CheckLaws.{PassBefore, early_told, early_passed, order_told, late_told, late_passed, before_next, is_state_of, refuses_rows}
+use Rattle.admin_mgr.proofs.state.State.of_rows.Goals as goal
+
+pub early_refusal-requires : goal.early_refusal-requires
+early_refusal-requires c =
+    subst (λ v. (v ≡ 1) ⊎ (v ≡ 2)) (sym (ap (λ (g : Gathered). g.facts.version) c.in_ok-made.ensures.ok.0 ∙ version-gathered c.args.version c.args.rows.items)) c.requires
+
+pub returns-in-Some-clause-err : goal.returns-in-Some-clause-err
+returns-in-Some-clause-err c =
+    let told = sym (c.early_refusal.ensures ∙ ap early_refusal c.in_ok-made.ensures.ok.0) ∙ c.in-Some.is in
+    refuses_rows c.args.version c.args.rows.items c.in-Some.refusal c.in_ok-made.ensures.ok.1 (early_told (gathered c.args.version c.args.rows.items) c.in-Some.refusal told)
+
+-- the sets are those of the rows
+made_is : (version : ℕ) (rows : List Row) (made : Gathered) → made ≡ gathered version rows → early_refusal made ≡ None → PassBefore (gathered version rows) 5
+made_is version rows made is none = early_passed (gathered version rows) (sym (ap early_refusal is) ∙ none)
+
+-- the hierarchy passed too
+to_seven : (version : ℕ) (rows : List Row) (made : Gathered) → made ≡ gathered version rows → early_refusal made ≡ None
+    → IsAcyclic made.facts.edges × IsClosure made.facts.edges made.pairs → PassBefore (gathered version rows) 7
+to_seven version rows made is none order =
+    let passed = subst (λ (g : Gathered). IsAcyclic g.facts.edges × IsClosure g.facts.edges g.pairs) is order in
+    before_next (gathered version rows) 6 (before_next (gathered version rows) 5 (made_is version rows made is none) passed.0) passed.1
+
+pub returns-in_err-relations-clause-err : goal.returns-in_err-relations-clause-err
+returns-in_err-relations-clause-err c =
+    let p = err_from_is_err_and c.from_residual-in_err-relations.result c.from_residual-in_err-relations.ensures.1 in
+    let made = c.in_ok-made.ensures.ok in
+    rw (p.1, p.2) (refuses_rows c.args.version c.args.rows.items c.in_err-relations.field-0.0 made.1
+    (order_told (gathered c.args.version c.args.rows.items) c.in_err-relations.field-0.0
+    (made_is c.args.version c.args.rows.items c.in_ok-made.made made.0 (sym c.early_refusal.ensures ∙ c.in-None.is))
+    (subst (λ (g : Gathered). RefusesOrder g c.in_err-relations.field-0.0) made.0 c.in_err-relations.ensures.err)))
+
+pub returns-in-Some-late_refusal-clause-err : goal.returns-in-Some-late_refusal-clause-err
+returns-in-Some-late_refusal-clause-err c =
+    let made = c.in_ok-made.ensures.ok in
+    let facts : c.in_ok-relations.relations.facts ≡ (gathered c.args.version c.args.rows.items).facts = c.in_ok-relations.ensures.facts ∙ ap (λ (g : Gathered). g.facts) made.0 in
+    let told = sym (c.late_refusal.ensures ∙ ap late_refusal facts) ∙ c.in-Some-late_refusal.is in
+    refuses_rows c.args.version c.args.rows.items c.in-Some-late_refusal.refusal made.1
+    (late_told c.args.version c.args.rows.items made.1 c.in-Some-late_refusal.refusal
+    (to_seven c.args.version c.args.rows.items c.in_ok-made.made made.0 (sym c.early_refusal.ensures ∙ c.in-None.is) c.in_ok-relations.ensures.order) told)
+
+-- where nothing is refused, the relations are the state of the rows
+is_state : (version : ℕ) (rows : List Row) (made : Gathered) (S : RbacState) → (version ≡ 1) ⊎ (version ≡ 2) → made ≡ gathered version rows → AreReadable version rows → early_refusal made ≡ None
+    → IsAcyclic made.facts.edges × IsClosure made.facts.edges made.pairs → S ≡ made.facts → late_refusal S ≡ None → IsStateOf version rows S
+is_state version rows made S known is readable early order facts late =
+    let same : S ≡ (gathered version rows).facts = facts ∙ ap (λ (g : Gathered). g.facts) is in
+    subst (IsStateOf version rows) (sym same) (is_state_of version rows readable known
+    (late_passed version rows readable (to_seven version rows made is early order) (sym (ap late_refusal same) ∙ late)))
+
+pub returns-clause-ok : goal.returns-clause-ok
+returns-clause-ok c =
+    is_state c.args.version c.args.rows.items c.in_ok-made.made c.in_ok-relations.relations.facts c.requires c.in_ok-made.ensures.ok.0 c.in_ok-made.ensures.ok.1 (sym c.early_refusal.ensures ∙ c.in-None.is)
+    c.in_ok-relations.ensures.order c.in_ok-relations.ensures.facts (sym c.late_refusal.ensures ∙ c.in-None-late_refusal.is)
+
+pub invariant_of-result : goal.invariant_of-result
+invariant_of-result c =
+    (is_state c.args.version c.args.rows.items c.in_ok-made.made c.in_ok-relations.relations.facts c.requires c.in_ok-made.ensures.ok.0 c.in_ok-made.ensures.ok.1 (sym c.early_refusal.ensures ∙ c.in-None.is)
+    c.in_ok-relations.ensures.order c.in_ok-relations.ensures.facts (sym c.late_refusal.ensures ∙ c.in-None-late_refusal.is)).good

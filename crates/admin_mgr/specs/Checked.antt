@@ -1,0 +1,147 @@
+-- Which rows are those of a good state, and what is answered on others.
+use Rattle.std.specs.Prelude.{◌≡◌, ℕ, ◌<◌, ◌≤◌, Bool, true, false, ◌||◌, nat_eq, nat_lt, List, [], ◌∷◌, Option, Some, find, IsTrue}
+use Rattle.std.specs.List.{list_any, list_all}
+use Rattle.rbac_sets.specs.Sets.{Bytes, Names, Pair, Pairs, contains, len, any, seconds}
+use Rattle.rbac_sets.specs.Kind.{limit_of}
+use Rattle.rbac_sets.specs.declared.row.Row.{Row}
+use Rattle.rbac_sets.specs.declared.kind.Kind.{Kind}
+use Rattle.rbac_sets.specs.declared.kind.Kind.TheVariants.{User, Role, Object, Permission, Grant, Assignment, Edge, SsdSet, DsdSet, Member, Session, ActiveRole, Record, Byte}
+use Rattle.rbac_sets.specs.declared.refusal.Refusal.{Refusal}
+use Rattle.rbac_sets.specs.declared.refusal.Refusal.TheVariants.{TooMany, Memory, Damaged}
+use Rattle.role_order.specs.Order.{IsAcyclic, IsClosure}
+use Rattle.admin_mgr.specs.RbacState.{RbacState, Separation, members_of, has_set, has_session}
+use Rattle.admin_mgr.specs.Rows.{has_row}
+use Rattle.admin_mgr.specs.Changes.{same_row}
+use Rattle.admin_mgr.specs.Authorization.{is_authorized}
+use Rattle.admin_mgr.specs.Good.{IsGood, IsWithinLimits, IsStaticallySeparated, IsDynamicallySeparated}
+use Rattle.admin_mgr.specs.Gathered.{Gathered, gathered, is_among, is_known, HaveKeysOnce}
+
+-- ---- the checks
+
+-- each row is one that the version has, and no key occurs twice
+pub record AreReadable (version : ℕ) (rows : List Row) : Type 0 where
+  pub known : IsTrue (list_all (is_known version) rows)
+  pub keys : HaveKeysOnce rows
+
+-- the limits in the order in which they are asked
+abbrev pub limited_kinds : List Kind
+limited_kinds = User ∷ Role ∷ Object ∷ Permission ∷ Grant ∷ Assignment ∷ Edge ∷ SsdSet ∷ DsdSet ∷ Member ∷ Session ∷ ActiveRole ∷ []
+
+-- some first name has more pairs than so many
+abbrev pub has_more_behind : ℕ → Pairs → Bool
+has_more_behind limit pairs = any (λ (pair : Pair). nat_lt limit (len (seconds pairs pair.0))) pairs
+
+-- there are more of the kind than its limit
+abbrev pub is_passed : RbacState → Kind → Bool
+is_passed S User = nat_lt (limit_of User S.version) (len S.users)
+is_passed S Role = nat_lt (limit_of Role S.version) (len S.roles)
+is_passed S Object = nat_lt (limit_of Object S.version) (len S.objects)
+is_passed S Permission = nat_lt (limit_of Permission S.version) (len S.permissions)
+is_passed S Grant = nat_lt (limit_of Grant S.version) (len S.grants)
+is_passed S Assignment = nat_lt (limit_of Assignment S.version) (len S.assignments)
+is_passed S Edge = nat_lt (limit_of Edge S.version) (len S.edges)
+is_passed S SsdSet = nat_lt (limit_of SsdSet S.version) (len S.ssd.cardinalities)
+is_passed S DsdSet = nat_lt (limit_of DsdSet S.version) (len S.dsd.cardinalities)
+is_passed S Member = has_more_behind (limit_of Member S.version) S.ssd.members || has_more_behind (limit_of Member S.version) S.dsd.members
+is_passed S Session = nat_lt (limit_of Session S.version) (len S.sessions)
+is_passed S ActiveRole = has_more_behind (limit_of ActiveRole S.version) S.active
+is_passed S Record = false
+is_passed S Byte = false
+
+-- the first limit that is passed
+abbrev pub first_passed : RbacState → Option Kind
+first_passed S = find (is_passed S) limited_kinds
+
+-- each member of a set is a role, and its set has a cardinality
+abbrev pub HasMembersThere : Names → Separation → Type 0
+HasMembersThere roles separation = (name role : Bytes) → IsTrue (contains separation.members (name, role)) → IsTrue (has_set separation name) × IsTrue (contains roles role)
+
+-- what a row speaks of is there
+pub record IsComplete (g : Gathered) : Type 0 where
+  pub permissions : (object operation : Bytes) → IsTrue (contains g.facts.permissions (object, operation)) → IsTrue (contains g.facts.objects object)
+  pub assignments : (user role : Bytes) → IsTrue (contains g.facts.assignments (user, role)) → IsTrue (contains g.facts.users user) × IsTrue (contains g.facts.roles role)
+  pub grants : (object operation role : Bytes) → IsTrue (contains g.facts.grants (object, operation, role)) → IsTrue (contains g.facts.permissions (object, operation)) × IsTrue (contains g.facts.roles role)
+  pub edges : (asc desc : Bytes) → IsTrue (contains g.facts.edges (asc, desc)) → IsTrue (contains g.facts.roles asc) × IsTrue (contains g.facts.roles desc)
+  pub pairs : (above below : Bytes) → IsTrue (contains g.pairs (above, below)) → IsTrue (contains g.facts.roles above) × IsTrue (contains g.facts.roles below)
+  pub ssd : HasMembersThere g.facts.roles g.facts.ssd
+  pub dsd : HasMembersThere g.facts.roles g.facts.dsd
+  pub sessions : (session user : Bytes) → IsTrue (contains g.facts.sessions (session, user)) → IsTrue (contains g.facts.users user)
+  pub active : (session role : Bytes) → IsTrue (contains g.facts.active (session, role)) → IsTrue (has_session g.facts session) × IsTrue (contains g.facts.roles role)
+  pub locked : (user : Bytes) → IsTrue (contains g.facts.locked user) → IsTrue (contains g.facts.users user)
+
+-- a session has one user
+abbrev pub HaveOneUser : RbacState → Type 0
+HaveOneUser S = (session user other : Bytes) → IsTrue (contains S.sessions (session, user)) → IsTrue (contains S.sessions (session, other)) → user ≡ other
+
+-- the cardinality of a set is from two to the number of its members
+abbrev pub HasCardinalities : Separation → Type 0
+HasCardinalities separation = (name : Bytes) (n : ℕ) → IsTrue (contains separation.cardinalities (name, n)) → (2 ≤ n) × (n ≤ len (members_of separation name))
+
+-- a session's user is authorized for each role that was activated in it
+abbrev pub HaveAuthorizedUsers : RbacState → Type 0
+HaveAuthorizedUsers S = (session user role : Bytes) → IsTrue (contains S.sessions (session, user)) → IsTrue (contains S.active (session, role)) → IsTrue (is_authorized S user role)
+
+-- a locked user has no session
+abbrev pub HaveUnlockedUsers : RbacState → Type 0
+HaveUnlockedUsers S = (session user : Bytes) → IsTrue (contains S.sessions (session, user)) → contains S.locked user ≡ false
+
+-- the first statement where the test holds, and else the second
+abbrev pub Choose : Bool → Type 0 → Type 0 → Type 0
+Choose true Then Else = Then
+Choose false Then Else = Else
+
+-- the check of this number
+abbrev pub Passes : Gathered → ℕ → Type 0
+Passes g number =
+    Choose (nat_eq number 2) (IsWithinLimits g.facts)
+    (Choose (nat_eq number 3) (IsComplete g)
+    (Choose (nat_eq number 4) (HaveOneUser g.facts)
+    (Choose (nat_eq number 5) (IsAcyclic g.facts.edges)
+    (Choose (nat_eq number 6) (IsClosure g.facts.edges g.pairs)
+    (Choose (nat_eq number 7) (HasCardinalities g.facts.ssd × HasCardinalities g.facts.dsd)
+    (Choose (nat_eq number 8) (HaveAuthorizedUsers g.facts)
+    (Choose (nat_eq number 9) (IsStaticallySeparated g.facts)
+    (Choose (nat_eq number 10) (IsDynamicallySeparated g.facts)
+    (Choose (nat_eq number 11) (HaveUnlockedUsers g.facts) (Unit {0}))))))))))
+
+-- ---- the answers
+
+-- the check of this number fails, and each one before it passes
+pub record IsFirstFailure (g : Gathered) (number : ℕ) : Type 0 where
+  pub passed : (earlier : ℕ) → earlier < number → Passes g earlier
+  pub failed : Passes g number → ⊥
+
+-- what may be refused on rows that make these sets: the first failure is named, and a limit by the first that is passed;
+-- memory may be wanting at any time
+abbrev pub RefusesSets : Gathered → Refusal → Type 0
+RefusesSets g (TooMany kind) = first_passed g.facts ≡ Some kind
+RefusesSets g (Damaged number) = (3 ≤ number) × IsFirstFailure g number
+RefusesSets g Memory = Unit {0}
+RefusesSets g _ = ⊥
+
+-- what may be refused on these rows: the first check is that they are readable
+abbrev pub RefusesRows : ℕ → List Row → Refusal → Type 0
+RefusesRows version rows Memory = Unit {0}
+RefusesRows version rows (Damaged number) =
+    Choose (nat_eq number 1) (AreReadable version rows → ⊥) (AreReadable version rows × RefusesSets (gathered version rows) (Damaged number))
+RefusesRows version rows refusal = AreReadable version rows × RefusesSets (gathered version rows) refusal
+
+-- no row occurs twice
+abbrev pub OccurOnce : List Row → Type 0
+OccurOnce [] = Unit {0}
+OccurOnce (row ∷ rows) = (list_any (λ (other : Row). same_row row other) rows ≡ false) × OccurOnce rows
+
+-- the rows are those of the state, each once
+pub record AreRowsOf (S : RbacState) (rows : List Row) : Type 0 where
+  pub rows_are : (row : Row) → has_row S row ≡ is_among rows row
+  pub once : OccurOnce rows
+
+-- the state is the good one of this version that has these rows
+pub record IsStateOf (version : ℕ) (rows : List Row) (S : RbacState) : Type 0 where
+  pub version_is : S.version ≡ version
+  pub stored : AreRowsOf S rows
+  pub good : IsGood S
+
+-- the rows of a good state are refused for want of memory alone
+abbrev pub GoodRowsAreRead : Type 0
+GoodRowsAreRead = (S : RbacState) (rows : List Row) (refusal : Refusal) → IsGood S → AreRowsOf S rows → RefusesRows S.version rows refusal → refusal ≡ Memory

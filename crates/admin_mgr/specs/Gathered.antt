@@ -1,0 +1,116 @@
+-- The sets that a list of rows makes.
+use Rattle.std.specs.Prelude.{◌≡◌, refl, ℕ, Bool, true, false, not, ◌&&◌, nat_eq, nat_le, if◌then◌else◌, List, [], ◌∷◌}
+use Rattle.std.specs.List.{list_any}
+use Rattle.std.specs.Coded.{Coded, coded×, code_by}
+use Rattle.rbac_sets.specs.Sets.{Bytes, Pair, Triple, Cardinality, Pairs, coded_set, coded_pair, contains, from_list, insert, same_name}
+use Rattle.rbac_sets.specs.declared.row.Row.{Row}
+use Rattle.rbac_sets.specs.declared.row.Row.TheVariants.{NameRow, PairRow, GrantRow, SetRow, LockedRow}
+use Rattle.admin_mgr.specs.RbacState.{RbacState, coded_state, has_set}
+use Rattle.admin_mgr.specs.Rows.{has_name, has_pair}
+use Rattle.admin_mgr.specs.Changes.{same_row}
+use Rattle.admin_mgr.specs.Stepping.{with_row, with_edges}
+
+-- the row is one of these
+abbrev pub is_among : List Row → Row → Bool
+is_among rows row = list_any (λ (other : Row). same_row other row) rows
+
+-- an office of this version may have the row: kinds of names are 1 to 3, of pairs 1 to 8, of sets 1 and 2, and version 1
+-- has no locks
+abbrev pub is_known : ℕ → Row → Bool
+is_known version (NameRow kind _) = nat_le 1 kind && nat_le kind 3
+is_known version (PairRow kind _ _) = nat_le 1 kind && nat_le kind 8
+is_known version (GrantRow _ _ _) = true
+is_known version (SetRow kind _ _) = nat_le 1 kind && nat_le kind 2
+is_known version (LockedRow _) = not (nat_eq version 1)
+
+-- Whether two rows have one key. The key of a set's cardinality is its kind and name, so that a set has one cardinality; the
+-- key of any other row is the whole row.
+abbrev pub same_key : Row → Row → Bool
+same_key (SetRow kind name _) (SetRow other_kind other_name _) = nat_eq kind other_kind && same_name other_name name
+same_key row other = same_row row other
+
+-- no two of the rows have one key
+abbrev pub HaveKeysOnce : List Row → Type 0
+HaveKeysOnce [] = Unit {0}
+HaveKeysOnce (row ∷ rows) = (list_any (λ (other : Row). same_key row other) rows ≡ false) × HaveKeysOnce rows
+
+-- ---- what the rows of one kind name, in their order
+
+abbrev pub names_of : ℕ → List Row → List Bytes
+names_of kind [] = []
+names_of kind (NameRow k a ∷ rows) = if nat_eq k kind then a ∷ names_of kind rows else names_of kind rows
+names_of kind (_ ∷ rows) = names_of kind rows
+
+abbrev pub pairs_of : ℕ → List Row → List Pair
+pairs_of kind [] = []
+pairs_of kind (PairRow k a b ∷ rows) = if nat_eq k kind then (a, b) ∷ pairs_of kind rows else pairs_of kind rows
+pairs_of kind (_ ∷ rows) = pairs_of kind rows
+
+abbrev pub grants_of : List Row → List Triple
+grants_of [] = []
+grants_of (GrantRow a b c ∷ rows) = (a, b, c) ∷ grants_of rows
+grants_of (_ ∷ rows) = grants_of rows
+
+abbrev pub cardinalities_of : ℕ → List Row → List Cardinality
+cardinalities_of kind [] = []
+cardinalities_of kind (SetRow k a n ∷ rows) = if nat_eq k kind then (a, n) ∷ cardinalities_of kind rows else cardinalities_of kind rows
+cardinalities_of kind (_ ∷ rows) = cardinalities_of kind rows
+
+abbrev pub locks_of : List Row → List Bytes
+locks_of [] = []
+locks_of (LockedRow a ∷ rows) = a ∷ locks_of rows
+locks_of (_ ∷ rows) = locks_of rows
+
+-- ---- the sets
+
+-- the sets and relations that rows make, and the pairs that are stored beside the edges of the role hierarchy
+pub record Gathered : Type 0 where
+  pub facts : RbacState
+  pub pairs : Pairs
+
+abbrev pub coded_gathered : Coded Gathered
+coded_gathered =
+    code_by (RbacState × Pairs) (coded× coded_state (coded_set coded_pair)) (λ g. (g.facts, g.pairs)) (λ p. record { facts = p.0; pairs = p.1 }) (λ _. refl)
+
+-- what the rows of an office of this version make
+unfoldable pub gathered : ℕ → List Row → Gathered
+gathered version rows = record {
+  facts = record {
+    version = version;
+    users = from_list (names_of 1 rows);
+    locked = from_list (locks_of rows);
+    roles = from_list (names_of 2 rows);
+    objects = from_list (names_of 3 rows);
+    permissions = from_list (pairs_of 1 rows);
+    assignments = from_list (pairs_of 2 rows);
+    grants = from_list (grants_of rows);
+    edges = from_list (pairs_of 3 rows);
+    sessions = from_list (pairs_of 7 rows);
+    active = from_list (pairs_of 8 rows);
+    ssd = record { members = from_list (pairs_of 5 rows); cardinalities = from_list (cardinalities_of 1 rows) };
+    dsd = record { members = from_list (pairs_of 6 rows); cardinalities = from_list (cardinalities_of 2 rows) };
+  };
+  pairs = from_list (pairs_of 4 rows);
+}
+
+-- ---- one row more
+
+-- the pair of a row of this kind is put
+abbrev pub with_pair_of : ℕ → Pairs → Row → Pairs
+with_pair_of kind pairs (PairRow k a b) = if nat_eq k kind then insert pairs (a, b) else pairs
+with_pair_of kind pairs _ = pairs
+
+-- one row more
+abbrev pub with_stored : Gathered → Row → Gathered
+with_stored g row = record {
+  facts = with_edges (with_row g.facts row) (with_pair_of 3 g.facts.edges row);
+  pairs = with_pair_of 4 g.pairs row;
+}
+
+-- a row of this key is there
+unfoldable pub has_key : Gathered → Row → Bool
+has_key g (NameRow kind a) = has_name g.facts kind a
+has_key g (PairRow kind a b) = if nat_eq kind 4 then contains g.pairs (a, b) else has_pair g.facts kind a b
+has_key g (GrantRow a b c) = contains g.facts.grants (a, b, c)
+has_key g (SetRow kind a _) = if nat_eq kind 1 then has_set g.facts.ssd a else if nat_eq kind 2 then has_set g.facts.dsd a else false
+has_key g (LockedRow a) = contains g.facts.locked a

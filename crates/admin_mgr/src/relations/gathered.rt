@@ -1,0 +1,231 @@
+//! The sets that stored rows make, before anything is known of them.
+ghost use Rattle.std.specs.Prelude.{[], ◌≡◌, ◌⊎◌, ◌&&◌, not, true, false, IfOk, IfErr, OnOk};
+ghost use Rattle.rbac_sets.specs.Sets.{contains, insert};
+ghost use Rattle.rbac_sets.specs.SortedSet.{set_of};
+ghost use Rattle.role_order.specs.Order.{IsAcyclic, IsClosure};
+ghost use Rattle.admin_mgr.specs.Gathered.{gathered, has_key, is_known, with_stored};
+ghost use Rattle.admin_mgr.specs.Checked.{AreReadable};
+
+use crate::judge::separation::has_set;
+use crate::relations::Relations;
+use rbac_sets::{CountSet, Entry, GrantSet, NameSet, PairSet, Refusal, Row, SortedSet};
+use role_order::RoleOrder;
+use std::alloc::Global;
+use std::marker::Model;
+
+mod checks;
+
+// The sets and relations that rows make, and the pairs that are stored beside the edges of the role
+// hierarchy.
+#[derive(Drop)]
+pub(crate) struct Gathered {
+    version: u32,
+    users: NameSet,
+    locked: NameSet,
+    roles: NameSet,
+    objects: NameSet,
+    permissions: PairSet,
+    assignments: PairSet,
+    grants: GrantSet,
+    edges: PairSet,
+    pairs: PairSet,
+    sessions: PairSet,
+    active: PairSet,
+    ssd_members: PairSet,
+    ssd_cardinalities: CountSet,
+    dsd_members: PairSet,
+    dsd_cardinalities: CountSet,
+}
+
+impl Model for Gathered {
+    ghost use Rattle.admin_mgr.specs.Gathered.{Gathered, coded_gathered};
+    ghost use Rattle.admin_mgr.specs.GatheredView.{gathered_of};
+
+    ghost Value = { Gathered };
+
+    ghost coded = { coded_gathered };
+
+    ghost view = { gathered_of };
+}
+
+impl Gathered {
+    // No row yet. It takes no memory.
+    #[tactic(auto, unfolding(crate::specs::Gathered::gathered, rbac_sets::specs::Sets::from_list))]
+    fn new(alloc: Global, version: u32) -> Gathered
+        ensures { result ≡ gathered version [] }
+    {
+        Gathered {
+            version,
+            users: NameSet::new(alloc),
+            locked: NameSet::new(alloc),
+            roles: NameSet::new(alloc),
+            objects: NameSet::new(alloc),
+            permissions: PairSet::new(alloc),
+            assignments: PairSet::new(alloc),
+            grants: GrantSet::new(alloc),
+            edges: PairSet::new(alloc),
+            pairs: PairSet::new(alloc),
+            sessions: PairSet::new(alloc),
+            active: PairSet::new(alloc),
+            ssd_members: PairSet::new(alloc),
+            ssd_cardinalities: CountSet::new(alloc),
+            dsd_members: PairSet::new(alloc),
+            dsd_cardinalities: CountSet::new(alloc),
+        }
+    }
+
+    // The sets that these rows make: each row is known to the version, and no key occurs twice.
+    // Refused by `Damaged(1)` where it isn't so.
+    pub(crate) fn of_rows(alloc: Global, version: u32, rows: Vec<Row>) -> Result<Gathered, Refusal>
+        ensures ok { IfOk result (λ made. (made ≡ gathered version rows.items) × AreReadable version rows.items) }
+        ensures err { IfErr result (λ refusal. (refusal ≡ Refusal.Memory) ⊎ ((refusal ≡ Refusal.Damaged 1) × (AreReadable version rows.items → ⊥))) }
+    {
+        let mut made = Gathered::new(alloc, version);
+        for row in rows {
+            made.add(row)?;
+        }
+        Ok(made)
+    }
+
+    // Puts a row that is known and has a key of its own. Refused by `Damaged(1)` where it hasn't.
+    fn add(&mut self, row: Row) -> Result<(), Refusal>
+        ensures fits { OnOk result ((is_known self.old.facts.version row && not (has_key self.old row)) ≡ true) }
+        ensures put { OnOk result (self.new ≡ with_stored self.old row) }
+        ensures err { IfErr result (λ refusal. (refusal ≡ Refusal.Memory) ⊎ ((refusal ≡ Refusal.Damaged 1) × ((is_known self.old.facts.version row && not (has_key self.old row)) ≡ false))) }
+    {
+        if !self.fits(&row) {
+            return Err(Refusal::Damaged(1));
+        }
+        self.put(row)
+    }
+
+    // The relations of these sets. Refused by `Damaged(5)` where the edges have a cycle, and then by
+    // `Damaged(6)` where the stored pairs aren't their closure.
+    pub(crate) fn into_relations(self, alloc: Global) -> Result<Relations, Refusal>
+        ensures facts { IfOk result (λ relations. relations.facts ≡ self.facts) }
+        ensures order { OnOk result (IsAcyclic self.facts.edges × IsClosure self.facts.edges self.pairs) }
+        ensures err { IfErr result (λ refusal. (refusal ≡ Refusal.Memory)
+            ⊎ (((refusal ≡ Refusal.Damaged 5) × (IsAcyclic self.facts.edges → ⊥))
+            ⊎ ((refusal ≡ Refusal.Damaged 6) × IsAcyclic self.facts.edges × (IsClosure self.facts.edges self.pairs → ⊥)))) }
+    {
+        let Gathered {
+            version,
+            users,
+            locked,
+            roles,
+            objects,
+            permissions,
+            assignments,
+            grants,
+            edges,
+            pairs,
+            sessions,
+            active,
+            ssd_members,
+            ssd_cardinalities,
+            dsd_members,
+            dsd_cardinalities,
+        } = self;
+        let order = RoleOrder::of_rows(alloc, edges, pairs)?;
+        Ok(Relations {
+            version,
+            users,
+            locked,
+            roles,
+            objects,
+            permissions,
+            assignments,
+            grants,
+            order,
+            sessions,
+            active,
+            ssd_members,
+            ssd_cardinalities,
+            dsd_members,
+            dsd_cardinalities,
+        })
+    }
+
+    // Whether a row is known and no row has its key.
+    fn fits(&self, row: &Row) -> bool
+        ensures { result ≡ (is_known self.now.facts.version row.now && not (has_key self.now row.now)) }
+    {
+        is_known(self.version, row) && !self.has_key(row)
+    }
+
+    // Whether a row has this key.
+    #[tactic(auto, unfolding(crate::specs::Gathered::has_key))]
+    fn has_key(&self, row: &Row) -> bool
+        ensures { result ≡ has_key self.now row.now }
+    {
+        match row {
+            Row::NameRow(1, name) => self.users.contains(name),
+            Row::NameRow(2, name) => self.roles.contains(name),
+            Row::NameRow(3, name) => self.objects.contains(name),
+            Row::PairRow(1, a, b) => self.permissions.contains((a, b)),
+            Row::PairRow(2, a, b) => self.assignments.contains((a, b)),
+            Row::PairRow(3, a, b) => self.edges.contains((a, b)),
+            Row::PairRow(4, a, b) => self.pairs.contains((a, b)),
+            Row::PairRow(5, a, b) => self.ssd_members.contains((a, b)),
+            Row::PairRow(6, a, b) => self.dsd_members.contains((a, b)),
+            Row::PairRow(7, a, b) => self.sessions.contains((a, b)),
+            Row::PairRow(8, a, b) => self.active.contains((a, b)),
+            Row::GrantRow(a, b, c) => self.grants.contains((a, b, c)),
+            Row::SetRow(1, name, _) => has_set(&self.ssd_cardinalities, name),
+            Row::SetRow(2, name, _) => has_set(&self.dsd_cardinalities, name),
+            Row::LockedRow(name) => self.locked.contains(name),
+            _ => false,
+        }
+    }
+
+    // Puts a row of a key that is not there.
+    #[tactic(auto, unfolding(crate::specs::Stepping::with_row, crate::specs::Gathered::has_key))]
+    fn put(&mut self, row: Row) -> Result<(), Refusal>
+        requires { has_key self.old row ≡ false }
+        ensures ok { OnOk result (self.new ≡ with_stored self.old row) }
+        ensures cause { IfErr result (λ refusal. refusal ≡ Refusal.Memory) }
+    {
+        match row {
+            Row::NameRow(1, name) => put(&mut self.users, name),
+            Row::NameRow(2, name) => put(&mut self.roles, name),
+            Row::NameRow(3, name) => put(&mut self.objects, name),
+            Row::PairRow(1, a, b) => put(&mut self.permissions, (a, b)),
+            Row::PairRow(2, a, b) => put(&mut self.assignments, (a, b)),
+            Row::PairRow(3, a, b) => put(&mut self.edges, (a, b)),
+            Row::PairRow(4, a, b) => put(&mut self.pairs, (a, b)),
+            Row::PairRow(5, a, b) => put(&mut self.ssd_members, (a, b)),
+            Row::PairRow(6, a, b) => put(&mut self.dsd_members, (a, b)),
+            Row::PairRow(7, a, b) => put(&mut self.sessions, (a, b)),
+            Row::PairRow(8, a, b) => put(&mut self.active, (a, b)),
+            Row::GrantRow(a, b, c) => put(&mut self.grants, (a, b, c)),
+            Row::SetRow(1, name, n) => put(&mut self.ssd_cardinalities, (name, n)),
+            Row::SetRow(2, name, n) => put(&mut self.dsd_cardinalities, (name, n)),
+            Row::LockedRow(name) => put(&mut self.locked, name),
+            _ => Ok(()),
+        }
+    }
+}
+
+// Whether an office of this version may have the row.
+fn is_known(version: u32, row: &Row) -> bool
+    ensures { result ≡ is_known version row.now }
+{
+    match row {
+        Row::NameRow(kind, _) => *kind >= 1 && *kind <= 3,
+        Row::PairRow(kind, _, _) => *kind >= 1 && *kind <= 8,
+        Row::GrantRow(_, _, _) => true,
+        Row::SetRow(kind, _, _) => *kind >= 1 && *kind <= 2,
+        Row::LockedRow(_) => version != 1,
+    }
+}
+
+// Puts an entry that is not there, and makes room for it.
+fn put<K: Entry>(set: &mut SortedSet<K>, entry: K) -> Result<(), Refusal>
+    requires { contains (set_of K.cmp set.old) entry ≡ false }
+    ensures ok { OnOk result (set_of K.cmp set.new ≡ insert (set_of K.cmp set.old) entry) }
+    ensures cause { IfErr result (λ refusal. refusal ≡ Refusal.Memory) }
+{
+    set.reserve(1)?;
+    set.insert_reserved(entry);
+    Ok(())
+}

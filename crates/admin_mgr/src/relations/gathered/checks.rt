@@ -1,0 +1,200 @@
+//! What is asked of the gathered sets before the hierarchy is made.
+ghost use Rattle.std.specs.Prelude.{◌≡◌, ◌⊎◌, ◌||◌, ◌&&◌, nat_lt};
+ghost use Rattle.rbac_sets.specs.Sets.{Pair, Triple, all, any, contains, same_name, name_cmp, pair_cmp, triple_cmp};
+ghost use Rattle.rbac_sets.specs.SortedSet.{set_of};
+ghost use Rattle.admin_mgr.specs.Kept.{separation_of};
+ghost use Rattle.admin_mgr.specs.Checked.{first_passed, has_more_behind, is_passed};
+ghost use Rattle.admin_mgr.specs.Tested.{early_refusal, have_one_user, have_sets, is_complete, is_core_complete, is_hierarchy_complete, are_sets_complete, are_sessions_complete};
+
+use crate::judge::separation::{has_set, member_count};
+use crate::lookup::{are_among, are_firsts_in, are_seconds_in, has_first};
+use crate::relations::gathered::Gathered;
+use rbac_sets::{CountSet, GrantSet, Kind, NameSet, PairSet, Refusal};
+
+// The kinds in the order in which their limits are asked.
+const LIMITED: [Kind; 12] = [
+    Kind::User,
+    Kind::Role,
+    Kind::Object,
+    Kind::Permission,
+    Kind::Grant,
+    Kind::Assignment,
+    Kind::Edge,
+    Kind::SsdSet,
+    Kind::DsdSet,
+    Kind::Member,
+    Kind::Session,
+    Kind::ActiveRole,
+];
+
+impl Gathered {
+    // Why the sets are refused: by `TooMany` where a limit is passed, then by `Damaged(3)` where a row
+    // speaks of what isn't there, then by `Damaged(4)` where a session has two users.
+    pub(crate) fn early_refusal(&self) -> Option<Refusal>
+        requires { (self.now.facts.version ≡ 1) ⊎ (self.now.facts.version ≡ 2) }
+        ensures { result ≡ early_refusal self.now }
+    {
+        match self.first_passed() {
+            Some(kind) => return Some(Refusal::TooMany(kind)),
+            None => {}
+        }
+        if !self.is_complete() {
+            return Some(Refusal::Damaged(3));
+        }
+        if !self.have_one_user() {
+            return Some(Refusal::Damaged(4));
+        }
+        None
+    }
+
+    // The first limit that is passed.
+    fn first_passed(&self) -> Option<Kind>
+        requires { (self.now.facts.version ≡ 1) ⊎ (self.now.facts.version ≡ 2) }
+        ensures { result ≡ first_passed self.now.facts }
+    {
+        LIMITED.iter().copied().find(|kind| self.is_passed(*kind))
+    }
+
+    // Whether there is more of the kind than its limit.
+    fn is_passed(&self, kind: Kind) -> bool
+        requires { (self.now.facts.version ≡ 1) ⊎ (self.now.facts.version ≡ 2) }
+        ensures { result ≡ is_passed self.now.facts kind }
+    {
+        let limit = kind.limit(self.version) as usize;
+        match kind {
+            Kind::User => self.users.len() > limit,
+            Kind::Role => self.roles.len() > limit,
+            Kind::Object => self.objects.len() > limit,
+            Kind::Permission => self.permissions.len() > limit,
+            Kind::Grant => self.grants.len() > limit,
+            Kind::Assignment => self.assignments.len() > limit,
+            Kind::Edge => self.edges.len() > limit,
+            Kind::SsdSet => self.ssd_cardinalities.len() > limit,
+            Kind::DsdSet => self.dsd_cardinalities.len() > limit,
+            Kind::Member => {
+                has_more_behind(&self.ssd_members, limit)
+                    || has_more_behind(&self.dsd_members, limit)
+            }
+            Kind::Session => self.sessions.len() > limit,
+            Kind::ActiveRole => has_more_behind(&self.active, limit),
+            Kind::Record | Kind::Byte => false,
+        }
+    }
+
+    // Whether what a row speaks of is there.
+    fn is_complete(&self) -> bool
+        ensures { result ≡ is_complete self.now }
+    {
+        self.is_core_complete()
+            && self.is_hierarchy_complete()
+            && self.are_sets_complete()
+            && self.are_sessions_complete()
+    }
+
+    // Whether what permissions, grants, assignments and locks speak of is there.
+    fn is_core_complete(&self) -> bool
+        ensures { result ≡ is_core_complete self.now.facts }
+    {
+        are_firsts_in(&self.objects, &self.permissions)
+            && have_permissions(&self.permissions, &self.grants)
+            && have_roles(&self.roles, &self.grants)
+            && are_firsts_in(&self.users, &self.assignments)
+            && are_seconds_in(&self.roles, &self.assignments)
+            && are_among(&self.locked, &self.users)
+    }
+
+    // Whether what the hierarchy speaks of is there.
+    fn is_hierarchy_complete(&self) -> bool
+        ensures { result ≡ is_hierarchy_complete self.now }
+    {
+        are_firsts_in(&self.roles, &self.edges)
+            && are_seconds_in(&self.roles, &self.edges)
+            && are_firsts_in(&self.roles, &self.pairs)
+            && are_seconds_in(&self.roles, &self.pairs)
+    }
+
+    // Whether what separation of duty sets speak of is there.
+    fn are_sets_complete(&self) -> bool
+        ensures { result ≡ are_sets_complete self.now.facts }
+    {
+        have_sets(&self.ssd_members, &self.ssd_cardinalities)
+            && are_seconds_in(&self.roles, &self.ssd_members)
+            && have_sets(&self.dsd_members, &self.dsd_cardinalities)
+            && are_seconds_in(&self.roles, &self.dsd_members)
+    }
+
+    // Whether what sessions speak of is there.
+    fn are_sessions_complete(&self) -> bool
+        ensures { result ≡ are_sessions_complete self.now.facts }
+    {
+        are_seconds_in(&self.users, &self.sessions)
+            && have_sessions(&self.active, &self.sessions)
+            && are_seconds_in(&self.roles, &self.active)
+    }
+
+    // Whether each session has one user.
+    #[tactic(auto, unfolding(rbac_sets::specs::Sets::all))]
+    fn have_one_user(&self) -> bool
+        ensures { result ≡ have_one_user self.now.facts }
+    {
+        self.sessions
+            .as_slice()
+            .iter()
+            .all(|session| member_count(&self.sessions, &session.0) <= 1)
+    }
+}
+
+// Whether some first name has more pairs than so many.
+#[tactic(auto, unfolding(rbac_sets::specs::Sets::any))]
+fn has_more_behind(pairs: &PairSet, limit: usize) -> bool
+    ensures { result ≡ has_more_behind limit (set_of pair_cmp pairs.now) }
+{
+    pairs
+        .as_slice()
+        .iter()
+        .any(|pair| member_count(pairs, &pair.0) > limit)
+}
+
+// Whether each grant is one of a permission.
+#[tactic(auto, unfolding(rbac_sets::specs::Sets::all))]
+fn have_permissions(permissions: &PairSet, grants: &GrantSet) -> bool
+    ensures { result ≡ all (λ (grant : Triple). contains (set_of pair_cmp permissions.now) (grant.0, grant.1)) (set_of triple_cmp grants.now) }
+{
+    grants
+        .as_slice()
+        .iter()
+        .all(|grant| permissions.contains((&grant.0, &grant.1)))
+}
+
+// Whether each grant is one to a role.
+#[tactic(auto, unfolding(rbac_sets::specs::Sets::all))]
+fn have_roles(roles: &NameSet, grants: &GrantSet) -> bool
+    ensures { result ≡ all (λ (grant : Triple). contains (set_of name_cmp roles.now) grant.2) (set_of triple_cmp grants.now) }
+{
+    grants
+        .as_slice()
+        .iter()
+        .all(|grant| roles.contains(&grant.2))
+}
+
+// Whether each member is one of a set that has a cardinality.
+#[tactic(auto, unfolding(rbac_sets::specs::Sets::all))]
+fn have_sets(members: &PairSet, cardinalities: &CountSet) -> bool
+    ensures { result ≡ have_sets (separation_of members.now cardinalities.now) }
+{
+    members
+        .as_slice()
+        .iter()
+        .all(|member| has_set(cardinalities, &member.0))
+}
+
+// Whether each activated role is one of a session.
+#[tactic(auto, unfolding(rbac_sets::specs::Sets::all))]
+fn have_sessions(active: &PairSet, sessions: &PairSet) -> bool
+    ensures { result ≡ all (λ (pair : Pair). any (λ session. same_name session.0 pair.0) (set_of pair_cmp sessions.now)) (set_of pair_cmp active.now) }
+{
+    active
+        .as_slice()
+        .iter()
+        .all(|pair| has_first(sessions, &pair.0))
+}
