@@ -159,8 +159,7 @@ fn a_write_that_fails_is_told_wherever_it_is(rt: HostRuntime) -> Result<(), Fail
     let report = REPORT.as_bytes();
     for most in [1, 30, 8_192] {
         let mut done = false;
-        let mut writes = 0;
-        while !done && writes < 1_000 {
+        for writes in 0..1_000 {
             let mut sink = Narrow::new(alloc, most, writes);
             let code = code(alloc, &state, &mut sink);
             done = code == 0;
@@ -168,7 +167,9 @@ fn a_write_that_fails_is_told_wherever_it_is(rt: HostRuntime) -> Result<(), Fail
             assert_eq!(rt; sink.bytes.len() == report.len(), done, "after {writes}");
             assert_eq!(rt; code, if done { 0 } else { 41 }, "after {writes}");
             assert_eq!(rt; sink.failures, if done { 0 } else { 1 }, "after {writes}");
-            writes += 1;
+            if done {
+                break;
+            }
         }
         assert!(rt; done);
     }
