@@ -1,4 +1,5 @@
 pub mod AccessByRuns
+pub mod Below
 pub mod Columns
 pub mod Gathering
 pub mod Reached

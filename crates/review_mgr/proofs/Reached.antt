@@ -7,20 +7,12 @@ use Rattle.rbac_sets.specs.NameOrder.{name_total, name_exact, pair_total, pair_e
 use Rattle.rbac_sets.proofs.SetLaws.{image-Decides, contains-retain, seconds-Decides, tie_Decides, same_members}
 use Rattle.role_order.specs.Order.{geq}
 use Rattle.admin_mgr.specs.RbacState.{RbacState, Separation, cardinality_of, has_set}
-use Rattle.admin_mgr.specs.Authorization.{authorized_roles, session_roles, is_session_role}
+use Rattle.admin_mgr.specs.Authorization.{session_roles, is_session_role}
 use Rattle.admin_mgr.specs.Good.{IsGood}
 use Rattle.admin_mgr.specs.Held.{run_of, is_reached}
-use Rattle.admin_mgr.proofs.HeldLaws.{authorized_reached, session_reached}
+use Rattle.admin_mgr.proofs.HeldLaws.{session_reached}
 use Rattle.admin_mgr.proofs.Lookups.{any_seconds, is_some_number}
 use Rattle.review_mgr.specs.Review.{permission_of, assigned_roles, user_permissions, session_permissions}
-
-pub authorized_roles-reached : (S : RbacState) (user : Bytes) → retain S.roles (is_reached S.edges (run_of S.assignments user)) ≡ authorized_roles S user
-unfolding authorized_roles
-authorized_roles-reached S user = sym (λ i. retain S.roles (λ role. authorized_reached S user role i))
-
-pub session_roles-reached : (S : RbacState) (session : Bytes) → retain S.roles (is_reached S.edges (run_of S.active session)) ≡ session_roles S session
-unfolding session_roles
-session_roles-reached S session = sym (λ i. retain S.roles (λ role. session_reached S session role i))
 
 -- what is granted to a role that is reached from these pairs
 abbrev pub reached_permissions : RbacState → List Pair → Pairs

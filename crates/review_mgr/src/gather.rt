@@ -1,16 +1,16 @@
 //! Lists in byte order, gathered from the sets of a state.
-ghost use Rattle.std.specs.Prelude.{◌≡◌, ◌<◌, ◌≤◌, length, IfOk, IfErr, OnOk};
+ghost use Rattle.std.specs.Prelude.{◌≡◌, ◌<◌, ◌≤◌, ◌||◌, length, IfOk, IfErr, OnOk};
 ghost use Rattle.std.specs.List.{HoldsAt};
 ghost use Rattle.std.specs.List.Sorted.{IsStrictlySortedBy, IsPartitionPoint};
 ghost use Rattle.std.specs.declared.cmp.Ordering.TheVariants.{Less, Equal, Greater};
-ghost use Rattle.rbac_sets.specs.Sets.{Cardinality, Pair, Triple, cardinality_cmp, firsts, from_list, image, insert, members, name_cmp, pair_cmp, retain, same_name, seconds, triple_cmp};
+ghost use Rattle.rbac_sets.specs.Sets.{Bytes, Cardinality, Pair, Triple, cardinality_cmp, contains, firsts, from_list, image, insert, members, name_cmp, pair_cmp, retain, same_name, seconds, triple_cmp};
 ghost use Rattle.rbac_sets.specs.SortedSet.{set_of};
 ghost use Rattle.role_order.specs.Order.{geq};
 ghost use Rattle.admin_mgr.specs.Held.{is_reached};
 ghost use Rattle.review_mgr.specs.Review.{is_grant_of, permission_of};
 
 use crate::lookup::{is_reached, is_same};
-use rbac_sets::{CountSet, Entry, GrantSet, Name, NameSet, PairSet, Probe, Refusal};
+use rbac_sets::{CountSet, Entry, GrantSet, Name, PairSet, Probe, Refusal};
 use role_order::RoleOrder;
 use std::alloc::Global;
 
@@ -112,23 +112,48 @@ pub(crate) fn users_above(
     Ok(users)
 }
 
-// The roles that are reached from the second names of the pairs.
+// Puts a role and those below it where they stand in byte order, those that are not there.
+fn put_below(
+    alloc: Global,
+    order: &RoleOrder,
+    names: &mut Vec<Name>,
+    role: &Name,
+) -> Result<(), Refusal>
+    requires { IsStrictlySortedBy name_cmp names.old.items }
+    ensures sorted { OnOk result (IsStrictlySortedBy name_cmp names.new.items) }
+    ensures put { OnOk result ((q : Bytes) → contains (from_list {R = name_cmp} names.new.items) q ≡ (geq order.now.edges role.now q || contains (from_list {R = name_cmp} names.old.items) q)) }
+    ensures cause { IfErr result (λ refusal. refusal ≡ Refusal.Memory) }
+{
+    put_name(alloc, names, role)?;
+    for pair in order.pairs().with_first(role) {
+        put_name(alloc, names, &pair.1)?;
+    }
+    Ok(())
+}
+
+// The roles that are reached from the second names of the pairs: these names and what is below them.
 pub(crate) fn roles_reached(
     alloc: Global,
     order: &RoleOrder,
-    roles: &NameSet,
     held: &[(Name, Name)],
 ) -> Result<Vec<Name>, Refusal>
-    ensures ok { IfOk result (λ names. names.items ≡ members (retain (set_of name_cmp roles.now) (is_reached order.now.edges held.now))) }
+    ensures sorted { IfOk result (λ names. IsStrictlySortedBy name_cmp names.items) }
+    ensures reached { IfOk result (λ names. (role : Bytes) → contains (from_list {R = name_cmp} names.items) role ≡ is_reached order.now.edges held.now role) }
     ensures cause { IfErr result (λ refusal. refusal ≡ Refusal.Memory) }
 {
-    let mut reached = Vec::new(alloc);
-    for role in roles.as_slice() {
-        if is_reached(order, held, role) {
-            put_name(alloc, &mut reached, role)?;
-        }
+    let mut names = Vec::new(alloc);
+    for pair in held {
+        put_below(alloc, order, &mut names, &pair.1)?;
     }
-    Ok(reached)
+    Ok(names)
+}
+
+// Whether a name is one of these, which stand in byte order.
+fn has_name(names: &[Name], name: &Name) -> bool
+    requires { IsStrictlySortedBy name_cmp names.now }
+    ensures { result ≡ contains (from_list {R = name_cmp} names.now) name.now }
+{
+    place(names, name).is_ok()
 }
 
 // The permissions that are granted to the role or to one below it.
@@ -160,9 +185,10 @@ pub(crate) fn permissions_reached(
     ensures ok { IfOk result (λ pairs. pairs.items ≡ members (image {Q = pair_cmp} permission_of (retain (set_of triple_cmp grants.now) (λ grant. is_reached order.now.edges held.now grant.2)))) }
     ensures cause { IfErr result (λ refusal. refusal ≡ Refusal.Memory) }
 {
+    let roles = roles_reached(alloc, order, held)?;
     let mut permissions = Vec::new(alloc);
     for grant in grants.as_slice() {
-        if is_reached(order, held, &grant.2) {
+        if has_name(&roles, &grant.2) {
             put_pair(alloc, &mut permissions, &grant.0, &grant.1)?;
         }
     }

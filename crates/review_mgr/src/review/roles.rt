@@ -79,10 +79,6 @@ pub fn authorized_roles(alloc: Global, state: &State, user: &Name) -> Result<Vec
     if !state.users().contains(user) {
         return Err(Refusal::NoUser);
     }
-    roles_reached(
-        alloc,
-        state.order(),
-        state.roles(),
-        assigned_to(state, user),
-    )
+    state.is_good();
+    roles_reached(alloc, state.order(), assigned_to(state, user))
 }

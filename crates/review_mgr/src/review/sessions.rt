@@ -26,12 +26,8 @@ pub fn session_roles(alloc: Global, state: &State, session: &Name) -> Result<Vec
     if !has_session(state, session) {
         return Err(Refusal::NoSession);
     }
-    roles_reached(
-        alloc,
-        state.order(),
-        state.roles(),
-        activated_in(state, session),
-    )
+    state.is_good();
+    roles_reached(alloc, state.order(), activated_in(state, session))
 }
 
 /// SessionPermissions: what is granted to the roles of the session, as pairs (object, operation).

@@ -6,4 +6,4 @@ use Rattle.review_mgr.proofs.Gathering.{Gathers}
 use Rattle.review_mgr.proofs.gather.permissions_reached.Given as goal
 
 abbrev pub invariant-loop-grant : goal.invariant-loop-grant
-invariant-loop-grant l = Gathers pair_cmp (λ (grant : Triple). is_reached l.order.edges l.held grant.2) (permission_of) (take l.grant-index l.grant-items) l.permissions.items
+invariant-loop-grant l = Gathers pair_cmp (λ (grant : Triple). is_reached l.order.edges l.held grant.2) permission_of (take l.grant-index l.grant-items) l.permissions.items

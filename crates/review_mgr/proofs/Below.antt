@@ -1,0 +1,175 @@
+-- Roles with those below them, gathered as a list in order.
+use Rattle.std.proofs.Common.{◌≡◌, ℕ, ◌+◌, ◌<◌, ◌≤◌, inl, inr, Bool, ◌||◌, List, [], ◌∷◌, ◌++◌, length, take, get_or, refl, sym, ◌∙◌, ap, subst}
+use Rattle.std.specs.Prelude.{IsTrue, Result, Ok, Err, IfOk}
+use Rattle.std.specs.List.{list_any}
+use Rattle.std.specs.List.Sorted.{IsStrictlySortedBy}
+use Rattle.std.proofs.lemmas.List.{take_more}
+use Rattle.std.proofs.Math.Bool.{or_assoc}
+use Rattle.std.proofs.lemmas.Bool.{and_parts, and_from, or_cases, or_left, or_right}
+use Rattle.rbac_sets.specs.Sets.{Bytes, Pair, Pairs, name_cmp, same_name, contains, from_list, insert, members, retain, any}
+use Rattle.rbac_sets.specs.NameOrder.{name_total, name_exact, pair_total, pair_exact}
+use Rattle.rbac_sets.proofs.SetLaws.{any-Decides, contains-empty, contains-insert, contains-retain, or_turned, same_members, tie_Decides}
+use Rattle.rbac_sets.proofs.Members.{members-retain}
+use Rattle.rbac_sets.proofs.InOrder.{members-sorted}
+use Rattle.rbac_sets.proofs.Runs.{take_whole}
+use Rattle.role_order.specs.Order.{Geq, here, step, geq, IsClosure}
+use Rattle.role_order.proofs.Deciding.{geq-Decides}
+use Rattle.role_order.proofs.Members.{same_or_other}
+use Rattle.admin_mgr.specs.RbacState.{RbacState}
+use Rattle.admin_mgr.specs.Authorization.{authorized_roles, session_roles, is_authorized, is_session_role}
+use Rattle.admin_mgr.specs.Good.{IsGood, IsWellFormed}
+use Rattle.admin_mgr.specs.Held.{run_of, is_reached}
+use Rattle.admin_mgr.proofs.HeldLaws.{authorized_reached, session_reached}
+use Rattle.review_mgr.proofs.AccessByRuns.{same_test}
+
+-- ---- a loop over a list
+
+-- a test of some item, with one more at the end
+any-push : {A : Type 0} (p : A → Bool) (xs : List A) (x : A) → list_any p (xs ++ x ∷ []) ≡ (p x || list_any p xs)
+any-push p [] x = refl
+any-push p (y ∷ ys) x = ap (λ b. p y || b) (any-push p ys x) ∙ or_turned (p y) (p x) (list_any p ys)
+
+-- the same over the first items of a list
+any-more : {A : Type 0} (p : A → Bool) (xs : List A) (i : ℕ) (x : A) → i < length xs → x ≡ get_or xs i x → list_any p (take (i + 1) xs) ≡ (p x || list_any p (take i xs))
+any-more p xs i x within is = ap (list_any p) (take_more xs i x within ∙ ap (λ y. take i xs ++ y ∷ []) (sym is)) ∙ any-push p (take i xs) x
+
+-- ---- the names behind the pairs of a list are joined to those that are there
+
+-- the list has in order what was there and what stands behind the pairs
+pub record Joins (start entries : List Bytes) (items : List Pair) : Type 0 where
+  pub sorted : IsStrictlySortedBy name_cmp entries
+  pub all : (q : Bytes) → contains (from_list {R = name_cmp} entries) q ≡ (list_any (λ (pair : Pair). same_name q pair.1) items || contains (from_list {R = name_cmp} start) q)
+
+-- before the first pair it is what was there
+pub joins_start : (start : List Bytes) (items : List Pair) → IsStrictlySortedBy name_cmp start → Joins start start (take 0 items)
+joins_start start items sorted = record { sorted = sorted; all = λ q. refl }
+
+-- with the name behind the next pair put, it is so with one pair more
+pub joins_put : (start entries more : List Bytes) (items : List Pair) (i : ℕ) (x : Pair) → i < length items → x ≡ get_or items i x → Joins start entries (take i items)
+    → IsStrictlySortedBy name_cmp more → from_list {R = name_cmp} more ≡ insert (from_list {R = name_cmp} entries) x.1 → Joins start more (take (i + 1) items)
+joins_put start entries more items i x within is old sorted put = record {
+  sorted = sorted;
+  all = λ q. ap (λ s. contains s q) put ∙ contains-insert name_total (from_list {R = name_cmp} entries) x.1 q ∙ ap (λ b. same_name q x.1 || b) (old.all q)
+      ∙ sym (or_assoc (same_name q x.1) _ _)
+      ∙ ap (λ b. b || contains (from_list {R = name_cmp} start) q) (sym (any-more (λ (pair : Pair). same_name q pair.1) items i x within is));
+}
+
+-- ---- a role and those below it
+
+-- the role, and the second names of its run in the closure
+pub below-are : (edges pairs : Pairs) → IsClosure edges pairs → (role q : Bytes) → (same_name q role || list_any (λ (pair : Pair). same_name q pair.1) (run_of pairs role)) ≡ geq edges role q
+unfolding any
+below-are edges pairs closed role q =
+    let begins : Pair → Bool = λ pair. same_name pair.0 role in
+    let ends : Pair → Bool = λ pair. same_name q pair.1 in
+    let run = any-Decides pair_total pair_exact ends (retain pairs begins) in
+    let same = ap (list_any ends) (members-retain pair_total pair_exact pairs begins) in
+    same_test _ _
+    (λ h. (geq-Decides edges role q).1 (elim (or_cases (same_name q role) _ h) [
+      | inl one ↦ subst (λ z. Geq edges role z) (sym ((tie_Decides name_total name_exact q role).0 one)) here
+      | inr other ↦
+          let found = run.0 (same ∙ other) in
+          let parts = and_parts _ _ (sym (contains-retain pair_total pair_exact pairs begins found.0) ∙ found.1) in
+          let first = (tie_Decides name_total name_exact found.0.0 role).0 parts.1 in
+          let second = (tie_Decides name_total name_exact q found.0.1).0 found.2 in
+          ((closed role q).0 (subst (λ (p : Pair). IsTrue (contains pairs p)) (λ i. (first i, sym second i)) parts.0)).1
+    ]))
+    (λ h. elim (same_or_other q role) [
+      | inl one ↦ or_left _ _ ((tie_Decides name_total name_exact q role).1 one)
+      | inr other ↦ or_right _ _ (sym same ∙ run.1 (
+        (role, q),
+        contains-retain pair_total pair_exact pairs begins (role, q)
+            ∙ and_from _ _ ((closed role q).1 (λ e. other (sym e), (geq-Decides edges role q).0 h)) ((tie_Decides name_total name_exact role role).1 refl),
+        (tie_Decides name_total name_exact q q).1 refl,
+      ))
+    ])
+
+-- with both put, what is there is what was there and what the role reaches
+pub joined-below : (edges pairs : Pairs) → IsClosure edges pairs → (role : Bytes) (before named entries : List Bytes) (items : List Pair) (i : ℕ)
+    → from_list {R = name_cmp} named ≡ insert (from_list {R = name_cmp} before) role → items ≡ run_of pairs role → length items ≤ i → Joins named entries (take i items)
+    → (q : Bytes) → contains (from_list {R = name_cmp} entries) q ≡ (geq edges role q || contains (from_list {R = name_cmp} before) q)
+joined-below edges pairs closed role before named entries items i put run past all q =
+    let ends : Pair → Bool = λ pair. same_name q pair.1 in
+    all.all q
+    ∙ ap (λ ys. list_any ends ys || contains (from_list {R = name_cmp} named) q) (take_whole i items past ∙ run)
+    ∙ ap (λ b. list_any ends (run_of pairs role) || b) (ap (λ s. contains s q) put ∙ contains-insert name_total (from_list {R = name_cmp} before) role q)
+    ∙ or_turned (list_any ends (run_of pairs role)) (same_name q role) (contains (from_list {R = name_cmp} before) q)
+    ∙ sym (or_assoc (same_name q role) _ _) ∙ ap (λ b. b || contains (from_list {R = name_cmp} before) q) (below-are edges pairs closed role q)
+
+-- ---- what is reached from the second names of pairs
+
+-- the list has in order what is reached
+pub record Reaches (edges : Pairs) (items : List Pair) (entries : List Bytes) : Type 0 where
+  pub sorted : IsStrictlySortedBy name_cmp entries
+  pub all : (q : Bytes) → contains (from_list {R = name_cmp} entries) q ≡ is_reached edges items q
+
+-- from no pair nothing is reached
+pub reaches_start : (edges : Pairs) (items : List Pair) (entries : List Bytes) → entries ≡ [] → Reaches edges (take 0 items) entries
+unfolding IsStrictlySortedBy from_list
+reaches_start edges items entries none = subst (Reaches edges []) (sym none) (record { sorted = tt; all = λ q. contains-empty name_cmp q })
+
+-- with the next role and those below it put, it is so with one pair more
+pub reaches_put : (edges : Pairs) (entries more : List Bytes) (items : List Pair) (i : ℕ) (x : Pair) → i < length items → x ≡ get_or items i x → Reaches edges (take i items) entries
+    → IsStrictlySortedBy name_cmp more → ((q : Bytes) → contains (from_list {R = name_cmp} more) q ≡ (geq edges x.1 q || contains (from_list {R = name_cmp} entries) q)) → Reaches edges (take (i + 1) items) more
+reaches_put edges entries more items i x within is old sorted put = record {
+  sorted = sorted;
+  all = λ q. put q ∙ ap (λ b. geq edges x.1 q || b) (old.all q) ∙ sym (any-more (λ (pair : Pair). geq edges pair.1 q) items i x within is);
+}
+
+-- after the last of the pairs it is what is reached from them all
+pub reached-all : (edges : Pairs) (entries : List Bytes) (items : List Pair) (i : ℕ) → length items ≤ i → Reaches edges (take i items) entries
+    → (q : Bytes) → contains (from_list {R = name_cmp} entries) q ≡ is_reached edges items q
+reached-all edges entries items i past all q = all.all q ∙ ap (λ ys. is_reached edges ys q) (take_whole i items past)
+
+-- ---- what is reached in a state are roles
+
+-- edges lead from a role to roles
+leads_role : (S : RbacState) → IsWellFormed S → (a b : Bytes) → Geq S.edges a b → IsTrue (contains S.roles a) → IsTrue (contains S.roles b)
+leads_role S well_formed a b here is_role = is_role
+leads_role S well_formed a b (step {b = next} edge rest) is_role = leads_role S well_formed next b rest (well_formed.edges a next edge).1
+
+-- what is reached from roles is a role
+reached_role : (S : RbacState) → IsWellFormed S → (pairs : Pairs) (first : Bytes) → ((role : Bytes) → IsTrue (contains pairs (first, role)) → IsTrue (contains S.roles role))
+    → (role : Bytes) → IsTrue (is_reached S.edges (run_of pairs first) role) → IsTrue (contains S.roles role)
+unfolding any
+reached_role S well_formed pairs first are_roles role h =
+    let begins : Pair → Bool = λ pair. same_name pair.0 first in
+    let above : Pair → Bool = λ pair. geq S.edges pair.1 role in
+    let found = (any-Decides pair_total pair_exact above (retain pairs begins)).0 (ap (list_any above) (members-retain pair_total pair_exact pairs begins) ∙ h) in
+    let parts = and_parts _ _ (sym (contains-retain pair_total pair_exact pairs begins found.0) ∙ found.1) in
+    let same = (tie_Decides name_total name_exact found.0.0 first).0 parts.1 in
+    leads_role S well_formed found.0.1 role ((geq-Decides S.edges found.0.1 role).0 found.2)
+    (are_roles found.0.1 (subst (λ a. IsTrue (contains pairs (a, found.0.1))) same parts.0))
+
+-- the list in order of what is reached has the roles that pass, where these are the same
+listed-roles : (S : RbacState) (entries : List Bytes) (held test : Bytes → Bool) → IsStrictlySortedBy name_cmp entries → ((q : Bytes) → contains (from_list {R = name_cmp} entries) q ≡ held q)
+    → ((q : Bytes) → test q ≡ held q) → ((q : Bytes) → IsTrue (held q) → IsTrue (contains S.roles q)) → entries ≡ members (retain S.roles test)
+listed-roles S entries held test sorted all same are_roles =
+    sym (members-sorted name_total entries sorted)
+    ∙ ap members (same_members name_total name_exact (from_list {R = name_cmp} entries) (retain S.roles test) (λ q. (
+      λ h.
+          let is_held = sym (all q) ∙ h in
+          contains-retain name_total name_exact S.roles test q ∙ and_from _ _ (are_roles q is_held) (same q ∙ is_held),
+      λ h. all q ∙ sym (same q) ∙ (and_parts _ _ (sym (contains-retain name_total name_exact S.roles test q) ∙ h)).1,
+    )))
+
+-- what is reached from a user's assignments are its authorized roles
+pub authorized_roles-listed : (S : RbacState) → IsGood S → (user : Bytes) (entries : List Bytes) → IsStrictlySortedBy name_cmp entries
+    → ((q : Bytes) → contains (from_list {R = name_cmp} entries) q ≡ is_reached S.edges (run_of S.assignments user) q) → entries ≡ members (authorized_roles S user)
+unfolding authorized_roles
+authorized_roles-listed S good user entries sorted all =
+    listed-roles S entries (is_reached S.edges (run_of S.assignments user)) (is_authorized S user) sorted all (authorized_reached S user)
+    (reached_role S good.well_formed S.assignments user (λ role h. (good.well_formed.assignments user role h).1))
+
+-- what is reached from what was activated are the roles of the session
+pub session_roles-listed : (S : RbacState) → IsGood S → (session : Bytes) (entries : List Bytes) → IsStrictlySortedBy name_cmp entries
+    → ((q : Bytes) → contains (from_list {R = name_cmp} entries) q ≡ is_reached S.edges (run_of S.active session) q) → entries ≡ members (session_roles S session)
+unfolding session_roles
+session_roles-listed S good session entries sorted all =
+    listed-roles S entries (is_reached S.edges (run_of S.active session)) (is_session_role S session) sorted all (session_reached S session)
+    (reached_role S good.well_formed S.active session (λ role h. good.well_formed.active session role h))
+
+-- two facts of the value of a call that succeeds give a third
+pub if_both : {X E : Type 0} (P Q R : X → Type 0) (result : Result X E) → ((x : X) → P x → Q x → R x) → IfOk result P → IfOk result Q → IfOk result R
+if_both P Q R (Ok x) third first second = third x first second
+if_both P Q R (Err e) third first second = tt
