@@ -1,17 +1,19 @@
 -- The access decision by runs.
-use Rattle.std.proofs.Common.{◌≡◌, Bool, true, false, List, refl, sym, ◌∙◌, ap}
-use Rattle.std.specs.Prelude.{IsTrue}
+use Rattle.std.proofs.Common.{◌≡◌, Bool, true, false, not, List, length, refl, sym, ◌∙◌, ap}
+use Rattle.std.specs.Prelude.{IsTrue, ◌==◌}
 use Rattle.std.specs.List.{filter, list_any}
 use Rattle.std.proofs.lemmas.Bool.{and_parts, and_from}
 use Rattle.rbac_sets.specs.Sets.{Bytes, Pair, Pairs, Triple, Triples, same_name, contains, members, retain, any}
 use Rattle.rbac_sets.specs.NameOrder.{name_total, name_exact, pair_total, pair_exact, triple_total, triple_exact}
 use Rattle.rbac_sets.proofs.SetLaws.{any-Decides, contains-retain, tie_Decides}
 use Rattle.rbac_sets.proofs.Members.{members-retain}
-use Rattle.admin_mgr.specs.RbacState.{RbacState}
+use Rattle.admin_mgr.specs.RbacState.{RbacState, has_session}
 use Rattle.admin_mgr.specs.Authorization.{session_roles, is_session_role}
 use Rattle.admin_mgr.specs.Good.{IsGood}
 use Rattle.admin_mgr.specs.Held.{run_of, is_reached}
 use Rattle.admin_mgr.proofs.HeldLaws.{session_reached}
+use Rattle.admin_mgr.proofs.Lookups.{any_filter}
+use Rattle.review_mgr.specs.Questions.{has_operation}
 use Rattle.review_mgr.specs.Review.{has_access, permission_of, is_grant_of}
 
 pub same_test : (a b : Bool) → (IsTrue a → IsTrue b) → (IsTrue b → IsTrue a) → a ≡ b
@@ -47,15 +49,6 @@ access_reached S good session operation object =
     ∙ and_from _ _ found.2 ((tie_Decides pair_total pair_exact (object, operation) (object, operation)).1 refl) in
     by_run.1 ((object, operation, role), member, sym (session_reached S session role) ∙ parts.1))
 
--- the run of the grants, found in the set that stands for that of the state
-pub found_reached : (S : RbacState) (session operation object : Bytes) (edges : Pairs) (grants : Triples) (held : List Pair) (granted : List Triple)
-    → edges ≡ S.edges → held ≡ run_of S.active session → grants ≡ S.grants → granted ≡ filter (is_grant_of object operation) (members grants)
-    → list_any (λ (grant : Triple). is_reached edges held grant.2) granted
-    ≡ list_any (λ (grant : Triple). is_reached S.edges (run_of S.active session) grant.2) (filter (is_grant_of object operation) (members S.grants))
-found_reached S session operation object edges grants held granted e h g r =
-    let triples = r ∙ ap (λ (t : Triples). filter (is_grant_of object operation) (members t)) g in
-    λ i. list_any (λ (grant : Triple). is_reached (e i) (h i) grant.2) (triples i)
-
 -- the operation of a permission is one of OPS
 pub any_second : (pairs : Pairs) (first second : Bytes) → contains pairs (first, second) ≡ true → any (λ (pair : Pair). same_name pair.1 second) pairs ≡ true
 any_second pairs first second h =
@@ -64,3 +57,33 @@ any_second pairs first second h =
 pub any-members : (p : Pair → Bool) (pairs : Pairs) → list_any p (members pairs) ≡ any p pairs
 unfolding any
 any-members p pairs = refl
+
+-- ---- what is there where something is found
+
+-- the session of an activated role is there
+pub session_if_activated : (S : RbacState) → IsGood S → (session : Bytes) → not (length (run_of S.active session) == 0) ≡ true → has_session S session ≡ true
+unfolding any
+session_if_activated S good session activated =
+    let of_session : Pair → Bool = λ pair. same_name pair.0 session in
+    let found = (any-Decides pair_total pair_exact of_session S.active).0 (any_filter of_session (members S.active) ∙ activated) in
+    let owner = good.well_formed.owned found.0.0 found.0.1 found.1 in
+    (any-Decides pair_total pair_exact of_session S.sessions).1 ((found.0.0, owner.0), owner.1, found.2)
+
+-- the permission of a grant is there
+granted_permission : (S : RbacState) → IsGood S → (operation object : Bytes) → not (length (filter (is_grant_of object operation) (members S.grants)) == 0) ≡ true →
+    IsTrue (contains S.permissions (object, operation))
+unfolding any
+granted_permission S good operation object granted =
+    let found = (any-Decides triple_total triple_exact (is_grant_of object operation) S.grants).0 (any_filter (is_grant_of object operation) (members S.grants) ∙ granted) in
+    let same = (tie_Decides pair_total pair_exact (permission_of found.0) (object, operation)).0 found.2 in
+    sym (ap (contains S.permissions) same) ∙ (good.well_formed.grants found.0.0 found.0.1 found.0.2 found.1).0
+
+-- so its object is
+pub object_if_granted : (S : RbacState) → IsGood S → (operation object : Bytes) → not (length (filter (is_grant_of object operation) (members S.grants)) == 0) ≡ true →
+    contains S.objects object ≡ true
+object_if_granted S good operation object granted = good.well_formed.permissions object operation (granted_permission S good operation object granted)
+
+-- and its operation
+pub operation_if_granted : (S : RbacState) → IsGood S → (operation object : Bytes) → not (length (filter (is_grant_of object operation) (members S.grants)) == 0) ≡ true →
+    has_operation S operation ≡ true
+operation_if_granted S good operation object granted = any_second S.permissions object operation (granted_permission S good operation object granted)

@@ -1,8 +1,11 @@
 //! The access decision.
-ghost use Rattle.std.specs.Prelude.{◌≡◌, Some, None, IfOk, IfErr};
+ghost use Rattle.std.specs.Prelude.{◌≡◌, Some, None, filter, IfOk, IfErr};
+ghost use Rattle.rbac_sets.specs.Sets.{contains, members};
+ghost use Rattle.admin_mgr.specs.Held.{run_of};
+ghost use Rattle.admin_mgr.specs.RbacState.{has_session};
 ghost use Rattle.review_mgr.specs.declared.query.Query.TheVariants.{CheckAccess};
-ghost use Rattle.review_mgr.specs.Questions.{refused};
-ghost use Rattle.review_mgr.specs.Review.{has_access};
+ghost use Rattle.review_mgr.specs.Questions.{has_operation, refused};
+ghost use Rattle.review_mgr.specs.Review.{has_access, is_grant_of};
 
 use crate::lookup::{activated_in, has_operation, has_session, is_granted};
 use admin_mgr::State;
@@ -12,8 +15,9 @@ use rbac_sets::{Name, Refusal};
 /// permission is granted to a role of the session: one that was activated in it, or a descendant of
 /// such a role.
 ///
-/// It takes no memory. The grants of the permission and the activated roles of the session are found
-/// by binary search, and then each of the one is looked at with each of the other.
+/// It takes no memory. The activated roles of the session and the grants of the permission are found
+/// by binary search, and then each of the one is looked at with each of the other. Where there are
+/// some, the session, the object and the operation are there; else these are looked for.
 ///
 /// # Errors
 ///
@@ -30,23 +34,73 @@ pub fn check_access(
     ensures value { IfOk result (λ access. access ≡ has_access state.now.facts session.now operation.now object.now) }
     ensures refused { IfErr result (λ refusal. refused state.now.facts (CheckAccess session.now operation.now object.now) ≡ Some refusal) }
 {
-    if !has_session(state, session) {
+    let activated = activated_in(state, session);
+    if !is_session(state, session, activated) {
         return Err(Refusal::NoSession);
     }
-    if !state.objects().contains(object) {
+    let granted = granted_for(state, operation, object);
+    if !is_object(state, operation, object, granted) {
         return Err(Refusal::NoObject);
     }
-    if !has_operation(state, object, operation) {
+    if !is_operation(state, operation, object, granted) {
         return Err(Refusal::NoOperation);
     }
-    Ok(has_access(state, session, operation, object))
+    Ok(has_access(state, session, operation, object, activated, granted))
 }
 
-// Whether the permission is granted to a role that was activated in the session, or to one below it.
-fn has_access(state: &State, session: &Name, operation: &Name, object: &Name) -> bool
+// The grants of the permission.
+fn granted_for<'a>(state: &'a State, operation: &Name, object: &Name) -> &'a [(Name, Name, Name)]
+    ensures { result.now ≡ filter (is_grant_of object.now operation.now) (members state.now.facts.grants) }
+{
+    state.grants().with_first((object, operation))
+}
+
+// Whether there is such a session. It has a user where it has an activated role.
+fn is_session(state: &State, session: &Name, activated: &[(Name, Name)]) -> bool
+    requires { activated.now ≡ run_of state.now.facts.active session.now }
+    ensures { result ≡ has_session state.now.facts session.now }
+{
+    state.is_good();
+    !activated.is_empty() || has_session(state, session)
+}
+
+// Whether there is such an object. It is there where the permission is granted.
+fn is_object(state: &State, operation: &Name, object: &Name, granted: &[(Name, Name, Name)]) -> bool
+    requires { granted.now ≡ filter (is_grant_of object.now operation.now) (members state.now.facts.grants) }
+    ensures { result ≡ contains state.now.facts.objects object.now }
+{
+    state.is_good();
+    !granted.is_empty() || state.objects().contains(object)
+}
+
+// Whether some permission has the operation. One has it where the permission is granted.
+fn is_operation(
+    state: &State,
+    operation: &Name,
+    object: &Name,
+    granted: &[(Name, Name, Name)],
+) -> bool
+    requires { granted.now ≡ filter (is_grant_of object.now operation.now) (members state.now.facts.grants) }
+    ensures { result ≡ has_operation state.now.facts operation.now }
+{
+    state.is_good();
+    !granted.is_empty() || has_operation(state, object, operation)
+}
+
+// Whether one of these grants of the permission is to a role that was activated in the session, or to
+// one below it.
+fn has_access(
+    state: &State,
+    session: &Name,
+    operation: &Name,
+    object: &Name,
+    activated: &[(Name, Name)],
+    granted: &[(Name, Name, Name)],
+) -> bool
+    requires activated { activated.now ≡ run_of state.now.facts.active session.now }
+    requires granted { granted.now ≡ filter (is_grant_of object.now operation.now) (members state.now.facts.grants) }
     ensures { result ≡ has_access state.now.facts session.now operation.now object.now }
 {
     state.is_good();
-    let granted = state.grants().with_first((object, operation));
-    is_granted(state.order(), activated_in(state, session), granted)
+    is_granted(state.order(), activated, granted)
 }

@@ -1,9 +1,12 @@
 use Rattle.std.proofs.Common.{◌∙◌}
-use Rattle.review_mgr.proofs.AccessByRuns.{access_reached, found_reached}
+use Rattle.std.specs.List.{list_any}
+use Rattle.rbac_sets.specs.Sets.{Triple}
+use Rattle.admin_mgr.specs.Held.{is_reached}
+use Rattle.review_mgr.proofs.AccessByRuns.{access_reached}
 use Rattle.review_mgr.proofs.access.has_access.Goals as goal
 
 pub returns : goal.returns
 returns c =
     c.is_granted.ensures
-    ∙ found_reached c.args.state.now.facts c.args.session.now c.args.operation.now c.args.object.now _ _ _ _ c.order.ensures c.activated_in.ensures c.grants.ensures c.with_first-granted.ensures
+    ∙ (λ i. list_any (λ (grant : Triple). is_reached (c.order.ensures i) (c.requires.activated i) grant.2) (c.requires.granted i))
     ∙ access_reached c.args.state.now.facts c.is_good.ensures c.args.session.now c.args.operation.now c.args.object.now
