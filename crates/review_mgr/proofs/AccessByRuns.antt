@@ -1,9 +1,9 @@
 -- The access decision by runs.
-use Rattle.std.proofs.Common.{◌≡◌, Bool, true, false, not, List, length, refl, sym, ◌∙◌, ap}
+use Rattle.std.proofs.Common.{◌≡◌, Bool, true, false, not, length, refl, sym, ◌∙◌, ap}
 use Rattle.std.specs.Prelude.{IsTrue, ◌==◌}
 use Rattle.std.specs.List.{filter, list_any}
 use Rattle.std.proofs.lemmas.Bool.{and_parts, and_from}
-use Rattle.rbac_sets.specs.Sets.{Bytes, Pair, Pairs, Triple, Triples, same_name, contains, members, retain, any}
+use Rattle.rbac_sets.specs.Sets.{Bytes, Pair, Pairs, Triple, same_name, contains, members, retain, any}
 use Rattle.rbac_sets.specs.NameOrder.{name_total, name_exact, pair_total, pair_exact, triple_total, triple_exact}
 use Rattle.rbac_sets.proofs.SetLaws.{any-Decides, contains-retain, tie_Decides}
 use Rattle.rbac_sets.proofs.Members.{members-retain}
