@@ -1,8 +1,10 @@
-//! The state of the office, and the verdict on every command.
+//! The state of the office, and every command on it.
 //!
 //! The state has the sets and relations of core RBAC, of the role hierarchy and of static and
 //! dynamic separation of duty, and it is always good. A command is judged on the state as it is,
-//! without a copy of it: the verdict is the first of the command's refusals that holds.
+//! without a copy of it: the verdict is the first of the command's refusals that holds. The plan of
+//! an accepted command names the rows that go and those that come; once room was made for them,
+//! `State::commit` changes them in place and can't fail. `State::of_rows` is the state of stored rows.
 #![tactic(auto)]
 
 pub use plan::{Plan, Report};
