@@ -20,3 +20,4 @@ mod sessions;
 mod showing;
 mod small_office;
 mod static_separation;
+mod stored;

@@ -49,16 +49,20 @@ const COMMANDS: [(&str, &str); 33] = [
 // How commands are drawn: each as often as another, without the locks; or with the locks, and in place of
 // three deletions in four a session is made or a role activated, so that more is there at once.
 #[derive(Clone, Copy, PartialEq, Eq)]
-enum Mode {
+pub(super) enum Mode {
     Even,
     Full,
 }
 
 // A row of numbers that looks drawn, the same for each start.
 #[derive(Drop)]
-struct Draws(u64);
+pub(super) struct Draws(u64);
 
 impl Draws {
+    pub(super) fn new(start: u64) -> Draws {
+        Draws(start)
+    }
+
     // A number below `count`.
     fn draw(&mut self, count: u64) -> u64 {
         self.0 = self.0.wrapping_mul(1_103_515_245).wrapping_add(12_345) % (1 << 31);
@@ -82,7 +86,7 @@ impl Draws {
 
 // A drawn command, as the words that a script has for it, and in numbers.
 #[derive(Drop)]
-struct Drawn {
+pub(super) struct Drawn {
     function: &'static str,
     text: String,
     keys: Keys,
@@ -91,7 +95,7 @@ struct Drawn {
 
 impl Drawn {
     // Draws a function, and then its names.
-    fn new(alloc: Global, draws: &mut Draws, mode: Mode) -> Result<Drawn, AllocError> {
+    pub(super) fn new(alloc: Global, draws: &mut Draws, mode: Mode) -> Result<Drawn, AllocError> {
         let (function, letters) = draws.draw_command(mode);
         let mut drawn = Drawn {
             function,
@@ -103,6 +107,10 @@ impl Drawn {
             drawn.add(alloc, draws, letter)?;
         }
         Ok(drawn)
+    }
+
+    pub(super) fn text(&self) -> &str {
+        &self.text
     }
 
     fn add(&mut self, alloc: Global, draws: &mut Draws, letter: char) -> Result<(), AllocError> {
@@ -188,7 +196,7 @@ fn difference(
 // Draws 2,000 commands from each of three starts.
 fn is_the_plain_model(rt: &impl Abort, alloc: Global, mode: Mode) -> Result<(), Fail> {
     for start in [1, 2, 3] {
-        let mut draws = Draws(start);
+        let mut draws = Draws::new(start);
         let mut state = State::empty(alloc);
         let mut model = Model::new(alloc);
         for step in 0..2_000 {
