@@ -1,5 +1,5 @@
 -- Bytes that were appended and consumed one after another.
-use Rattle.std.proofs.Common.{◌≡◌, ◌≤◌, ℕ, IfSome, length, length-append, arith, List, [], ◌∷◌, ◌++◌, Option, Some, None, refl, sym, ap, subst, ◌∙◌, append_assoc}
+use Rattle.std.proofs.Common.{◌≤◌, ℕ, IfSome, length, length-append, arith, List, [], ◌++◌, Option, Some, None, refl, sym, ap, subst, ◌∙◌, append_assoc}
 use Rattle.std.proofs.lemmas.List.{append-nil}
 use Rattle.std.specs.Io.KnownBytes.{Appends, Consumes, Keeps}
 

@@ -1,8 +1,8 @@
 //! Sets as lists in order, which take a new entry without memory once room was made for it.
 ghost use Rattle.std.specs.Prelude.{◌≡◌, ◌+◌, ◌<◌, ◌≤◌, ◌↔◌, length, vec_len, vec_capacity, true, false, not, IsTrue, filter, OnOk, IfOk, IfErr};
-ghost use Rattle.std.specs.List.{HoldsAt, list_all};
+ghost use Rattle.std.specs.List.{HoldsAt, list_all, AllWithin};
 ghost use Rattle.std.specs.Slice.Iter.{iter_rest};
-ghost use Rattle.std.specs.List.Sorted.{IsStrictlySortedBy, IsPartitionPoint};
+ghost use Rattle.std.specs.List.Sorted.{IsStrictlySortedBy, IsPartitionPoint, IsPartitionedBy};
 ghost use Rattle.std.specs.declared.cmp.Ordering.{Ordering};
 ghost use Rattle.std.specs.declared.cmp.Ordering.TheVariants.{Less, Equal, Greater};
 ghost use Rattle.std.specs.Ordering.{is_eq, ordering_index};
@@ -277,8 +277,34 @@ fn run<K: Entry, P: Prefix<K>>(entries: &[K], prefix: P) -> &[K]
 {
     let start = entries.partition_point(|entry| prefix.compare(entry).is_lt());
     let rest = &entries[start..];
-    let count = rest.partition_point(|entry| prefix.compare(entry).is_eq());
+    let count = count_first(rest, prefix);
     &rest[..count]
+}
+
+// How many entries begin with these parts, where they stand first. Its time grows with the logarithm of
+// this number, not with that of the number of entries.
+fn count_first<K: Entry, P: Prefix<K>>(entries: &[K], prefix: P) -> usize
+    requires { IsPartitionedBy (λ entry. is_eq (P.place prefix entry)) entries.now }
+    ensures bound { result ≤ length entries.now }
+    ensures ends { IsPartitionPoint (λ entry. is_eq (P.place prefix entry) ≡ true) (λ entry. is_eq (P.place prefix entry) ≡ false) entries.now result }
+{
+    let bound = bound_of_first(entries, prefix);
+    let near = &entries[..bound];
+    near.partition_point(|entry| prefix.compare(entry).is_eq())
+}
+
+// A place behind all entries that begin with these parts, where they stand first. It is found by steps
+// that double, and lies at most twice as far as the last of them, or is 1.
+fn bound_of_first<K: Entry, P: Prefix<K>>(entries: &[K], prefix: P) -> usize
+    requires { IsPartitionedBy (λ entry. is_eq (P.place prefix entry)) entries.now }
+    ensures bound { result ≤ length entries.now }
+    ensures behind { AllWithin (λ entry. is_eq (P.place prefix entry) ≡ false) entries.now result (length entries.now) }
+{
+    let mut bound = 1;
+    while bound < entries.len() && prefix.compare(&entries[bound]).is_eq() {
+        bound = bound.saturating_mul(2);
+    }
+    bound.min(entries.len())
 }
 
 // The entries of both, in order, in the room of the first. They go round: what is placed stands behind what is left.
