@@ -1,91 +1,110 @@
--- What the state after a command on one separation of duty set violates.
+-- The state after a command on separation of duty sets of one kind: no session ends, and what the sets violate then.
 use Rattle.std.proofs.Common.{◌≡◌, ℕ, false, cond, refl, ◌∙◌, ap}
 use Rattle.std.specs.Prelude.{IsTrue, Some, None}
 use Rattle.std.specs.Option.{option_map}
 use Rattle.rbac_sets.specs.Sets.{Bytes, name_cmp, contains, insert}
 use Rattle.rbac_sets.specs.SortedSet.{Stored, set_of}
-use Rattle.rbac_sets.specs.declared.command.Command.TheVariants.{CreateSsdSet, AddSsdRoleMember, SetSsdSetCardinality, CreateDsdSet, AddDsdRoleMember, SetDsdSetCardinality}
-use Rattle.rbac_sets.specs.declared.refusal.Refusal.TheVariants.{StaticSeparation, DynamicSeparation}
+use Rattle.admin_mgr.specs.declared.separation_of_duty.SeparationOfDuty.{SeparationOfDuty}
+use Rattle.admin_mgr.specs.declared.separation_of_duty.SeparationOfDuty.TheVariants.{Static, Dynamic}
 use Rattle.admin_mgr.specs.RbacState.{RbacState, Separation, members_of, has_set}
 use Rattle.admin_mgr.specs.Authorization.{authorized_users}
 use Rattle.admin_mgr.specs.Separation.{is_kept_statically, is_kept_dynamically, least_violated}
-use Rattle.admin_mgr.specs.Refusing.{breaks_static, breaks_dynamic}
+use Rattle.admin_mgr.specs.SeparationOfDuty.{sets_of, with_sets, is_kept, refusal_of, breaks, create_set, add_member, delete_member, set_cardinality, delete_set}
 use Rattle.admin_mgr.specs.Assignment.{may_go_on, end_sessions}
-use Rattle.admin_mgr.specs.After.{changed, after, with_set, with_member, with_cardinality}
-use Rattle.admin_mgr.specs.Good.{IsGood}
+use Rattle.admin_mgr.specs.After.{changed, after, with_set, with_member, without_member, with_cardinality, without_set}
+use Rattle.admin_mgr.specs.Good.{IsGood, IsSeparation}
 use Rattle.admin_mgr.proofs.SeparationLaws.{kept_statically, kept_dynamically}
 use Rattle.admin_mgr.proofs.SessionLaws.{goes_on, none_ends_where}
 use Rattle.admin_mgr.proofs.VerdictLaws.{mapped_cond}
 use Rattle.admin_mgr.proofs.ViolationLaws.{AreKept, created, member_added, renumbered}
 
--- ---- static
+-- each set of a good state is kept
+pub kept_sets : (duty : SeparationOfDuty) (S : RbacState) → IsGood S → AreKept (is_kept duty S) (sets_of duty S)
+kept_sets Static S good x there = (kept_statically S (members_of S.ssd x.0) x.1).1 (λ user _. good.static_separation x.0 user x.1 there)
+kept_sets Dynamic S good x there = (kept_dynamically S (members_of S.dsd x.0) x.1).1 (λ session user owner. good.dynamic_separation x.0 session user x.1 there owner)
 
-pub kept_ssd : (S : RbacState) → IsGood S → AreKept (is_kept_statically S) S.ssd
-kept_ssd S good x there = (kept_statically S (members_of S.ssd x.0) x.1).1 (λ user _. good.static_separation x.0 user x.1 there)
+-- and well formed
+pub formed_sets : (duty : SeparationOfDuty) (S : RbacState) → IsGood S → IsSeparation S.roles (sets_of duty S)
+formed_sets Static S good = good.well_formed.ssd
+formed_sets Dynamic S good = good.well_formed.dsd
 
--- other static sets leave who is authorized, and no session ends for them
-ssd_breaks : (S : RbacState) (other : Separation) → breaks_static (end_sessions (record S { ssd = other })) ≡ option_map StaticSeparation (least_violated (is_kept_statically S) other)
-unfolding end_sessions is_kept_statically authorized_users
-ssd_breaks S other = refl
-
-pub create_ssd : (S : RbacState) → IsGood S → (name : Bytes) (roles : Stored Bytes) (n : ℕ) → has_set S.ssd name ≡ false →
-    breaks_static (after S (CreateSsdSet name roles n)) ≡ cond (is_kept_statically S (set_of name_cmp roles) n) None (Some (StaticSeparation name))
-unfolding after changed
-create_ssd S good name roles n absent =
-    ssd_breaks S (with_set S.ssd name (set_of name_cmp roles) n)
-    ∙ ap (option_map StaticSeparation) (created (is_kept_statically S) S.roles S.ssd good.well_formed.ssd (kept_ssd S good) name (set_of name_cmp roles) n absent)
-    ∙ mapped_cond (is_kept_statically S (set_of name_cmp roles) n) StaticSeparation name
-
-pub add_ssd : (S : RbacState) → IsGood S → (name role : Bytes) (n : ℕ) → IsTrue (contains S.ssd.cardinalities (name, n)) →
-    breaks_static (after S (AddSsdRoleMember name role)) ≡ cond (is_kept_statically S (insert (members_of S.ssd name) role) n) None (Some (StaticSeparation name))
-unfolding after changed
-add_ssd S good name role n there =
-    ssd_breaks S (with_member S.ssd name role)
-    ∙ ap (option_map StaticSeparation) (member_added (is_kept_statically S) S.roles S.ssd good.well_formed.ssd (kept_ssd S good) name role n there)
-    ∙ mapped_cond (is_kept_statically S (insert (members_of S.ssd name) role) n) StaticSeparation name
-
-pub set_ssd : (S : RbacState) → IsGood S → (name : Bytes) (n : ℕ) →
-    breaks_static (after S (SetSsdSetCardinality name n)) ≡ cond (is_kept_statically S (members_of S.ssd name) n) None (Some (StaticSeparation name))
-unfolding after changed
-set_ssd S good name n =
-    ssd_breaks S (with_cardinality S.ssd name n)
-    ∙ ap (option_map StaticSeparation) (renumbered (is_kept_statically S) S.ssd (kept_ssd S good) name n)
-    ∙ mapped_cond (is_kept_statically S (members_of S.ssd name) n) StaticSeparation name
-
--- ---- dynamic
-
-pub kept_dsd : (S : RbacState) → IsGood S → AreKept (is_kept_dynamically S) S.dsd
-kept_dsd S good x there = (kept_dynamically S (members_of S.dsd x.0) x.1).1 (λ session user owner. good.dynamic_separation x.0 session user x.1 there owner)
-
--- no session ends for other dynamic sets
-pub none_ends_dsd : (S : RbacState) → IsGood S → (other : Separation) → end_sessions (record S { dsd = other }) ≡ record S { dsd = other }
+-- no session ends for other sets
+none_ends : (duty : SeparationOfDuty) (S : RbacState) → IsGood S → (other : Separation) → end_sessions (with_sets duty S other) ≡ with_sets duty S other
 unfolding may_go_on authorized_users
-none_ends_dsd S good other = none_ends_where (record S { dsd = other }) (goes_on S good) good.well_formed.owned
+none_ends Static S good other = none_ends_where (record S { ssd = other }) (goes_on S good) good.well_formed.owned
+none_ends Dynamic S good other = none_ends_where (record S { dsd = other }) (goes_on S good) good.well_formed.owned
 
-dsd_breaks : (S : RbacState) → IsGood S → (other : Separation) → breaks_dynamic (end_sessions (record S { dsd = other })) ≡ option_map DynamicSeparation (least_violated (is_kept_dynamically S) other)
-unfolding is_kept_dynamically
-dsd_breaks S good other = ap breaks_dynamic (none_ends_dsd S good other)
+-- what other sets violate is found by the users and sessions of the state
+breaks_other : (duty : SeparationOfDuty) (S : RbacState) (other : Separation) → breaks duty (with_sets duty S other) ≡ option_map (refusal_of duty) (least_violated (is_kept duty S) other)
+unfolding is_kept_statically is_kept_dynamically authorized_users
+breaks_other Static S other = refl
+breaks_other Dynamic S other = refl
 
-pub create_dsd : (S : RbacState) → IsGood S → (name : Bytes) (roles : Stored Bytes) (n : ℕ) → has_set S.dsd name ≡ false →
-    breaks_dynamic (after S (CreateDsdSet name roles n)) ≡ cond (is_kept_dynamically S (set_of name_cmp roles) n) None (Some (DynamicSeparation name))
-unfolding after changed
-create_dsd S good name roles n absent =
-    dsd_breaks S good (with_set S.dsd name (set_of name_cmp roles) n)
-    ∙ ap (option_map DynamicSeparation) (created (is_kept_dynamically S) S.roles S.dsd good.well_formed.dsd (kept_dsd S good) name (set_of name_cmp roles) n absent)
-    ∙ mapped_cond (is_kept_dynamically S (set_of name_cmp roles) n) DynamicSeparation name
+module _ (duty : SeparationOfDuty) (S : RbacState) (good : IsGood S) (name : Bytes) where
+  -- ---- the state after each command
 
-pub add_dsd : (S : RbacState) → IsGood S → (name role : Bytes) (n : ℕ) → IsTrue (contains S.dsd.cardinalities (name, n)) →
-    breaks_dynamic (after S (AddDsdRoleMember name role)) ≡ cond (is_kept_dynamically S (insert (members_of S.dsd name) role) n) None (Some (DynamicSeparation name))
-unfolding after changed
-add_dsd S good name role n there =
-    dsd_breaks S good (with_member S.dsd name role)
-    ∙ ap (option_map DynamicSeparation) (member_added (is_kept_dynamically S) S.roles S.dsd good.well_formed.dsd (kept_dsd S good) name role n there)
-    ∙ mapped_cond (is_kept_dynamically S (insert (members_of S.dsd name) role) n) DynamicSeparation name
+  pub after_create_set : (roles : Stored Bytes) (n : ℕ) → after S (create_set duty name roles n) ≡ with_sets duty S (with_set (sets_of duty S) name (set_of name_cmp roles) n)
+  unfolding after changed
+  after_create_set roles n = ap end_sessions (to duty) ∙ none_ends duty S good _
+    where
+      to : (kind : SeparationOfDuty) → changed S (create_set kind name roles n) ≡ with_sets kind S (with_set (sets_of kind S) name (set_of name_cmp roles) n)
+      to Static = refl
+      to Dynamic = refl
 
-pub set_dsd : (S : RbacState) → IsGood S → (name : Bytes) (n : ℕ) →
-    breaks_dynamic (after S (SetDsdSetCardinality name n)) ≡ cond (is_kept_dynamically S (members_of S.dsd name) n) None (Some (DynamicSeparation name))
-unfolding after changed
-set_dsd S good name n =
-    dsd_breaks S good (with_cardinality S.dsd name n)
-    ∙ ap (option_map DynamicSeparation) (renumbered (is_kept_dynamically S) S.dsd (kept_dsd S good) name n)
-    ∙ mapped_cond (is_kept_dynamically S (members_of S.dsd name) n) DynamicSeparation name
+  pub after_add_member : (role : Bytes) → after S (add_member duty name role) ≡ with_sets duty S (with_member (sets_of duty S) name role)
+  unfolding after changed
+  after_add_member role = ap end_sessions (to duty) ∙ none_ends duty S good _
+    where
+      to : (kind : SeparationOfDuty) → changed S (add_member kind name role) ≡ with_sets kind S (with_member (sets_of kind S) name role)
+      to Static = refl
+      to Dynamic = refl
+
+  pub after_delete_member : (role : Bytes) → after S (delete_member duty name role) ≡ with_sets duty S (without_member (sets_of duty S) name role)
+  unfolding after changed
+  after_delete_member role = ap end_sessions (to duty) ∙ none_ends duty S good _
+    where
+      to : (kind : SeparationOfDuty) → changed S (delete_member kind name role) ≡ with_sets kind S (without_member (sets_of kind S) name role)
+      to Static = refl
+      to Dynamic = refl
+
+  pub after_set_cardinality : (n : ℕ) → after S (set_cardinality duty name n) ≡ with_sets duty S (with_cardinality (sets_of duty S) name n)
+  unfolding after changed
+  after_set_cardinality n = ap end_sessions (to duty) ∙ none_ends duty S good _
+    where
+      to : (kind : SeparationOfDuty) → changed S (set_cardinality kind name n) ≡ with_sets kind S (with_cardinality (sets_of kind S) name n)
+      to Static = refl
+      to Dynamic = refl
+
+  pub after_delete_set : after S (delete_set duty name) ≡ with_sets duty S (without_set (sets_of duty S) name)
+  unfolding after changed
+  after_delete_set = ap end_sessions (to duty) ∙ none_ends duty S good _
+    where
+      to : (kind : SeparationOfDuty) → changed S (delete_set kind name) ≡ with_sets kind S (without_set (sets_of kind S) name)
+      to Static = refl
+      to Dynamic = refl
+
+  -- ---- what it violates
+
+  pub create_set_breaks : (roles : Stored Bytes) (n : ℕ) → has_set (sets_of duty S) name ≡ false →
+      breaks duty (after S (create_set duty name roles n)) ≡ cond (is_kept duty S (set_of name_cmp roles) n) None (Some (refusal_of duty name))
+  create_set_breaks roles n absent =
+      ap (breaks duty) (after_create_set roles n)
+      ∙ breaks_other duty S (with_set (sets_of duty S) name (set_of name_cmp roles) n)
+      ∙ ap (option_map (refusal_of duty)) (created (is_kept duty S) S.roles (sets_of duty S) (formed_sets duty S good) (kept_sets duty S good) name (set_of name_cmp roles) n absent)
+      ∙ mapped_cond (is_kept duty S (set_of name_cmp roles) n) (refusal_of duty) name
+
+  pub add_member_breaks : (role : Bytes) (n : ℕ) → IsTrue (contains (sets_of duty S).cardinalities (name, n)) →
+      breaks duty (after S (add_member duty name role)) ≡ cond (is_kept duty S (insert (members_of (sets_of duty S) name) role) n) None (Some (refusal_of duty name))
+  add_member_breaks role n there =
+      ap (breaks duty) (after_add_member role)
+      ∙ breaks_other duty S (with_member (sets_of duty S) name role)
+      ∙ ap (option_map (refusal_of duty)) (member_added (is_kept duty S) S.roles (sets_of duty S) (formed_sets duty S good) (kept_sets duty S good) name role n there)
+      ∙ mapped_cond (is_kept duty S (insert (members_of (sets_of duty S) name) role) n) (refusal_of duty) name
+
+  pub set_cardinality_breaks : (n : ℕ) →
+      breaks duty (after S (set_cardinality duty name n)) ≡ cond (is_kept duty S (members_of (sets_of duty S) name) n) None (Some (refusal_of duty name))
+  set_cardinality_breaks n =
+      ap (breaks duty) (after_set_cardinality n)
+      ∙ breaks_other duty S (with_cardinality (sets_of duty S) name n)
+      ∙ ap (option_map (refusal_of duty)) (renumbered (is_kept duty S) (sets_of duty S) (kept_sets duty S good) name n)
+      ∙ mapped_cond (is_kept duty S (members_of (sets_of duty S) name) n) (refusal_of duty) name

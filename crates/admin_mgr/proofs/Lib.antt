@@ -7,8 +7,6 @@ pub mod BreakLaws
 pub mod ChangeLaws
 pub mod CheckLaws
 pub mod CommitLaws
-pub mod DynamicSetLaws
-pub mod DynamicSetTurns
 pub mod EdgeTurns
 pub mod EmptyLaws
 pub mod EndLaws
@@ -46,11 +44,11 @@ pub mod SeparationLaws
 pub mod SeparationTurns
 pub mod SessionCommandLaws
 pub mod SessionLaws
+pub mod SetCommandLaws
+pub mod SetCommandTurns
 pub mod SetRowLaws
 pub mod SetRows
 pub mod SoundSetLaws
-pub mod StaticSetLaws
-pub mod StaticSetTurns
 pub mod StepLaws
 pub mod StoredLaws
 pub mod TakeLaws

@@ -20,6 +20,7 @@ pub mod Refusing
 pub mod Rows
 pub mod Run
 pub mod Separation
+pub mod SeparationOfDuty
 pub mod Stepping
 pub mod Tested
 pub mod Verdict

@@ -9,7 +9,7 @@ ghost use Rattle.admin_mgr.specs.Kept.{separation_of};
 ghost use Rattle.admin_mgr.specs.Tested.{late_refusal, has_cardinalities, have_authorized_users, are_kept_statically, are_kept_dynamically, have_unlocked_users};
 
 use crate::held::is_reached;
-use crate::judge::separation::{is_cardinality, member_count};
+use crate::judge::set_refusals::{is_cardinality, member_count};
 use crate::keeping_sessions::keep_sessions_from;
 use crate::keeping_users::keep_users_from;
 use crate::relations::Relations;

@@ -2,8 +2,8 @@
 //!
 //! There is one function for each command, and `judge` for any. Its answer is the verdict itself: the
 //! first of the command's refusals that holds, and `None` where the command is accepted. The state is
-//! never copied. Separation of duty is judged only for the users, sessions and sets that the command
-//! can touch.
+//! never copied: what separation of duty says of the state after the command is found from the state
+//! before it.
 ghost use Rattle.std.specs.Prelude.{◌≡◌, IfOk};
 ghost use Rattle.admin_mgr.specs.Verdict.{verdict};
 
@@ -13,31 +13,27 @@ use crate::judge::core_rbac::{
     judge_delete_user, judge_grant_permission, judge_import_assignments, judge_lock_user_account,
     judge_revoke_permission, judge_unlock_user_account,
 };
-use crate::judge::dynamic_separation::{
-    judge_add_dsd_role_member, judge_create_dsd_set, judge_delete_dsd_role_member,
-    judge_delete_dsd_set, judge_set_dsd_set_cardinality,
-};
 use crate::judge::hierarchy::{
     judge_add_ascendant, judge_add_descendant, judge_add_inheritance, judge_delete_inheritance,
+};
+use crate::judge::separation::{
+    judge_add_member, judge_create_set, judge_delete_member, judge_delete_set,
+    judge_set_cardinality,
 };
 use crate::judge::sessions::{
     judge_add_active_role, judge_create_session, judge_delete_session, judge_drop_active_role,
 };
-use crate::judge::static_separation::{
-    judge_add_ssd_role_member, judge_create_ssd_set, judge_delete_ssd_role_member,
-    judge_delete_ssd_set, judge_set_ssd_set_cardinality,
-};
+use crate::separation_of_duty::SeparationOfDuty;
 use crate::state::State;
 use rbac_sets::{Command, Refusal};
 use std::alloc::{AllocError, Global};
 
 pub mod core_rbac;
-pub mod dynamic_separation;
 pub mod hierarchy;
 pub(crate) mod naming;
-pub(crate) mod separation;
+pub mod separation;
 pub mod sessions;
-pub mod static_separation;
+pub(crate) mod set_refusals;
 
 /// The verdict on a command: the first of its refusals that holds, in their order, and `None` where the
 /// command is accepted.
@@ -81,38 +77,72 @@ pub fn judge(alloc: Global, state: &State, command: &Command) -> Result<Option<R
             set,
             roles,
             cardinality,
-        } => judge_create_ssd_set(alloc, state, set, roles, *cardinality),
-        Command::AddSsdRoleMember { set, role } => judge_add_ssd_role_member(
-            alloc, state, set, role,
-        ),
-        Command::DeleteSsdRoleMember { set, role } => Ok(judge_delete_ssd_role_member(
-            state, set, role,
-        )),
-        Command::SetSsdSetCardinality { set, cardinality } => judge_set_ssd_set_cardinality(
+        } => judge_create_set(
             alloc,
             state,
+            SeparationOfDuty::Static,
+            set,
+            roles,
+            *cardinality,
+        ),
+        Command::AddSsdRoleMember { set, role } => judge_add_member(
+            alloc,
+            state,
+            SeparationOfDuty::Static,
+            set,
+            role,
+        ),
+        Command::DeleteSsdRoleMember { set, role } => Ok(judge_delete_member(
+            state,
+            SeparationOfDuty::Static,
+            set,
+            role,
+        )),
+        Command::SetSsdSetCardinality { set, cardinality } => judge_set_cardinality(
+            alloc,
+            state,
+            SeparationOfDuty::Static,
             set,
             *cardinality,
         ),
-        Command::DeleteSsdSet { set } => Ok(judge_delete_ssd_set(state, set)),
+        Command::DeleteSsdSet { set } => Ok(judge_delete_set(state, SeparationOfDuty::Static, set)),
         Command::CreateDsdSet {
             set,
             roles,
             cardinality,
-        } => judge_create_dsd_set(alloc, state, set, roles, *cardinality),
-        Command::AddDsdRoleMember { set, role } => judge_add_dsd_role_member(
-            alloc, state, set, role,
-        ),
-        Command::DeleteDsdRoleMember { set, role } => Ok(judge_delete_dsd_role_member(
-            state, set, role,
-        )),
-        Command::SetDsdSetCardinality { set, cardinality } => judge_set_dsd_set_cardinality(
+        } => judge_create_set(
             alloc,
             state,
+            SeparationOfDuty::Dynamic,
+            set,
+            roles,
+            *cardinality,
+        ),
+        Command::AddDsdRoleMember { set, role } => judge_add_member(
+            alloc,
+            state,
+            SeparationOfDuty::Dynamic,
+            set,
+            role,
+        ),
+        Command::DeleteDsdRoleMember { set, role } => Ok(judge_delete_member(
+            state,
+            SeparationOfDuty::Dynamic,
+            set,
+            role,
+        )),
+        Command::SetDsdSetCardinality { set, cardinality } => judge_set_cardinality(
+            alloc,
+            state,
+            SeparationOfDuty::Dynamic,
             set,
             *cardinality,
         ),
-        Command::DeleteDsdSet { set } => Ok(judge_delete_dsd_set(state, set)),
+        Command::DeleteDsdSet { set } => Ok(judge_delete_set(
+            state,
+            SeparationOfDuty::Dynamic,
+            set,
+        )),
         Command::CreateSession {
             user,
             roles,

@@ -15,6 +15,7 @@ mod checking;
 mod held;
 mod inheriting;
 pub mod judge;
+mod keeping;
 mod keeping_sessions;
 mod keeping_users;
 pub mod laws;
@@ -23,6 +24,7 @@ mod lookup;
 pub mod plan;
 mod planning;
 pub mod relations;
+pub mod separation_of_duty;
 pub mod state;
 #[cfg(test)]
 mod tests;

@@ -15,34 +15,29 @@ use crate::planning::core_rbac::{
     plan_delete_user, plan_grant_permission, plan_lock_user_account, plan_revoke_permission,
     plan_unlock_user_account,
 };
-use crate::planning::dynamic_separation::{
-    plan_add_dsd_role_member, plan_create_dsd_set, plan_delete_dsd_role_member,
-    plan_delete_dsd_set, plan_set_dsd_set_cardinality,
-};
 use crate::planning::hierarchy::{
     plan_add_ascendant, plan_add_descendant, plan_add_inheritance, plan_delete_inheritance,
 };
 use crate::planning::importing::plan_import_assignments;
+use crate::planning::separation::{
+    plan_add_member, plan_create_set, plan_delete_member, plan_delete_set, plan_set_cardinality,
+};
 use crate::planning::sessions::{
     plan_add_active_role, plan_create_session, plan_delete_session, plan_drop_active_role,
 };
-use crate::planning::static_separation::{
-    plan_add_ssd_role_member, plan_create_ssd_set, plan_delete_ssd_role_member,
-    plan_delete_ssd_set, plan_set_ssd_set_cardinality,
-};
+use crate::separation_of_duty::SeparationOfDuty;
 use crate::state::State;
 use rbac_sets::{Command, Refusal};
 use std::alloc::Global;
 
 mod core_rbac;
-mod dynamic_separation;
 mod ending;
 mod hierarchy;
 mod importing;
 mod making;
 mod rows;
+mod separation;
 mod sessions;
-mod static_separation;
 
 impl State {
     /// The plan of a command: it judges the command, and names the rows that go and those that come
@@ -110,38 +105,80 @@ fn make(alloc: Global, state: &State, command: &Command) -> Result<Plan, Refusal
             set,
             roles,
             cardinality,
-        } => plan_create_ssd_set(alloc, state, set, roles, *cardinality),
-        Command::AddSsdRoleMember { set, role } => plan_add_ssd_role_member(
-            alloc, state, set, role,
-        ),
-        Command::DeleteSsdRoleMember { set, role } => plan_delete_ssd_role_member(
-            alloc, state, set, role,
-        ),
-        Command::SetSsdSetCardinality { set, cardinality } => plan_set_ssd_set_cardinality(
+        } => plan_create_set(
             alloc,
             state,
+            SeparationOfDuty::Static,
+            set,
+            roles,
+            *cardinality,
+        ),
+        Command::AddSsdRoleMember { set, role } => plan_add_member(
+            alloc,
+            state,
+            SeparationOfDuty::Static,
+            set,
+            role,
+        ),
+        Command::DeleteSsdRoleMember { set, role } => plan_delete_member(
+            alloc,
+            state,
+            SeparationOfDuty::Static,
+            set,
+            role,
+        ),
+        Command::SetSsdSetCardinality { set, cardinality } => plan_set_cardinality(
+            alloc,
+            state,
+            SeparationOfDuty::Static,
             set,
             *cardinality,
         ),
-        Command::DeleteSsdSet { set } => plan_delete_ssd_set(alloc, state, set),
+        Command::DeleteSsdSet { set } => plan_delete_set(
+            alloc,
+            state,
+            SeparationOfDuty::Static,
+            set,
+        ),
         Command::CreateDsdSet {
             set,
             roles,
             cardinality,
-        } => plan_create_dsd_set(alloc, state, set, roles, *cardinality),
-        Command::AddDsdRoleMember { set, role } => plan_add_dsd_role_member(
-            alloc, state, set, role,
-        ),
-        Command::DeleteDsdRoleMember { set, role } => plan_delete_dsd_role_member(
-            alloc, state, set, role,
-        ),
-        Command::SetDsdSetCardinality { set, cardinality } => plan_set_dsd_set_cardinality(
+        } => plan_create_set(
             alloc,
             state,
+            SeparationOfDuty::Dynamic,
+            set,
+            roles,
+            *cardinality,
+        ),
+        Command::AddDsdRoleMember { set, role } => plan_add_member(
+            alloc,
+            state,
+            SeparationOfDuty::Dynamic,
+            set,
+            role,
+        ),
+        Command::DeleteDsdRoleMember { set, role } => plan_delete_member(
+            alloc,
+            state,
+            SeparationOfDuty::Dynamic,
+            set,
+            role,
+        ),
+        Command::SetDsdSetCardinality { set, cardinality } => plan_set_cardinality(
+            alloc,
+            state,
+            SeparationOfDuty::Dynamic,
             set,
             *cardinality,
         ),
-        Command::DeleteDsdSet { set } => plan_delete_dsd_set(alloc, state, set),
+        Command::DeleteDsdSet { set } => plan_delete_set(
+            alloc,
+            state,
+            SeparationOfDuty::Dynamic,
+            set,
+        ),
         Command::CreateSession {
             user,
             roles,

@@ -1,178 +1,160 @@
-//! What the verdicts on static and on dynamic separation of duty sets have in common.
-ghost use Rattle.std.specs.Prelude.{◌≡◌, ◌&&◌, IfOk, None, Some, cond, nat_le};
-ghost use Rattle.rbac_sets.specs.Sets.{Cardinality, Pairs, any, cardinality_cmp, len, name_cmp, pair_cmp, same_name, seconds};
-ghost use Rattle.rbac_sets.specs.SortedSet.{set_of};
-ghost use Rattle.rbac_sets.specs.declared.refusal.Refusal.TheVariants.{StaticSeparation, DynamicSeparation};
-ghost use Rattle.admin_mgr.specs.Kept.{separation_of};
-ghost use Rattle.admin_mgr.specs.RbacState.{Separation, is_below};
-ghost use Rattle.admin_mgr.specs.Refusing.{first};
-ghost use Rattle.admin_mgr.specs.Verdict.{create_set_refusals, add_member_refusals, delete_member_refusals, set_cardinality_refusals};
+//! The verdicts on the commands on separation of duty sets, static or dynamic.
+ghost use Rattle.std.specs.Prelude.{◌≡◌, IfOk};
+ghost use Rattle.admin_mgr.specs.Verdict.{verdict};
+ghost use Rattle.admin_mgr.specs.SeparationOfDuty.{create_set, add_member, delete_member, set_cardinality, delete_set};
 
-use crate::judge::naming::copied;
-use crate::limits::{is_full, is_too_many};
-use crate::lookup::{are_in, number_of};
+use crate::judge::set_refusals::{
+    has_set, refuse_cardinality, refuse_member, refuse_member_taken, refuse_set, refuse_violated,
+};
+use crate::keeping::{keeps, keeps_set, keeps_with};
+use crate::separation_of_duty::SeparationOfDuty;
 use crate::state::State;
-use rbac_sets::{CountSet, Kind, Name, NameSet, PairSet, Refusal};
+use rbac_sets::{Name, NameSet, Refusal};
 use std::alloc::{AllocError, Global};
 
-// Whether there is a set of this name.
-#[tactic(auto, using(crate::proofs::Lookups::is_some_number), unfolding(rbac_sets::specs::Sets::any))]
-pub(crate) fn has_set(cardinalities: &CountSet, set: &Name) -> bool
-    ensures { result ≡ any (λ (entry : Cardinality). same_name entry.0 set.now) (set_of cardinality_cmp cardinalities.now) }
-{
-    number_of(cardinalities, set).is_some()
-}
-
-// How many members a set has.
-pub(crate) fn member_count(members: &PairSet, set: &Name) -> usize
-    ensures { result ≡ len (seconds (set_of pair_cmp members.now) set.now) }
-{
-    members.with_first(set).len()
-}
-
-// Why there can't be a new set of these roles, but for what it would violate; `kind` is that of the
-// sets, and their members may be any.
-#[tactic(auto, unfolding(rbac_sets::specs::Sets::all))]
-pub(crate) fn refuse_set(
+/// The verdict on CreateSsdSet or CreateDsdSet.
+///
+/// Refused by `NoRole` where one of the roles is missing, then by `SetExists` where there is such a
+/// set, then by `BadCardinality` where the cardinality isn't from two to the number of roles, then by
+/// `TooMany` where there are as many sets of the kind as there may be, or more roles than a set may
+/// have, then by `StaticSeparation` with the set where some user is authorized for so many of the
+/// roles, or by `DynamicSeparation` where some session has so many.
+///
+/// # Errors
+///
+/// Where memory for the name of a violated set was refused.
+#[tactic(auto, unfolding(crate::specs::Verdict::verdict, crate::specs::Verdict::refusals))]
+pub fn judge_create_set(
+    alloc: Global,
     state: &State,
-    kind: Kind,
-    cardinalities: &CountSet,
+    duty: SeparationOfDuty,
     set: &Name,
     roles: &NameSet,
     cardinality: u32,
-) -> Option<Refusal>
-    ensures { (members : Pairs) → result ≡ first (create_set_refusals state.now.facts (record { members = members; cardinalities = set_of cardinality_cmp cardinalities.now }) kind set.now (set_of name_cmp roles.now) cardinality) }
+) -> Result<Option<Refusal>, AllocError>
+    ensures { IfOk result (λ found. found ≡ verdict state.now.facts (create_set duty set.now roles.now cardinality)) }
 {
-    if !are_in(roles.as_slice(), state.roles()) {
-        return Some(Refusal::NoRole);
+    state.is_good();
+    match refuse_set(
+        state,
+        duty.kind(),
+        duty.cardinalities(state),
+        set,
+        roles,
+        cardinality,
+    ) {
+        Some(refusal) => return Ok(Some(refusal)),
+        None => {}
     }
-    if has_set(cardinalities, set) {
-        return Some(Refusal::SetExists);
-    }
-    if !is_cardinality(cardinality, roles.len()) {
-        return Some(Refusal::BadCardinality);
-    }
-    if is_full(state, kind, cardinalities.len()) {
-        return Some(Refusal::TooMany(kind));
-    }
-    if is_too_many(state, Kind::Member, roles.len()) {
-        return Some(Refusal::TooMany(Kind::Member));
-    }
-    None
+    let kept = keeps(state, duty, roles, cardinality);
+    let broken = refuse_violated(alloc, duty, kept, set)?;
+    Ok(broken)
 }
 
-// Why a role can't become a member of a set, but for what the set would violate.
-pub(crate) fn refuse_member(
+/// The verdict on AddSsdRoleMember or AddDsdRoleMember.
+///
+/// Refused by `NoSet`, `NoRole` where these are missing, then by `MemberExists` where the role is a
+/// member of the set, then by `TooMany` where the set has as many members as it may have, then by
+/// `StaticSeparation` with the set where some user is authorized for as many of its roles as its
+/// cardinality, or by `DynamicSeparation` where some session has as many.
+///
+/// # Errors
+///
+/// Where memory for the name of a violated set was refused.
+#[tactic(auto, unfolding(crate::specs::Verdict::verdict, crate::specs::Verdict::refusals))]
+pub fn judge_add_member(
+    alloc: Global,
     state: &State,
-    members: &PairSet,
-    cardinalities: &CountSet,
+    duty: SeparationOfDuty,
+    set: &Name,
+    role: &Name,
+) -> Result<Option<Refusal>, AllocError>
+    ensures { IfOk result (λ found. found ≡ verdict state.now.facts (add_member duty set.now role.now)) }
+{
+    state.is_good();
+    match refuse_member(
+        state,
+        duty.members(state),
+        duty.cardinalities(state),
+        set,
+        role,
+    ) {
+        Some(refusal) => return Ok(Some(refusal)),
+        None => {}
+    }
+    let cardinality = duty.cardinality(state, set).unwrap();
+    let kept = keeps_with(state, duty, set, cardinality, role);
+    let broken = refuse_violated(alloc, duty, kept, set)?;
+    Ok(broken)
+}
+
+/// The verdict on DeleteSsdRoleMember or DeleteDsdRoleMember.
+///
+/// Refused by `NoSet`, `NoRole` where these are missing, then by `NoMember` where the role is no
+/// member of the set, then by `BadCardinality` where the set has no more members than its
+/// cardinality.
+#[tactic(auto, unfolding(crate::specs::Verdict::verdict, crate::specs::Verdict::refusals))]
+pub fn judge_delete_member(
+    state: &State,
+    duty: SeparationOfDuty,
     set: &Name,
     role: &Name,
 ) -> Option<Refusal>
-    ensures { result ≡ first (add_member_refusals state.now.facts (separation_of members.now cardinalities.now) set.now role.now) }
+    ensures { result ≡ verdict state.now.facts (delete_member duty set.now role.now) }
 {
-    if !has_set(cardinalities, set) {
-        return Some(Refusal::NoSet);
-    }
-    if !state.roles().contains(role) {
-        return Some(Refusal::NoRole);
-    }
-    if members.contains((set, role)) {
-        return Some(Refusal::MemberExists);
-    }
-    if is_full(state, Kind::Member, member_count(members, set)) {
-        return Some(Refusal::TooMany(Kind::Member));
-    }
-    None
+    refuse_member_taken(
+        state,
+        duty.members(state),
+        duty.cardinalities(state),
+        set,
+        role,
+    )
 }
 
-// Why a member can't be taken from a set.
-#[tactic(auto, unfolding(crate::specs::RbacState::cardinality_of))]
-pub(crate) fn refuse_member_taken(
+/// The verdict on SetSsdSetCardinality or SetDsdSetCardinality.
+///
+/// Refused by `NoSet` where there is no such set, then by `BadCardinality` where the cardinality isn't
+/// from two to the number of its roles, then by `StaticSeparation` with the set where some user is
+/// authorized for so many of its roles, or by `DynamicSeparation` where some session has so many.
+///
+/// # Errors
+///
+/// Where memory for the name of a violated set was refused.
+#[tactic(auto, unfolding(crate::specs::Verdict::verdict, crate::specs::Verdict::refusals))]
+pub fn judge_set_cardinality(
+    alloc: Global,
     state: &State,
-    members: &PairSet,
-    cardinalities: &CountSet,
-    set: &Name,
-    role: &Name,
-) -> Option<Refusal>
-    ensures { result ≡ first (delete_member_refusals state.now.facts (separation_of members.now cardinalities.now) set.now role.now) }
-{
-    if !has_set(cardinalities, set) {
-        return Some(Refusal::NoSet);
-    }
-    if !state.roles().contains(role) {
-        return Some(Refusal::NoRole);
-    }
-    if !members.contains((set, role)) {
-        return Some(Refusal::NoMember);
-    }
-    if !is_below(number_of(cardinalities, set), member_count(members, set)) {
-        return Some(Refusal::BadCardinality);
-    }
-    None
-}
-
-// Why a set can't have this cardinality, but for what it would violate.
-pub(crate) fn refuse_cardinality(
-    members: &PairSet,
-    cardinalities: &CountSet,
+    duty: SeparationOfDuty,
     set: &Name,
     cardinality: u32,
-) -> Option<Refusal>
-    ensures { result ≡ first (set_cardinality_refusals (separation_of members.now cardinalities.now) set.now cardinality) }
+) -> Result<Option<Refusal>, AllocError>
+    ensures { IfOk result (λ found. found ≡ verdict state.now.facts (set_cardinality duty set.now cardinality)) }
 {
-    if !has_set(cardinalities, set) {
+    state.is_good();
+    match refuse_cardinality(
+        duty.members(state),
+        duty.cardinalities(state),
+        set,
+        cardinality,
+    ) {
+        Some(refusal) => return Ok(Some(refusal)),
+        None => {}
+    }
+    let before = duty.cardinality(state, set).unwrap();
+    let kept = keeps_set(state, duty, set, before, cardinality);
+    let broken = refuse_violated(alloc, duty, kept, set)?;
+    Ok(broken)
+}
+
+/// The verdict on DeleteSsdSet or DeleteDsdSet.
+///
+/// Refused by `NoSet` where there is no such set.
+#[tactic(auto, unfolding(crate::specs::Verdict::verdict, crate::specs::Verdict::refusals, rbac_sets::specs::Sets::any))]
+pub fn judge_delete_set(state: &State, duty: SeparationOfDuty, set: &Name) -> Option<Refusal>
+    ensures { result ≡ verdict state.now.facts (delete_set duty set.now) }
+{
+    if !has_set(duty.cardinalities(state), set) {
         return Some(Refusal::NoSet);
     }
-    if !is_cardinality(cardinality, member_count(members, set)) {
-        return Some(Refusal::BadCardinality);
-    }
     None
-}
-
-// A refusal by the static set of this name, unless it is kept.
-pub(crate) fn refuse_static(
-    alloc: Global,
-    kept: bool,
-    set: &Name,
-) -> Result<Option<Refusal>, AllocError>
-    ensures { IfOk result (λ found. found ≡ cond kept None (Some (StaticSeparation set.now))) }
-{
-    if kept {
-        return Ok(None);
-    }
-    let set = copied(alloc, set)?;
-    Ok(Some(Refusal::StaticSeparation(set)))
-}
-
-// A refusal by the dynamic set of this name, unless it is kept.
-pub(crate) fn refuse_dynamic(
-    alloc: Global,
-    kept: bool,
-    set: &Name,
-) -> Result<Option<Refusal>, AllocError>
-    ensures { IfOk result (λ found. found ≡ cond kept None (Some (DynamicSeparation set.now))) }
-{
-    if kept {
-        return Ok(None);
-    }
-    let set = copied(alloc, set)?;
-    Ok(Some(Refusal::DynamicSeparation(set)))
-}
-
-// Whether a cardinality is from two to the number of roles.
-pub(crate) fn is_cardinality(cardinality: u32, roles: usize) -> bool
-    ensures { result ≡ (nat_le 2 cardinality && nat_le cardinality roles) }
-{
-    cardinality >= 2 && cardinality as usize <= roles
-}
-
-// Whether the number, if there is one, is below the count.
-fn is_below(number: Option<u32>, count: usize) -> bool
-    ensures { result ≡ is_below number count }
-{
-    match number {
-        Some(number) => (number as usize) < count,
-        None => true,
-    }
 }

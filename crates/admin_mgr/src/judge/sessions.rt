@@ -10,7 +10,7 @@ ghost use Rattle.admin_mgr.specs.Verdict.{verdict, create_session_refusals, add_
 
 use crate::held::{first_with_all, first_with_one, is_reached};
 use crate::judge::naming::name_dynamic;
-use crate::judge::separation::member_count;
+use crate::judge::set_refusals::member_count;
 use crate::limits::{is_full, is_too_many};
 use crate::lookup::{are_in, has_first};
 use crate::state::State;

@@ -6,7 +6,7 @@ ghost use Rattle.role_order.specs.Order.{IsAcyclic, IsClosure};
 ghost use Rattle.admin_mgr.specs.Gathered.{gathered, has_key, is_known, with_stored};
 ghost use Rattle.admin_mgr.specs.Checked.{AreReadable};
 
-use crate::judge::separation::has_set;
+use crate::judge::set_refusals::has_set;
 use crate::relations::Relations;
 use rbac_sets::{CountSet, Entry, GrantSet, NameSet, PairSet, Refusal, Row, SortedSet};
 use role_order::RoleOrder;

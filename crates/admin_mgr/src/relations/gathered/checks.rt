@@ -6,7 +6,7 @@ ghost use Rattle.admin_mgr.specs.Kept.{separation_of};
 ghost use Rattle.admin_mgr.specs.Checked.{first_passed, has_more_behind, is_passed};
 ghost use Rattle.admin_mgr.specs.Tested.{early_refusal, have_one_user, have_sets, is_complete, is_core_complete, is_hierarchy_complete, are_sets_complete, are_sessions_complete};
 
-use crate::judge::separation::{has_set, member_count};
+use crate::judge::set_refusals::{has_set, member_count};
 use crate::lookup::{are_among, are_firsts_in, are_seconds_in, has_first};
 use crate::relations::gathered::Gathered;
 use rbac_sets::{CountSet, GrantSet, Kind, NameSet, PairSet, Refusal};

@@ -1,0 +1,39 @@
+use Rattle.std.proofs.Common.{cond, sym, ◌∙◌, ap}
+use Rattle.std.specs.Prelude.{Some, None, is_some}
+use Rattle.rbac_sets.specs.declared.refusal.Refusal.TheVariants.{NoSet}
+use Rattle.admin_mgr.specs.RbacState.{has_set}
+use Rattle.admin_mgr.specs.Refusing.{first}
+use Rattle.admin_mgr.specs.After.{after}
+use Rattle.admin_mgr.specs.Verdict.{verdict, set_cardinality_refusals}
+use Rattle.admin_mgr.proofs.VerdictLaws.{passed, refuse_unless-None, stopped, last_decides}
+use Rattle.admin_mgr.proofs.BreakLaws.{set_cardinality_breaks}
+use Rattle.admin_mgr.proofs.KeepLaws.{cardinality_there, is_some_cardinality}
+use Rattle.admin_mgr.specs.SeparationOfDuty.{sets_of, refusal_of, breaks, set_cardinality}
+use Rattle.admin_mgr.proofs.SetCommandLaws.{refusals_set_cardinality}
+use Rattle.admin_mgr.proofs.judge.separation.judge_set_cardinality.Goals as goal
+
+pub returns-in-Some : goal.returns-in-Some
+unfolding verdict
+returns-in-Some c =
+    let front = c.refuse_cardinality.ensures ∙ (λ i. first (set_cardinality_refusals (record { members = c.members.ensures i; cardinalities = c.cardinalities.ensures i }) c.args.set.now c.args.cardinality)) in
+    stopped (set_cardinality_refusals (sets_of c.args.duty c.args.state.now.facts) c.args.set.now c.args.cardinality) (breaks c.args.duty (after c.args.state.now.facts (set_cardinality c.args.duty c.args.set.now c.args.cardinality))) c.in-Some.refusal (sym front ∙ c.in-Some.is)
+    ∙ ap first (sym (refusals_set_cardinality c.args.duty c.args.state.now.facts c.args.set.now c.args.cardinality))
+
+pub unwrap-before-requires : goal.unwrap-before-requires
+unwrap-before-requires c =
+    let front = c.refuse_cardinality.ensures ∙ (λ i. first (set_cardinality_refusals (record { members = c.members.ensures i; cardinalities = c.cardinalities.ensures i }) c.args.set.now c.args.cardinality)) in
+    let all = passed (set_cardinality_refusals (sets_of c.args.duty c.args.state.now.facts) c.args.set.now c.args.cardinality) (sym front ∙ c.in-None.is) in
+    ap is_some c.cardinality.ensures ∙ is_some_cardinality (sets_of c.args.duty c.args.state.now.facts) c.args.set.now ∙ refuse_unless-None (has_set (sets_of c.args.duty c.args.state.now.facts) c.args.set.now) NoSet all.0
+
+pub keeps_set-kept-requires : goal.keeps_set-kept-requires
+keeps_set-kept-requires c = record { there = cardinality_there (sets_of c.args.duty c.args.state.now.facts) c.args.set.now c.unwrap-before.result (sym c.cardinality.ensures ∙ c.unwrap-before.ensures) }
+
+pub returns : goal.returns
+unfolding verdict
+returns c =
+    let front = c.refuse_cardinality.ensures ∙ (λ i. first (set_cardinality_refusals (record { members = c.members.ensures i; cardinalities = c.cardinalities.ensures i }) c.args.set.now c.args.cardinality)) in
+    c.in_ok-broken.ensures
+    ∙ ap (λ b. cond b None (Some (refusal_of c.args.duty c.args.set.now))) c.keeps_set-kept.ensures
+    ∙ sym (set_cardinality_breaks c.args.duty c.args.state.now.facts c.is_good.ensures c.args.set.now c.args.cardinality)
+    ∙ sym (last_decides (set_cardinality_refusals (sets_of c.args.duty c.args.state.now.facts) c.args.set.now c.args.cardinality) (breaks c.args.duty (after c.args.state.now.facts (set_cardinality c.args.duty c.args.set.now c.args.cardinality))) (sym front ∙ c.in-None.is))
+    ∙ ap first (sym (refusals_set_cardinality c.args.duty c.args.state.now.facts c.args.set.now c.args.cardinality))

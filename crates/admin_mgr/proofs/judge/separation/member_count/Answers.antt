@@ -1,8 +1,0 @@
-use Rattle.std.proofs.Common.{◌∙◌, ap, length}
-use Rattle.rbac_sets.specs.Sets.{pair_cmp}
-use Rattle.rbac_sets.specs.SortedSet.{set_of}
-use Rattle.admin_mgr.proofs.Lookups.{len_seconds}
-use Rattle.admin_mgr.proofs.judge.separation.member_count.Goals as goal
-
-pub returns : goal.returns
-returns c = ap length c.with_first.ensures ∙ len_seconds (set_of pair_cmp c.args.members.now) c.args.set.now

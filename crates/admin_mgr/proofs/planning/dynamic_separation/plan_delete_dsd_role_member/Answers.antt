@@ -1,9 +1,0 @@
-use Rattle.std.proofs.Common.{◌++◌, ◌∷◌, [], ◌∙◌}
-use Rattle.rbac_sets.specs.declared.row.Change.TheVariants.{Take}
-use Rattle.admin_mgr.proofs.DynamicSetTurns.{plan_of_delete_dsd_role_member}
-use Rattle.admin_mgr.proofs.planning.dynamic_separation.plan_delete_dsd_role_member.Goals as goal
-
-pub returns-clause-planned : goal.returns-clause-planned
-returns-clause-planned c =
-    plan_of_delete_dsd_role_member c.args.state.now.facts c.is_good.ensures c.plain.result c.plain.ensures.report c.plain.ensures.order c.args.set.now c.args.role.now c.requires.accepted
-    (c.plain.ensures.changes ∙ c.in_ok-take.ensures.ok ∙ (λ i. c.new-changes.ensures.items i ++ Take (c.in_ok-pair_row.ensures.ok i) ∷ []))

@@ -1,0 +1,165 @@
+//! The refusals of commands on separation of duty sets, one after another.
+ghost use Rattle.std.specs.Prelude.{◌≡◌, ◌&&◌, IfOk, None, Some, cond, nat_le};
+ghost use Rattle.rbac_sets.specs.Sets.{Cardinality, Pairs, any, cardinality_cmp, len, name_cmp, pair_cmp, same_name, seconds};
+ghost use Rattle.rbac_sets.specs.SortedSet.{set_of};
+ghost use Rattle.admin_mgr.specs.Kept.{separation_of};
+ghost use Rattle.admin_mgr.specs.RbacState.{Separation, is_below};
+ghost use Rattle.admin_mgr.specs.Refusing.{first};
+ghost use Rattle.admin_mgr.specs.SeparationOfDuty.{refusal_of};
+ghost use Rattle.admin_mgr.specs.Verdict.{create_set_refusals, add_member_refusals, delete_member_refusals, set_cardinality_refusals};
+
+use crate::judge::naming::copied;
+use crate::limits::{is_full, is_too_many};
+use crate::lookup::{are_in, number_of};
+use crate::separation_of_duty::SeparationOfDuty;
+use crate::state::State;
+use rbac_sets::{CountSet, Kind, Name, NameSet, PairSet, Refusal};
+use std::alloc::{AllocError, Global};
+
+// Whether there is a set of this name.
+#[tactic(auto, using(crate::proofs::Lookups::is_some_number), unfolding(rbac_sets::specs::Sets::any))]
+pub(crate) fn has_set(cardinalities: &CountSet, set: &Name) -> bool
+    ensures { result ≡ any (λ (entry : Cardinality). same_name entry.0 set.now) (set_of cardinality_cmp cardinalities.now) }
+{
+    number_of(cardinalities, set).is_some()
+}
+
+// How many members a set has.
+pub(crate) fn member_count(members: &PairSet, set: &Name) -> usize
+    ensures { result ≡ len (seconds (set_of pair_cmp members.now) set.now) }
+{
+    members.with_first(set).len()
+}
+
+// Why there can't be a new set of these roles, but for what it would violate; `kind` is that of the
+// sets, and their members may be any.
+#[tactic(auto, unfolding(rbac_sets::specs::Sets::all))]
+pub(crate) fn refuse_set(
+    state: &State,
+    kind: Kind,
+    cardinalities: &CountSet,
+    set: &Name,
+    roles: &NameSet,
+    cardinality: u32,
+) -> Option<Refusal>
+    ensures { (members : Pairs) → result ≡ first (create_set_refusals state.now.facts (record { members = members; cardinalities = set_of cardinality_cmp cardinalities.now }) kind set.now (set_of name_cmp roles.now) cardinality) }
+{
+    if !are_in(roles.as_slice(), state.roles()) {
+        return Some(Refusal::NoRole);
+    }
+    if has_set(cardinalities, set) {
+        return Some(Refusal::SetExists);
+    }
+    if !is_cardinality(cardinality, roles.len()) {
+        return Some(Refusal::BadCardinality);
+    }
+    if is_full(state, kind, cardinalities.len()) {
+        return Some(Refusal::TooMany(kind));
+    }
+    if is_too_many(state, Kind::Member, roles.len()) {
+        return Some(Refusal::TooMany(Kind::Member));
+    }
+    None
+}
+
+// Why a role can't become a member of a set, but for what the set would violate.
+pub(crate) fn refuse_member(
+    state: &State,
+    members: &PairSet,
+    cardinalities: &CountSet,
+    set: &Name,
+    role: &Name,
+) -> Option<Refusal>
+    ensures { result ≡ first (add_member_refusals state.now.facts (separation_of members.now cardinalities.now) set.now role.now) }
+{
+    if !has_set(cardinalities, set) {
+        return Some(Refusal::NoSet);
+    }
+    if !state.roles().contains(role) {
+        return Some(Refusal::NoRole);
+    }
+    if members.contains((set, role)) {
+        return Some(Refusal::MemberExists);
+    }
+    if is_full(state, Kind::Member, member_count(members, set)) {
+        return Some(Refusal::TooMany(Kind::Member));
+    }
+    None
+}
+
+// Why a member can't be taken from a set.
+#[tactic(auto, unfolding(crate::specs::RbacState::cardinality_of))]
+pub(crate) fn refuse_member_taken(
+    state: &State,
+    members: &PairSet,
+    cardinalities: &CountSet,
+    set: &Name,
+    role: &Name,
+) -> Option<Refusal>
+    ensures { result ≡ first (delete_member_refusals state.now.facts (separation_of members.now cardinalities.now) set.now role.now) }
+{
+    if !has_set(cardinalities, set) {
+        return Some(Refusal::NoSet);
+    }
+    if !state.roles().contains(role) {
+        return Some(Refusal::NoRole);
+    }
+    if !members.contains((set, role)) {
+        return Some(Refusal::NoMember);
+    }
+    if !is_below(number_of(cardinalities, set), member_count(members, set)) {
+        return Some(Refusal::BadCardinality);
+    }
+    None
+}
+
+// Why a set can't have this cardinality, but for what it would violate.
+pub(crate) fn refuse_cardinality(
+    members: &PairSet,
+    cardinalities: &CountSet,
+    set: &Name,
+    cardinality: u32,
+) -> Option<Refusal>
+    ensures { result ≡ first (set_cardinality_refusals (separation_of members.now cardinalities.now) set.now cardinality) }
+{
+    if !has_set(cardinalities, set) {
+        return Some(Refusal::NoSet);
+    }
+    if !is_cardinality(cardinality, member_count(members, set)) {
+        return Some(Refusal::BadCardinality);
+    }
+    None
+}
+
+// A refusal by the set of this name, unless it is kept.
+pub(crate) fn refuse_violated(
+    alloc: Global,
+    duty: SeparationOfDuty,
+    kept: bool,
+    set: &Name,
+) -> Result<Option<Refusal>, AllocError>
+    ensures { IfOk result (λ found. found ≡ cond kept None (Some (refusal_of duty set.now))) }
+{
+    if kept {
+        return Ok(None);
+    }
+    let set = copied(alloc, set)?;
+    Ok(Some(duty.refusal(set)))
+}
+
+// Whether a cardinality is from two to the number of roles.
+pub(crate) fn is_cardinality(cardinality: u32, roles: usize) -> bool
+    ensures { result ≡ (nat_le 2 cardinality && nat_le cardinality roles) }
+{
+    cardinality >= 2 && cardinality as usize <= roles
+}
+
+// Whether the number, if there is one, is below the count.
+fn is_below(number: Option<u32>, count: usize) -> bool
+    ensures { result ≡ is_below number count }
+{
+    match number {
+        Some(number) => (number as usize) < count,
+        None => true,
+    }
+}

@@ -1,0 +1,90 @@
+//! The two kinds of separation of duty, and the sets of each in a state.
+ghost use Rattle.std.specs.Prelude.{◌≡◌};
+ghost use Rattle.rbac_sets.specs.Sets.{cardinality_cmp, pair_cmp};
+ghost use Rattle.rbac_sets.specs.SortedSet.{set_of};
+ghost use Rattle.admin_mgr.specs.RbacState.{cardinality_of};
+ghost use Rattle.admin_mgr.specs.SeparationOfDuty.{cardinality_rows, kind_of, member_rows, refusal_of, sets_of};
+
+use crate::state::State;
+use rbac_sets::{CountSet, Kind, Name, PairSet, Refusal};
+
+/// A kind of separation of duty.
+#[derive(Clone, Copy)]
+pub enum SeparationOfDuty {
+    /// Of the roles that a user is authorized for (SSD).
+    Static,
+    /// Of the roles that a session has (DSD).
+    Dynamic,
+}
+
+impl SeparationOfDuty {
+    // What the limit on the number of its sets counts.
+    pub(crate) fn kind(self) -> Kind
+        ensures { result ≡ kind_of self }
+    {
+        match self {
+            SeparationOfDuty::Static => Kind::SsdSet,
+            SeparationOfDuty::Dynamic => Kind::DsdSet,
+        }
+    }
+
+    // The number of the rows of its sets' members.
+    pub(crate) fn member_rows(self) -> u8
+        ensures { result ≡ member_rows self }
+    {
+        match self {
+            SeparationOfDuty::Static => 5,
+            SeparationOfDuty::Dynamic => 6,
+        }
+    }
+
+    // The number of the rows of its sets' cardinalities.
+    pub(crate) fn cardinality_rows(self) -> u8
+        ensures { result ≡ cardinality_rows self }
+    {
+        match self {
+            SeparationOfDuty::Static => 1,
+            SeparationOfDuty::Dynamic => 2,
+        }
+    }
+
+    // The refusal that names a violated set of this kind.
+    pub(crate) fn refusal(self, set: Name) -> Refusal
+        ensures { result ≡ refusal_of self set }
+    {
+        match self {
+            SeparationOfDuty::Static => Refusal::StaticSeparation(set),
+            SeparationOfDuty::Dynamic => Refusal::DynamicSeparation(set),
+        }
+    }
+
+    // The members of its sets, as pairs (set, role).
+    pub(crate) fn members(self, state: &State) -> &PairSet
+        ensures { set_of pair_cmp result.now ≡ (sets_of self state.now.facts).members }
+    {
+        match self {
+            SeparationOfDuty::Static => state.ssd_members(),
+            SeparationOfDuty::Dynamic => state.dsd_members(),
+        }
+    }
+
+    // The cardinalities of its sets, as pairs (set, cardinality).
+    pub(crate) fn cardinalities(self, state: &State) -> &CountSet
+        ensures { set_of cardinality_cmp result.now ≡ (sets_of self state.now.facts).cardinalities }
+    {
+        match self {
+            SeparationOfDuty::Static => state.ssd_cardinalities(),
+            SeparationOfDuty::Dynamic => state.dsd_cardinalities(),
+        }
+    }
+
+    // The cardinality of one of its sets, if there is such a set.
+    pub(crate) fn cardinality(self, state: &State, set: &Name) -> Option<u32>
+        ensures { result ≡ cardinality_of (sets_of self state.now.facts) set.now }
+    {
+        match self {
+            SeparationOfDuty::Static => state.ssd_n(set),
+            SeparationOfDuty::Dynamic => state.dsd_n(set),
+        }
+    }
+}
