@@ -3,10 +3,13 @@
 
 use std::cmp::Ordering;
 
+#[path = "closure.rs"]
+mod closure;
 mod judging;
 mod planning;
 
-pub type Pair = (String, String);
+pub use closure::{Hierarchy, Pair, contains as has_pair, merge, with_first, without};
+
 pub type Triple = (String, String, String);
 
 /// The limits of an office of version 2.
@@ -245,11 +248,6 @@ pub struct Office {
     pub dynamics: Sets,
 }
 
-pub fn compare_pair(pair: &Pair, first: &str, second: &str) -> Ordering {
-    let by_first = pair.0.as_str().cmp(first);
-    by_first.then_with(|| pair.1.as_str().cmp(second))
-}
-
 pub fn compare_triple(triple: &Triple, first: &str, second: &str, third: &str) -> Ordering {
     let by_first = triple.0.as_str().cmp(first);
     let by_second = by_first.then_with(|| triple.1.as_str().cmp(second));
@@ -260,19 +258,8 @@ pub fn has_name(names: &[String], name: &str) -> bool {
     names.binary_search_by(|it| it.as_str().cmp(name)).is_ok()
 }
 
-pub fn has_pair(pairs: &[Pair], first: &str, second: &str) -> bool {
-    pairs.binary_search_by(|pair| compare_pair(pair, first, second)).is_ok()
-}
-
 pub fn has_triple(triples: &[Triple], first: &str, second: &str, third: &str) -> bool {
     triples.binary_search_by(|it| compare_triple(it, first, second, third)).is_ok()
-}
-
-/// The pairs with this first name.
-pub fn with_first<'a>(pairs: &'a [Pair], first: &str) -> &'a [Pair] {
-    let start = pairs.partition_point(|pair| pair.0.as_str() < first);
-    let rest = &pairs[start..];
-    &rest[..rest.partition_point(|pair| pair.0 == first)]
 }
 
 /// The triples with these first two names.
@@ -294,33 +281,13 @@ fn remove<T: Ord>(entries: &mut Vec<T>, entry: &T) {
     }
 }
 
-fn merge(entries: Vec<Pair>, others: Vec<Pair>) -> Vec<Pair> {
-    let mut all = Vec::with_capacity(entries.len() + others.len());
-    let mut entries = entries.into_iter().peekable();
-    let mut others = others.into_iter().peekable();
-    while let (Some(entry), Some(other)) = (entries.peek(), others.peek()) {
-        let next = if entry < other { entries.next() } else { others.next() };
-        all.extend(next);
-    }
-    all.extend(entries);
-    all.extend(others);
-    all
-}
-
-/// The pairs that are none of the others, in one pass.
-fn without(pairs: &mut Vec<Pair>, others: &[Pair]) {
-    let mut others = others.iter().peekable();
-    pairs.retain(|pair| {
-        while others.peek().is_some_and(|other| *other < pair) {
-            others.next();
-        }
-        others.peek() != Some(&pair)
-    });
-}
-
 impl Office {
     pub fn geq(&self, a: &str, b: &str) -> bool {
-        a == b || has_pair(&self.closure, a, b)
+        self.hierarchy().geq(a, b)
+    }
+
+    fn hierarchy(&self) -> Hierarchy<'_> {
+        Hierarchy { edges: &self.edges, pairs: &self.closure }
     }
 
     pub fn sets(&self, kind: Separation) -> &Sets {

@@ -1,6 +1,9 @@
 //! The plain Rust twin of `order.rt.bench`: the same work by the same rule over sorted vectors.
 //! It prints the same lines.
 
+mod closure;
+
+use closure::{Hierarchy, Pair, compare, contains, merge, with_first, without};
 use std::cmp::Ordering;
 use std::mem;
 use std::time::Instant;
@@ -9,54 +12,12 @@ const ROLES: usize = 1_024;
 const QUESTIONS: usize = 1_000_000;
 const DIFFERENT: usize = 10_000;
 
-type Pair = (String, String);
-
 fn name_of(number: usize) -> String {
     format!("name{number:06}")
 }
 
 fn pair_of(first: usize, second: usize) -> Pair {
     (name_of(first), name_of(second))
-}
-
-fn compare(pair: &Pair, first: &str, second: &str) -> Ordering {
-    let by_first = pair.0.as_str().cmp(first);
-    by_first.then_with(|| pair.1.as_str().cmp(second))
-}
-
-fn contains(pairs: &[Pair], first: &str, second: &str) -> bool {
-    pairs.binary_search_by(|pair| compare(pair, first, second)).is_ok()
-}
-
-/// The pairs with this first name.
-fn with_first<'a>(pairs: &'a [Pair], first: &str) -> &'a [Pair] {
-    let start = pairs.partition_point(|pair| pair.0.as_str() < first);
-    let rest = &pairs[start..];
-    &rest[..rest.partition_point(|pair| pair.0 == first)]
-}
-
-fn merge(entries: Vec<Pair>, others: Vec<Pair>) -> Vec<Pair> {
-    let mut all = Vec::with_capacity(entries.len() + others.len());
-    let mut entries = entries.into_iter().peekable();
-    let mut others = others.into_iter().peekable();
-    while let (Some(entry), Some(other)) = (entries.peek(), others.peek()) {
-        let next = if entry < other { entries.next() } else { others.next() };
-        all.extend(next);
-    }
-    all.extend(entries);
-    all.extend(others);
-    all
-}
-
-/// The pairs that are none of the others, in one pass.
-fn without(pairs: &mut Vec<Pair>, others: &[Pair]) {
-    let mut others = others.iter().peekable();
-    pairs.retain(|pair| {
-        while others.peek().is_some_and(|other| *other < pair) {
-            others.next();
-        }
-        others.peek() != Some(&pair)
-    });
 }
 
 struct Order {
@@ -76,8 +37,8 @@ fn is_within(small: &[Pair], large: &[Pair]) -> bool {
 }
 
 impl Order {
-    fn geq(&self, a: &str, b: &str) -> bool {
-        a == b || contains(&self.pairs, a, b)
+    fn hierarchy(&self) -> Hierarchy<'_> {
+        Hierarchy { edges: &self.edges, pairs: &self.pairs }
     }
 
     /// The order of these edges, where the pairs are their closure.
@@ -89,61 +50,9 @@ impl Order {
                 && is_within(with_first(&order.pairs, m), with_first(&order.pairs, a))
         });
         let begins = order.pairs.iter().all(|(a, b)| {
-            with_first(&order.edges, a).iter().any(|edge| order.geq(&edge.1, b))
+            with_first(&order.edges, a).iter().any(|edge| order.hierarchy().geq(&edge.1, b))
         });
         (apart && goes_on && begins).then_some(order)
-    }
-
-    fn at_or_above(&self, role: &str) -> Vec<String> {
-        let seniors = self.pairs.iter().filter(|pair| pair.1 == role);
-        let mut names: Vec<String> = seniors.map(|pair| pair.0.clone()).collect();
-        names.push(role.to_string());
-        names.sort();
-        names
-    }
-
-    fn at_or_below(&self, role: &str) -> Vec<String> {
-        let juniors = with_first(&self.pairs, role).iter();
-        let mut names: Vec<String> = juniors.map(|pair| pair.1.clone()).collect();
-        names.push(role.to_string());
-        names.sort();
-        names
-    }
-
-    fn plan_add(&self, asc: &str, desc: &str) -> Vec<Pair> {
-        let (above, below) = (self.at_or_above(asc), self.at_or_below(desc));
-        let mut puts = Vec::new();
-        for a in &above {
-            for b in &below {
-                if !contains(&self.pairs, a, b) {
-                    puts.push((a.clone(), b.clone()));
-                }
-            }
-        }
-        puts
-    }
-
-    fn plan_remove(&self, asc: &str, desc: &str) -> Vec<Pair> {
-        let mut left = self.edges.clone();
-        left.retain(|edge| compare(edge, asc, desc) != Ordering::Equal);
-        let (above, below) = (self.at_or_above(asc), self.at_or_below(desc));
-        let count = |a: &String| above.iter().filter(|z| contains(&self.pairs, a, z)).count();
-        let mut ranked: Vec<(usize, &String)> = above.iter().map(|a| (count(a), a)).collect();
-        ranked.sort();
-        let mut takes = Vec::new();
-        for (_, a) in ranked {
-            let mut lost = Vec::new();
-            for b in &below {
-                let leads = |edge: &Pair| {
-                    edge.1 == *b || contains(&self.pairs, &edge.1, b) && !contains(&takes, &edge.1, b)
-                };
-                if !with_first(&left, a).iter().any(leads) {
-                    lost.push((a.clone(), b.clone()));
-                }
-            }
-            takes = merge(takes, lost);
-        }
-        takes
     }
 }
 
@@ -183,7 +92,7 @@ fn time_geq(order: &Order) {
     let start = Instant::now();
     let mut found = 0;
     for _ in 0..QUESTIONS / DIFFERENT {
-        found += questions.iter().filter(|pair| order.geq(&pair.0, &pair.1)).count();
+        found += questions.iter().filter(|pair| order.hierarchy().geq(&pair.0, &pair.1)).count();
     }
     println!("geq {found} {}", start.elapsed().as_nanos());
 }
@@ -200,7 +109,7 @@ fn main() {
     let mut order = Order::of_rows(edges, pairs).expect("the closure of two chains");
     let (asc, desc) = pair_of(511, 512);
     let start = Instant::now();
-    let puts = order.plan_add(&asc, &desc);
+    let puts = order.hierarchy().gained(&asc, &desc);
     println!("plan_add {} {}", puts.len(), start.elapsed().as_nanos());
     let start = Instant::now();
     let pairs = mem::take(&mut order.pairs);
@@ -210,7 +119,7 @@ fn main() {
     let nanos = start.elapsed().as_nanos();
     println!("commit-of-puts {} {nanos}", order.pairs.len());
     let start = Instant::now();
-    let takes = order.plan_remove(&asc, &desc);
+    let takes = order.hierarchy().lost(&asc, &desc);
     println!("plan_remove {} {}", takes.len(), start.elapsed().as_nanos());
     let start = Instant::now();
     without(&mut order.pairs, &takes);

@@ -1,8 +1,7 @@
 //! The rows that an accepted command takes and puts.
 
 use super::{Change, Command, Names, Office, OrderChange, Pair, Pairs, Plan, Refusal, Report, Row};
-use super::{compare_pair, has_name, has_pair, merge, with_first, with_pair};
-use std::cmp::Ordering;
+use super::{has_name, has_pair, with_first, with_pair};
 
 fn name(names: Names, name: &str) -> Row {
     Row::Name(names, name.to_string())
@@ -91,11 +90,11 @@ impl Office {
                 });
             }
             Command::AddInheritance(asc, desc) => {
-                order = Some(OrderChange::Puts(self.gained(asc, desc)));
+                order = Some(OrderChange::Puts(self.hierarchy().gained(asc, desc)));
                 changes.push(Change::Put(pair(Pairs::Edges, asc, desc)));
             }
             Command::DeleteInheritance(asc, desc) => {
-                let takes = self.lost(asc, desc);
+                let takes = self.hierarchy().lost(asc, desc);
                 changes.push(Change::Take(pair(Pairs::Edges, asc, desc)));
                 self.take_ended(&mut changes, |session, owner| {
                     self.goes_on_without_pairs(session, owner, &takes)
@@ -103,11 +102,11 @@ impl Office {
                 order = Some(OrderChange::Takes(takes));
             }
             Command::AddAscendant(asc, desc) => {
-                order = Some(OrderChange::Puts(self.gained(asc, desc)));
+                order = Some(OrderChange::Puts(self.hierarchy().gained(asc, desc)));
                 changes = new_role(asc, asc, desc);
             }
             Command::AddDescendant(asc, desc) => {
-                order = Some(OrderChange::Puts(self.gained(asc, desc)));
+                order = Some(OrderChange::Puts(self.hierarchy().gained(asc, desc)));
                 changes = new_role(desc, asc, desc);
             }
             Command::CreateSet(kind, set, roles, cardinality) => {
@@ -203,58 +202,5 @@ impl Office {
                 }
             }
         }
-    }
-
-    fn at_or_above(&self, role: &str) -> Vec<String> {
-        let seniors = self.closure.iter().filter(|pair| pair.1 == role);
-        let mut names: Vec<String> = seniors.map(|pair| pair.0.clone()).collect();
-        names.push(role.to_string());
-        names.sort();
-        names
-    }
-
-    fn at_or_below(&self, role: &str) -> Vec<String> {
-        let juniors = with_first(&self.closure, role).iter();
-        let mut names: Vec<String> = juniors.map(|pair| pair.1.clone()).collect();
-        names.push(role.to_string());
-        names.sort();
-        names
-    }
-
-    fn gained(&self, asc: &str, desc: &str) -> Vec<Pair> {
-        let (above, below) = (self.at_or_above(asc), self.at_or_below(desc));
-        let mut puts = Vec::new();
-        for a in &above {
-            for b in &below {
-                if !has_pair(&self.closure, a, b) {
-                    puts.push((a.clone(), b.clone()));
-                }
-            }
-        }
-        puts
-    }
-
-    fn lost(&self, asc: &str, desc: &str) -> Vec<Pair> {
-        let mut left = self.edges.clone();
-        left.retain(|edge| compare_pair(edge, asc, desc) != Ordering::Equal);
-        let (above, below) = (self.at_or_above(asc), self.at_or_below(desc));
-        let count = |a: &String| with_first(&self.closure, a).len();
-        let mut ranked: Vec<(usize, &String)> = above.iter().map(|a| (count(a), a)).collect();
-        ranked.sort();
-        let mut takes = Vec::new();
-        for (_, a) in ranked {
-            let mut lost = Vec::new();
-            for b in &below {
-                let leads = |edge: &Pair| {
-                    edge.1 == *b
-                        || has_pair(&self.closure, &edge.1, b) && !has_pair(&takes, &edge.1, b)
-                };
-                if !with_first(&left, a).iter().any(leads) {
-                    lost.push((a.clone(), b.clone()));
-                }
-            }
-            takes = merge(takes, lost);
-        }
-        takes
     }
 }
