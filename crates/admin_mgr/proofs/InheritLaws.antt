@@ -1,10 +1,10 @@
 -- One more immediate inheritance: who is authorized for more, and which set is named.
 use Rattle.std.proofs.Common.{◌≡◌, ℕ, ◌<◌, Bool, true, false, not, ◌||◌, ◌&&◌, List, [], ◌∷◌, refl, sym, ◌∙◌, ap, subst, inl, inr}
-use Rattle.std.specs.Prelude.{IsTrue, nat_lt, count_by, find}
+use Rattle.std.specs.Prelude.{IsTrue, nat_lt, count_by, filter, map}
 use Rattle.std.specs.Option.{option_map}
 use Rattle.std.specs.List.{list_any, list_all}
 use Rattle.std.proofs.lemmas.Bool.{and_parts, and_from, or_cases, or_left, or_right, lt-ltb, true≢false}
-use Rattle.rbac_sets.specs.Sets.{Bytes, Pair, Cardinality, contains, members, insert, count, all}
+use Rattle.rbac_sets.specs.Sets.{Bytes, Pair, Pairs, Cardinality, contains, members, insert, count, all}
 use Rattle.rbac_sets.specs.NameOrder.{name_total, name_exact, pair_total, pair_exact}
 use Rattle.rbac_sets.specs.declared.command.Command.TheVariants.{AddInheritance}
 use Rattle.rbac_sets.specs.declared.refusal.Refusal.TheVariants.{StaticSeparation, DynamicSeparation}
@@ -19,11 +19,15 @@ use Rattle.admin_mgr.specs.Refusing.{breaks_static, breaks_dynamic}
 use Rattle.admin_mgr.specs.Assignment.{may_go_on, end_sessions}
 use Rattle.admin_mgr.specs.After.{changed, after}
 use Rattle.admin_mgr.specs.Good.{IsGood}
-use Rattle.admin_mgr.specs.Held.{run_of, is_reached, reached_members, reached_with, is_touched, keeps_below}
+use Rattle.admin_mgr.specs.Held.{run_of, is_reached, reached_members, reached_with, is_touched, find_broken}
 use Rattle.admin_mgr.proofs.HeldLaws.{authorized_reached, authorized_members_count, session_members_count}
 use Rattle.admin_mgr.proofs.KeepLaws.{all_same}
 use Rattle.admin_mgr.proofs.SessionLaws.{none_ends_where}
-use Rattle.admin_mgr.proofs.TouchLaws.{same_test, untouched, violated_by}
+use Rattle.admin_mgr.proofs.TouchLaws.{same_test, untouched, violated_by, asked_passed}
+
+-- the role asc is not reached, or fewer than so many of the members are with the role desc
+abbrev keeps_below : Pairs → List Pair → Bytes → Bytes → List Pair → ℕ → Bool
+keeps_below edges held asc desc members n = not (is_reached edges held asc) || nat_lt (reached_with edges held desc members) n
 
 unfoldable pub with_edge : RbacState → Bytes → Bytes → RbacState
 with_edge S asc desc = record S { edges = insert S.edges (asc, desc) }
@@ -107,11 +111,12 @@ module _ (S : RbacState) (good : IsGood S) (asc desc : Bytes) (no_back : geq S.e
       (λ user _. untouched_keeps (run_of S.assignments user) (run_of S.ssd.members x.0) x.1 (user_before user x there) none)
 
   pub inheritance_breaks_static : breaks_static (after S (AddInheritance asc desc)) ≡ option_map StaticSeparation (option_map (λ (x : Cardinality). x.0)
-      (find (λ (x : Cardinality). is_touched S.edges desc (run_of S.ssd.members x.0)
-      && not (list_all (λ user. keeps_below S.edges (run_of S.assignments user) asc desc (run_of S.ssd.members x.0) x.1) (members S.users))) (members S.ssd.cardinalities)))
+      (find_broken S.edges (map (run_of S.assignments) (filter (λ user. is_reached S.edges (run_of S.assignments user) asc) (members S.users))) desc S.ssd.members (members S.ssd.cardinalities)))
   unfolding after changed end_sessions is_kept_statically authorized_users with_edge
   inheritance_breaks_static = ap (option_map StaticSeparation) (violated_by (is_kept_statically (with_edge S asc desc)) S.ssd _ (λ x there.
-      ap not (users_keep x there) ∙ touched_only (is_touched S.edges desc (run_of S.ssd.members x.0)) _ (users_untouched x there)))
+      ap not (users_keep x there) ∙ touched_only (is_touched S.edges desc (run_of S.ssd.members x.0)) _ (users_untouched x there)
+      ∙ ap (λ kept. is_touched S.edges desc (run_of S.ssd.members x.0) && not kept)
+      (asked_passed (run_of S.assignments) (λ user. is_reached S.edges (run_of S.assignments user) asc) (λ held. nat_lt (reached_with S.edges held desc (run_of S.ssd.members x.0)) x.1) (members S.users))))
 
   -- ---- sessions
 
@@ -151,10 +156,11 @@ module _ (S : RbacState) (good : IsGood S) (asc desc : Bytes) (no_back : geq S.e
       still_authorized p.1 role (good.authorized p.0 p.1 role there ((seconds-Decides S.active p.0 role).0 active))))
 
   pub inheritance_breaks_dynamic : breaks_dynamic (after S (AddInheritance asc desc)) ≡ option_map DynamicSeparation (option_map (λ (x : Cardinality). x.0)
-      (find (λ (x : Cardinality). is_touched S.edges desc (run_of S.dsd.members x.0)
-      && not (list_all (λ (session : Pair). keeps_below S.edges (run_of S.active session.0) asc desc (run_of S.dsd.members x.0) x.1) (members S.sessions))) (members S.dsd.cardinalities)))
+      (find_broken S.edges (map (λ (session : Pair). run_of S.active session.0) (filter (λ (session : Pair). is_reached S.edges (run_of S.active session.0) asc) (members S.sessions))) desc S.dsd.members (members S.dsd.cardinalities)))
   unfolding after changed with_edge
   inheritance_breaks_dynamic =
       ap breaks_dynamic (none_ends_where (with_edge S asc desc) goes_on_below good.well_formed.owned)
       ∙ ap (option_map DynamicSeparation) (violated_by (is_kept_dynamically (with_edge S asc desc)) S.dsd _ (λ x there.
-      ap not (sessions_keep x there) ∙ touched_only (is_touched S.edges desc (run_of S.dsd.members x.0)) _ (sessions_untouched x there)))
+      ap not (sessions_keep x there) ∙ touched_only (is_touched S.edges desc (run_of S.dsd.members x.0)) _ (sessions_untouched x there)
+      ∙ ap (λ kept. is_touched S.edges desc (run_of S.dsd.members x.0) && not kept)
+      (asked_passed (λ (session : Pair). run_of S.active session.0) (λ (session : Pair). is_reached S.edges (run_of S.active session.0) asc) (λ held. nat_lt (reached_with S.edges held desc (run_of S.dsd.members x.0)) x.1) (members S.sessions))))

@@ -1,6 +1,6 @@
 -- Lists that a loop makes entry by entry.
 use Rattle.std.proofs.Common.{◌≡◌, ℕ, ◌+◌, ◌<◌, ◌≤◌, Bool, true, false, cond, List, [], ◌∷◌, ◌++◌, length, drop, map, get_or, refl, sym, ◌∙◌, ap}
-use Rattle.std.specs.Prelude.{filter}
+use Rattle.std.specs.Prelude.{Some, filter, find}
 use Rattle.std.proofs.lemmas.List.{append_assoc, append-nil, drop_more}
 use Rattle.std.proofs.Math.ListN.{drop_of_length-le}
 
@@ -46,3 +46,16 @@ each_filter {K} g test = record { none = refl; more = λ x xs. by x xs (test x) 
 -- a list to which more was appended, where both are known
 pub listed_then : {C : Type 0} {after before more was rows : List C} → after ≡ before ++ more → before ≡ was → more ≡ rows → after ≡ was ++ rows
 listed_then next before more = next ∙ (λ i. before i ++ more i)
+
+-- what is found from the place i on: nothing at it, or the entry there
+pub found_later : {K : Type 0} (p : K → Bool) (xs : List K) (i : ℕ) (x : K) → i < length xs → x ≡ get_or xs i x → p x ≡ false → find p (drop i xs) ≡ find p (drop (i + 1) xs)
+found_later p xs i x within is fails = ap (find p) (drop_more xs i x within) ∙ passed_over (get_or xs i x) (ap p (sym is) ∙ fails)
+  where
+    passed_over : (y : _) → p y ≡ false → find p (y ∷ drop (i + 1) xs) ≡ find p (drop (i + 1) xs)
+    passed_over y fails = rw fails refl
+
+pub found_here : {K : Type 0} (p : K → Bool) (xs : List K) (i : ℕ) (x : K) → i < length xs → x ≡ get_or xs i x → p x ≡ true → find p (drop i xs) ≡ Some x
+found_here p xs i x within is passes = ap (find p) (drop_more xs i x within) ∙ here (get_or xs i x) (ap p (sym is) ∙ passes) ∙ ap Some (sym is)
+  where
+    here : (y : _) → p y ≡ true → find p (y ∷ drop (i + 1) xs) ≡ Some y
+    here y passes = rw passes refl

@@ -1,9 +1,9 @@
 -- Which set is named where a command touches one user or one session.
 use Rattle.std.proofs.Common.{◌≡◌, ◌≢◌, ℕ, suc, ◌<◌, Bool, true, false, cond, not, ◌||◌, ◌&&◌, List, [], ◌∷◌, length, refl, sym, ◌∙◌, ap, subst, inl, inr}
-use Rattle.std.specs.Prelude.{IsTrue, ◌⊎◌, Some, find, nat_lt, count_by}
+use Rattle.std.specs.Prelude.{IsTrue, ◌⊎◌, Some, None, map, find, nat_lt, count_by}
 use Rattle.std.specs.Bool.{Decides}
 use Rattle.std.specs.Option.{option_map}
-use Rattle.std.specs.List.{list_any, filter}
+use Rattle.std.specs.List.{list_any, list_all, filter}
 use Rattle.std.proofs.lemmas.List.Sums.{length-filter}
 use Rattle.std.specs.Ordering.{eq_by_cmp}
 use Rattle.std.proofs.lemmas.Bool.{and_parts, and_from, or_cases, or_left, or_right, ltb-true, lt-ltb, true≢false}
@@ -178,3 +178,22 @@ module _ (S : RbacState) (good : IsGood S) (sessions active : Pairs) (session us
       ap not (kept_by_session x has)
       ∙ ap (λ k. not (nat_lt k x.1)) (count_seconds (is_session_role (with_sessions S sessions active) session) S.dsd.members x.0
       ∙ (λ i. count_by (λ (m : Pair). same m.1 i) (run_of S.dsd.members x.0)))
+
+-- where no set is touched, none is found broken
+pub none_broken : {K : Type 0} (touched kept : K → Bool) (xs : List K) → list_any touched xs ≡ false → find (λ x. touched x && not (kept x)) xs ≡ None
+none_broken touched kept [] none = refl
+none_broken touched kept (x ∷ xs) none = by (touched x) refl (none_broken touched kept xs)
+  where
+    by : (b : Bool) → touched x ≡ b → (list_any touched xs ≡ false → find (λ y. touched y && not (kept y)) xs ≡ None) → find (λ y. touched y && not (kept y)) (x ∷ xs) ≡ None
+    by true is rest = absurd (true≢false (ap (λ t. t || list_any touched xs) (sym is) ∙ none))
+    by false is rest = rw is (rest (ap (λ t. t || list_any touched xs) (sym is) ∙ none))
+
+-- to ask those that pass a test is to ask each whether it fails it or keeps
+pub asked_passed : {K : Type 0} (run : K → List Pair) (passes : K → Bool) (keeps : List Pair → Bool) (xs : List K) → list_all (λ x. not (passes x) || keeps (run x)) xs ≡ list_all keeps (map run (filter passes xs))
+asked_passed run passes keeps [] = refl
+asked_passed run passes keeps (x ∷ xs) = by (passes x) refl (asked_passed run passes keeps xs)
+  where
+    by : (b : Bool) → passes x ≡ b → list_all (λ y. not (passes y) || keeps (run y)) xs ≡ list_all keeps (map run (filter passes xs))
+        → list_all (λ y. not (passes y) || keeps (run y)) (x ∷ xs) ≡ list_all keeps (map run (filter passes (x ∷ xs)))
+    by true is rest = rw is (ap (λ all. keeps (run x) && all) rest)
+    by false is rest = rw is rest

@@ -1,6 +1,6 @@
 -- What is reached from the roles that a user is assigned or a session has activated.
 use Rattle.std.specs.Prelude.{ℕ, Bool, not, ◌||◌, ◌&&◌, nat_lt, List, Option, count_by, filter, find}
-use Rattle.std.specs.List.{list_any}
+use Rattle.std.specs.List.{list_any, list_all}
 use Rattle.rbac_sets.specs.Sets.{Bytes, Pair, Pairs, Cardinality, members, same_name}
 use Rattle.role_order.specs.Order.{geq}
 use Rattle.admin_mgr.specs.RbacState.{Separation}
@@ -53,6 +53,8 @@ first_with_all edges roles separation = find_from edges roles separation.members
 abbrev pub first_with_one : Pairs → List Pair → Bytes → Separation → Option Cardinality
 first_with_one edges held more separation = find_in edges held more separation.members (members separation.cardinalities)
 
--- whether the role asc is not reached, or fewer than so many of the members are with the role desc
-abbrev pub keeps_below : Pairs → List Pair → Bytes → Bytes → List Pair → ℕ → Bool
-keeps_below edges held asc desc members n = not (is_reached edges held asc) || nat_lt (reached_with edges held desc members) n
+-- the first of the sets from which one of these runs and one more role reach as many members as its cardinality; only a set
+-- with a member that the role reaches is asked
+abbrev pub find_broken : Pairs → List (List Pair) → Bytes → Pairs → List Cardinality → Option Cardinality
+find_broken edges runs more pairs sets =
+    find (λ (entry : Cardinality). is_touched edges more (run_of pairs entry.0) && not (list_all (λ held. nat_lt (reached_with edges held more (run_of pairs entry.0)) entry.1) runs)) sets

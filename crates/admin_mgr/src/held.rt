@@ -3,7 +3,7 @@ ghost use Rattle.std.specs.Prelude.{◌≡◌, ◌&&◌, ◌||◌, not, nat_lt};
 ghost use Rattle.std.specs.Option.{option_copied};
 ghost use Rattle.rbac_sets.specs.Sets.{pair_cmp};
 ghost use Rattle.rbac_sets.specs.SortedSet.{set_of};
-ghost use Rattle.admin_mgr.specs.Held.{is_reached, reached_roles, reached_members, reached_with, is_reached_from, reached_from, is_touched, find_from, find_in, keeps_below};
+ghost use Rattle.admin_mgr.specs.Held.{is_reached, reached_roles, reached_members, reached_with, is_reached_from, reached_from, is_touched, find_from, find_in};
 
 use rbac_sets::{Name, PairSet};
 use role_order::RoleOrder;
@@ -129,19 +129,4 @@ fn has_with(
 {
     is_touched(order, more, members)
         && reached_with(order, held, more, members) >= cardinality as usize
-}
-
-// Whether the role `asc` is not reached, or fewer than so many of the members are with the role
-// `desc`.
-pub(crate) fn keeps_below(
-    order: &RoleOrder,
-    held: &[(Name, Name)],
-    asc: &Name,
-    desc: &Name,
-    members: &[(Name, Name)],
-    cardinality: u32,
-) -> bool
-    ensures { result ≡ keeps_below order.now.edges held.now asc.now desc.now members.now cardinality }
-{
-    !is_reached(order, held, asc) || reached_with(order, held, desc, members) < cardinality as usize
 }

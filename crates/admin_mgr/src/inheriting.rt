@@ -1,122 +1,145 @@
 //! Which separation of duty sets one more immediate inheritance violates.
-ghost use Rattle.std.specs.Prelude.{◌≡◌, ◌&&◌, find, not};
-ghost use Rattle.std.specs.List.{list_all};
+//!
+//! Only who reaches the ascendant can come to violate a set: the roles that each of these has are
+//! gathered once, and then the sets are asked one after another.
+ghost use Rattle.std.specs.Prelude.{◌≡◌, ◌&&◌, IfOk, filter, find, not, nat_lt};
+ghost use Rattle.std.specs.Prelude.{map as list_map};
+ghost use Rattle.std.specs.List.{list_all, list_any};
 ghost use Rattle.std.specs.Option.{option_copied};
-ghost use Rattle.rbac_sets.specs.Sets.{Cardinality, Pair, members};
-ghost use Rattle.admin_mgr.specs.Held.{run_of, is_touched, keeps_below};
+ghost use Rattle.rbac_sets.specs.Sets.{Cardinality, Pair, members, pair_cmp};
+ghost use Rattle.rbac_sets.specs.SortedSet.{set_of};
+ghost use Rattle.admin_mgr.specs.Held.{find_broken, is_reached, is_touched, reached_with, run_of};
 
-use crate::held::{is_touched, keeps_below};
+use crate::held::{is_reached, is_touched, reached_with};
 use crate::state::State;
-use rbac_sets::Name;
+use rbac_sets::{Name, PairSet};
+use role_order::RoleOrder;
+use std::alloc::{AllocError, Global};
 
-// The first of the static sets, pairs (set, cardinality), from which some user that is authorized for `asc` would
-// be authorized for as many roles as its cardinality, with `desc` below `asc`. Only a set with a member that `desc`
-// reaches is asked.
+// The first of the static sets, pairs (set, cardinality), from which some user that is authorized for
+// `asc` would be authorized for as many roles as its cardinality, with `desc` below `asc`. Only a set
+// with a member that `desc` reaches is asked.
 pub(crate) fn first_broken_by_users<'a>(
+    alloc: Global,
     state: &State,
     asc: &Name,
     desc: &Name,
     sets: &'a [(Name, u32)],
-) -> Option<&'a (Name, u32)>
-    ensures { option_copied result ≡ find (λ (entry : Cardinality). is_touched state.now.facts.edges desc.now (run_of state.now.facts.ssd.members entry.0) && not (list_all (λ user. keeps_below state.now.facts.edges (run_of state.now.facts.assignments user) asc.now desc.now (run_of state.now.facts.ssd.members entry.0) entry.1) (members state.now.facts.users))) sets.now }
+) -> Result<Option<&'a (Name, u32)>, AllocError>
+    ensures { IfOk result (λ found. option_copied found ≡ find_broken state.now.facts.edges (list_map (run_of state.now.facts.assignments) (filter (λ user. is_reached state.now.facts.edges (run_of state.now.facts.assignments user) asc.now) (members state.now.facts.users))) desc.now state.now.facts.ssd.members sets.now) }
 {
-    sets.iter().find(|entry| is_broken_by_users(state, asc, desc, &entry.0, entry.1))
+    let members = state.ssd_members();
+    if !touches_some(state.order(), desc, members, sets) {
+        return Ok(None);
+    }
+    let runs = users_that_reach(alloc, state, asc)?;
+    Ok(first_broken(state.order(), &runs, desc, members, sets))
 }
 
-// Whether `desc` reaches a member of the set, and not each user keeps below the cardinality.
-fn is_broken_by_users(state: &State, asc: &Name, desc: &Name, set: &Name, cardinality: u32) -> bool
-    ensures { result ≡ (is_touched state.now.facts.edges desc.now (run_of state.now.facts.ssd.members set.now) && not (list_all (λ user. keeps_below state.now.facts.edges (run_of state.now.facts.assignments user) asc.now desc.now (run_of state.now.facts.ssd.members set.now) cardinality) (members state.now.facts.users))) }
-{
-    let members = state.ssd_members().with_first(set);
-    is_touched(state.order(), desc, members)
-        && !users_keep_below(state, asc, desc, set, cardinality)
-}
-
-// Whether each user keeps below the cardinality.
-fn users_keep_below(state: &State, asc: &Name, desc: &Name, set: &Name, cardinality: u32) -> bool
-    ensures { result ≡ list_all (λ user. keeps_below state.now.facts.edges (run_of state.now.facts.assignments user) asc.now desc.now (run_of state.now.facts.ssd.members set.now) cardinality) (members state.now.facts.users) }
-{
-    state.users().as_slice().iter().all(|user| user_keeps_below(
-        state,
-        asc,
-        desc,
-        user,
-        set,
-        cardinality,
-    ))
-}
-
-// Whether the user keeps below the cardinality.
-fn user_keeps_below(
-    state: &State,
-    asc: &Name,
-    desc: &Name,
-    user: &Name,
-    set: &Name,
-    cardinality: u32,
-) -> bool
-    ensures { result ≡ keeps_below state.now.facts.edges (run_of state.now.facts.assignments user.now) asc.now desc.now (run_of state.now.facts.ssd.members set.now) cardinality }
-{
-    let held = state.assignments().with_first(user);
-    let members = state.ssd_members().with_first(set);
-    keeps_below(state.order(), held, asc, desc, members, cardinality)
-}
-
-// The first of the dynamic sets, pairs (set, cardinality), from which some session that has `asc` would
-// have as many roles as its cardinality, with `desc` below `asc`. Only a set with a member that `desc`
-// reaches is asked.
+// The first of the dynamic sets, pairs (set, cardinality), from which some session that has `asc`
+// would have as many roles as its cardinality, with `desc` below `asc`. Only a set with a member that
+// `desc` reaches is asked.
 pub(crate) fn first_broken_by_sessions<'a>(
+    alloc: Global,
     state: &State,
     asc: &Name,
     desc: &Name,
     sets: &'a [(Name, u32)],
+) -> Result<Option<&'a (Name, u32)>, AllocError>
+    ensures { IfOk result (λ found. option_copied found ≡ find_broken state.now.facts.edges (list_map (λ (session : Pair). run_of state.now.facts.active session.0) (filter (λ (session : Pair). is_reached state.now.facts.edges (run_of state.now.facts.active session.0) asc.now) (members state.now.facts.sessions))) desc.now state.now.facts.dsd.members sets.now) }
+{
+    let members = state.dsd_members();
+    if !touches_some(state.order(), desc, members, sets) {
+        return Ok(None);
+    }
+    let runs = sessions_that_reach(alloc, state, asc)?;
+    Ok(first_broken(state.order(), &runs, desc, members, sets))
+}
+
+// The assignments of each user that is authorized for the role.
+fn users_that_reach<'a>(
+    alloc: Global,
+    state: &'a State,
+    role: &Name,
+) -> Result<Vec<&'a [(Name, Name)]>, AllocError>
+    ensures { IfOk result (λ runs. list_map (λ run. run.now) runs.items ≡ list_map (run_of state.now.facts.assignments) (filter (λ user. is_reached state.now.facts.edges (run_of state.now.facts.assignments user) role.now) (members state.now.facts.users))) }
+{
+    let mut runs = Vec::new(alloc);
+    for user in state.users().as_slice() {
+        let held = state.assignments().with_first(user);
+        if is_reached(state.order(), held, role) {
+            runs.push(held)?;
+        }
+    }
+    Ok(runs)
+}
+
+// The roles that were activated in each session that has the role.
+fn sessions_that_reach<'a>(
+    alloc: Global,
+    state: &'a State,
+    role: &Name,
+) -> Result<Vec<&'a [(Name, Name)]>, AllocError>
+    ensures { IfOk result (λ runs. list_map (λ run. run.now) runs.items ≡ list_map (λ (session : Pair). run_of state.now.facts.active session.0) (filter (λ (session : Pair). is_reached state.now.facts.edges (run_of state.now.facts.active session.0) role.now) (members state.now.facts.sessions))) }
+{
+    let mut runs = Vec::new(alloc);
+    for session in state.sessions().as_slice() {
+        let held = state.active().with_first(&session.0);
+        if is_reached(state.order(), held, role) {
+            runs.push(held)?;
+        }
+    }
+    Ok(runs)
+}
+
+// Whether the role reaches a member of one of the sets.
+fn touches_some(order: &RoleOrder, role: &Name, members: &PairSet, sets: &[(Name, u32)]) -> bool
+    ensures { result ≡ list_any (λ (entry : Cardinality). is_touched order.now.edges role.now (run_of (set_of pair_cmp members.now) entry.0)) sets.now }
+{
+    sets.iter().any(|entry| is_touched(order, role, members.with_first(&entry.0)))
+}
+
+// The first of the sets from which one of these runs and one more role reach as many members as its
+// cardinality. Only a set with a member that the role reaches is asked.
+fn first_broken<'a>(
+    order: &RoleOrder,
+    runs: &[&[(Name, Name)]],
+    more: &Name,
+    members: &PairSet,
+    sets: &'a [(Name, u32)],
 ) -> Option<&'a (Name, u32)>
-    ensures { option_copied result ≡ find (λ (entry : Cardinality). is_touched state.now.facts.edges desc.now (run_of state.now.facts.dsd.members entry.0) && not (list_all (λ (session : Pair). keeps_below state.now.facts.edges (run_of state.now.facts.active session.0) asc.now desc.now (run_of state.now.facts.dsd.members entry.0) entry.1) (members state.now.facts.sessions))) sets.now }
+    ensures { option_copied result ≡ find_broken order.now.edges (list_map (λ run. run.now) runs.entry.now) more.now (set_of pair_cmp members.now) sets.now }
 {
-    sets.iter().find(|entry| is_broken_by_sessions(state, asc, desc, &entry.0, entry.1))
+    for entry in sets {
+        if is_broken(order, runs, more, members.with_first(&entry.0), entry.1) {
+            return Some(entry);
+        }
+    }
+    None
 }
 
-// Whether `desc` reaches a member of the set, and not each session keeps below the cardinality.
-fn is_broken_by_sessions(
-    state: &State,
-    asc: &Name,
-    desc: &Name,
-    set: &Name,
+// Whether the role reaches one of the members, and one of the runs with it so many of them.
+fn is_broken(
+    order: &RoleOrder,
+    runs: &[&[(Name, Name)]],
+    more: &Name,
+    members: &[(Name, Name)],
     cardinality: u32,
 ) -> bool
-    ensures { result ≡ (is_touched state.now.facts.edges desc.now (run_of state.now.facts.dsd.members set.now) && not (list_all (λ (session : Pair). keeps_below state.now.facts.edges (run_of state.now.facts.active session.0) asc.now desc.now (run_of state.now.facts.dsd.members set.now) cardinality) (members state.now.facts.sessions))) }
+    ensures { result ≡ (is_touched order.now.edges more.now members.now && not (list_all (λ held. nat_lt (reached_with order.now.edges held more.now members.now) cardinality) (list_map (λ run. run.now) runs.entry.now))) }
 {
-    let members = state.dsd_members().with_first(set);
-    is_touched(state.order(), desc, members)
-        && !sessions_keep_below(state, asc, desc, set, cardinality)
+    is_touched(order, more, members) && !keep_below(order, runs, more, members, cardinality)
 }
 
-// Whether each session keeps below the cardinality.
-fn sessions_keep_below(state: &State, asc: &Name, desc: &Name, set: &Name, cardinality: u32) -> bool
-    ensures { result ≡ list_all (λ (session : Pair). keeps_below state.now.facts.edges (run_of state.now.facts.active session.0) asc.now desc.now (run_of state.now.facts.dsd.members set.now) cardinality) (members state.now.facts.sessions) }
-{
-    state.sessions().as_slice().iter().all(|session| session_keeps_below(
-        state,
-        asc,
-        desc,
-        &session.0,
-        set,
-        cardinality,
-    ))
-}
-
-// Whether the session keeps below the cardinality.
-fn session_keeps_below(
-    state: &State,
-    asc: &Name,
-    desc: &Name,
-    session: &Name,
-    set: &Name,
+// Whether each of the runs reaches fewer than so many of the members, with one more role.
+fn keep_below(
+    order: &RoleOrder,
+    runs: &[&[(Name, Name)]],
+    more: &Name,
+    members: &[(Name, Name)],
     cardinality: u32,
 ) -> bool
-    ensures { result ≡ keeps_below state.now.facts.edges (run_of state.now.facts.active session.now) asc.now desc.now (run_of state.now.facts.dsd.members set.now) cardinality }
+    ensures { result ≡ list_all (λ run. nat_lt (reached_with order.now.edges run.now more.now members.now) cardinality) runs.entry.now }
 {
-    let held = state.active().with_first(session);
-    let members = state.dsd_members().with_first(set);
-    keeps_below(state.order(), held, asc, desc, members, cardinality)
+    runs.iter().all(|run| reached_with(order, run, more, members) < cardinality as usize)
 }

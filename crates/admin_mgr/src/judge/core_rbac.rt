@@ -7,9 +7,10 @@ ghost use Rattle.admin_mgr.specs.Verdict.{verdict};
 ghost use Rattle.admin_mgr.specs.Verdict.{is_in_use};
 
 use crate::held::first_with_one;
-use crate::judge::naming::name_static;
+use crate::judge::naming::name_violated;
 use crate::limits::{is_full, is_too_many};
 use crate::lookup::{has_first, has_part, has_second};
+use crate::separation_of_duty::SeparationOfDuty;
 use crate::state::State;
 use rbac_sets::{Kind, Name, Refusal};
 use std::alloc::{AllocError, Global};
@@ -245,7 +246,7 @@ pub fn judge_assign_user(
     let held = state.assignments().with_first(user);
     let sets = state.ssd_cardinalities().as_slice();
     let violated = first_with_one(state.order(), held, role, state.ssd_members(), sets);
-    let named = name_static(alloc, violated)?;
+    let named = name_violated(alloc, SeparationOfDuty::Static, violated)?;
     Ok(named)
 }
 

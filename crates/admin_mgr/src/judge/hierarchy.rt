@@ -5,8 +5,9 @@ ghost use Rattle.admin_mgr.specs.Refusing.{first};
 ghost use Rattle.admin_mgr.specs.Verdict.{verdict, add_inheritance_refusals};
 
 use crate::inheriting::{first_broken_by_sessions, first_broken_by_users};
-use crate::judge::naming::{name_dynamic, name_static};
+use crate::judge::naming::name_violated;
 use crate::limits::is_full;
+use crate::separation_of_duty::SeparationOfDuty;
 use crate::state::State;
 use rbac_sets::{Kind, Name, Refusal};
 use std::alloc::{AllocError, Global};
@@ -22,7 +23,7 @@ use std::alloc::{AllocError, Global};
 ///
 /// # Errors
 ///
-/// Where memory for the name of the set was refused.
+/// Where memory was refused, for the name of the set or for the list of who is authorized for `asc`.
 #[tactic(auto, unfolding(crate::specs::Verdict::verdict, crate::specs::Verdict::refusals))]
 pub fn judge_add_inheritance(
     alloc: Global,
@@ -38,14 +39,14 @@ pub fn judge_add_inheritance(
         None => {}
     }
     let statics = state.ssd_cardinalities().as_slice();
-    let violated = first_broken_by_users(state, asc, desc, statics);
-    match name_static(alloc, violated)? {
+    let violated = first_broken_by_users(alloc, state, asc, desc, statics)?;
+    match name_violated(alloc, SeparationOfDuty::Static, violated)? {
         Some(broken) => return Ok(Some(broken)),
         None => {}
     }
     let dynamics = state.dsd_cardinalities().as_slice();
-    let violated = first_broken_by_sessions(state, asc, desc, dynamics);
-    let named = name_dynamic(alloc, violated)?;
+    let violated = first_broken_by_sessions(alloc, state, asc, desc, dynamics)?;
+    let named = name_violated(alloc, SeparationOfDuty::Dynamic, violated)?;
     Ok(named)
 }
 

@@ -2,38 +2,24 @@
 ghost use Rattle.std.specs.Prelude.{◌≡◌, IfOk};
 ghost use Rattle.std.specs.Option.{option_copied, option_map};
 ghost use Rattle.rbac_sets.specs.Sets.{Cardinality};
-ghost use Rattle.rbac_sets.specs.declared.refusal.Refusal.TheVariants.{StaticSeparation, DynamicSeparation};
+ghost use Rattle.admin_mgr.specs.SeparationOfDuty.{refusal_of};
 
+use crate::separation_of_duty::SeparationOfDuty;
 use rbac_sets::{Name, Refusal};
 use std::alloc::{AllocError, Global};
 
-// A refusal by this static set, if there is one.
-pub(crate) fn name_static(
+// A refusal by this set, if there is one.
+pub(crate) fn name_violated(
     alloc: Global,
+    duty: SeparationOfDuty,
     violated: Option<&(Name, u32)>,
 ) -> Result<Option<Refusal>, AllocError>
-    ensures { IfOk result (λ found. found ≡ option_map StaticSeparation (option_map (λ (entry : Cardinality). entry.0) (option_copied violated.entry))) }
+    ensures { IfOk result (λ found. found ≡ option_map (refusal_of duty) (option_map (λ (entry : Cardinality). entry.0) (option_copied violated.entry))) }
 {
     match violated {
         Some(entry) => {
             let set = copied(alloc, &entry.0)?;
-            Ok(Some(Refusal::StaticSeparation(set)))
-        }
-        None => Ok(None),
-    }
-}
-
-// A refusal by this dynamic set, if there is one.
-pub(crate) fn name_dynamic(
-    alloc: Global,
-    violated: Option<&(Name, u32)>,
-) -> Result<Option<Refusal>, AllocError>
-    ensures { IfOk result (λ found. found ≡ option_map DynamicSeparation (option_map (λ (entry : Cardinality). entry.0) (option_copied violated.entry))) }
-{
-    match violated {
-        Some(entry) => {
-            let set = copied(alloc, &entry.0)?;
-            Ok(Some(Refusal::DynamicSeparation(set)))
+            Ok(Some(duty.refusal(set)))
         }
         None => Ok(None),
     }

@@ -9,10 +9,11 @@ ghost use Rattle.admin_mgr.specs.Refusing.{first};
 ghost use Rattle.admin_mgr.specs.Verdict.{verdict, create_session_refusals, add_active_role_refusals};
 
 use crate::held::{first_with_all, first_with_one, is_reached};
-use crate::judge::naming::name_dynamic;
+use crate::judge::naming::name_violated;
 use crate::judge::set_refusals::member_count;
 use crate::limits::{is_full, is_too_many};
 use crate::lookup::{are_in, has_first};
+use crate::separation_of_duty::SeparationOfDuty;
 use crate::state::State;
 use rbac_sets::{Kind, Name, NameSet, Refusal};
 use std::alloc::{AllocError, Global};
@@ -46,7 +47,7 @@ pub fn judge_create_session(
     let names = roles.as_slice();
     let sets = state.dsd_cardinalities().as_slice();
     let violated = first_with_all(state.order(), names, state.dsd_members(), sets);
-    let named = name_dynamic(alloc, violated)?;
+    let named = name_violated(alloc, SeparationOfDuty::Dynamic, violated)?;
     Ok(named)
 }
 
@@ -143,7 +144,7 @@ pub fn judge_add_active_role(
     let held = state.active().with_first(session);
     let sets = state.dsd_cardinalities().as_slice();
     let violated = first_with_one(state.order(), held, role, state.dsd_members(), sets);
-    let named = name_dynamic(alloc, violated)?;
+    let named = name_violated(alloc, SeparationOfDuty::Dynamic, violated)?;
     Ok(named)
 }
 

@@ -17,9 +17,10 @@ ghost use Rattle.admin_mgr.specs.Run.{tally};
 ghost use Rattle.admin_mgr.specs.Verdict.{verdict};
 
 use crate::held::{is_reached, is_touched};
-use crate::judge::naming::name_static;
+use crate::judge::naming::name_violated;
 use crate::limits::is_full;
 use crate::plan::{Plan, Report};
+use crate::separation_of_duty::SeparationOfDuty;
 use crate::state::State;
 use rbac_sets::{Change, Kind, Name, PairSet, Refusal, Row};
 use role_order::RoleOrder;
@@ -145,7 +146,7 @@ fn judge_record(
     let more = added.with_first(user);
     let sets = state.ssd_cardinalities().as_slice();
     let violated = first_with_both(state.order(), held, more, role, state.ssd_members(), sets);
-    let named = name_static(alloc, violated)?;
+    let named = name_violated(alloc, SeparationOfDuty::Static, violated)?;
     Ok(named)
 }
 
