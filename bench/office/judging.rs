@@ -214,23 +214,26 @@ impl Office {
     fn first_broken<'a>(
         &'a self,
         kind: Separation,
-        holders: impl Iterator<Item = &'a [Pair]> + Clone,
+        holders: impl Iterator<Item = &'a [Pair]>,
         asc: &str,
         desc: &str,
     ) -> Option<&'a String> {
+        let is_touched = |set: &str| self.members(kind, set).iter().any(|it| self.geq(desc, &it.1));
+        let sets = &self.sets(kind).cardinalities;
+        if !sets.iter().any(|(set, _)| is_touched(set)) {
+            return None;
+        }
+        let holders: Vec<&[Pair]> = holders.filter(|held| self.is_reached(held, asc)).collect();
         let is_broken = |set: &str, cardinality: u32| {
             let members = self.members(kind, set);
-            members.iter().any(|member| self.geq(desc, &member.1))
-                && holders.clone().any(|held| {
-                    self.is_reached(held, asc) && {
-                        let reached = members.iter().filter(|member| {
-                            self.is_reached(held, &member.1) || self.geq(desc, &member.1)
-                        });
-                        reached.count() >= cardinality as usize
-                    }
+            is_touched(set)
+                && holders.iter().any(|held| {
+                    let reached = members.iter().filter(|member| {
+                        self.is_reached(held, &member.1) || self.geq(desc, &member.1)
+                    });
+                    reached.count() >= cardinality as usize
                 })
         };
-        let sets = &self.sets(kind).cardinalities;
         sets.iter().find(|(set, cardinality)| is_broken(set, *cardinality)).map(|entry| &entry.0)
     }
 
