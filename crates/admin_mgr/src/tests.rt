@@ -2,7 +2,8 @@
 //!
 //! A test is a script: lines of commands with what answers each, and of questions with their answers.
 //! `script` reads and runs it, `naming` reads its commands, and `showing` writes the sets and relations
-//! of a state as a text.
+//! of a state as a text. `beginnings` has what several scripts begin with.
+mod beginnings;
 mod core_rbac;
 mod dynamic_separation;
 mod empty_states;
@@ -16,6 +17,7 @@ mod refused;
 mod rows;
 mod rules;
 mod script;
+mod separation;
 mod sessions;
 mod showing;
 mod small_office;

@@ -1,13 +1,10 @@
 //! Users, roles, objects, permissions and their assignment.
-use super::script::faults;
+use super::script::follows;
 use std::test::Fail;
 
 #[test]
 fn users_are_assigned_and_deassigned(rt: HostRuntime) -> Result<(), Fail> {
-    let faults = faults(
-        rt.alloc(),
-        2,
-        "addUser ann = 0
+    let script = "addUser ann = 0
         addRole clerk = 0
         assignUser ann clerk = 0
         changes: +assignment*1
@@ -20,18 +17,13 @@ fn users_are_assigned_and_deassigned(rt: HostRuntime) -> Result<(), Fail> {
         addUser ann = 3
         assignUser bob cook = 2
         users: ann
-        roles: clerk",
-    )?;
-    assert_eq!(rt; faults.as_str(), "");
-    Ok(())
+        roles: clerk";
+    follows(&rt, &[script])
 }
 
 #[test]
 fn a_role_goes_with_its_assignments_and_grants(rt: HostRuntime) -> Result<(), Fail> {
-    let faults = faults(
-        rt.alloc(),
-        2,
-        "addUser ann = 0
+    let script = "addUser ann = 0
         addRole clerk = 0
         addRole temp = 0
         assignUser ann temp = 0
@@ -51,18 +43,13 @@ fn a_role_goes_with_its_assignments_and_grants(rt: HostRuntime) -> Result<(), Fa
         changes: -permission*1
         deletePermObj safe = 0
         changes: -object*1
-        objects:",
-    )?;
-    assert_eq!(rt; faults.as_str(), "");
-    Ok(())
+        objects:";
+    follows(&rt, &[script])
 }
 
 #[test]
 fn users_come_and_go(rt: HostRuntime) -> Result<(), Fail> {
-    let faults = faults(
-        rt.alloc(),
-        2,
-        "deleteUser ann = 2
+    let script = "deleteUser ann = 2
         addUser ann = 0
         changes: +user*1
         addUser ann = 3
@@ -83,18 +70,13 @@ fn users_come_and_go(rt: HostRuntime) -> Result<(), Fail> {
         active:
         deleteUser ann = 2
         addUser ann = 0
-        assignedRoles ann:",
-    )?;
-    assert_eq!(rt; faults.as_str(), "");
-    Ok(())
+        assignedRoles ann:";
+    follows(&rt, &[script])
 }
 
 #[test]
 fn roles_come_and_go(rt: HostRuntime) -> Result<(), Fail> {
-    let faults = faults(
-        rt.alloc(),
-        2,
-        "deleteRole clerk = 4
+    let script = "deleteRole clerk = 4
         addRole clerk = 0
         changes: +role*1
         addRole clerk = 5
@@ -116,18 +98,13 @@ fn roles_come_and_go(rt: HostRuntime) -> Result<(), Fail> {
         deleteRole clerk = 17
         deleteDsdSet till = 0
         deleteRole clerk = 0
-        roles: boss temp",
-    )?;
-    assert_eq!(rt; faults.as_str(), "");
-    Ok(())
+        roles: boss temp";
+    follows(&rt, &[script])
 }
 
 #[test]
 fn objects_and_permissions_come_and_go(rt: HostRuntime) -> Result<(), Fail> {
-    let faults = faults(
-        rt.alloc(),
-        2,
-        "deletePermObj safe = 6
+    let script = "deletePermObj safe = 6
         addPermission safe open = 6
         deletePermission safe open = 6
         addPermObj safe = 0
@@ -151,18 +128,13 @@ fn objects_and_permissions_come_and_go(rt: HostRuntime) -> Result<(), Fail> {
         deletePermObj safe = 0
         deletePermObj safe = 6
         objects: desk
-        permissions: desk/open",
-    )?;
-    assert_eq!(rt; faults.as_str(), "");
-    Ok(())
+        permissions: desk/open";
+    follows(&rt, &[script])
 }
 
 #[test]
 fn permissions_are_granted_and_revoked(rt: HostRuntime) -> Result<(), Fail> {
-    let faults = faults(
-        rt.alloc(),
-        2,
-        "grantPermission safe open clerk = 6
+    let script = "grantPermission safe open clerk = 6
         revokePermission safe open clerk = 6
         addPermObj safe = 0
         grantPermission safe open clerk = 8
@@ -186,18 +158,13 @@ fn permissions_are_granted_and_revoked(rt: HostRuntime) -> Result<(), Fail> {
         revokePermission safe open clerk = 13
         deletePermission safe view = 0
         changes: -permission*1 -grant*1
-        grants: safe/open/boss",
-    )?;
-    assert_eq!(rt; faults.as_str(), "");
-    Ok(())
+        grants: safe/open/boss";
+    follows(&rt, &[script])
 }
 
 #[test]
 fn missing_users_come_before_missing_roles(rt: HostRuntime) -> Result<(), Fail> {
-    let faults = faults(
-        rt.alloc(),
-        2,
-        "assignUser ann clerk = 2
+    let script = "assignUser ann clerk = 2
         deassignUser ann clerk = 2
         addUser ann = 0
         assignUser ann clerk = 4
@@ -209,8 +176,6 @@ fn missing_users_come_before_missing_roles(rt: HostRuntime) -> Result<(), Fail> 
         assignUser ann clerk = 0
         assignUser ann clerk = 10
         deassignUser ann clerk = 0
-        assignments:",
-    )?;
-    assert_eq!(rt; faults.as_str(), "");
-    Ok(())
+        assignments:";
+    follows(&rt, &[script])
 }

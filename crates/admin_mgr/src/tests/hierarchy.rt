@@ -1,18 +1,18 @@
 //! Immediate inheritances and what they lead over.
-use super::script::faults;
+use super::script::follows;
 use std::test::Fail;
+
+// Four roles, one of them above another.
+const A_ABOVE_B: &str = "addRole a = 0
+    addRole b = 0
+    addRole c = 0
+    addRole d = 0
+    addInheritance a b = 0
+    changes: +edge*1 +closure*1";
 
 #[test]
 fn the_order_has_no_cycle(rt: HostRuntime) -> Result<(), Fail> {
-    let faults = faults(
-        rt.alloc(),
-        2,
-        "addRole a = 0
-        addRole b = 0
-        addRole c = 0
-        addInheritance a b = 0
-        changes: +edge*1 +closure*1
-        addInheritance b c = 0
+    let script = "addInheritance b c = 0
         changes: +edge*1 +closure*2
         addInheritance c a = 16
         addInheritance a a = 16
@@ -25,23 +25,13 @@ fn the_order_has_no_cycle(rt: HostRuntime) -> Result<(), Fail> {
         deleteInheritance a c = 15
         deleteInheritance b a = 15
         edges: a/b b/c
-        closure: a/b a/c b/c",
-    )?;
-    assert_eq!(rt; faults.as_str(), "");
-    Ok(())
+        closure: a/b a/c b/c";
+    follows(&rt, &[A_ABOVE_B, script])
 }
 
 #[test]
 fn a_diamond_keeps_what_another_path_leads_over(rt: HostRuntime) -> Result<(), Fail> {
-    let faults = faults(
-        rt.alloc(),
-        2,
-        "addRole a = 0
-        addRole b = 0
-        addRole c = 0
-        addRole d = 0
-        addInheritance a b = 0
-        addInheritance b d = 0
+    let script = "addInheritance b d = 0
         addInheritance a c = 0
         addInheritance c d = 0
         deleteInheritance b d = 0
@@ -49,22 +39,13 @@ fn a_diamond_keeps_what_another_path_leads_over(rt: HostRuntime) -> Result<(), F
         closure: a/b a/c a/d c/d
         juniors a: b c d
         seniors d: a c
-        deleteInheritance b d = 15",
-    )?;
-    assert_eq!(rt; faults.as_str(), "");
-    Ok(())
+        deleteInheritance b d = 15";
+    follows(&rt, &[A_ABOVE_B, script])
 }
 
 #[test]
 fn an_edge_beside_a_longer_path_is_kept(rt: HostRuntime) -> Result<(), Fail> {
-    let faults = faults(
-        rt.alloc(),
-        2,
-        "addRole a = 0
-        addRole b = 0
-        addRole c = 0
-        addInheritance a b = 0
-        addInheritance b c = 0
+    let script = "addInheritance b c = 0
         addInheritance a c = 0
         changes: +edge*1
         deleteInheritance a c = 0
@@ -72,18 +53,13 @@ fn an_edge_beside_a_longer_path_is_kept(rt: HostRuntime) -> Result<(), Fail> {
         closure: a/b a/c b/c
         deleteInheritance b c = 0
         changes: -edge*1 -closure*2
-        closure: a/b",
-    )?;
-    assert_eq!(rt; faults.as_str(), "");
-    Ok(())
+        closure: a/b";
+    follows(&rt, &[A_ABOVE_B, script])
 }
 
 #[test]
 fn two_chains_are_joined_and_parted(rt: HostRuntime) -> Result<(), Fail> {
-    let faults = faults(
-        rt.alloc(),
-        2,
-        "8 addRole r# = 0
+    let script = "8 addRole r# = 0
         3 addInheritance r# r& = 0
         addInheritance r5 r6 = 0
         addInheritance r6 r7 = 0
@@ -106,18 +82,13 @@ fn two_chains_are_joined_and_parted(rt: HostRuntime) -> Result<(), Fail> {
         juniors r3: r4 r6 r7 r8
         juniors r4:
         seniors r5:
-        seniors r6: r1 r2 r3 r5",
-    )?;
-    assert_eq!(rt; faults.as_str(), "");
-    Ok(())
+        seniors r6: r1 r2 r3 r5";
+    follows(&rt, &[script])
 }
 
 #[test]
 fn long_chains_are_joined(rt: HostRuntime) -> Result<(), Fail> {
-    let faults = faults(
-        rt.alloc(),
-        2,
-        "64 addRole a# = 0
+    let script = "64 addRole a# = 0
         64 addRole b# = 0
         63 addInheritance a# a& = 0
         63 addInheritance b# b& = 0
@@ -127,18 +98,13 @@ fn long_chains_are_joined(rt: HostRuntime) -> Result<(), Fail> {
         rows: 128 names 8255 pairs 0 grants 0 numbers 0 locked
         addInheritance b64 a1 = 16
         deleteInheritance a64 b1 = 0
-        changes: -edge*1 -closure*4096",
-    )?;
-    assert_eq!(rt; faults.as_str(), "");
-    Ok(())
+        changes: -edge*1 -closure*4096";
+    follows(&rt, &[script])
 }
 
 #[test]
 fn roles_are_made_above_and_below(rt: HostRuntime) -> Result<(), Fail> {
-    let faults = faults(
-        rt.alloc(),
-        2,
-        "addAscendant boss clerk = 4
+    let script = "addAscendant boss clerk = 4
         addDescendant boss clerk = 4
         addRole boss = 0
         addAscendant boss clerk = 4
@@ -156,18 +122,13 @@ fn roles_are_made_above_and_below(rt: HostRuntime) -> Result<(), Fail> {
         addAscendant chief boss = 0
         changes: +role*1 +edge*1 +closure*3
         juniors chief: aide boss clerk
-        roles: aide boss chief clerk",
-    )?;
-    assert_eq!(rt; faults.as_str(), "");
-    Ok(())
+        roles: aide boss chief clerk";
+    follows(&rt, &[script])
 }
 
 #[test]
 fn an_inheritance_ends_no_session_that_has_its_roles(rt: HostRuntime) -> Result<(), Fail> {
-    let faults = faults(
-        rt.alloc(),
-        2,
-        "addUser ann = 0
+    let script = "addUser ann = 0
         4 addRole r# = 0
         3 addInheritance r# r& = 0
         addInheritance r1 r4 = 0
@@ -184,8 +145,6 @@ fn an_inheritance_ends_no_session_that_has_its_roles(rt: HostRuntime) -> Result<
         deleteInheritance r1 r4 = 0
         changes: -edge*1 -closure*1 -session*2 -active*3
         sessions: s4/ann
-        active:",
-    )?;
-    assert_eq!(rt; faults.as_str(), "");
-    Ok(())
+        active:";
+    follows(&rt, &[script])
 }

@@ -1,45 +1,22 @@
-//! The limits: as many as there may be, and one more.
-use super::script::faults;
+//! The limits: as many as there may be, and one more. Those of separation of duty sets stand in
+//! `separation`.
+use super::script::{follows, follows_in_version_1};
 use std::test::Fail;
 
 #[test]
 fn users(rt: HostRuntime) -> Result<(), Fail> {
-    let faults = faults(
-        rt.alloc(),
-        2,
-        "20000 addUser u# = 0
-        addUser ann = 32 user
+    let script = "addUser ann = 32 user
         addUser u1 = 3
         deleteUser u1 = 0
         addUser ann = 0
-        addUser bob = 32 user",
-    )?;
-    assert_eq!(rt; faults.as_str(), "");
-    Ok(())
-}
-
-#[test]
-fn users_in_version_1(rt: HostRuntime) -> Result<(), Fail> {
-    let faults = faults(
-        rt.alloc(),
-        1,
-        "5000 addUser u# = 0
-        addUser ann = 32 user
-        addUser u1 = 3
-        deleteUser u1 = 0
-        addUser ann = 0
-        addUser bob = 32 user",
-    )?;
-    assert_eq!(rt; faults.as_str(), "");
-    Ok(())
+        addUser bob = 32 user";
+    follows(&rt, &["20000 addUser u# = 0", script])?;
+    follows_in_version_1(&rt, &["5000 addUser u# = 0", script])
 }
 
 #[test]
 fn roles(rt: HostRuntime) -> Result<(), Fail> {
-    let faults = faults(
-        rt.alloc(),
-        2,
-        "256 addRole r# = 0
+    let script = "256 addRole r# = 0
         addRole r257 = 0
         767 addRole q# = 0
         addRole clerk = 32 role
@@ -53,68 +30,48 @@ fn roles(rt: HostRuntime) -> Result<(), Fail> {
         addInheritance r1 r2 = 0
         deleteRole r3 = 0
         addDescendant r2 aide = 0
-        addRole clerk = 32 role",
-    )?;
-    assert_eq!(rt; faults.as_str(), "");
-    Ok(())
+        addRole clerk = 32 role";
+    follows(&rt, &[script])
 }
 
 #[test]
 fn roles_in_version_1(rt: HostRuntime) -> Result<(), Fail> {
-    let faults = faults(
-        rt.alloc(),
-        1,
-        "255 addRole r# = 0
+    let script = "255 addRole r# = 0
         addRole r256 = 0
         addRole r257 = 32 role
         addRole r1 = 5
         addAscendant boss r1 = 32 role
-        addDescendant r1 aide = 32 role",
-    )?;
-    assert_eq!(rt; faults.as_str(), "");
-    Ok(())
+        addDescendant r1 aide = 32 role";
+    follows_in_version_1(&rt, &[script])
 }
 
 #[test]
 fn objects(rt: HostRuntime) -> Result<(), Fail> {
-    let faults = faults(
-        rt.alloc(),
-        2,
-        "2000 addPermObj o# = 0
+    let script = "2000 addPermObj o# = 0
         addPermObj safe = 32 object
         addPermObj o1 = 7
         deletePermObj o1 = 0
         addPermObj safe = 0
-        addPermObj desk = 32 object",
-    )?;
-    assert_eq!(rt; faults.as_str(), "");
-    Ok(())
+        addPermObj desk = 32 object";
+    follows(&rt, &[script])
 }
 
 #[test]
 fn permissions(rt: HostRuntime) -> Result<(), Fail> {
-    let faults = faults(
-        rt.alloc(),
-        2,
-        "addPermObj safe = 0
+    let script = "addPermObj safe = 0
         5000 addPermission safe p# = 0
         addPermission safe open = 32 permission
         addPermission safe p1 = 9
         addPermission desk open = 6
         deletePermission safe p1 = 0
         addPermission safe open = 0
-        addPermission safe p1 = 32 permission",
-    )?;
-    assert_eq!(rt; faults.as_str(), "");
-    Ok(())
+        addPermission safe p1 = 32 permission";
+    follows(&rt, &[script])
 }
 
 #[test]
 fn grants(rt: HostRuntime) -> Result<(), Fail> {
-    let faults = faults(
-        rt.alloc(),
-        2,
-        "addPermObj safe = 0
+    let script = "addPermObj safe = 0
         5000 addPermission safe p# = 0
         5 addRole r# = 0
         4 5000 grantPermission safe p@ r# = 0
@@ -123,18 +80,13 @@ fn grants(rt: HostRuntime) -> Result<(), Fail> {
         grantPermission safe p1 cook = 4
         revokePermission safe p2 r1 = 0
         grantPermission safe p1 r5 = 0
-        grantPermission safe p2 r1 = 32 grant",
-    )?;
-    assert_eq!(rt; faults.as_str(), "");
-    Ok(())
+        grantPermission safe p2 r1 = 32 grant";
+    follows(&rt, &[script])
 }
 
 #[test]
 fn assignments(rt: HostRuntime) -> Result<(), Fail> {
-    let faults = faults(
-        rt.alloc(),
-        2,
-        "100 addUser u# = 0
+    let script = "100 addUser u# = 0
         100 addUser v# = 0
         addUser ann = 0
         100 addRole r# = 0
@@ -154,18 +106,13 @@ fn assignments(rt: HostRuntime) -> Result<(), Fail> {
         assignUser u1 temp = 24 pay
         importAssignments u1/temp ann/r1 ann/r2 u2/r2 = 0
         report: 1 assigned 0 already 1/24 3/32 4/32
-        assignUser u2 r2 = 32 assignment",
-    )?;
-    assert_eq!(rt; faults.as_str(), "");
-    Ok(())
+        assignUser u2 r2 = 32 assignment";
+    follows(&rt, &[script])
 }
 
 #[test]
 fn edges(rt: HostRuntime) -> Result<(), Fail> {
-    let faults = faults(
-        rt.alloc(),
-        2,
-        "64 addRole a# = 0
+    let script = "64 addRole a# = 0
         64 addRole b# = 0
         addRole clerk = 0
         addRole temp = 0
@@ -194,18 +141,13 @@ fn edges(rt: HostRuntime) -> Result<(), Fail> {
         addInheritance a1 clerk = 24 pay
         addInheritance a1 temp = 25 till
         addInheritance a2 clerk = 0
-        addInheritance a64 b64 = 32 edge",
-    )?;
-    assert_eq!(rt; faults.as_str(), "");
-    Ok(())
+        addInheritance a64 b64 = 32 edge";
+    follows(&rt, &[script])
 }
 
 #[test]
 fn edges_in_version_1(rt: HostRuntime) -> Result<(), Fail> {
-    let faults = faults(
-        rt.alloc(),
-        1,
-        "32 addRole a# = 0
+    let script = "32 addRole a# = 0
         32 addRole b# = 0
         addRole clerk = 0
         32 32 addInheritance a# b@ = 0
@@ -215,113 +157,13 @@ fn edges_in_version_1(rt: HostRuntime) -> Result<(), Fail> {
         addDescendant clerk aide = 32 edge
         deleteInheritance a1 b1 = 0
         addInheritance a1 clerk = 0
-        addInheritance a1 b1 = 32 edge",
-    )?;
-    assert_eq!(rt; faults.as_str(), "");
-    Ok(())
-}
-
-#[test]
-fn static_sets(rt: HostRuntime) -> Result<(), Fail> {
-    let faults = faults(
-        rt.alloc(),
-        2,
-        "40 addRole r# = 0
-        64 createSsdSet t# r1,r2 2 = 0
-        createSsdSet pay r1,r2 2 = 32 ssdSet
-        createSsdSet t1 r1,r2 2 = 19
-        createSsdSet pay r1,r2 1 = 23
-        createSsdSet pay r1,r2 3 = 23
-        createSsdSet pay r1,cook 2 = 4
-        createSsdSet pay r*33 2 = 32 ssdSet
-        deleteSsdSet t1 = 0
-        createSsdSet pay r*33 2 = 32 member
-        createSsdSet pay r1,r2 2 = 0
-        createSsdSet t1 r1,r2 2 = 32 ssdSet",
-    )?;
-    assert_eq!(rt; faults.as_str(), "");
-    Ok(())
-}
-
-#[test]
-fn dynamic_sets(rt: HostRuntime) -> Result<(), Fail> {
-    let faults = faults(
-        rt.alloc(),
-        2,
-        "40 addRole r# = 0
-        64 createDsdSet t# r1,r2 2 = 0
-        createDsdSet pay r1,r2 2 = 32 dsdSet
-        createDsdSet t1 r1,r2 2 = 19
-        createDsdSet pay r1,r2 1 = 23
-        createDsdSet pay r1,r2 3 = 23
-        createDsdSet pay r1,cook 2 = 4
-        createDsdSet pay r*33 2 = 32 dsdSet
-        deleteDsdSet t1 = 0
-        createDsdSet pay r*33 2 = 32 member
-        createDsdSet pay r1,r2 2 = 0
-        createDsdSet t1 r1,r2 2 = 32 dsdSet",
-    )?;
-    assert_eq!(rt; faults.as_str(), "");
-    Ok(())
-}
-
-#[test]
-fn members_of_static_sets(rt: HostRuntime) -> Result<(), Fail> {
-    let faults = faults(
-        rt.alloc(),
-        2,
-        "addUser ann = 0
-        40 addRole r# = 0
-        assignUser ann r1 = 0
-        assignUser ann r33 = 0
-        createSsdSet pay r*33 2 = 32 member
-        createSsdSet pay r*33 34 = 23
-        createSsdSet pay r*32 2 = 0
-        addSsdRoleMember pay r33 = 32 member
-        addSsdRoleMember pay r40 = 32 member
-        addSsdRoleMember pay r1 = 21
-        addSsdRoleMember pay cook = 4
-        deleteSsdRoleMember pay r2 = 0
-        addSsdRoleMember pay r33 = 24 pay
-        addSsdRoleMember pay r40 = 0
-        addSsdRoleMember pay r2 = 32 member",
-    )?;
-    assert_eq!(rt; faults.as_str(), "");
-    Ok(())
-}
-
-#[test]
-fn members_of_dynamic_sets(rt: HostRuntime) -> Result<(), Fail> {
-    let faults = faults(
-        rt.alloc(),
-        2,
-        "addUser ann = 0
-        40 addRole r# = 0
-        assignUser ann r1 = 0
-        assignUser ann r33 = 0
-        createSession ann r1,r33 s1 = 0
-        createDsdSet till r*33 2 = 32 member
-        createDsdSet till r*33 34 = 23
-        createDsdSet till r*32 2 = 0
-        addDsdRoleMember till r33 = 32 member
-        addDsdRoleMember till r40 = 32 member
-        addDsdRoleMember till r1 = 21
-        addDsdRoleMember till cook = 4
-        deleteDsdRoleMember till r2 = 0
-        addDsdRoleMember till r33 = 25 till
-        addDsdRoleMember till r40 = 0
-        addDsdRoleMember till r2 = 32 member",
-    )?;
-    assert_eq!(rt; faults.as_str(), "");
-    Ok(())
+        addInheritance a1 b1 = 32 edge";
+    follows_in_version_1(&rt, &[script])
 }
 
 #[test]
 fn sessions(rt: HostRuntime) -> Result<(), Fail> {
-    let faults = faults(
-        rt.alloc(),
-        2,
-        "addUser ann = 0
+    let script = "addUser ann = 0
         addUser bob = 0
         40 addRole r# = 0
         40 assignUser ann r# = 0
@@ -339,18 +181,13 @@ fn sessions(rt: HostRuntime) -> Result<(), Fail> {
         deleteSession ann s1 = 0
         createSession ann r*33 t = 32 activeRole
         createSession ann - t = 0
-        createSession ann - s1 = 32 session",
-    )?;
-    assert_eq!(rt; faults.as_str(), "");
-    Ok(())
+        createSession ann - s1 = 32 session";
+    follows(&rt, &[script])
 }
 
 #[test]
 fn activated_roles(rt: HostRuntime) -> Result<(), Fail> {
-    let faults = faults(
-        rt.alloc(),
-        2,
-        "addUser ann = 0
+    let script = "addUser ann = 0
         40 addRole r# = 0
         39 assignUser ann r# = 0
         createDsdSet till r32,r33 2 = 0
@@ -366,26 +203,19 @@ fn activated_roles(rt: HostRuntime) -> Result<(), Fail> {
         dropActiveRole ann s1 r1 = 0
         addActiveRole ann s1 r33 = 25 till
         addActiveRole ann s1 r34 = 0
-        addActiveRole ann s1 r1 = 32 activeRole",
-    )?;
-    assert_eq!(rt; faults.as_str(), "");
-    Ok(())
+        addActiveRole ann s1 r1 = 32 activeRole";
+    follows(&rt, &[script])
 }
 
 #[test]
 fn activated_roles_count_without_their_juniors(rt: HostRuntime) -> Result<(), Fail> {
-    let faults = faults(
-        rt.alloc(),
-        2,
-        "addUser ann = 0
+    let script = "addUser ann = 0
         40 addRole r# = 0
         39 addInheritance r# r& = 0
         assignUser ann r1 = 0
         createSession ann r1 s1 = 0
         30 addActiveRole ann s1 r& = 0
         addActiveRole ann s1 r32 = 0
-        addActiveRole ann s1 r33 = 32 activeRole",
-    )?;
-    assert_eq!(rt; faults.as_str(), "");
-    Ok(())
+        addActiveRole ann s1 r33 = 32 activeRole";
+    follows(&rt, &[script])
 }

@@ -119,44 +119,26 @@ fn of_pair(function: &str, first: Name, second: Name) -> Result<Command, Refusal
             user: first,
             session: second,
         },
-        _ => return of_roles(function, first, second),
+        _ => return of_edge(function, first, second),
     })
 }
 
-fn of_roles(function: &str, first: Name, second: Name) -> Result<Command, Refusal> {
+fn of_edge(function: &str, asc: Name, desc: Name) -> Result<Command, Refusal> {
     Ok(match function {
-        "addInheritance" => Command::AddInheritance {
-            asc: first,
-            desc: second,
-        },
-        "deleteInheritance" => Command::DeleteInheritance {
-            asc: first,
-            desc: second,
-        },
-        "addAscendant" => Command::AddAscendant {
-            asc: first,
-            desc: second,
-        },
-        "addDescendant" => Command::AddDescendant {
-            asc: first,
-            desc: second,
-        },
-        "addSsdRoleMember" => Command::AddSsdRoleMember {
-            set: first,
-            role: second,
-        },
-        "deleteSsdRoleMember" => Command::DeleteSsdRoleMember {
-            set: first,
-            role: second,
-        },
-        "addDsdRoleMember" => Command::AddDsdRoleMember {
-            set: first,
-            role: second,
-        },
-        "deleteDsdRoleMember" => Command::DeleteDsdRoleMember {
-            set: first,
-            role: second,
-        },
+        "addInheritance" => Command::AddInheritance { asc, desc },
+        "deleteInheritance" => Command::DeleteInheritance { asc, desc },
+        "addAscendant" => Command::AddAscendant { asc, desc },
+        "addDescendant" => Command::AddDescendant { asc, desc },
+        _ => return of_member(function, asc, desc),
+    })
+}
+
+fn of_member(function: &str, set: Name, role: Name) -> Result<Command, Refusal> {
+    Ok(match function {
+        "addSsdRoleMember" => Command::AddSsdRoleMember { set, role },
+        "deleteSsdRoleMember" => Command::DeleteSsdRoleMember { set, role },
+        "addDsdRoleMember" => Command::AddDsdRoleMember { set, role },
+        "deleteDsdRoleMember" => Command::DeleteDsdRoleMember { set, role },
         _ => return Err(Refusal::BadRequest),
     })
 }

@@ -2,6 +2,7 @@
 //!
 //! The test passes where memory is ample. `tests/refused.sh` runs it with each allocation refused in
 //! turn, one in a run.
+use super::beginnings::SMALL_OFFICE;
 use super::script::obey;
 use super::showing::show_state;
 use crate::State;
@@ -10,61 +11,43 @@ use std::alloc::Global;
 use std::process::Abort;
 use std::test::Fail;
 
-// Each command at least once, all of them accepted; some end sessions.
-const COMMANDS: [&str; 52] = [
-    "addUser ann",
-    "addUser bob",
-    "addRole boss",
-    "addRole clerk",
-    "addRole temp",
-    "addInheritance boss clerk",
-    "assignUser ann boss",
-    "assignUser bob clerk",
-    "addPermObj safe",
-    "addPermission safe open",
-    "addPermission safe view",
-    "grantPermission safe open clerk",
-    "grantPermission safe view boss",
-    "createSsdSet pay clerk,temp 2",
-    "createDsdSet till boss,temp 2",
-    "createSession ann boss s1",
-    "addActiveRole ann s1 clerk",
-    "dropActiveRole ann s1 clerk",
-    "createSession bob clerk s2",
-    "createSession bob - s3",
-    "addAscendant chief boss",
-    "addDescendant clerk aide",
-    "addRole spare",
-    "addSsdRoleMember pay spare",
-    "setSsdSetCardinality pay 3",
-    "setSsdSetCardinality pay 2",
-    "deleteSsdRoleMember pay spare",
-    "addDsdRoleMember till spare",
-    "setDsdSetCardinality till 3",
-    "setDsdSetCardinality till 2",
-    "deleteDsdRoleMember till spare",
-    "importAssignments bob/clerk bob/aide ann/temp bob/spare zed/aide",
-    "lockUserAccount bob",
-    "unlockUserAccount bob",
-    "createSession bob clerk,aide s2",
-    "createSession ann - s4",
-    "deleteSession ann s4",
-    "deassignUser bob clerk",
-    "createSession bob aide s2",
-    "deleteInheritance clerk aide",
-    "deleteInheritance boss clerk",
-    "revokePermission safe view boss",
-    "deletePermission safe open",
-    "deletePermission safe view",
-    "deletePermObj safe",
-    "deleteRole spare",
-    "deassignUser ann boss",
-    "deleteDsdSet till",
-    "deleteSsdSet pay",
-    "deleteRole temp",
-    "deleteRole aide",
-    "deleteUser bob",
-];
+// After the small office: with it each command at least once, all of them accepted; some end sessions.
+const COMMANDS: &str = "addActiveRole ann s1 clerk
+    dropActiveRole ann s1 clerk
+    createSession bob clerk s2
+    createSession bob - s3
+    addAscendant chief boss
+    addDescendant clerk aide
+    addRole spare
+    addSsdRoleMember pay spare
+    setSsdSetCardinality pay 3
+    setSsdSetCardinality pay 2
+    deleteSsdRoleMember pay spare
+    addDsdRoleMember till spare
+    setDsdSetCardinality till 3
+    setDsdSetCardinality till 2
+    deleteDsdRoleMember till spare
+    importAssignments bob/clerk bob/aide ann/temp bob/spare zed/aide
+    lockUserAccount bob
+    unlockUserAccount bob
+    createSession bob clerk,aide s2
+    createSession ann - s4
+    deleteSession ann s4
+    deassignUser bob clerk
+    createSession bob aide s2
+    deleteInheritance clerk aide
+    deleteInheritance boss clerk
+    revokePermission safe view boss
+    deletePermission safe open
+    deletePermission safe view
+    deletePermObj safe
+    deleteRole spare
+    deassignUser ann boss
+    deleteDsdSet till
+    deleteSsdSet pay
+    deleteRole temp
+    deleteRole aide
+    deleteUser bob";
 
 // What is left after them.
 const LEFT: &str = "users: ann
@@ -111,8 +94,10 @@ fn insist(rt: &impl Abort, alloc: Global, state: &mut State, text: &str) -> Resu
 fn refused_memory_changes_nothing(rt: HostRuntime) -> Result<(), Fail> {
     let alloc = rt.alloc();
     let mut state = State::empty(alloc);
-    for text in COMMANDS {
-        insist(&rt, alloc, &mut state, text)?;
+    for line in SMALL_OFFICE.lines().chain(COMMANDS.lines()) {
+        let line = line.trim();
+        let command = line.strip_suffix(" = 0").unwrap_or(line);
+        insist(&rt, alloc, &mut state, command)?;
     }
     assert_eq!(rt; show(alloc, &state)?.as_str(), LEFT);
     Ok(())

@@ -11,6 +11,7 @@ use super::showing::{show, show_changes, show_refusal, show_report};
 use crate::State;
 use rbac_sets::{Command, Refusal};
 use std::alloc::{AllocError, Global};
+use std::process::Abort;
 use std::test::Fail;
 
 // From how many bytes on no more faults are told.
@@ -43,14 +44,70 @@ fn apply(alloc: Global, state: &mut State, command: &Command) -> Result<Told, Re
     Ok(told)
 }
 
-// What is wrong in a script on an empty state of this version: nothing, or each line that was answered
-// otherwise with its answer.
-pub(super) fn faults(alloc: Global, version: u32, script: &str) -> Result<String, Fail> {
-    let state = if version == 1 {
-        State::empty_v1(alloc)
-    } else {
-        State::empty(alloc)
+// Runs scripts one after another from an empty state on, and asserts that each line is answered as it
+// says.
+pub(super) fn follows(rt: &(impl Abort + AllocGlobal), scripts: &[&str]) -> Result<(), Fail> {
+    follows_from(rt, State::empty(rt.alloc()), scripts)
+}
+
+// The same from an empty state of version 1.
+pub(super) fn follows_in_version_1(
+    rt: &(impl Abort + AllocGlobal),
+    scripts: &[&str],
+) -> Result<(), Fail> {
+    follows_from(rt, State::empty_v1(rt.alloc()), scripts)
+}
+
+fn follows_from(
+    rt: &(impl Abort + AllocGlobal),
+    state: State,
+    scripts: &[&str],
+) -> Result<(), Fail> {
+    let version = state.version();
+    let faults = faults(rt.alloc(), state, scripts)?;
+    assert_eq!(rt; faults.as_str(), "", "in version {version}");
+    Ok(())
+}
+
+// The two kinds of separation of duty sets.
+#[derive(Clone, Copy)]
+pub(super) enum Separation {
+    Static,
+    Dynamic,
+}
+
+// Runs scripts about sets of this kind: `Xsd` and `xsd` stand for `Ssd` and `ssd` or for `Dsd` and `dsd`,
+// and `violation` for the number of the refusal that tells a violated set.
+pub(super) fn follows_for(
+    rt: &(impl Abort + AllocGlobal),
+    kind: Separation,
+    scripts: &[&str],
+) -> Result<(), Fail> {
+    let (capital, small, violation) = match kind {
+        Separation::Static => ("Ssd", "ssd", "24"),
+        Separation::Dynamic => ("Dsd", "dsd", "25"),
     };
+    let mut text = String::new(rt.alloc());
+    for script in scripts {
+        let script = script.replace(rt.alloc(), "Xsd", capital)?;
+        let script = script.replace(rt.alloc(), "xsd", small)?;
+        text.push_str(&script.replace(rt.alloc(), "violation", violation)?)?;
+        text.push('\n')?;
+    }
+    follows(rt, &[text.as_str()])
+}
+
+// Runs scripts about static sets, and then about dynamic ones.
+pub(super) fn follows_for_both_kinds(
+    rt: &(impl Abort + AllocGlobal),
+    scripts: &[&str],
+) -> Result<(), Fail> {
+    follows_for(rt, Separation::Static, scripts)?;
+    follows_for(rt, Separation::Dynamic, scripts)
+}
+
+// What is wrong in scripts: nothing, or each line that was answered otherwise with its answer.
+fn faults(alloc: Global, state: State, scripts: &[&str]) -> Result<String, Fail> {
     let mut run = Run {
         alloc,
         state,
@@ -60,8 +117,10 @@ pub(super) fn faults(alloc: Global, version: u32, script: &str) -> Result<String
         },
         faults: String::new(alloc),
     };
-    for line in script.lines() {
-        run.check(line.trim())?;
+    for script in scripts {
+        for line in script.lines() {
+            run.check(line.trim())?;
+        }
     }
     Ok(run.faults)
 }

@@ -1,29 +1,11 @@
 //! A small office with something of everything.
-use super::script::faults;
+use super::beginnings::SMALL_OFFICE;
+use super::script::{follows, follows_in_version_1};
 use std::test::Fail;
 
 #[test]
 fn it_is_made_by_sixteen_commands(rt: HostRuntime) -> Result<(), Fail> {
-    let faults = faults(
-        rt.alloc(),
-        2,
-        "addUser ann = 0
-        addUser bob = 0
-        addRole boss = 0
-        addRole clerk = 0
-        addRole temp = 0
-        addInheritance boss clerk = 0
-        assignUser ann boss = 0
-        assignUser bob clerk = 0
-        addPermObj safe = 0
-        addPermission safe open = 0
-        addPermission safe view = 0
-        grantPermission safe open clerk = 0
-        grantPermission safe view boss = 0
-        createSsdSet pay clerk,temp 2 = 0
-        createDsdSet till boss,temp 2 = 0
-        createSession ann boss s1 = 0
-        rows: 6 names 12 pairs 2 grants 2 numbers 0 locked
+    let script = "rows: 6 names 12 pairs 2 grants 2 numbers 0 locked
         users: ann bob
         roles: boss clerk temp
         objects: safe
@@ -42,34 +24,13 @@ fn it_is_made_by_sixteen_commands(rt: HostRuntime) -> Result<(), Fail> {
         assignedRoles ann: boss
         sessionRoles s1: boss clerk
         seniors clerk: boss
-        juniors boss: clerk",
-    )?;
-    assert_eq!(rt; faults.as_str(), "");
-    Ok(())
+        juniors boss: clerk";
+    follows(&rt, &[SMALL_OFFICE, script])
 }
 
 #[test]
 fn it_changes(rt: HostRuntime) -> Result<(), Fail> {
-    let faults = faults(
-        rt.alloc(),
-        2,
-        "addUser ann = 0
-        addUser bob = 0
-        addRole boss = 0
-        addRole clerk = 0
-        addRole temp = 0
-        addInheritance boss clerk = 0
-        assignUser ann boss = 0
-        assignUser bob clerk = 0
-        addPermObj safe = 0
-        addPermission safe open = 0
-        addPermission safe view = 0
-        grantPermission safe open clerk = 0
-        grantPermission safe view boss = 0
-        createSsdSet pay clerk,temp 2 = 0
-        createDsdSet till boss,temp 2 = 0
-        createSession ann boss s1 = 0
-        deleteRole clerk = 17
+    let script = "deleteRole clerk = 17
         deletePermObj safe = 18
         addAscendant boss boss = 5
         addDescendant clerk aide = 0
@@ -83,34 +44,13 @@ fn it_changes(rt: HostRuntime) -> Result<(), Fail> {
         grants:
         deleteUser ann = 0
         changes: -user*1 -assignment*1 -session*1 -active*1
-        sessions:",
-    )?;
-    assert_eq!(rt; faults.as_str(), "");
-    Ok(())
+        sessions:";
+    follows(&rt, &[SMALL_OFFICE, script])
 }
 
 #[test]
 fn its_users_are_locked(rt: HostRuntime) -> Result<(), Fail> {
-    let faults = faults(
-        rt.alloc(),
-        2,
-        "addUser ann = 0
-        addUser bob = 0
-        addRole boss = 0
-        addRole clerk = 0
-        addRole temp = 0
-        addInheritance boss clerk = 0
-        assignUser ann boss = 0
-        assignUser bob clerk = 0
-        addPermObj safe = 0
-        addPermission safe open = 0
-        addPermission safe view = 0
-        grantPermission safe open clerk = 0
-        grantPermission safe view boss = 0
-        createSsdSet pay clerk,temp 2 = 0
-        createDsdSet till boss,temp 2 = 0
-        createSession ann boss s1 = 0
-        lockUserAccount ann = 0
+    let script = "lockUserAccount ann = 0
         changes: +locked*1 -session*1 -active*1
         sessions:
         createSession ann - s2 = 37
@@ -125,38 +65,15 @@ fn its_users_are_locked(rt: HostRuntime) -> Result<(), Fail> {
         addUser bob = 0
         createSession bob - s2 = 0
         sessions: s1/ann s2/bob
-        locked:",
-    )?;
-    assert_eq!(rt; faults.as_str(), "");
-    Ok(())
+        locked:";
+    follows(&rt, &[SMALL_OFFICE, script])
 }
 
 #[test]
 fn in_version_1_its_users_cannot_be_locked(rt: HostRuntime) -> Result<(), Fail> {
-    let faults = faults(
-        rt.alloc(),
-        1,
-        "addUser ann = 0
-        addUser bob = 0
-        addRole boss = 0
-        addRole clerk = 0
-        addRole temp = 0
-        addInheritance boss clerk = 0
-        assignUser ann boss = 0
-        assignUser bob clerk = 0
-        addPermObj safe = 0
-        addPermission safe open = 0
-        addPermission safe view = 0
-        grantPermission safe open clerk = 0
-        grantPermission safe view boss = 0
-        createSsdSet pay clerk,temp 2 = 0
-        createDsdSet till boss,temp 2 = 0
-        createSession ann boss s1 = 0
-        lockUserAccount ann = 51 1
+    let script = "lockUserAccount ann = 51 1
         unlockUserAccount ann = 51 1
         sessions: s1/ann
-        rows: 6 names 12 pairs 2 grants 2 numbers 0 locked",
-    )?;
-    assert_eq!(rt; faults.as_str(), "");
-    Ok(())
+        rows: 6 names 12 pairs 2 grants 2 numbers 0 locked";
+    follows_in_version_1(&rt, &[SMALL_OFFICE, script])
 }
