@@ -21,6 +21,11 @@ pub record Gathers {K J : Type 0} (Q : J → J → Ordering) (p : K → Bool) (f
   pub sorted : IsStrictlySortedBy Q entries
   pub all : from_list {R = Q} entries ≡ from_list {R = Q} (map f (filter p items))
 
+-- nothing is in order
+pub sorted_start : {J : Type 0} (Q : J → J → Ordering) (entries : List J) → entries ≡ [] → IsStrictlySortedBy Q entries
+unfolding IsStrictlySortedBy
+sorted_start Q entries none = subst (IsStrictlySortedBy Q) (sym none) tt
+
 module _ {K J : Type 0} {R : K → K → Ordering} {Q : J → J → Ordering} (total : IsTotalOrder R) (exact : IsAntisymmetric R) (totals : IsTotalOrder Q) (exacts : IsAntisymmetric Q) (p : K → Bool) (f : K → J) where
   pub gathers_none : Gathers Q p f [] []
   unfolding IsStrictlySortedBy
