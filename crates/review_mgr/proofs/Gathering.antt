@@ -21,13 +21,14 @@ pub record Gathers {K J : Type 0} (Q : J → J → Ordering) (p : K → Bool) (f
   pub sorted : IsStrictlySortedBy Q entries
   pub all : from_list {R = Q} entries ≡ from_list {R = Q} (map f (filter p items))
 
-module _ {K J : Type 0} {R : K → K → Ordering} {Q : J → J → Ordering} (total : IsTotalOrder R) (exact : IsAntisymmetric R) (totals : IsTotalOrder Q) (exacts : IsAntisymmetric Q) (p : K → Bool) (f : K → J) where
-  pub gathers_none : Gathers Q p f [] []
-  unfolding IsStrictlySortedBy
-  gathers_none = record { sorted = tt; all = refl }
+-- nothing is in order
+pub sorted_start : {J : Type 0} (Q : J → J → Ordering) (entries : List J) → entries ≡ [] → IsStrictlySortedBy Q entries
+unfolding IsStrictlySortedBy
+sorted_start Q entries none = subst (IsStrictlySortedBy Q) (sym none) tt
 
+module _ {K J : Type 0} {R : K → K → Ordering} {Q : J → J → Ordering} (total : IsTotalOrder R) (exact : IsAntisymmetric R) (totals : IsTotalOrder Q) (exacts : IsAntisymmetric Q) (p : K → Bool) (f : K → J) where
   pub gathers_start : (items : List K) (entries : List J) → entries ≡ [] → Gathers Q p f (take 0 items) entries
-  gathers_start items entries none = subst (Gathers Q p f []) (sym none) gathers_none
+  gathers_start items entries none = record { sorted = sorted_start Q entries none; all = ap (from_list {R = Q}) none }
 
   module _ (items : List K) (i : ℕ) (x : K) (within : i < length items) (is : x ≡ get_or items i x) where
     one_more : from_list {R = Q} (map f (filter p (take (i + 1) items))) ≡ cond (p x) (insert (from_list {R = Q} (map f (filter p (take i items)))) (f x)) (from_list {R = Q} (map f (filter p (take i items))))
@@ -61,15 +62,6 @@ module _ {K J : Type 0} {R : K → K → Ordering} {Q : J → J → Ordering} (t
 
 pub retain-always : {K : Type 0} {R : K → K → Ordering} (total : IsTotalOrder R) (exact : IsAntisymmetric R) (s : FinSet R) → retain s (λ (x : K). true) ≡ s
 retain-always total exact s = retain-all total exact s (λ x. true) (λ x h. refl)
-
--- the image under nothing is the set
-map-itself : {K : Type 0} (xs : List K) → map (λ (x : K). x) xs ≡ xs
-map-itself [] = refl
-map-itself (x ∷ xs) = ap (λ ys. x ∷ ys) (map-itself xs)
-
-pub image-itself : {K : Type 0} {R : K → K → Ordering} (total : IsTotalOrder R) (exact : IsAntisymmetric R) (s : FinSet R) → image {Q = R} (λ (x : K). x) s ≡ s
-unfolding image
-image-itself {R} total exact s = ap (from_list {R = R}) (map-itself (members s)) ∙ from_members total exact s
 
 -- ---- an entry is put where it stands in order, unless it is there
 

@@ -1,5 +1,7 @@
 //! Lists in byte order, gathered from the sets of a state.
-ghost use Rattle.std.specs.Prelude.{◌≡◌, ◌<◌, ◌≤◌, ◌||◌, length, IfOk, IfErr, OnOk};
+ghost use Rattle.std.specs.Prelude.{◌≡◌, ◌<◌, ◌≤◌, ◌||◌, Bool, length, IfOk, IfErr, OnOk};
+ghost use Rattle.std.specs.FinSet.{FinSet};
+ghost use Rattle.std.specs.Fn.{FnReturnsAt};
 ghost use Rattle.std.specs.List.{HoldsAt};
 ghost use Rattle.std.specs.List.Sorted.{IsStrictlySortedBy, IsPartitionPoint};
 ghost use Rattle.std.specs.declared.cmp.Ordering.TheVariants.{Less, Equal, Greater};
@@ -14,6 +16,26 @@ use rbac_sets::{CountSet, Entry, GrantSet, Name, PairSet, Probe, Refusal};
 use role_order::RoleOrder;
 use std::alloc::Global;
 
+// References to the parts of an entry, of which a copy can be made.
+trait Part<K: Entry>: Probe<K> {
+    // The entry of these parts, in memory of its own.
+    fn to_entry(self, alloc: Global) -> Result<K, Refusal>
+        ensures ok { IfOk result (λ entry. entry ≡ Self.entry self) }
+        ensures cause { IfErr result (λ refusal. refusal ≡ Refusal.Memory) };
+}
+
+impl<K: Entry> Part<K> for &K {
+    fn to_entry(self, alloc: Global) -> Result<K, Refusal> {
+        self.copy(alloc)
+    }
+}
+
+impl Part<(Name, Name)> for (&Name, &Name) {
+    fn to_entry(self, alloc: Global) -> Result<(Name, Name), Refusal> {
+        Ok((self.0.copy(alloc)?, self.1.copy(alloc)?))
+    }
+}
+
 // Where the entry is, or else where it would stand.
 fn place<K: Entry, P: Probe<K>>(entries: &[K], probe: P) -> Result<usize, usize>
     requires { IsStrictlySortedBy K.cmp entries.now }
@@ -24,35 +46,54 @@ fn place<K: Entry, P: Probe<K>>(entries: &[K], probe: P) -> Result<usize, usize>
     entries.binary_search_by(|entry| probe.compare(entry))
 }
 
-// Puts a copy of a name where it stands in byte order, unless it is there.
-pub(crate) fn put_name(alloc: Global, names: &mut Vec<Name>, name: &Name) -> Result<(), Refusal>
-    requires { IsStrictlySortedBy name_cmp names.old.items }
-    ensures sorted { OnOk result (IsStrictlySortedBy name_cmp names.new.items) }
-    ensures put { OnOk result (from_list {R = name_cmp} names.new.items ≡ insert (from_list names.old.items) name.now) }
+// Puts a copy of an entry where it stands in order, unless it is there.
+fn put<K: Entry, P: Part<K>>(alloc: Global, entries: &mut Vec<K>, part: P) -> Result<(), Refusal>
+    requires { IsStrictlySortedBy K.cmp entries.old.items }
+    ensures sorted { OnOk result (IsStrictlySortedBy K.cmp entries.new.items) }
+    ensures put { OnOk result (from_list {R = K.cmp} entries.new.items ≡ insert (from_list entries.old.items) (P.entry part)) }
     ensures cause { IfErr result (λ refusal. refusal ≡ Refusal.Memory) }
 {
-    if let Err(at) = place(names, name) {
-        names.insert(at, name.copy(alloc)?)?;
+    if let Err(at) = place(entries, part) {
+        entries.insert(at, part.to_entry(alloc)?)?;
     }
     Ok(())
 }
 
-// Puts a copy of a pair where it stands in byte order, unless it is there.
-pub(crate) fn put_pair(
+// What `part` gives of the items that pass the test, in order and each once.
+fn gather<'a, A: Entry, K: Entry, P: Part<K>, T: Fn(&A) -> bool, F: Fn(&'a A) -> P>(
     alloc: Global,
-    pairs: &mut Vec<(Name, Name)>,
-    first: &Name,
-    second: &Name,
-) -> Result<(), Refusal>
-    requires { IsStrictlySortedBy pair_cmp pairs.old.items }
-    ensures sorted { OnOk result (IsStrictlySortedBy pair_cmp pairs.new.items) }
-    ensures put { OnOk result (from_list {R = pair_cmp} pairs.new.items ≡ insert (from_list pairs.old.items) (first.now, second.now)) }
+    items: &'a [A],
+    test: T,
+    part: F,
+) -> Result<Vec<K>, Refusal>
+    requires test { T.IsAlwaysCallable test }
+    requires part { F.IsAlwaysCallable part }
+    ensures ok { (all : FinSet A.cmp) → items.now ≡ members all → (passes : A → Bool) → (gives : A → K)
+        → ((x : A) (b : Bool) → FnReturnsAt T.Fn test x b → b ≡ passes x) → ((x : A) (p : P) → FnReturnsAt F.Fn part x p → P.entry p ≡ gives x)
+        → IfOk result (λ entries. entries.items ≡ members (image {Q = K.cmp} gives (retain all passes))) }
     ensures cause { IfErr result (λ refusal. refusal ≡ Refusal.Memory) }
 {
-    if let Err(at) = place(pairs, (first, second)) {
-        pairs.insert(at, (first.copy(alloc)?, second.copy(alloc)?))?;
+    let mut entries = Vec::new(alloc);
+    for item in items {
+        if test(item) {
+            put(alloc, &mut entries, part(item))?;
+        }
     }
-    Ok(())
+    Ok(entries)
+}
+
+// What `part` gives of the items, in order and each once.
+fn gather_all<'a, A: Entry, K: Entry, P: Part<K>, F: Fn(&'a A) -> P>(
+    alloc: Global,
+    items: &'a [A],
+    part: F,
+) -> Result<Vec<K>, Refusal>
+    requires { F.IsAlwaysCallable part }
+    ensures ok { (all : FinSet A.cmp) → items.now ≡ members all → (gives : A → K) → ((x : A) (p : P) → FnReturnsAt F.Fn part x p → P.entry p ≡ gives x)
+        → IfOk result (λ entries. entries.items ≡ members (image {Q = K.cmp} gives all)) }
+    ensures cause { IfErr result (λ refusal. refusal ≡ Refusal.Memory) }
+{
+    gather(alloc, items, |_| true, part)
 }
 
 // The first names of the pairs that have this second name.
@@ -60,13 +101,12 @@ pub(crate) fn firsts_of(alloc: Global, pairs: &PairSet, second: &Name) -> Result
     ensures ok { IfOk result (λ names. names.items ≡ members (firsts (set_of pair_cmp pairs.now) second.now)) }
     ensures cause { IfErr result (λ refusal. refusal ≡ Refusal.Memory) }
 {
-    let mut names = Vec::new(alloc);
-    for pair in pairs.as_slice() {
-        if is_same(&pair.1, second) {
-            put_name(alloc, &mut names, &pair.0)?;
-        }
-    }
-    Ok(names)
+    gather(
+        alloc,
+        pairs.as_slice(),
+        |pair| is_same(&pair.1, second),
+        |pair| &pair.0,
+    )
 }
 
 // The second names of the pairs that have this first name.
@@ -74,11 +114,7 @@ pub(crate) fn seconds_of(alloc: Global, pairs: &PairSet, first: &Name) -> Result
     ensures ok { IfOk result (λ names. names.items ≡ members (seconds (set_of pair_cmp pairs.now) first.now)) }
     ensures cause { IfErr result (λ refusal. refusal ≡ Refusal.Memory) }
 {
-    let mut names = Vec::new(alloc);
-    for pair in pairs.with_first(first) {
-        put_name(alloc, &mut names, &pair.1)?;
-    }
-    Ok(names)
+    gather_all(alloc, pairs.with_first(first), |pair| &pair.1)
 }
 
 // The names of the sets that have a cardinality.
@@ -86,11 +122,7 @@ pub(crate) fn names_of(alloc: Global, cardinalities: &CountSet) -> Result<Vec<Na
     ensures ok { IfOk result (λ names. names.items ≡ members (image {Q = name_cmp} (λ (entry : Cardinality). entry.0) (set_of cardinality_cmp cardinalities.now))) }
     ensures cause { IfErr result (λ refusal. refusal ≡ Refusal.Memory) }
 {
-    let mut names = Vec::new(alloc);
-    for entry in cardinalities.as_slice() {
-        put_name(alloc, &mut names, &entry.0)?;
-    }
-    Ok(names)
+    gather_all(alloc, cardinalities.as_slice(), |entry| &entry.0)
 }
 
 // The users who are assigned the role or a role above it.
@@ -103,13 +135,12 @@ pub(crate) fn users_above(
     ensures ok { IfOk result (λ names. names.items ≡ members (image {Q = name_cmp} (λ (pair : Pair). pair.0) (retain (set_of pair_cmp assignments.now) (λ pair. geq order.now.edges pair.1 role.now)))) }
     ensures cause { IfErr result (λ refusal. refusal ≡ Refusal.Memory) }
 {
-    let mut users = Vec::new(alloc);
-    for pair in assignments.as_slice() {
-        if order.geq(&pair.1, role) {
-            put_name(alloc, &mut users, &pair.0)?;
-        }
-    }
-    Ok(users)
+    gather(
+        alloc,
+        assignments.as_slice(),
+        |pair| order.geq(&pair.1, role),
+        |pair| &pair.0,
+    )
 }
 
 // Puts a role and those below it where they stand in byte order, those that are not there.
@@ -124,9 +155,9 @@ fn put_below(
     ensures put { OnOk result ((q : Bytes) → contains (from_list {R = name_cmp} names.new.items) q ≡ (geq order.now.edges role.now q || contains (from_list {R = name_cmp} names.old.items) q)) }
     ensures cause { IfErr result (λ refusal. refusal ≡ Refusal.Memory) }
 {
-    put_name(alloc, names, role)?;
+    put(alloc, names, role)?;
     for pair in order.pairs().with_first(role) {
-        put_name(alloc, names, &pair.1)?;
+        put(alloc, names, &pair.1)?;
     }
     Ok(())
 }
@@ -166,13 +197,12 @@ pub(crate) fn permissions_below(
     ensures ok { IfOk result (λ pairs. pairs.items ≡ members (image {Q = pair_cmp} permission_of (retain (set_of triple_cmp grants.now) (λ grant. geq order.now.edges role.now grant.2)))) }
     ensures cause { IfErr result (λ refusal. refusal ≡ Refusal.Memory) }
 {
-    let mut permissions = Vec::new(alloc);
-    for grant in grants.as_slice() {
-        if order.geq(role, &grant.2) {
-            put_pair(alloc, &mut permissions, &grant.0, &grant.1)?;
-        }
-    }
-    Ok(permissions)
+    gather(
+        alloc,
+        grants.as_slice(),
+        |grant| order.geq(role, &grant.2),
+        |grant| (&grant.0, &grant.1),
+    )
 }
 
 // The permissions that are granted to a role which is reached from the second names of the pairs.
@@ -186,13 +216,12 @@ pub(crate) fn permissions_reached(
     ensures cause { IfErr result (λ refusal. refusal ≡ Refusal.Memory) }
 {
     let roles = roles_reached(alloc, order, held)?;
-    let mut permissions = Vec::new(alloc);
-    for grant in grants.as_slice() {
-        if has_name(&roles, &grant.2) {
-            put_pair(alloc, &mut permissions, &grant.0, &grant.1)?;
-        }
-    }
-    Ok(permissions)
+    gather(
+        alloc,
+        grants.as_slice(),
+        |grant| has_name(&roles, &grant.2),
+        |grant| (&grant.0, &grant.1),
+    )
 }
 
 // The operations of the grants of the object to the role or to one below it.
@@ -207,13 +236,12 @@ pub(crate) fn operations_below(
         (retain (retain (set_of triple_cmp grants.now) (λ grant. same_name grant.0 object.now)) (λ grant. geq order.now.edges role.now grant.2)))) }
     ensures cause { IfErr result (λ refusal. refusal ≡ Refusal.Memory) }
 {
-    let mut operations = Vec::new(alloc);
-    for grant in grants.with_first(object) {
-        if order.geq(role, &grant.2) {
-            put_name(alloc, &mut operations, &grant.1)?;
-        }
-    }
-    Ok(operations)
+    gather(
+        alloc,
+        grants.with_first(object),
+        |grant| order.geq(role, &grant.2),
+        |grant| &grant.1,
+    )
 }
 
 // The operations of the grants of the object to a role which is reached from the second names of the
@@ -229,13 +257,12 @@ pub(crate) fn operations_reached(
         (retain (retain (set_of triple_cmp grants.now) (λ grant. same_name grant.0 object.now)) (λ grant. is_reached order.now.edges held.now grant.2)))) }
     ensures cause { IfErr result (λ refusal. refusal ≡ Refusal.Memory) }
 {
-    let mut operations = Vec::new(alloc);
-    for grant in grants.with_first(object) {
-        if is_reached(order, held, &grant.2) {
-            put_name(alloc, &mut operations, &grant.1)?;
-        }
-    }
-    Ok(operations)
+    gather(
+        alloc,
+        grants.with_first(object),
+        |grant| is_reached(order, held, &grant.2),
+        |grant| &grant.1,
+    )
 }
 
 // The roles of the grants of the permission.
@@ -248,9 +275,9 @@ pub(crate) fn roles_granted(
     ensures ok { IfOk result (λ names. names.items ≡ members (image {Q = name_cmp} (λ (grant : Triple). grant.2) (retain (set_of triple_cmp grants.now) (is_grant_of object.now operation.now)))) }
     ensures cause { IfErr result (λ refusal. refusal ≡ Refusal.Memory) }
 {
-    let mut roles = Vec::new(alloc);
-    for grant in grants.with_first((object, operation)) {
-        put_name(alloc, &mut roles, &grant.2)?;
-    }
-    Ok(roles)
+    gather_all(
+        alloc,
+        grants.with_first((object, operation)),
+        |grant| &grant.2,
+    )
 }

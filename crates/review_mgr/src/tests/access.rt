@@ -1,11 +1,11 @@
 //! The access decision: which roles give it, and in which order what is missing is told.
-use super::script::faults;
-use super::small_office::SMALL_OFFICE;
+use super::beginnings::SMALL_OFFICE;
+use super::script::holds;
 use std::test::Fail;
 
 #[test]
 fn the_session_then_the_object_then_the_operation(rt: HostRuntime) -> Result<(), Fail> {
-    let faults = faults(
+    holds(
         rt.alloc(),
         &[
             SMALL_OFFICE,
@@ -17,14 +17,12 @@ fn the_session_then_the_object_then_the_operation(rt: HostRuntime) -> Result<(),
             checkAccess s2 open desk: refused 26
             checkAccess s2 burn desk: refused 26",
         ],
-    )?;
-    assert_eq!(rt; faults.as_str(), "");
-    Ok(())
+    )
 }
 
 #[test]
 fn an_operation_on_another_object_is_there(rt: HostRuntime) -> Result<(), Fail> {
-    let faults = faults(
+    holds(
         rt.alloc(),
         &[
             SMALL_OFFICE,
@@ -35,14 +33,12 @@ fn an_operation_on_another_object_is_there(rt: HostRuntime) -> Result<(), Fail> 
             deletePermission desk burn = 0
             checkAccess s1 burn safe: refused 33",
         ],
-    )?;
-    assert_eq!(rt; faults.as_str(), "");
-    Ok(())
+    )
 }
 
 #[test]
 fn access_is_by_the_active_roles_and_those_below(rt: HostRuntime) -> Result<(), Fail> {
-    let faults = faults(
+    holds(
         rt.alloc(),
         &[
             SMALL_OFFICE,
@@ -63,7 +59,5 @@ fn access_is_by_the_active_roles_and_those_below(rt: HostRuntime) -> Result<(), 
             checkAccess s1 open safe: false
             addInheritance clerk temp = 24",
         ],
-    )?;
-    assert_eq!(rt; faults.as_str(), "");
-    Ok(())
+    )
 }

@@ -1,16 +1,15 @@
 //! Users and the roles that they are assigned.
-use super::script::faults;
+use super::beginnings::{CLERK, TWO_WAYS};
+use super::script::holds;
 use std::test::Fail;
 
 #[test]
 fn assigned_users_are_those_that_were_assigned_last(rt: HostRuntime) -> Result<(), Fail> {
-    let faults = faults(
+    holds(
         rt.alloc(),
         &[
-            "addUser ann = 0
-            addRole clerk = 0
-            assignUser ann clerk = 0
-            assignedUsers clerk: [ann]
+            CLERK,
+            "assignedUsers clerk: [ann]
             assignUser ann clerk = 10
             deassignUser ann clerk = 0
             deassignUser ann clerk = 11
@@ -19,26 +18,20 @@ fn assigned_users_are_those_that_were_assigned_last(rt: HostRuntime) -> Result<(
             assignUser bob cook = 2
             assignedUsers clerk: []",
         ],
-    )?;
-    assert_eq!(rt; faults.as_str(), "");
-    Ok(())
+    )
 }
 
 #[test]
 fn lists_are_in_byte_order_and_name_nothing_twice(rt: HostRuntime) -> Result<(), Fail> {
-    let faults = faults(
+    holds(
         rt.alloc(),
         &[
+            TWO_WAYS,
             "addUser b = 0
             addUser a = 0
             addUser ab = 0
             addUser B = 0
             addUser \u{e4} = 0
-            addRole top = 0
-            addDescendant top left = 0
-            addDescendant top right = 0
-            addDescendant left low = 0
-            addInheritance right low = 0
             assignUser b left = 0
             assignUser b right = 0
             assignUser \u{e4} top = 0
@@ -52,14 +45,12 @@ fn lists_are_in_byte_order_and_name_nothing_twice(rt: HostRuntime) -> Result<(),
             authorizedRoles \u{e4}: [left low right top]
             assignedRoles b: [left right]",
         ],
-    )?;
-    assert_eq!(rt; faults.as_str(), "");
-    Ok(())
+    )
 }
 
 #[test]
 fn permissions_are_those_of_all_roles_below(rt: HostRuntime) -> Result<(), Fail> {
-    let faults = faults(
+    holds(
         rt.alloc(),
         &[
             "addUser ann = 0
@@ -93,7 +84,5 @@ fn permissions_are_those_of_all_roles_below(rt: HostRuntime) -> Result<(), Fail>
             permissionRoles safe open: [low top]
             permissionRoles safe view: [aside mid]",
         ],
-    )?;
-    assert_eq!(rt; faults.as_str(), "");
-    Ok(())
+    )
 }

@@ -1,6 +1,6 @@
 //! The role report byte for byte, into sinks that take all, little or nothing.
-use super::script::state_after;
-use super::small_office::SMALL_OFFICE;
+use super::beginnings::{SMALL_OFFICE, TWO_WAYS};
+use super::script::after;
 use crate::report_roles;
 use admin_mgr::State;
 use rbac_sets::{Fault, MemorySink, Sink};
@@ -74,7 +74,7 @@ fn code(alloc: Global, state: &State, sink: &mut Narrow) -> u32 {
 #[test]
 fn the_small_office_is_reported(rt: HostRuntime) -> Result<(), Fail> {
     let alloc = rt.alloc();
-    let state = state_after(alloc, SMALL_OFFICE)?;
+    let state = after(alloc, State::empty(alloc), &[SMALL_OFFICE])?;
     let mut sink = MemorySink::new(alloc);
     report_roles(alloc, &state, &mut sink)?;
     assert_eq!(rt; sink.as_slice(), REPORT.as_bytes());
@@ -95,16 +95,14 @@ fn an_office_without_roles_has_the_heading_alone(rt: HostRuntime) -> Result<(), 
 #[test]
 fn the_counts_follow_the_hierarchy(rt: HostRuntime) -> Result<(), Fail> {
     let alloc = rt.alloc();
-    let state = state_after(
+    let state = after(
         alloc,
-        "addUser a = 0
+        State::empty(alloc),
+        &[
+            TWO_WAYS,
+            "addUser a = 0
         addUser b = 0
         addUser c = 0
-        addRole top = 0
-        addDescendant top left = 0
-        addDescendant top right = 0
-        addDescendant left low = 0
-        addInheritance right low = 0
         assignUser a top = 0
         assignUser a left = 0
         assignUser b left = 0
@@ -116,6 +114,7 @@ fn the_counts_follow_the_hierarchy(rt: HostRuntime) -> Result<(), Fail> {
         grantPermission x p low = 0
         grantPermission x p left = 0
         grantPermission x q right = 0",
+        ],
     )?;
     let want = "    assigned  authorized     granted   permitted     juniors     seniors  role
            2           2           1           1           1           1  left
@@ -132,7 +131,7 @@ fn the_counts_follow_the_hierarchy(rt: HostRuntime) -> Result<(), Fail> {
 #[test]
 fn a_sink_may_take_a_few_bytes_a_call(rt: HostRuntime) -> Result<(), Fail> {
     let alloc = rt.alloc();
-    let state = state_after(alloc, SMALL_OFFICE)?;
+    let state = after(alloc, State::empty(alloc), &[SMALL_OFFICE])?;
     for most in [1, 2, 7, 80, 8_192] {
         let mut sink = Narrow::new(alloc, most, u64::MAX);
         assert_eq!(rt; code(alloc, &state, &mut sink), 0, "at {most}");
@@ -144,7 +143,7 @@ fn a_sink_may_take_a_few_bytes_a_call(rt: HostRuntime) -> Result<(), Fail> {
 #[test]
 fn a_sink_that_takes_nothing_is_a_store_that_refuses(rt: HostRuntime) -> Result<(), Fail> {
     let alloc = rt.alloc();
-    let state = state_after(alloc, SMALL_OFFICE)?;
+    let state = after(alloc, State::empty(alloc), &[SMALL_OFFICE])?;
     let mut sink = Narrow::new(alloc, 0, u64::MAX);
     assert_eq!(rt; code(alloc, &state, &mut sink), 41);
     assert!(rt; sink.bytes.is_empty());
@@ -155,7 +154,7 @@ fn a_sink_that_takes_nothing_is_a_store_that_refuses(rt: HostRuntime) -> Result<
 #[test]
 fn a_write_that_fails_is_told_wherever_it_is(rt: HostRuntime) -> Result<(), Fail> {
     let alloc = rt.alloc();
-    let state = state_after(alloc, SMALL_OFFICE)?;
+    let state = after(alloc, State::empty(alloc), &[SMALL_OFFICE])?;
     let report = REPORT.as_bytes();
     for most in [1, 30, 8_192] {
         let mut done = false;

@@ -15,12 +15,18 @@ use std::test::Fail;
 // From how many bytes on no more faults are told.
 const ENOUGH: usize = 1_000;
 
-// What is wrong in scripts, run one after another from an empty state on: nothing, or each line that was
-// answered otherwise with its answer.
-pub(super) fn faults(alloc: Global, scripts: &[&str]) -> Result<String, Fail> {
+// Runs scripts one after another from an empty state on. It fails with each line that is answered
+// otherwise.
+pub(super) fn holds(alloc: Global, scripts: &[&str]) -> Result<(), Fail> {
+    after(alloc, State::empty(alloc), scripts)?;
+    Ok(())
+}
+
+// Runs scripts so from this state on, and gives the state after them.
+pub(super) fn after(alloc: Global, state: State, scripts: &[&str]) -> Result<State, Fail> {
     let mut run = Run {
         alloc,
-        state: State::empty(alloc),
+        state,
         faults: String::new(alloc),
     };
     for script in scripts {
@@ -28,27 +34,14 @@ pub(super) fn faults(alloc: Global, scripts: &[&str]) -> Result<String, Fail> {
             run.check(line.trim())?;
         }
     }
-    Ok(run.faults)
-}
-
-// The state after the commands of a script.
-pub(super) fn state_after(alloc: Global, script: &str) -> Result<State, Fail> {
-    let mut run = Run {
-        alloc,
-        state: State::empty(alloc),
-        faults: String::new(alloc),
-    };
-    for line in script.lines() {
-        run.check(line.trim())?;
-    }
     if run.faults.is_empty() {
         Ok(run.state)
     } else {
-        Err(Fail::new("a command is answered otherwise"))
+        Err(Fail::new(run.faults))
     }
 }
 
-// A script that is run.
+// Scripts that are run: the state, and each line that was answered otherwise with its answer.
 #[derive(Drop)]
 struct Run {
     alloc: Global,

@@ -1,19 +1,17 @@
 //! Sessions, their activated roles, and what ends them.
-use super::script::faults;
+use super::beginnings::{CLERK, SAFE};
+use super::script::holds;
 use std::test::Fail;
 
 #[test]
 fn access_comes_and_goes_with_the_activated_role(rt: HostRuntime) -> Result<(), Fail> {
-    let faults = faults(
+    holds(
         rt.alloc(),
         &[
-            "addUser ann = 0
-            addRole clerk = 0
-            addRole teller = 0
-            assignUser ann clerk = 0
+            CLERK,
+            SAFE,
+            "addRole teller = 0
             assignUser ann teller = 0
-            addPermObj safe = 0
-            addPermission safe open = 0
             grantPermission safe open teller = 0
             createSession ann clerk s1 = 0
             checkAccess s1 open safe: false
@@ -26,65 +24,52 @@ fn access_comes_and_goes_with_the_activated_role(rt: HostRuntime) -> Result<(), 
             checkAccess s1 burn safe: refused 33
             checkAccess s1 burn desk: refused 6",
         ],
-    )?;
-    assert_eq!(rt; faults.as_str(), "");
-    Ok(())
+    )
 }
 
 #[test]
 fn a_session_ends_with_the_assignment_that_it_needs(rt: HostRuntime) -> Result<(), Fail> {
-    let faults = faults(
+    holds(
         rt.alloc(),
         &[
-            "addUser ann = 0
-            addRole clerk = 0
-            assignUser ann clerk = 0
-            addPermObj safe = 0
-            addPermission safe open = 0
-            grantPermission safe open clerk = 0
+            CLERK,
+            SAFE,
+            "grantPermission safe open clerk = 0
             createSession ann clerk s1 = 0
             checkAccess s1 open safe: true
             deassignUser ann clerk = 0
             checkAccess s1 open safe: refused 26
             sessionRoles s1: refused 26",
         ],
-    )?;
-    assert_eq!(rt; faults.as_str(), "");
-    Ok(())
+    )
 }
 
 #[test]
 fn a_session_goes_on_where_another_assignment_serves(rt: HostRuntime) -> Result<(), Fail> {
-    let faults = faults(
+    holds(
         rt.alloc(),
         &[
-            "addUser ann = 0
-            addRole boss = 0
-            addRole clerk = 0
+            CLERK,
+            "addRole boss = 0
             addInheritance boss clerk = 0
             assignUser ann boss = 0
-            assignUser ann clerk = 0
             createSession ann clerk s1 = 0
             deassignUser ann clerk = 0
             sessionRoles s1: [clerk]
             assignedRoles ann: [boss]
             authorizedRoles ann: [boss clerk]",
         ],
-    )?;
-    assert_eq!(rt; faults.as_str(), "");
-    Ok(())
+    )
 }
 
 #[test]
 fn a_session_has_no_roles_but_its_own(rt: HostRuntime) -> Result<(), Fail> {
-    let faults = faults(
+    holds(
         rt.alloc(),
         &[
-            "addUser ann = 0
-            addUser bob = 0
-            addRole clerk = 0
+            CLERK,
+            "addUser bob = 0
             addRole temp = 0
-            assignUser ann clerk = 0
             createSession ann clerk s1 = 0
             createSession ann - s1 = 27
             deleteSession bob s1 = 28
@@ -100,14 +85,12 @@ fn a_session_has_no_roles_but_its_own(rt: HostRuntime) -> Result<(), Fail> {
             sessionRoles s1: refused 26
             sessionRoles s2: []",
         ],
-    )?;
-    assert_eq!(rt; faults.as_str(), "");
-    Ok(())
+    )
 }
 
 #[test]
 fn a_junior_that_is_active_beside_its_senior_counts_once(rt: HostRuntime) -> Result<(), Fail> {
-    let faults = faults(
+    holds(
         rt.alloc(),
         &[
             "addUser ann = 0
@@ -122,7 +105,5 @@ fn a_junior_that_is_active_beside_its_senior_counts_once(rt: HostRuntime) -> Res
             dropActiveRole ann s1 clerk = 0
             sessionRoles s1: []",
         ],
-    )?;
-    assert_eq!(rt; faults.as_str(), "");
-    Ok(())
+    )
 }

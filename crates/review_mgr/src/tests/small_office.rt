@@ -1,28 +1,11 @@
 //! A small office with something of everything, and what is asked of it.
-use super::script::faults;
+use super::beginnings::SMALL_OFFICE;
+use super::script::holds;
 use std::test::Fail;
-
-// The commands that make the office.
-pub(super) const SMALL_OFFICE: &str = "addUser ann = 0
-    addUser bob = 0
-    addRole boss = 0
-    addRole clerk = 0
-    addRole temp = 0
-    addInheritance boss clerk = 0
-    assignUser ann boss = 0
-    assignUser bob clerk = 0
-    addPermObj safe = 0
-    addPermission safe open = 0
-    addPermission safe view = 0
-    grantPermission safe open clerk = 0
-    grantPermission safe view boss = 0
-    createSsdSet pay clerk,temp 2 = 0
-    createDsdSet till boss,temp 2 = 0
-    createSession ann boss s1 = 0";
 
 #[test]
 fn each_question_is_answered(rt: HostRuntime) -> Result<(), Fail> {
-    let faults = faults(
+    holds(
         rt.alloc(),
         &[
             SMALL_OFFICE,
@@ -45,14 +28,12 @@ fn each_question_is_answered(rt: HostRuntime) -> Result<(), Fail> {
             dsdRoleSetCardinality till: 2
             permissionRoles safe open: [clerk]",
         ],
-    )?;
-    assert_eq!(rt; faults.as_str(), "");
-    Ok(())
+    )
 }
 
 #[test]
 fn nothing_is_an_answer_too(rt: HostRuntime) -> Result<(), Fail> {
-    let faults = faults(
+    holds(
         rt.alloc(),
         &[
             SMALL_OFFICE,
@@ -73,14 +54,12 @@ fn nothing_is_an_answer_too(rt: HostRuntime) -> Result<(), Fail> {
             permissionRoles desk view: []
             checkAccess s2 open safe: false",
         ],
-    )?;
-    assert_eq!(rt; faults.as_str(), "");
-    Ok(())
+    )
 }
 
 #[test]
 fn what_is_missing_is_refused(rt: HostRuntime) -> Result<(), Fail> {
-    let faults = faults(
+    holds(
         rt.alloc(),
         &[
             SMALL_OFFICE,
@@ -106,14 +85,12 @@ fn what_is_missing_is_refused(rt: HostRuntime) -> Result<(), Fail> {
             permissionRoles desk open: refused 6
             permissionRoles safe burn: refused 8",
         ],
-    )?;
-    assert_eq!(rt; faults.as_str(), "");
-    Ok(())
+    )
 }
 
 #[test]
 fn the_first_that_is_missing_is_told(rt: HostRuntime) -> Result<(), Fail> {
-    let faults = faults(
+    holds(
         rt.alloc(),
         &[
             SMALL_OFFICE,
@@ -121,14 +98,12 @@ fn the_first_that_is_missing_is_told(rt: HostRuntime) -> Result<(), Fail> {
             userOperationsOnObject zed desk: refused 2
             permissionRoles desk burn: refused 6",
         ],
-    )?;
-    assert_eq!(rt; faults.as_str(), "");
-    Ok(())
+    )
 }
 
 #[test]
 fn a_name_of_another_kind_is_missing(rt: HostRuntime) -> Result<(), Fail> {
-    let faults = faults(
+    holds(
         rt.alloc(),
         &[
             SMALL_OFFICE,
@@ -154,14 +129,12 @@ fn a_name_of_another_kind_is_missing(rt: HostRuntime) -> Result<(), Fail> {
             checkAccess ann open safe: refused 26
             checkAccess s1 clerk safe: refused 33",
         ],
-    )?;
-    assert_eq!(rt; faults.as_str(), "");
-    Ok(())
+    )
 }
 
 #[test]
 fn answers_change_with_the_office(rt: HostRuntime) -> Result<(), Fail> {
-    let faults = faults(
+    holds(
         rt.alloc(),
         &[
             SMALL_OFFICE,
@@ -183,14 +156,12 @@ fn answers_change_with_the_office(rt: HostRuntime) -> Result<(), Fail> {
             sessionRoles s1: refused 26
             authorizedUsers aide: [bob]",
         ],
-    )?;
-    assert_eq!(rt; faults.as_str(), "");
-    Ok(())
+    )
 }
 
 #[test]
 fn a_locked_user_keeps_its_roles(rt: HostRuntime) -> Result<(), Fail> {
-    let faults = faults(
+    holds(
         rt.alloc(),
         &[
             SMALL_OFFICE,
@@ -212,7 +183,5 @@ fn a_locked_user_keeps_its_roles(rt: HostRuntime) -> Result<(), Fail> {
             createSession bob - s2 = 0
             sessionRoles s2: []",
         ],
-    )?;
-    assert_eq!(rt; faults.as_str(), "");
-    Ok(())
+    )
 }

@@ -1,27 +1,10 @@
-use Rattle.std.proofs.Common.{sym, ◌∙◌}
+use Rattle.std.proofs.Common.{rules}
 use Rattle.rbac_sets.specs.Sets.{Triple, triple_cmp}
 use Rattle.rbac_sets.specs.SortedSet.{set_of}
-use Rattle.rbac_sets.specs.NameOrder.{pair_exact, pair_total, triple_exact, triple_total}
 use Rattle.role_order.specs.Order.{geq}
 use Rattle.review_mgr.specs.Review.{permission_of}
-use Rattle.review_mgr.proofs.Gathering.{gathers_start, gathers_put, gathers_skip, gathered-members}
 use Rattle.review_mgr.proofs.gather.permissions_below.Goals as goal
-use Rattle.review_mgr.proofs.gather.permissions_below.Goals.{then-geq+in_ok-put_pair, else-geq}
-
-pub loop-grant-init : goal.loop-grant-init
-loop-grant-init c = gathers_start triple_total triple_exact pair_total pair_exact (λ (grant : Triple). geq c.args.order.now.edges c.args.role.now grant.2) (permission_of) c.as_slice-grant-items.result.now _ cc
-
-pub put_pair-requires : goal.put_pair-requires
-put_pair-requires c = c.loop-grant.invariant.sorted
-
-pub loop-grant-preserved : goal.loop-grant-preserved
-loop-grant-preserved c =
-    elim c.if-geq.branch [
-      | then-geq+in_ok-put_pair w ↦ rw w.permissions-is
-          (gathers_put triple_total triple_exact pair_total pair_exact (λ (grant : Triple). geq c.args.order.now.edges c.args.role.now grant.2) (permission_of) c.as_slice-grant-items.result.now c.loop-grant.grant-index c.grant-item.result c.loop-grant-test.true c.grant-item.is _ _ c.loop-grant.invariant (sym c.geq.ensures.test ∙ w.if-geq.true) w.in_ok-put_pair.ensures.sorted w.in_ok-put_pair.ensures.put)
-      | else-geq w ↦ rw w.permissions-is (gathers_skip triple_total triple_exact pair_total pair_exact (λ (grant : Triple). geq c.args.order.now.edges c.args.role.now grant.2) (permission_of) c.as_slice-grant-items.result.now c.loop-grant.grant-index c.grant-item.result c.loop-grant-test.true c.grant-item.is _ c.loop-grant.invariant (sym c.geq.ensures.test ∙ w.if-geq.false))
-    ]
 
 pub returns-clause-ok : goal.returns-clause-ok
 returns-clause-ok c =
-    gathered-members triple_total triple_exact pair_total pair_exact (λ (grant : Triple). geq c.args.order.now.edges c.args.role.now grant.2) (permission_of) (set_of triple_cmp c.args.grants.now) _ c.loop-grant.grant-index _ c.as_slice-grant-items.ensures c.loop-grant-test.false c.loop-grant.invariant
+    c.gather.ensures.ok (set_of triple_cmp c.args.grants.now) c.as_slice.ensures (λ (grant : Triple). geq c.args.order.now.edges c.args.role.now grant.2) permission_of (λ x b k. search rules) (λ x p k. search rules)
