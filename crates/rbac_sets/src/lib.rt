@@ -12,7 +12,7 @@ pub use refusal::Refusal;
 pub use row::{Change, Row};
 pub use sets::{CountSet, GrantSet, NameSet, PairSet};
 pub use sink::{MemorySink, Sink, Writer, write_all};
-pub use sorted_set::{Entry, Prefix, Probe, SortedSet};
+pub use sorted_set::{Entry, Prefix, Probe, SortedSet, place};
 pub use source::{Fault, MemorySource, Reader, Source};
 
 pub mod command;

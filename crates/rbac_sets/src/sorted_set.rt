@@ -253,8 +253,12 @@ impl<K: Entry> Probe<K> for &K {
     }
 }
 
-// Where the entry is, or else where it would stand.
-fn place<K: Entry, P: Probe<K>>(entries: &[K], probe: P) -> Result<usize, usize>
+/// Where the entry that `probe` looks for stands in entries in order, or else where it would stand.
+///
+/// # Errors
+///
+/// The place at which the entry would have to be inserted, where it is not there.
+pub fn place<K: Entry, P: Probe<K>>(entries: &[K], probe: P) -> Result<usize, usize>
     requires { IsStrictlySortedBy K.cmp entries.now }
     ensures found { IfOk result (λ i. (i < length entries.now) × HoldsAt (λ y. K.cmp y (P.entry probe) ≡ Equal) entries.now i) }
     ensures gap { IfErr result (λ i. (i ≤ length entries.now)

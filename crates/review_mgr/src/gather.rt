@@ -1,10 +1,8 @@
 //! Lists in byte order, gathered from the sets of a state.
-ghost use Rattle.std.specs.Prelude.{◌≡◌, ◌<◌, ◌≤◌, ◌||◌, Bool, length, IfOk, IfErr, OnOk};
+ghost use Rattle.std.specs.Prelude.{◌≡◌, ◌||◌, Bool, IfOk, IfErr, OnOk};
 ghost use Rattle.std.specs.FinSet.{FinSet};
 ghost use Rattle.std.specs.Fn.{FnReturnsAt};
-ghost use Rattle.std.specs.List.{HoldsAt};
-ghost use Rattle.std.specs.List.Sorted.{IsStrictlySortedBy, IsPartitionPoint};
-ghost use Rattle.std.specs.declared.cmp.Ordering.TheVariants.{Less, Equal, Greater};
+ghost use Rattle.std.specs.List.Sorted.{IsStrictlySortedBy};
 ghost use Rattle.rbac_sets.specs.Sets.{Bytes, Cardinality, Pair, Triple, cardinality_cmp, contains, firsts, from_list, image, insert, members, name_cmp, pair_cmp, retain, same_name, seconds, triple_cmp};
 ghost use Rattle.rbac_sets.specs.SortedSet.{set_of};
 ghost use Rattle.role_order.specs.Order.{geq};
@@ -12,7 +10,7 @@ ghost use Rattle.admin_mgr.specs.Held.{is_reached};
 ghost use Rattle.review_mgr.specs.Review.{is_grant_of, permission_of};
 
 use crate::lookup::{is_reached, is_same};
-use rbac_sets::{CountSet, Entry, GrantSet, Name, PairSet, Probe, Refusal};
+use rbac_sets::{CountSet, Entry, GrantSet, Name, PairSet, Probe, Refusal, place};
 use role_order::RoleOrder;
 use std::alloc::Global;
 
@@ -34,16 +32,6 @@ impl Part<(Name, Name)> for (&Name, &Name) {
     fn to_entry(self, alloc: Global) -> Result<(Name, Name), Refusal> {
         Ok((self.0.copy(alloc)?, self.1.copy(alloc)?))
     }
-}
-
-// Where the entry is, or else where it would stand.
-fn place<K: Entry, P: Probe<K>>(entries: &[K], probe: P) -> Result<usize, usize>
-    requires { IsStrictlySortedBy K.cmp entries.now }
-    ensures found { IfOk result (λ i. (i < length entries.now) × HoldsAt (λ y. K.cmp y (P.entry probe) ≡ Equal) entries.now i) }
-    ensures gap { IfErr result (λ i. (i ≤ length entries.now)
-        × IsPartitionPoint (λ y. K.cmp y (P.entry probe) ≡ Less) (λ y. K.cmp y (P.entry probe) ≡ Greater) entries.now i) }
-{
-    entries.binary_search_by(|entry| probe.compare(entry))
 }
 
 // Puts a copy of an entry where it stands in order, unless it is there.

@@ -9,6 +9,7 @@
 use super::naming::read_command;
 use super::showing::{show, show_changes, show_refusal, show_report};
 use crate::State;
+use crate::separation_of_duty::SeparationOfDuty;
 use rbac_sets::{Command, Refusal};
 use std::alloc::{AllocError, Global};
 use std::process::Abort;
@@ -69,23 +70,16 @@ fn follows_from(
     Ok(())
 }
 
-// The two kinds of separation of duty sets.
-#[derive(Clone, Copy)]
-pub(super) enum Separation {
-    Static,
-    Dynamic,
-}
-
 // Runs scripts about sets of this kind: `Xsd` and `xsd` stand for `Ssd` and `ssd` or for `Dsd` and `dsd`,
 // and `violation` for the number of the refusal that tells a violated set.
 pub(super) fn follows_for(
     rt: &(impl Abort + AllocGlobal),
-    kind: Separation,
+    duty: SeparationOfDuty,
     scripts: &[&str],
 ) -> Result<(), Fail> {
-    let (capital, small, violation) = match kind {
-        Separation::Static => ("Ssd", "ssd", "24"),
-        Separation::Dynamic => ("Dsd", "dsd", "25"),
+    let (capital, small, violation) = match duty {
+        SeparationOfDuty::Static => ("Ssd", "ssd", "24"),
+        SeparationOfDuty::Dynamic => ("Dsd", "dsd", "25"),
     };
     let mut text = String::new(rt.alloc());
     for script in scripts {
@@ -102,8 +96,8 @@ pub(super) fn follows_for_both_kinds(
     rt: &(impl Abort + AllocGlobal),
     scripts: &[&str],
 ) -> Result<(), Fail> {
-    follows_for(rt, Separation::Static, scripts)?;
-    follows_for(rt, Separation::Dynamic, scripts)
+    follows_for(rt, SeparationOfDuty::Static, scripts)?;
+    follows_for(rt, SeparationOfDuty::Dynamic, scripts)
 }
 
 // What is wrong in scripts: nothing, or each line that was answered otherwise with its answer.

@@ -1,6 +1,7 @@
 //! What holds for static and for dynamic separation of duty sets alike.
 use super::beginnings::STAFF;
-use super::script::{Separation, follows_for, follows_for_both_kinds};
+use super::script::{follows_for, follows_for_both_kinds};
+use crate::separation_of_duty::SeparationOfDuty;
 use std::test::Fail;
 
 #[test]
@@ -87,9 +88,13 @@ fn a_set_may_not_be_made_over_what_is_had(rt: HostRuntime) -> Result<(), Fail> {
         xsdSets: aid/2 pay/2
         xsdMembers: aid/boss aid/clerk aid/temp pay/approver pay/clerk pay/temp";
     let taken = "deassignUser ann approver = 0";
-    follows_for(&rt, Separation::Static, &[STAFF, script, taken, end])?;
+    follows_for(&rt, SeparationOfDuty::Static, &[STAFF, script, taken, end])?;
     let dropped = "dropActiveRole ann s1 approver = 0";
-    follows_for(&rt, Separation::Dynamic, &[STAFF, script, dropped, end])
+    follows_for(
+        &rt,
+        SeparationOfDuty::Dynamic,
+        &[STAFF, script, dropped, end],
+    )
 }
 
 #[test]
