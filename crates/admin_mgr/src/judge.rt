@@ -1,6 +1,7 @@
 //! Whether a command is accepted, and else which refusal is told.
 //!
-//! There is one function for each command, and `judge` for any. Its answer is the verdict itself: the
+//! There is one function for each command, or for the same command on static and on dynamic sets, and
+//! `judge` for any. Its answer is the verdict itself: the
 //! first of the command's refusals that holds, and `None` where the command is accepted. The state is
 //! never copied: what separation of duty says of the state after the command is found from the state
 //! before it.
@@ -40,7 +41,8 @@ pub(crate) mod set_refusals;
 ///
 /// # Errors
 ///
-/// Where memory for the name of a violated separation of duty set was refused.
+/// Where memory was refused, for the name of a violated separation of duty set or for the list of who
+/// reaches the ascendant of a new inheritance.
 pub fn judge(alloc: Global, state: &State, command: &Command) -> Result<Option<Refusal>, AllocError>
     ensures { IfOk result (λ found. found ≡ verdict state.now.facts command.now) }
 {
