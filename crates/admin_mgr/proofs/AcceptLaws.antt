@@ -8,6 +8,7 @@ use Rattle.rbac_sets.specs.NameOrder.{name_total, name_exact, pair_total, pair_e
 use Rattle.rbac_sets.proofs.SetLaws.{any-Decides, contains-empty, same_set, tie_Decides}
 use Rattle.rbac_sets.specs.declared.row.Row.{Row}
 use Rattle.rbac_sets.specs.declared.row.Row.TheVariants.{NameRow, PairRow, GrantRow, SetRow, LockedRow}
+use Rattle.rbac_sets.specs.declared.row.TheConstants.Row.{INHERITANCE, CLOSURE_PAIR, STATIC_CARDINALITY, DYNAMIC_CARDINALITY}
 use Rattle.rbac_sets.specs.declared.refusal.Refusal.{Refusal}
 use Rattle.rbac_sets.specs.declared.refusal.Refusal.TheVariants.{TooMany, Memory, Damaged}
 use Rattle.role_order.specs.Order.{HasPair, geq, IsClosure}
@@ -59,7 +60,7 @@ known_of_good S good (LockedRow x) there =
 one_number : (S : RbacState) → IsGood S → (k : ℕ) (a : Bytes) (m n : ℕ) → has_row S (SetRow k a m) ≡ true → has_row S (SetRow k a n) ≡ true → m ≡ n
 unfolding has_row
 one_number S good k a m n here there =
-    let known : (nat_le 1 k && nat_le k 2) ≡ true = yes_or _ (λ unknown. true≢false (sym here ∙ unknown_set S k a m unknown)) in
+    let known : (nat_le STATIC_CARDINALITY k && nat_le k DYNAMIC_CARDINALITY) ≡ true = yes_or _ (λ unknown. true≢false (sym here ∙ unknown_set S k a m unknown)) in
     of_two (λ i. has_row S (SetRow i a m) ≡ true → has_row S (SetRow i a n) ≡ true → m ≡ n)
     (good.well_formed.ssd.one_cardinality a m n) (good.well_formed.dsd.one_cardinality a m n) k known here there
 
@@ -115,12 +116,12 @@ module _ (S : RbacState) (rows : List Row) (are : AreRowsOf S rows) where
   -- they make the edges of the state
   same_edges : (gathered S.version rows).facts.edges ≡ S.edges
   unfolding gathered has_row
-  same_edges = same_set pair_total pair_exact _ _ (λ pair. pairs_among 3 rows pair.0 pair.1 ∙ sym (are.rows_are (PairRow 3 pair.0 pair.1)))
+  same_edges = same_set pair_total pair_exact _ _ (λ pair. pairs_among INHERITANCE rows pair.0 pair.1 ∙ sym (are.rows_are (PairRow INHERITANCE pair.0 pair.1)))
 
   -- they have the pair of each role with one below it
   stored_pair : (a b : Bytes) → contains (gathered S.version rows).pairs (a, b) ≡ (geq S.edges a b && not (same_name a b))
   unfolding gathered has_row
-  stored_pair a b = pairs_among 4 rows a b ∙ sym (are.rows_are (PairRow 4 a b))
+  stored_pair a b = pairs_among CLOSURE_PAIR rows a b ∙ sym (are.rows_are (PairRow CLOSURE_PAIR a b))
 
   -- and these are the closure
   same_closure : IsClosure (gathered S.version rows).facts.edges (gathered S.version rows).pairs

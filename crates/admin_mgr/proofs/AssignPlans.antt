@@ -4,6 +4,7 @@ use Rattle.std.specs.Prelude.{None}
 use Rattle.rbac_sets.specs.Sets.{Bytes}
 use Rattle.rbac_sets.specs.declared.command.Command.TheVariants.{AssignUser}
 use Rattle.rbac_sets.specs.declared.row.Row.TheVariants.{PairRow}
+use Rattle.rbac_sets.specs.declared.row.TheConstants.Row.{ASSIGNMENT}
 use Rattle.rbac_sets.specs.declared.row.Change.TheVariants.{Put}
 use Rattle.admin_mgr.specs.RbacState.{RbacState}
 use Rattle.admin_mgr.specs.Run.{tally}
@@ -16,7 +17,7 @@ use Rattle.admin_mgr.proofs.GoodAssignment.{after_assign_user, good_after_assign
 use Rattle.admin_mgr.proofs.PlainPlans.{IsDoneByOne, done_by_one}
 
 -- the row of the user with the role is put
-pub done_assign_user : (S : RbacState) → IsGood S → (user role : Bytes) → verdict S (AssignUser user role) ≡ None → IsDoneByOne S (AssignUser user role) Put (PairRow 2 user role)
+pub done_assign_user : (S : RbacState) → IsGood S → (user role : Bytes) → verdict S (AssignUser user role) ≡ None → IsDoneByOne S (AssignUser user role) Put (PairRow ASSIGNMENT user role)
 unfolding tally changed
 done_assign_user S good user role accepted = done_by_one S (AssignUser user role) refl (after_assign_user S good user role accepted) (good_after_assign_user S good user role accepted) refl
-    Put (PairRow 2 user role) (steps_put_one assignment_rows S (user, role) (new_assignment S good user role accepted))
+    Put (PairRow ASSIGNMENT user role) (steps_put_one assignment_rows S (user, role) (new_assignment S good user role accepted))

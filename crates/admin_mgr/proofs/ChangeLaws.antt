@@ -12,6 +12,7 @@ use Rattle.rbac_sets.specs.NameOrder.{name_total, pair_total, triple_total, card
 use Rattle.rbac_sets.proofs.SetLaws.{contains-insert, contains-remove}
 use Rattle.rbac_sets.specs.declared.row.Row.{Row}
 use Rattle.rbac_sets.specs.declared.row.Row.TheVariants.{NameRow, PairRow, GrantRow, SetRow, LockedRow}
+use Rattle.rbac_sets.specs.declared.row.TheConstants.Row.{USER, ROLE, OBJECT, PERMISSION, ASSIGNMENT, STATIC_MEMBER, DYNAMIC_MEMBER, SESSION, ACTIVATED_ROLE, STATIC_CARDINALITY, DYNAMIC_CARDINALITY}
 use Rattle.rbac_sets.specs.declared.row.Change.{Change}
 use Rattle.rbac_sets.specs.declared.row.Change.TheVariants.{Put, Take}
 use Rattle.admin_mgr.specs.RbacState.{RbacState}
@@ -26,40 +27,40 @@ one_of : (P : ℕ → Type 0) (k n : ℕ) → P k → nat_eq n k ≡ true → P 
 one_of P k n at is = subst P (sym (eqb-true n k is)) at
 
 -- what holds at the three kinds of names holds at each kind that passes the test
-pub plain_names : (P : ℕ → Type 0) → P 1 → P 2 → P 3 → (kind : ℕ) → (nat_eq kind 1 || nat_eq kind 2 || nat_eq kind 3) ≡ true → P kind
-plain_names P at1 at2 at3 kind test = elim (or_cases (nat_eq kind 1 || nat_eq kind 2) (nat_eq kind 3) test) [
-  | inl below ↦ elim (or_cases (nat_eq kind 1) (nat_eq kind 2) below) [
-    | inl is ↦ one_of P 1 kind at1 is
-    | inr is ↦ one_of P 2 kind at2 is
+pub plain_names : (P : ℕ → Type 0) → P USER → P ROLE → P OBJECT → (kind : ℕ) → (nat_eq kind USER || nat_eq kind ROLE || nat_eq kind OBJECT) ≡ true → P kind
+plain_names P at_user at_role at_object kind test = elim (or_cases (nat_eq kind USER || nat_eq kind ROLE) (nat_eq kind OBJECT) test) [
+  | inl before ↦ elim (or_cases (nat_eq kind USER) (nat_eq kind ROLE) before) [
+    | inl is ↦ one_of P USER kind at_user is
+    | inr is ↦ one_of P ROLE kind at_role is
   ]
-  | inr is ↦ one_of P 3 kind at3 is
+  | inr is ↦ one_of P OBJECT kind at_object is
 ]
 
 -- what holds at the six kinds of pairs holds at each kind that passes the test
-pub plain_pairs : (P : ℕ → Type 0) → P 1 → P 2 → P 5 → P 6 → P 7 → P 8 → (kind : ℕ) →
-    (nat_eq kind 1 || nat_eq kind 2 || nat_eq kind 5 || nat_eq kind 6 || nat_eq kind 7 || nat_eq kind 8) ≡ true → P kind
-plain_pairs P at1 at2 at5 at6 at7 at8 kind test = elim (or_cases (nat_eq kind 1 || nat_eq kind 2 || nat_eq kind 5 || nat_eq kind 6 || nat_eq kind 7) (nat_eq kind 8) test) [
-  | inl below8 ↦ elim (or_cases (nat_eq kind 1 || nat_eq kind 2 || nat_eq kind 5 || nat_eq kind 6) (nat_eq kind 7) below8) [
-    | inl below7 ↦ elim (or_cases (nat_eq kind 1 || nat_eq kind 2 || nat_eq kind 5) (nat_eq kind 6) below7) [
-      | inl below6 ↦ elim (or_cases (nat_eq kind 1 || nat_eq kind 2) (nat_eq kind 5) below6) [
-        | inl below5 ↦ elim (or_cases (nat_eq kind 1) (nat_eq kind 2) below5) [
-          | inl is ↦ one_of P 1 kind at1 is
-          | inr is ↦ one_of P 2 kind at2 is
+pub plain_pairs : (P : ℕ → Type 0) → P PERMISSION → P ASSIGNMENT → P STATIC_MEMBER → P DYNAMIC_MEMBER → P SESSION → P ACTIVATED_ROLE → (kind : ℕ) →
+    (nat_eq kind PERMISSION || nat_eq kind ASSIGNMENT || nat_eq kind STATIC_MEMBER || nat_eq kind DYNAMIC_MEMBER || nat_eq kind SESSION || nat_eq kind ACTIVATED_ROLE) ≡ true → P kind
+plain_pairs P at_permission at_assignment at_static at_dynamic at_session at_active kind test = elim (or_cases (nat_eq kind PERMISSION || nat_eq kind ASSIGNMENT || nat_eq kind STATIC_MEMBER || nat_eq kind DYNAMIC_MEMBER || nat_eq kind SESSION) (nat_eq kind ACTIVATED_ROLE) test) [
+  | inl before_active ↦ elim (or_cases (nat_eq kind PERMISSION || nat_eq kind ASSIGNMENT || nat_eq kind STATIC_MEMBER || nat_eq kind DYNAMIC_MEMBER) (nat_eq kind SESSION) before_active) [
+    | inl before_session ↦ elim (or_cases (nat_eq kind PERMISSION || nat_eq kind ASSIGNMENT || nat_eq kind STATIC_MEMBER) (nat_eq kind DYNAMIC_MEMBER) before_session) [
+      | inl before_dynamic ↦ elim (or_cases (nat_eq kind PERMISSION || nat_eq kind ASSIGNMENT) (nat_eq kind STATIC_MEMBER) before_dynamic) [
+        | inl before_static ↦ elim (or_cases (nat_eq kind PERMISSION) (nat_eq kind ASSIGNMENT) before_static) [
+          | inl is ↦ one_of P PERMISSION kind at_permission is
+          | inr is ↦ one_of P ASSIGNMENT kind at_assignment is
         ]
-        | inr is ↦ one_of P 5 kind at5 is
+        | inr is ↦ one_of P STATIC_MEMBER kind at_static is
       ]
-      | inr is ↦ one_of P 6 kind at6 is
+      | inr is ↦ one_of P DYNAMIC_MEMBER kind at_dynamic is
     ]
-    | inr is ↦ one_of P 7 kind at7 is
+    | inr is ↦ one_of P SESSION kind at_session is
   ]
-  | inr is ↦ one_of P 8 kind at8 is
+  | inr is ↦ one_of P ACTIVATED_ROLE kind at_active is
 ]
 
 -- what holds at both kinds of cardinalities holds at each kind that passes the test
-pub plain_sets : (P : ℕ → Type 0) → P 1 → P 2 → (kind : ℕ) → (nat_eq kind 1 || nat_eq kind 2) ≡ true → P kind
-plain_sets P at1 at2 kind test = elim (or_cases (nat_eq kind 1) (nat_eq kind 2) test) [
-  | inl is ↦ one_of P 1 kind at1 is
-  | inr is ↦ one_of P 2 kind at2 is
+pub plain_sets : (P : ℕ → Type 0) → P STATIC_CARDINALITY → P DYNAMIC_CARDINALITY → (kind : ℕ) → (nat_eq kind STATIC_CARDINALITY || nat_eq kind DYNAMIC_CARDINALITY) ≡ true → P kind
+plain_sets P at_static at_dynamic kind test = elim (or_cases (nat_eq kind STATIC_CARDINALITY) (nat_eq kind DYNAMIC_CARDINALITY) test) [
+  | inl is ↦ one_of P STATIC_CARDINALITY kind at_static is
+  | inr is ↦ one_of P DYNAMIC_CARDINALITY kind at_dynamic is
 ]
 
 -- ---- one change
@@ -87,7 +88,7 @@ pub has_row-with : (S : RbacState) (row other : Row) → is_plain other ≡ true
 unfolding has_row with_row
 has_row-with S (NameRow k a) (NameRow l x) plain =
     plain_names (λ kind. has_row (with_row S (NameRow k a)) (NameRow kind x) ≡ (has_row S (NameRow kind x) || same_row (NameRow k a) (NameRow kind x)))
-    (insert_if name_total (nat_eq k 1) S.users a x) (insert_if name_total (nat_eq k 2) S.roles a x) (insert_if name_total (nat_eq k 3) S.objects a x)
+    (insert_if name_total (nat_eq k USER) S.users a x) (insert_if name_total (nat_eq k ROLE) S.roles a x) (insert_if name_total (nat_eq k OBJECT) S.objects a x)
     l plain
 has_row-with S (NameRow k a) (PairRow l x y) plain = or_false (has_row S (PairRow l x y))
 has_row-with S (NameRow k a) (GrantRow x y z) plain = or_false (has_row S (GrantRow x y z))
@@ -96,9 +97,9 @@ has_row-with S (NameRow k a) (LockedRow x) plain = or_false (has_row S (LockedRo
 has_row-with S (PairRow k a b) (NameRow l x) plain = or_false (has_row S (NameRow l x))
 has_row-with S (PairRow k a b) (PairRow l x y) plain =
     plain_pairs (λ kind. has_row (with_row S (PairRow k a b)) (PairRow kind x y) ≡ (has_row S (PairRow kind x y) || same_row (PairRow k a b) (PairRow kind x y)))
-    (insert_if pair_total (nat_eq k 1) S.permissions (a, b) (x, y)) (insert_if pair_total (nat_eq k 2) S.assignments (a, b) (x, y))
-    (insert_if pair_total (nat_eq k 5) S.ssd.members (a, b) (x, y)) (insert_if pair_total (nat_eq k 6) S.dsd.members (a, b) (x, y))
-    (insert_if pair_total (nat_eq k 7) S.sessions (a, b) (x, y)) (insert_if pair_total (nat_eq k 8) S.active (a, b) (x, y))
+    (insert_if pair_total (nat_eq k PERMISSION) S.permissions (a, b) (x, y)) (insert_if pair_total (nat_eq k ASSIGNMENT) S.assignments (a, b) (x, y))
+    (insert_if pair_total (nat_eq k STATIC_MEMBER) S.ssd.members (a, b) (x, y)) (insert_if pair_total (nat_eq k DYNAMIC_MEMBER) S.dsd.members (a, b) (x, y))
+    (insert_if pair_total (nat_eq k SESSION) S.sessions (a, b) (x, y)) (insert_if pair_total (nat_eq k ACTIVATED_ROLE) S.active (a, b) (x, y))
     l plain
 has_row-with S (PairRow k a b) (GrantRow x y z) plain = or_false (has_row S (GrantRow x y z))
 has_row-with S (PairRow k a b) (SetRow l x n) plain = or_false (has_row S (SetRow l x n))
@@ -113,7 +114,7 @@ has_row-with S (SetRow k a m) (PairRow l x y) plain = or_false (has_row S (PairR
 has_row-with S (SetRow k a m) (GrantRow x y z) plain = or_false (has_row S (GrantRow x y z))
 has_row-with S (SetRow k a m) (SetRow l x n) plain =
     plain_sets (λ kind. has_row (with_row S (SetRow k a m)) (SetRow kind x n) ≡ (has_row S (SetRow kind x n) || same_row (SetRow k a m) (SetRow kind x n)))
-    (insert_if cardinality_total (nat_eq k 1) S.ssd.cardinalities (a, m) (x, n)) (insert_if cardinality_total (nat_eq k 2) S.dsd.cardinalities (a, m) (x, n))
+    (insert_if cardinality_total (nat_eq k STATIC_CARDINALITY) S.ssd.cardinalities (a, m) (x, n)) (insert_if cardinality_total (nat_eq k DYNAMIC_CARDINALITY) S.dsd.cardinalities (a, m) (x, n))
     l plain
 has_row-with S (SetRow k a m) (LockedRow x) plain = or_false (has_row S (LockedRow x))
 has_row-with S (LockedRow a) (NameRow l x) plain = or_false (has_row S (NameRow l x))
@@ -127,7 +128,7 @@ pub has_row-without : (S : RbacState) (row other : Row) → is_plain other ≡ t
 unfolding has_row without_row
 has_row-without S (NameRow k a) (NameRow l x) plain =
     plain_names (λ kind. has_row (without_row S (NameRow k a)) (NameRow kind x) ≡ (has_row S (NameRow kind x) && not (same_row (NameRow k a) (NameRow kind x))))
-    (remove_if name_total (nat_eq k 1) S.users a x) (remove_if name_total (nat_eq k 2) S.roles a x) (remove_if name_total (nat_eq k 3) S.objects a x)
+    (remove_if name_total (nat_eq k USER) S.users a x) (remove_if name_total (nat_eq k ROLE) S.roles a x) (remove_if name_total (nat_eq k OBJECT) S.objects a x)
     l plain
 has_row-without S (NameRow k a) (PairRow l x y) plain = and_true (has_row S (PairRow l x y))
 has_row-without S (NameRow k a) (GrantRow x y z) plain = and_true (has_row S (GrantRow x y z))
@@ -136,9 +137,9 @@ has_row-without S (NameRow k a) (LockedRow x) plain = and_true (has_row S (Locke
 has_row-without S (PairRow k a b) (NameRow l x) plain = and_true (has_row S (NameRow l x))
 has_row-without S (PairRow k a b) (PairRow l x y) plain =
     plain_pairs (λ kind. has_row (without_row S (PairRow k a b)) (PairRow kind x y) ≡ (has_row S (PairRow kind x y) && not (same_row (PairRow k a b) (PairRow kind x y))))
-    (remove_if pair_total (nat_eq k 1) S.permissions (a, b) (x, y)) (remove_if pair_total (nat_eq k 2) S.assignments (a, b) (x, y))
-    (remove_if pair_total (nat_eq k 5) S.ssd.members (a, b) (x, y)) (remove_if pair_total (nat_eq k 6) S.dsd.members (a, b) (x, y))
-    (remove_if pair_total (nat_eq k 7) S.sessions (a, b) (x, y)) (remove_if pair_total (nat_eq k 8) S.active (a, b) (x, y))
+    (remove_if pair_total (nat_eq k PERMISSION) S.permissions (a, b) (x, y)) (remove_if pair_total (nat_eq k ASSIGNMENT) S.assignments (a, b) (x, y))
+    (remove_if pair_total (nat_eq k STATIC_MEMBER) S.ssd.members (a, b) (x, y)) (remove_if pair_total (nat_eq k DYNAMIC_MEMBER) S.dsd.members (a, b) (x, y))
+    (remove_if pair_total (nat_eq k SESSION) S.sessions (a, b) (x, y)) (remove_if pair_total (nat_eq k ACTIVATED_ROLE) S.active (a, b) (x, y))
     l plain
 has_row-without S (PairRow k a b) (GrantRow x y z) plain = and_true (has_row S (GrantRow x y z))
 has_row-without S (PairRow k a b) (SetRow l x n) plain = and_true (has_row S (SetRow l x n))
@@ -153,7 +154,7 @@ has_row-without S (SetRow k a m) (PairRow l x y) plain = and_true (has_row S (Pa
 has_row-without S (SetRow k a m) (GrantRow x y z) plain = and_true (has_row S (GrantRow x y z))
 has_row-without S (SetRow k a m) (SetRow l x n) plain =
     plain_sets (λ kind. has_row (without_row S (SetRow k a m)) (SetRow kind x n) ≡ (has_row S (SetRow kind x n) && not (same_row (SetRow k a m) (SetRow kind x n))))
-    (remove_if cardinality_total (nat_eq k 1) S.ssd.cardinalities (a, m) (x, n)) (remove_if cardinality_total (nat_eq k 2) S.dsd.cardinalities (a, m) (x, n))
+    (remove_if cardinality_total (nat_eq k STATIC_CARDINALITY) S.ssd.cardinalities (a, m) (x, n)) (remove_if cardinality_total (nat_eq k DYNAMIC_CARDINALITY) S.dsd.cardinalities (a, m) (x, n))
     l plain
 has_row-without S (SetRow k a m) (LockedRow x) plain = and_true (has_row S (LockedRow x))
 has_row-without S (LockedRow a) (NameRow l x) plain = and_true (has_row S (NameRow l x))

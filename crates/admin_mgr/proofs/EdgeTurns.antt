@@ -6,6 +6,7 @@ use Rattle.rbac_sets.specs.declared.command.Command.TheVariants.{AddInheritance,
 use Rattle.rbac_sets.specs.declared.refusal.Refusal.{Refusal}
 use Rattle.rbac_sets.specs.declared.refusal.Refusal.TheVariants.{EdgeExists, NoEdge, Cycle, Memory}
 use Rattle.rbac_sets.specs.declared.row.Row.TheVariants.{NameRow}
+use Rattle.rbac_sets.specs.declared.row.TheConstants.Row.{ROLE}
 use Rattle.rbac_sets.specs.declared.row.Change.{Change}
 use Rattle.rbac_sets.specs.declared.row.Change.TheVariants.{Put}
 use Rattle.role_order.specs.Order.{Geq, geq, IsGained}
@@ -154,9 +155,9 @@ module _ (S : RbacState) (good : IsGood S) (asc desc : Bytes) (plan : Plan) wher
     edges_add_inheritance = edges_with S.edges asc desc plan planned
 
     -- a new role comes with its edge to a role below it
-    pub turns_add_ascendant : verdict S (AddAscendant asc desc) ≡ None → Turns S ((Put (NameRow 2 asc) ∷ []) ++ order_puts asc desc plan.puts) (after S (AddAscendant asc desc))
+    pub turns_add_ascendant : verdict S (AddAscendant asc desc) ≡ None → Turns S ((Put (NameRow ROLE asc) ∷ []) ++ order_puts asc desc plan.puts) (after S (AddAscendant asc desc))
     unfolding changed
-    turns_add_ascendant accepted = subst (λ (T : RbacState). Turns S ((Put (NameRow 2 asc) ∷ []) ++ order_puts asc desc plan.puts) T) (sym (after_add_ascendant S good asc desc accepted))
+    turns_add_ascendant accepted = subst (λ (T : RbacState). Turns S ((Put (NameRow ROLE asc) ∷ []) ++ order_puts asc desc plan.puts) T) (sym (after_add_ascendant S good asc desc accepted))
         (turns_with_edge asc desc plan planned (steps_put_one role_rows S asc (add_ascendant_absent S asc desc accepted)))
 
     -- its edges are those after the plan
@@ -165,9 +166,9 @@ module _ (S : RbacState) (good : IsGood S) (asc desc : Bytes) (plan : Plan) wher
     edges_add_ascendant = edges_with S.edges asc desc plan planned
 
     -- a new role comes with its edge from a role above it
-    pub turns_add_descendant : verdict S (AddDescendant asc desc) ≡ None → Turns S ((Put (NameRow 2 desc) ∷ []) ++ order_puts asc desc plan.puts) (after S (AddDescendant asc desc))
+    pub turns_add_descendant : verdict S (AddDescendant asc desc) ≡ None → Turns S ((Put (NameRow ROLE desc) ∷ []) ++ order_puts asc desc plan.puts) (after S (AddDescendant asc desc))
     unfolding changed
-    turns_add_descendant accepted = subst (λ (T : RbacState). Turns S ((Put (NameRow 2 desc) ∷ []) ++ order_puts asc desc plan.puts) T) (sym (after_add_descendant S good asc desc accepted))
+    turns_add_descendant accepted = subst (λ (T : RbacState). Turns S ((Put (NameRow ROLE desc) ∷ []) ++ order_puts asc desc plan.puts) T) (sym (after_add_descendant S good asc desc accepted))
         (turns_with_edge asc desc plan planned (steps_put_one role_rows S desc (add_descendant_absent S asc desc accepted)))
 
     -- its edges are those after the plan

@@ -14,6 +14,7 @@ use Rattle.rbac_sets.proofs.SetLaws.{contains-remove, contains-retain, retain-al
 use Rattle.rbac_sets.proofs.Members.{members-retain}
 use Rattle.role_order.proofs.Members.{is_false, same_name-flips}
 use Rattle.rbac_sets.specs.declared.row.Row.TheVariants.{PairRow}
+use Rattle.rbac_sets.specs.declared.row.TheConstants.Row.{SESSION, ACTIVATED_ROLE}
 use Rattle.rbac_sets.specs.declared.row.Change.TheVariants.{Take}
 use Rattle.admin_mgr.specs.RbacState.{RbacState}
 use Rattle.admin_mgr.specs.Held.{run_of}
@@ -102,7 +103,7 @@ unfolding without_sessions IsDistinct
 steps_end_each S [] M apart there alike = steps_nothing M
 steps_end_each S (session ∷ sessions) M apart there alike =
     let left : RbacState = without_session M session in
-    let one : Steps taking M (session_rows S session) left = subst (λ (run : List Pair). Steps taking M (Take (PairRow 7 session.0 session.1) ∷ take_all (pair_row 8) run) left) (sym alike.0) (steps_end_one M session there.0) in
+    let one : Steps taking M (session_rows S session) left = subst (λ (run : List Pair). Steps taking M (Take (PairRow SESSION session.0 session.1) ∷ take_all (pair_row ACTIVATED_ROLE) run) left) (sym alike.0) (steps_end_one M session there.0) in
     steps_append one (steps_end_each S sessions left apart.1
     (all_two (λ other own h. still_there M session other own h) sessions apart.0 there.1)
     (all_two (λ (other : Pair) own same. same ∙ sym (other_run M.active session.0 other.0 own)) sessions apart.0 alike.1))

@@ -9,6 +9,7 @@ use Rattle.rbac_sets.proofs.SetLaws.{contains-insert, tie_Decides, same_set}
 use Rattle.rbac_sets.specs.declared.command.Command.TheVariants.{DeleteUser, DeleteRole, DeassignUser, LockUserAccount}
 use Rattle.rbac_sets.specs.declared.refusal.Refusal.TheVariants.{NoUser, NoRole, NotAssigned}
 use Rattle.rbac_sets.specs.declared.row.Row.TheVariants.{NameRow, PairRow, LockedRow}
+use Rattle.rbac_sets.specs.declared.row.TheConstants.Row.{USER, ROLE, ASSIGNMENT}
 use Rattle.rbac_sets.specs.declared.row.Change.{Change}
 use Rattle.rbac_sets.specs.declared.row.Change.TheVariants.{Put, Take}
 use Rattle.role_order.proofs.Members.{is_false}
@@ -62,7 +63,7 @@ steps_losing {S} {M} {changes} stays owned one_owner same steps = steps_append s
 module _ (S : RbacState) (good : IsGood S) where
   -- a user goes with its lock, its assignments and its sessions
   pub turns_delete_user : (user : Bytes) → verdict S (DeleteUser user) ≡ None →
-      Turns S ((((Take (NameRow 1 user) ∷ []) ++ lock_rows S user) ++ take_all (pair_row 2) (run_of S.assignments user)) ++ ended_rows S (λ session. not (same_name session.1 user))) (after S (DeleteUser user))
+      Turns S ((((Take (NameRow USER user) ∷ []) ++ lock_rows S user) ++ take_all (pair_row ASSIGNMENT) (run_of S.assignments user)) ++ ended_rows S (λ session. not (same_name session.1 user))) (after S (DeleteUser user))
   unfolding after changed verdict refusals
   turns_delete_user user accepted =
       let is_user : contains S.users user ≡ true = refuse_unless-None (contains S.users user) NoUser (passed (refusals S (DeleteUser user)) accepted).0 in
@@ -75,7 +76,7 @@ module _ (S : RbacState) (good : IsGood S) where
 
   -- a role goes with its assignments, its grants, and the sessions that stood on it
   pub turns_delete_role : (role : Bytes) → verdict S (DeleteRole role) ≡ None →
-      Turns S ((((Take (NameRow 2 role) ∷ []) ++ take_all (pair_row 2) (filter (λ (pair : Pair). same_name pair.1 role) (members S.assignments)))
+      Turns S ((((Take (NameRow ROLE role) ∷ []) ++ take_all (pair_row ASSIGNMENT) (filter (λ (pair : Pair). same_name pair.1 role) (members S.assignments)))
       ++ take_all grant_row (filter (λ (grant : Triple). same_name grant.2 role) (members S.grants))) ++ ended_rows S (goes_on_without_role S role)) (after S (DeleteRole role))
   unfolding after changed verdict refusals
   turns_delete_role role accepted =
@@ -88,7 +89,7 @@ module _ (S : RbacState) (good : IsGood S) where
 
   -- an assignment goes, and the sessions of its user that stood on it
   pub turns_deassign_user : (user role : Bytes) → verdict S (DeassignUser user role) ≡ None →
-      Turns S ((Take (PairRow 2 user role) ∷ []) ++ ended_rows S (λ session. not (same_name session.1 user) || goes_on_without_role S role session)) (after S (DeassignUser user role))
+      Turns S ((Take (PairRow ASSIGNMENT user role) ∷ []) ++ ended_rows S (λ session. not (same_name session.1 user) || goes_on_without_role S role session)) (after S (DeassignUser user role))
   unfolding after changed verdict refusals
   turns_deassign_user user role accepted =
       let is_assigned : contains S.assignments (user, role) ≡ true =

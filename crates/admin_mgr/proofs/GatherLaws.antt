@@ -13,6 +13,7 @@ use Rattle.rbac_sets.specs.NameOrder.{name_total, name_exact, pair_total, pair_e
 use Rattle.rbac_sets.proofs.SetLaws.{from_list_push}
 use Rattle.rbac_sets.specs.declared.row.Row.{Row}
 use Rattle.rbac_sets.specs.declared.row.Row.TheVariants.{NameRow, PairRow, GrantRow, SetRow, LockedRow}
+use Rattle.rbac_sets.specs.declared.row.TheConstants.Row.{USER, ROLE, OBJECT, PERMISSION, ASSIGNMENT, INHERITANCE, CLOSURE_PAIR, STATIC_MEMBER, DYNAMIC_MEMBER, SESSION, ACTIVATED_ROLE, STATIC_CARDINALITY, DYNAMIC_CARDINALITY}
 use Rattle.admin_mgr.specs.Stepping.{with_row}
 use Rattle.admin_mgr.specs.Gathered.{Gathered, gathered, names_of, pairs_of, grants_of, cardinalities_of, locks_of, with_pair_of, with_stored, is_known, same_key, HaveKeysOnce}
 use Rattle.admin_mgr.specs.Checked.{AreReadable}
@@ -160,20 +161,20 @@ abbrev by_sets : ℕ → List Row → Row → Gathered
 by_sets version rows row = record {
   facts = record {
     version = version;
-    users = with_name_of 1 (from_list (names_of 1 rows)) row;
+    users = with_name_of USER (from_list (names_of USER rows)) row;
     locked = with_lock (from_list (locks_of rows)) row;
-    roles = with_name_of 2 (from_list (names_of 2 rows)) row;
-    objects = with_name_of 3 (from_list (names_of 3 rows)) row;
-    permissions = with_pair_of 1 (from_list (pairs_of 1 rows)) row;
-    assignments = with_pair_of 2 (from_list (pairs_of 2 rows)) row;
+    roles = with_name_of ROLE (from_list (names_of ROLE rows)) row;
+    objects = with_name_of OBJECT (from_list (names_of OBJECT rows)) row;
+    permissions = with_pair_of PERMISSION (from_list (pairs_of PERMISSION rows)) row;
+    assignments = with_pair_of ASSIGNMENT (from_list (pairs_of ASSIGNMENT rows)) row;
     grants = with_grant (from_list (grants_of rows)) row;
-    edges = with_pair_of 3 (from_list (pairs_of 3 rows)) row;
-    sessions = with_pair_of 7 (from_list (pairs_of 7 rows)) row;
-    active = with_pair_of 8 (from_list (pairs_of 8 rows)) row;
-    ssd = record { members = with_pair_of 5 (from_list (pairs_of 5 rows)) row; cardinalities = with_cardinality_of 1 (from_list (cardinalities_of 1 rows)) row };
-    dsd = record { members = with_pair_of 6 (from_list (pairs_of 6 rows)) row; cardinalities = with_cardinality_of 2 (from_list (cardinalities_of 2 rows)) row };
+    edges = with_pair_of INHERITANCE (from_list (pairs_of INHERITANCE rows)) row;
+    sessions = with_pair_of SESSION (from_list (pairs_of SESSION rows)) row;
+    active = with_pair_of ACTIVATED_ROLE (from_list (pairs_of ACTIVATED_ROLE rows)) row;
+    ssd = record { members = with_pair_of STATIC_MEMBER (from_list (pairs_of STATIC_MEMBER rows)) row; cardinalities = with_cardinality_of STATIC_CARDINALITY (from_list (cardinalities_of STATIC_CARDINALITY rows)) row };
+    dsd = record { members = with_pair_of DYNAMIC_MEMBER (from_list (pairs_of DYNAMIC_MEMBER rows)) row; cardinalities = with_cardinality_of DYNAMIC_CARDINALITY (from_list (cardinalities_of DYNAMIC_CARDINALITY rows)) row };
   };
-  pairs = with_pair_of 4 (from_list (pairs_of 4 rows)) row;
+  pairs = with_pair_of CLOSURE_PAIR (from_list (pairs_of CLOSURE_PAIR rows)) row;
 }
 
 -- one row behind the others puts its entry
@@ -185,20 +186,20 @@ gathered_more version rows row = all_sets ∙ by row
     all_sets = λ i. record {
       facts = record {
         version = version;
-        users = names_put 1 rows row i;
+        users = names_put USER rows row i;
         locked = locks_put rows row i;
-        roles = names_put 2 rows row i;
-        objects = names_put 3 rows row i;
-        permissions = pairs_put 1 rows row i;
-        assignments = pairs_put 2 rows row i;
+        roles = names_put ROLE rows row i;
+        objects = names_put OBJECT rows row i;
+        permissions = pairs_put PERMISSION rows row i;
+        assignments = pairs_put ASSIGNMENT rows row i;
         grants = grants_put rows row i;
-        edges = pairs_put 3 rows row i;
-        sessions = pairs_put 7 rows row i;
-        active = pairs_put 8 rows row i;
-        ssd = record { members = pairs_put 5 rows row i; cardinalities = cardinalities_put 1 rows row i };
-        dsd = record { members = pairs_put 6 rows row i; cardinalities = cardinalities_put 2 rows row i };
+        edges = pairs_put INHERITANCE rows row i;
+        sessions = pairs_put SESSION rows row i;
+        active = pairs_put ACTIVATED_ROLE rows row i;
+        ssd = record { members = pairs_put STATIC_MEMBER rows row i; cardinalities = cardinalities_put STATIC_CARDINALITY rows row i };
+        dsd = record { members = pairs_put DYNAMIC_MEMBER rows row i; cardinalities = cardinalities_put DYNAMIC_CARDINALITY rows row i };
       };
-      pairs = pairs_put 4 rows row i;
+      pairs = pairs_put CLOSURE_PAIR rows row i;
     }
 
     by : (row : Row) → by_sets version rows row ≡ with_stored (gathered version rows) row

@@ -13,6 +13,7 @@ use Rattle.rbac_sets.proofs.SetLaws.{any-Decides, contains-from_list, tie_Decide
 use Rattle.role_order.proofs.Members.{is_false, same_name-flips}
 use Rattle.rbac_sets.specs.declared.row.Row.{Row}
 use Rattle.rbac_sets.specs.declared.row.Row.TheVariants.{NameRow, PairRow, GrantRow, SetRow, LockedRow}
+use Rattle.rbac_sets.specs.declared.row.TheConstants.Row.{USER, ROLE, OBJECT, PERMISSION, ASSIGNMENT, INHERITANCE, CLOSURE_PAIR, STATIC_MEMBER, DYNAMIC_MEMBER, SESSION, ACTIVATED_ROLE, STATIC_CARDINALITY, DYNAMIC_CARDINALITY}
 use Rattle.admin_mgr.specs.Changes.{same_row}
 use Rattle.admin_mgr.specs.Gathered.{Gathered, gathered, has_key, names_of, pairs_of, grants_of, cardinalities_of, locks_of, is_known, is_among, same_key}
 
@@ -29,38 +30,39 @@ no_cardinality cardinalities name n none = is_false _ (λ there. true≢false (
     ∙ none))
 
 -- a static set of no key has no cardinality
-pub no_static_key : (g : Gathered) (name : Bytes) (n : ℕ) → has_key g (SetRow 1 name n) ≡ false → contains g.facts.ssd.cardinalities (name, n) ≡ false
+pub no_static_key : (g : Gathered) (name : Bytes) (n : ℕ) → has_key g (SetRow STATIC_CARDINALITY name n) ≡ false → contains g.facts.ssd.cardinalities (name, n) ≡ false
 unfolding has_key
 no_static_key g name n none = no_cardinality g.facts.ssd.cardinalities name n none
 
 -- nor has a dynamic one
-pub no_dynamic_key : (g : Gathered) (name : Bytes) (n : ℕ) → has_key g (SetRow 2 name n) ≡ false → contains g.facts.dsd.cardinalities (name, n) ≡ false
+pub no_dynamic_key : (g : Gathered) (name : Bytes) (n : ℕ) → has_key g (SetRow DYNAMIC_CARDINALITY name n) ≡ false → contains g.facts.dsd.cardinalities (name, n) ≡ false
 unfolding has_key
 no_dynamic_key g name n none = no_cardinality g.facts.dsd.cardinalities name n none
 
 -- ---- kinds
 
--- a number from one to three, to eight, or to two
-pub of_three : (P : ℕ → Type 0) → P 1 → P 2 → P 3 → (k : ℕ) → (nat_le 1 k && nat_le k 3) ≡ true → P k
+-- what holds at each kind of names holds at any number among them
+pub of_three : (P : ℕ → Type 0) → P USER → P ROLE → P OBJECT → (k : ℕ) → (nat_le USER k && nat_le k OBJECT) ≡ true → P k
 of_three P one two three zero h = cc
 of_three P one two three (suc zero) h = one
 of_three P one two three (suc (suc zero)) h = two
 of_three P one two three (suc (suc (suc zero))) h = three
 of_three P one two three (suc (suc (suc (suc k)))) h =
-    let most : nat_le (suc (suc (suc (suc k)))) 3 ≡ true = (and_parts (nat_le 1 (suc (suc (suc (suc k))))) (nat_le (suc (suc (suc (suc k)))) 3) h).1 in
-    let le = leb-true (suc (suc (suc (suc k)))) 3 most in absurd (omega (arith, le))
+    let most : nat_le (suc (suc (suc (suc k)))) OBJECT ≡ true = (and_parts (nat_le 1 (suc (suc (suc (suc k))))) (nat_le (suc (suc (suc (suc k)))) OBJECT) h).1 in
+    let le = leb-true (suc (suc (suc (suc k)))) OBJECT most in absurd (omega (arith, le))
 
--- a number from one to two
-pub of_two : (P : ℕ → Type 0) → P 1 → P 2 → (k : ℕ) → (nat_le 1 k && nat_le k 2) ≡ true → P k
+-- what holds at each kind of cardinalities holds at any number among them
+pub of_two : (P : ℕ → Type 0) → P STATIC_CARDINALITY → P DYNAMIC_CARDINALITY → (k : ℕ) → (nat_le STATIC_CARDINALITY k && nat_le k DYNAMIC_CARDINALITY) ≡ true → P k
 of_two P one two zero h = cc
 of_two P one two (suc zero) h = one
 of_two P one two (suc (suc zero)) h = two
 of_two P one two (suc (suc (suc k))) h =
-    let most : nat_le (suc (suc (suc k))) 2 ≡ true = (and_parts (nat_le 1 (suc (suc (suc k)))) (nat_le (suc (suc (suc k))) 2) h).1 in
-    let le = leb-true (suc (suc (suc k))) 2 most in absurd (omega (arith, le))
+    let most : nat_le (suc (suc (suc k))) DYNAMIC_CARDINALITY ≡ true = (and_parts (nat_le STATIC_CARDINALITY (suc (suc (suc k)))) (nat_le (suc (suc (suc k))) DYNAMIC_CARDINALITY) h).1 in
+    let le = leb-true (suc (suc (suc k))) DYNAMIC_CARDINALITY most in absurd (omega (arith, le))
 
--- a number from one to eight
-pub of_eight : (P : ℕ → Type 0) → P 1 → P 2 → P 3 → P 4 → P 5 → P 6 → P 7 → P 8 → (k : ℕ) → (nat_le 1 k && nat_le k 8) ≡ true → P k
+-- what holds at each kind of pairs holds at any number among them
+pub of_eight :
+    (P : ℕ → Type 0) → P PERMISSION → P ASSIGNMENT → P INHERITANCE → P CLOSURE_PAIR → P STATIC_MEMBER → P DYNAMIC_MEMBER → P SESSION → P ACTIVATED_ROLE → (k : ℕ) → (nat_le PERMISSION k && nat_le k ACTIVATED_ROLE) ≡ true → P k
 of_eight P p1 p2 p3 p4 p5 p6 p7 p8 zero h = cc
 of_eight P p1 p2 p3 p4 p5 p6 p7 p8 (suc zero) h = p1
 of_eight P p1 p2 p3 p4 p5 p6 p7 p8 (suc (suc zero)) h = p2
@@ -71,8 +73,8 @@ of_eight P p1 p2 p3 p4 p5 p6 p7 p8 (suc (suc (suc (suc (suc (suc zero)))))) h = 
 of_eight P p1 p2 p3 p4 p5 p6 p7 p8 (suc (suc (suc (suc (suc (suc (suc zero))))))) h = p7
 of_eight P p1 p2 p3 p4 p5 p6 p7 p8 (suc (suc (suc (suc (suc (suc (suc (suc zero)))))))) h = p8
 of_eight P p1 p2 p3 p4 p5 p6 p7 p8 (suc (suc (suc (suc (suc (suc (suc (suc (suc k))))))))) h =
-    let most : nat_le (suc (suc (suc (suc (suc (suc (suc (suc (suc k))))))))) 8 ≡ true = (and_parts (nat_le 1 (suc (suc (suc (suc (suc (suc (suc (suc (suc k)))))))))) (nat_le (suc (suc (suc (suc (suc (suc (suc (suc (suc k))))))))) 8) h).1 in
-    let le = leb-true (suc (suc (suc (suc (suc (suc (suc (suc (suc k))))))))) 8 most in absurd (omega (arith, le))
+    let most : nat_le (suc (suc (suc (suc (suc (suc (suc (suc (suc k))))))))) ACTIVATED_ROLE ≡ true = (and_parts (nat_le PERMISSION (suc (suc (suc (suc (suc (suc (suc (suc (suc k)))))))))) (nat_le (suc (suc (suc (suc (suc (suc (suc (suc (suc k))))))))) ACTIVATED_ROLE) h).1 in
+    let le = leb-true (suc (suc (suc (suc (suc (suc (suc (suc (suc k))))))))) ACTIVATED_ROLE most in absurd (omega (arith, le))
 
 -- ---- membership
 
@@ -205,15 +207,15 @@ module _ {K : Type 0} {R : K → K → Ordering} (total : IsTotalOrder R) (exact
 pub key_among : (version : ℕ) (rows : List Row) (row : Row) → is_known version row ≡ true → has_key (gathered version rows) row ≡ list_any (λ (other : Row). same_key other row) rows
 unfolding gathered has_key
 key_among version rows (NameRow k x) known =
-    of_three (λ k. has_key (gathered version rows) (NameRow k x) ≡ is_among rows (NameRow k x)) (names_among 1 rows x) (names_among 2 rows x) (names_among 3 rows x) k known
+    of_three (λ k. has_key (gathered version rows) (NameRow k x) ≡ is_among rows (NameRow k x)) (names_among USER rows x) (names_among ROLE rows x) (names_among OBJECT rows x) k known
     ∙ among_by_key (NameRow k x) (λ l a n h. cc) rows
 key_among version rows (PairRow k x y) known =
-    of_eight (λ k. has_key (gathered version rows) (PairRow k x y) ≡ is_among rows (PairRow k x y)) (pairs_among 1 rows x y) (pairs_among 2 rows x y) (pairs_among 3 rows x y) (pairs_among 4 rows x y)
-    (pairs_among 5 rows x y) (pairs_among 6 rows x y) (pairs_among 7 rows x y) (pairs_among 8 rows x y) k known
+    of_eight (λ k. has_key (gathered version rows) (PairRow k x y) ≡ is_among rows (PairRow k x y)) (pairs_among PERMISSION rows x y) (pairs_among ASSIGNMENT rows x y) (pairs_among INHERITANCE rows x y) (pairs_among CLOSURE_PAIR rows x y)
+    (pairs_among STATIC_MEMBER rows x y) (pairs_among DYNAMIC_MEMBER rows x y) (pairs_among SESSION rows x y) (pairs_among ACTIVATED_ROLE rows x y) k known
     ∙ among_by_key (PairRow k x y) (λ l a n h. cc) rows
 key_among version rows (GrantRow x y z) known = grants_among rows x y z ∙ among_by_key (GrantRow x y z) (λ l a n h. cc) rows
 key_among version rows (SetRow k x n) known =
     of_two (λ k. has_key (gathered version rows) (SetRow k x n) ≡ list_any (λ (other : Row). same_key other (SetRow k x n)) rows)
-    (any-from_list cardinality_total cardinality_exact (λ (entry : Cardinality). same_name entry.0 x) (cardinalities_of 1 rows) ∙ any_sets 1 x n rows)
-    (any-from_list cardinality_total cardinality_exact (λ (entry : Cardinality). same_name entry.0 x) (cardinalities_of 2 rows) ∙ any_sets 2 x n rows) k known
+    (any-from_list cardinality_total cardinality_exact (λ (entry : Cardinality). same_name entry.0 x) (cardinalities_of STATIC_CARDINALITY rows) ∙ any_sets STATIC_CARDINALITY x n rows)
+    (any-from_list cardinality_total cardinality_exact (λ (entry : Cardinality). same_name entry.0 x) (cardinalities_of DYNAMIC_CARDINALITY rows) ∙ any_sets DYNAMIC_CARDINALITY x n rows) k known
 key_among version rows (LockedRow x) known = locks_among rows x ∙ among_by_key (LockedRow x) (λ l a n h. cc) rows

@@ -6,6 +6,7 @@ use Rattle.rbac_sets.specs.SortedSet.{Stored, set_of}
 use Rattle.rbac_sets.specs.NameOrder.{pair_total, pair_exact}
 use Rattle.rbac_sets.specs.declared.command.Command.TheVariants.{CreateSession}
 use Rattle.rbac_sets.specs.declared.row.Row.TheVariants.{PairRow}
+use Rattle.rbac_sets.specs.declared.row.TheConstants.Row.{SESSION, ACTIVATED_ROLE}
 use Rattle.rbac_sets.specs.declared.row.Change.TheVariants.{Put}
 use Rattle.admin_mgr.specs.RbacState.{RbacState}
 use Rattle.admin_mgr.specs.Run.{tally}
@@ -28,12 +29,12 @@ put_pairs_of kind name (other ∷ others) = ap (λ changes. Put (PairRow kind na
 
 -- the row of the session is put, and those of the roles that are activated in it
 pub done_create_session : (S : RbacState) → IsGood S → (user : Bytes) (roles : Stored Bytes) (session : Bytes) → verdict S (CreateSession user roles session) ≡ None →
-    IsDoneBy S (CreateSession user roles session) (Put (PairRow 7 session user) ∷ put_all (λ role. PairRow 8 session role) (members (set_of name_cmp roles)))
+    IsDoneBy S (CreateSession user roles session) (Put (PairRow SESSION session user) ∷ put_all (λ role. PairRow ACTIVATED_ROLE session role) (members (set_of name_cmp roles)))
 unfolding tally changed
 done_create_session S good user roles session accepted =
     let more : RbacState = record S { sessions = insert S.sessions (session, user) } in
-    let rows = ap (put_all (pair_row 8)) (members_paired session (set_of name_cmp roles)) ∙ put_pairs_of 8 session (members (set_of name_cmp roles)) in
+    let rows = ap (put_all (pair_row ACTIVATED_ROLE)) (members_paired session (set_of name_cmp roles)) ∙ put_pairs_of ACTIVATED_ROLE session (members (set_of name_cmp roles)) in
     done_by S (CreateSession user roles session) refl (after_create_session S good user roles session accepted) (good_after_create_session S good user roles session accepted) refl
-    (subst (λ changes. Steps putting S (Put (PairRow 7 session user) ∷ changes) (changed S (CreateSession user roles session))) rows
+    (subst (λ changes. Steps putting S (Put (PairRow SESSION session user) ∷ changes) (changed S (CreateSession user roles session))) rows
     (steps_append (steps_put_one session_pair_rows S (session, user) (create_session_absent S user roles session accepted good user))
     (steps_put_set active_rows pair_total pair_exact more (paired session (set_of name_cmp roles)) (create_session_apart S user roles session accepted good))))

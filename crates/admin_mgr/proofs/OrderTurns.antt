@@ -16,6 +16,7 @@ use Rattle.role_order.proofs.Deciding.{geq-Decides, geq_or_not}
 use Rattle.role_order.proofs.Planning.{changed-adds, changed-takes}
 use Rattle.rbac_sets.specs.declared.row.Row.{Row}
 use Rattle.rbac_sets.specs.declared.row.Row.TheVariants.{NameRow, PairRow, GrantRow, SetRow, LockedRow}
+use Rattle.rbac_sets.specs.declared.row.TheConstants.Row.{PERMISSION, ASSIGNMENT, INHERITANCE, CLOSURE_PAIR}
 use Rattle.rbac_sets.specs.declared.row.Change.{Change}
 use Rattle.rbac_sets.specs.declared.row.Change.TheVariants.{Put, Take}
 use Rattle.admin_mgr.specs.RbacState.{RbacState}
@@ -34,17 +35,17 @@ use Rattle.admin_mgr.proofs.TurnLaws.{taking_puts, putting_takes, turns_taking, 
 
 -- the row is that of the edge, or of one of the pairs
 abbrev is_listed : Bytes → Bytes → Pairs → Row → Bool
-is_listed asc desc pairs row = same_row (PairRow 3 asc desc) row || list_any (λ pair. same_row (pair_row 4 pair) row) (members pairs)
+is_listed asc desc pairs row = same_row (PairRow INHERITANCE asc desc) row || list_any (λ pair. same_row (pair_row CLOSURE_PAIR pair) row) (members pairs)
 
 -- the changes put these rows
 puts_are : (asc desc : Bytes) (pairs : Pairs) (row : Row) → is_put (order_puts asc desc pairs) row ≡ is_listed asc desc pairs row
 unfolding is_put
-puts_are asc desc pairs row = ap (λ b. same_row (PairRow 3 asc desc) row || b) (any_map (λ pair. Put (pair_row 4 pair)) (λ change. puts change row) (members pairs))
+puts_are asc desc pairs row = ap (λ b. same_row (PairRow INHERITANCE asc desc) row || b) (any_map (λ pair. Put (pair_row CLOSURE_PAIR pair)) (λ change. puts change row) (members pairs))
 
 -- the changes take these rows
 takes_are : (asc desc : Bytes) (pairs : Pairs) (row : Row) → is_taken (order_takes asc desc pairs) row ≡ is_listed asc desc pairs row
 unfolding is_taken
-takes_are asc desc pairs row = ap (λ b. same_row (PairRow 3 asc desc) row || b) (any_map (λ pair. Take (pair_row 4 pair)) (λ change. takes change row) (members pairs))
+takes_are asc desc pairs row = ap (λ b. same_row (PairRow INHERITANCE asc desc) row || b) (any_map (λ pair. Take (pair_row CLOSURE_PAIR pair)) (λ change. takes change row) (members pairs))
 
 -- none passes a test that nothing passes
 none_listed : {X : Type 0} (test : X → Bool) (xs : List X) → ((x : X) → test x ≡ false) → list_any test xs ≡ false
@@ -66,12 +67,12 @@ nothing_put row (pair ∷ pairs) other = nothing_put row pairs other
 -- an edge that comes takes nothing
 order_takes_nothing : (asc desc : Bytes) (pairs : Pairs) (row : Row) → is_taken (order_puts asc desc pairs) row ≡ false
 unfolding is_taken
-order_takes_nothing asc desc pairs row = nothing_taken (pair_row 4) (members pairs) row
+order_takes_nothing asc desc pairs row = nothing_taken (pair_row CLOSURE_PAIR) (members pairs) row
 
 -- an edge that goes puts nothing
 order_puts_nothing : (asc desc : Bytes) (pairs : Pairs) (row : Row) → is_put (order_takes asc desc pairs) row ≡ false
 unfolding is_put
-order_puts_nothing asc desc pairs row = nothing_put (pair_row 4) (members pairs) row
+order_puts_nothing asc desc pairs row = nothing_put (pair_row CLOSURE_PAIR) (members pairs) row
 
 -- rows that come have no row behind them that goes
 puts_last : (row : Pair → Row) (pairs : List Pair) → TakesFirst (put_all row pairs)
@@ -84,26 +85,26 @@ takes_alone row [] = tt
 takes_alone row (pair ∷ pairs) = takes_alone row pairs
 
 -- each pair once where they come
-puts_once : (pairs : List Pair) → IsDistinct (eq_by_cmp pair_cmp) pairs → IsOnce (put_all (pair_row 4) pairs)
+puts_once : (pairs : List Pair) → IsDistinct (eq_by_cmp pair_cmp) pairs → IsOnce (put_all (pair_row CLOSURE_PAIR) pairs)
 unfolding IsDistinct is_put
 puts_once [] distinct = tt
 puts_once (pair ∷ pairs) distinct = (
-  any_map (λ other. Put (pair_row 4 other)) (λ change. puts change (pair_row 4 pair)) pairs ∙ none_passes (eq_by_cmp pair_cmp pair) pairs distinct.0,
+  any_map (λ other. Put (pair_row CLOSURE_PAIR other)) (λ change. puts change (pair_row CLOSURE_PAIR pair)) pairs ∙ none_passes (eq_by_cmp pair_cmp pair) pairs distinct.0,
   puts_once pairs distinct.1,
 )
 
 -- each pair once where they go
-takes_once : (pairs : List Pair) → IsDistinct (eq_by_cmp pair_cmp) pairs → IsOnce (take_all (pair_row 4) pairs)
+takes_once : (pairs : List Pair) → IsDistinct (eq_by_cmp pair_cmp) pairs → IsOnce (take_all (pair_row CLOSURE_PAIR) pairs)
 unfolding IsDistinct is_taken
 takes_once [] distinct = tt
 takes_once (pair ∷ pairs) distinct = (
-  any_map (λ other. Take (pair_row 4 other)) (λ change. takes change (pair_row 4 pair)) pairs ∙ none_passes (eq_by_cmp pair_cmp pair) pairs distinct.0,
+  any_map (λ other. Take (pair_row CLOSURE_PAIR other)) (λ change. takes change (pair_row CLOSURE_PAIR pair)) pairs ∙ none_passes (eq_by_cmp pair_cmp pair) pairs distinct.0,
   takes_once pairs distinct.1,
 )
 
 -- the edge is none of them
-edge_apart : (asc desc : Bytes) (pairs : List Pair) → list_any (λ pair. same_row (pair_row 4 pair) (PairRow 3 asc desc)) pairs ≡ false
-edge_apart asc desc pairs = none_listed (λ pair. same_row (pair_row 4 pair) (PairRow 3 asc desc)) pairs (λ pair. refl)
+edge_apart : (asc desc : Bytes) (pairs : List Pair) → list_any (λ pair. same_row (pair_row CLOSURE_PAIR pair) (PairRow INHERITANCE asc desc)) pairs ≡ false
+edge_apart asc desc pairs = none_listed (λ pair. same_row (pair_row CLOSURE_PAIR pair) (PairRow INHERITANCE asc desc)) pairs (λ pair. refl)
 
 -- ---- the kinds of rows
 
@@ -112,22 +113,22 @@ flipped : (k l : ℕ) → nat_eq l k ≡ false → nat_eq k l ≡ false
 flipped k l other = is_false (nat_eq k l) (λ same. true≢false (sym (eq-eqb l k (sym (eqb-true k l same))) ∙ other))
 
 -- a kind of pairs is that of the edges, that of the order, or another
-by_kind : (P : ℕ → Type 0) → P 3 → P 4 → ((k : ℕ) → nat_eq k 3 ≡ false → nat_eq k 4 ≡ false → P k) → (kind : ℕ) → P kind
-by_kind P edge order others kind = told (nat_eq kind 3) (nat_eq kind 4) refl refl
+by_kind : (P : ℕ → Type 0) → P INHERITANCE → P CLOSURE_PAIR → ((k : ℕ) → nat_eq k INHERITANCE ≡ false → nat_eq k CLOSURE_PAIR ≡ false → P k) → (kind : ℕ) → P kind
+by_kind P edge order others kind = told (nat_eq kind INHERITANCE) (nat_eq kind CLOSURE_PAIR) refl refl
   where
-    told : (a b : Bool) → nat_eq kind 3 ≡ a → nat_eq kind 4 ≡ b → P kind
-    told true b is other = subst P (sym (eqb-true kind 3 is)) edge
-    told false true other is = subst P (sym (eqb-true kind 4 is)) order
+    told : (a b : Bool) → nat_eq kind INHERITANCE ≡ a → nat_eq kind CLOSURE_PAIR ≡ b → P kind
+    told true b is other = subst P (sym (eqb-true kind INHERITANCE is)) edge
+    told false true other is = subst P (sym (eqb-true kind CLOSURE_PAIR is)) order
     told false false one other = others kind one other
 
 -- no row of another kind is listed
-listed_other : (asc desc : Bytes) (pairs : Pairs) (k : ℕ) (x y : Bytes) → nat_eq k 3 ≡ false → nat_eq k 4 ≡ false → is_listed asc desc pairs (PairRow k x y) ≡ false
+listed_other : (asc desc : Bytes) (pairs : Pairs) (k : ℕ) (x y : Bytes) → nat_eq k INHERITANCE ≡ false → nat_eq k CLOSURE_PAIR ≡ false → is_listed asc desc pairs (PairRow k x y) ≡ false
 listed_other asc desc pairs k x y no_edge no_pair = λ i.
     (flipped 3 k no_edge i && eq_by_cmp pair_cmp (x, y) (asc, desc))
     || none_listed (λ pair. nat_eq 4 k && eq_by_cmp pair_cmp (x, y) pair) (members pairs) (λ pair. ap (λ b. b && eq_by_cmp pair_cmp (x, y) pair) (flipped 4 k no_pair)) i
 
 -- of the edges one is listed
-listed_edge : (asc desc : Bytes) (pairs : Pairs) (x y : Bytes) → is_listed asc desc pairs (PairRow 3 x y) ≡ eq_by_cmp pair_cmp (x, y) (asc, desc)
+listed_edge : (asc desc : Bytes) (pairs : Pairs) (x y : Bytes) → is_listed asc desc pairs (PairRow INHERITANCE x y) ≡ eq_by_cmp pair_cmp (x, y) (asc, desc)
 listed_edge asc desc pairs x y = ap (λ b. eq_by_cmp pair_cmp (x, y) (asc, desc) || b) (edge_apart x y (members pairs)) ∙ or_none (eq_by_cmp pair_cmp (x, y) (asc, desc))
   where
     or_none : (b : Bool) → (b || false) ≡ b
@@ -135,7 +136,7 @@ listed_edge asc desc pairs x y = ap (λ b. eq_by_cmp pair_cmp (x, y) (asc, desc)
     or_none false = refl
 
 -- of the pairs of the order these are
-listed_pair : (asc desc : Bytes) (pairs : Pairs) (x y : Bytes) → is_listed asc desc pairs (PairRow 4 x y) ≡ contains pairs (x, y)
+listed_pair : (asc desc : Bytes) (pairs : Pairs) (x y : Bytes) → is_listed asc desc pairs (PairRow CLOSURE_PAIR x y) ≡ contains pairs (x, y)
 listed_pair asc desc pairs x y = sym (contains-members pairs (x, y))
 
 -- where only the edges are others, so is no row but those of the edges and of the order
@@ -146,9 +147,9 @@ two_skipped a b false true p q r s r' s' t h k = absurd (true≢false k)
 two_skipped a b false false p q r s r' s' t h k = refl
 
 -- the rows of pairs that are of no edge and no pair of the order stay
-others_stay : (S : RbacState) (edges : Pairs) (k : ℕ) (x y : Bytes) → nat_eq k 3 ≡ false → nat_eq k 4 ≡ false → has_row (with_edges S edges) (PairRow k x y) ≡ has_row S (PairRow k x y)
+others_stay : (S : RbacState) (edges : Pairs) (k : ℕ) (x y : Bytes) → nat_eq k INHERITANCE ≡ false → nat_eq k CLOSURE_PAIR ≡ false → has_row (with_edges S edges) (PairRow k x y) ≡ has_row S (PairRow k x y)
 unfolding has_row
-others_stay S edges k x y no_edge no_pair = two_skipped (nat_eq k 1) (nat_eq k 2) (nat_eq k 3) (nat_eq k 4) _ _ _ _ _ _ _ no_edge no_pair
+others_stay S edges k x y no_edge no_pair = two_skipped (nat_eq k PERMISSION) (nat_eq k ASSIGNMENT) (nat_eq k INHERITANCE) (nat_eq k CLOSURE_PAIR) _ _ _ _ _ _ _ no_edge no_pair
 
 -- two tests that imply each other answer alike
 same_answer : (a b : Bool) → (a ≡ true → b ≡ true) → (b ≡ true → a ≡ true) → a ≡ b
@@ -249,10 +250,10 @@ module _ (S : RbacState) (asc desc : Bytes) (pairs : Pairs) where
       there = λ row h. absurd (true≢false (sym h ∙ order_takes_nothing asc desc pairs row));
       absent = λ row h. listed_absent row (sym (puts_are asc desc pairs row) ∙ h);
       once = (
-        any_map (λ pair. Put (pair_row 4 pair)) (λ change. puts change (PairRow 3 asc desc)) (members pairs) ∙ edge_apart asc desc (members pairs),
+        any_map (λ pair. Put (pair_row CLOSURE_PAIR pair)) (λ change. puts change (PairRow INHERITANCE asc desc)) (members pairs) ∙ edge_apart asc desc (members pairs),
         puts_once (members pairs) (distinct-members pair_total pair_exact pairs),
       );
-      takes_first = (nothing_taken (pair_row 4) (members pairs), puts_last (pair_row 4) (members pairs));
+      takes_first = (nothing_taken (pair_row CLOSURE_PAIR) (members pairs), puts_last (pair_row CLOSURE_PAIR) (members pairs));
     }
 
   -- ---- an edge goes
@@ -315,10 +316,10 @@ module _ (S : RbacState) (asc desc : Bytes) (pairs : Pairs) where
       there = λ row h. listed_there row (sym (takes_are asc desc pairs row) ∙ h);
       absent = λ row h. absurd (true≢false (sym h ∙ order_puts_nothing asc desc pairs row));
       once = (
-        any_map (λ pair. Take (pair_row 4 pair)) (λ change. takes change (PairRow 3 asc desc)) (members pairs) ∙ edge_apart asc desc (members pairs),
+        any_map (λ pair. Take (pair_row CLOSURE_PAIR pair)) (λ change. takes change (PairRow INHERITANCE asc desc)) (members pairs) ∙ edge_apart asc desc (members pairs),
         takes_once (members pairs) (distinct-members pair_total pair_exact pairs),
       );
-      takes_first = takes_alone (pair_row 4) (members pairs);
+      takes_first = takes_alone (pair_row CLOSURE_PAIR) (members pairs);
     }
 
 -- ---- with other rows

@@ -3,6 +3,7 @@ use Rattle.std.proofs.Common.{refl, ℕ}
 use Rattle.rbac_sets.specs.Sets.{Bytes, Names, Pairs, Triples, Cardinality, Cardinalities}
 use Rattle.rbac_sets.specs.declared.row.Row.{Row}
 use Rattle.rbac_sets.specs.declared.row.Row.TheVariants.{NameRow, SetRow, LockedRow}
+use Rattle.rbac_sets.specs.declared.row.TheConstants.Row.{USER, ROLE, OBJECT, PERMISSION, ASSIGNMENT, STATIC_MEMBER, DYNAMIC_MEMBER, SESSION, ACTIVATED_ROLE, STATIC_CARDINALITY, DYNAMIC_CARDINALITY}
 use Rattle.admin_mgr.specs.Rows.{has_row}
 use Rattle.admin_mgr.specs.Stepping.{with_row, without_row}
 use Rattle.admin_mgr.specs.Listing.{pair_row, grant_row}
@@ -13,7 +14,7 @@ abbrev pub set_row : ℕ → Cardinality → Row
 set_row kind entry = SetRow kind entry.0 entry.1
 
 -- the users
-pub user_rows : IsSetOf (λ (name : Bytes). NameRow 1 name) (λ S. S.users) (λ S (s : Names). record S { users = s })
+pub user_rows : IsSetOf (λ (name : Bytes). NameRow USER name) (λ S. S.users) (λ S (s : Names). record S { users = s })
 unfolding has_row with_row without_row
 user_rows = record {
   plain = λ x. refl;
@@ -26,7 +27,7 @@ user_rows = record {
 }
 
 -- the roles
-pub role_rows : IsSetOf (λ (name : Bytes). NameRow 2 name) (λ S. S.roles) (λ S (s : Names). record S { roles = s })
+pub role_rows : IsSetOf (λ (name : Bytes). NameRow ROLE name) (λ S. S.roles) (λ S (s : Names). record S { roles = s })
 unfolding has_row with_row without_row
 role_rows = record {
   plain = λ x. refl;
@@ -39,7 +40,7 @@ role_rows = record {
 }
 
 -- the objects
-pub object_rows : IsSetOf (λ (name : Bytes). NameRow 3 name) (λ S. S.objects) (λ S (s : Names). record S { objects = s })
+pub object_rows : IsSetOf (λ (name : Bytes). NameRow OBJECT name) (λ S. S.objects) (λ S (s : Names). record S { objects = s })
 unfolding has_row with_row without_row
 object_rows = record {
   plain = λ x. refl;
@@ -65,7 +66,7 @@ locked_rows = record {
 }
 
 -- the permissions
-pub permission_rows : IsSetOf (pair_row 1) (λ S. S.permissions) (λ S (s : Pairs). record S { permissions = s })
+pub permission_rows : IsSetOf (pair_row PERMISSION) (λ S. S.permissions) (λ S (s : Pairs). record S { permissions = s })
 unfolding has_row with_row without_row
 permission_rows = record {
   plain = λ x. refl;
@@ -78,7 +79,7 @@ permission_rows = record {
 }
 
 -- the assignments
-pub assignment_rows : IsSetOf (pair_row 2) (λ S. S.assignments) (λ S (s : Pairs). record S { assignments = s })
+pub assignment_rows : IsSetOf (pair_row ASSIGNMENT) (λ S. S.assignments) (λ S (s : Pairs). record S { assignments = s })
 unfolding has_row with_row without_row
 assignment_rows = record {
   plain = λ x. refl;
@@ -91,7 +92,7 @@ assignment_rows = record {
 }
 
 -- the members of the static separation of duty sets
-pub ssd_member_rows : IsSetOf (pair_row 5) (λ S. S.ssd.members) (λ S (s : Pairs). record S { ssd = record S.ssd { members = s } })
+pub ssd_member_rows : IsSetOf (pair_row STATIC_MEMBER) (λ S. S.ssd.members) (λ S (s : Pairs). record S { ssd = record S.ssd { members = s } })
 unfolding has_row with_row without_row
 ssd_member_rows = record {
   plain = λ x. refl;
@@ -104,7 +105,7 @@ ssd_member_rows = record {
 }
 
 -- the members of the dynamic separation of duty sets
-pub dsd_member_rows : IsSetOf (pair_row 6) (λ S. S.dsd.members) (λ S (s : Pairs). record S { dsd = record S.dsd { members = s } })
+pub dsd_member_rows : IsSetOf (pair_row DYNAMIC_MEMBER) (λ S. S.dsd.members) (λ S (s : Pairs). record S { dsd = record S.dsd { members = s } })
 unfolding has_row with_row without_row
 dsd_member_rows = record {
   plain = λ x. refl;
@@ -117,7 +118,7 @@ dsd_member_rows = record {
 }
 
 -- the sessions with their users
-pub session_pair_rows : IsSetOf (pair_row 7) (λ S. S.sessions) (λ S (s : Pairs). record S { sessions = s })
+pub session_pair_rows : IsSetOf (pair_row SESSION) (λ S. S.sessions) (λ S (s : Pairs). record S { sessions = s })
 unfolding has_row with_row without_row
 session_pair_rows = record {
   plain = λ x. refl;
@@ -130,7 +131,7 @@ session_pair_rows = record {
 }
 
 -- the activated roles
-pub active_rows : IsSetOf (pair_row 8) (λ S. S.active) (λ S (s : Pairs). record S { active = s })
+pub active_rows : IsSetOf (pair_row ACTIVATED_ROLE) (λ S. S.active) (λ S (s : Pairs). record S { active = s })
 unfolding has_row with_row without_row
 active_rows = record {
   plain = λ x. refl;
@@ -156,7 +157,7 @@ grant_rows = record {
 }
 
 -- the static separation of duty sets with their cardinalities
-pub ssd_cardinality_rows : IsSetOf (set_row 1) (λ S. S.ssd.cardinalities) (λ S (s : Cardinalities). record S { ssd = record S.ssd { cardinalities = s } })
+pub ssd_cardinality_rows : IsSetOf (set_row STATIC_CARDINALITY) (λ S. S.ssd.cardinalities) (λ S (s : Cardinalities). record S { ssd = record S.ssd { cardinalities = s } })
 unfolding has_row with_row without_row
 ssd_cardinality_rows = record {
   plain = λ x. refl;
@@ -169,7 +170,7 @@ ssd_cardinality_rows = record {
 }
 
 -- the dynamic separation of duty sets with their cardinalities
-pub dsd_cardinality_rows : IsSetOf (set_row 2) (λ S. S.dsd.cardinalities) (λ S (s : Cardinalities). record S { dsd = record S.dsd { cardinalities = s } })
+pub dsd_cardinality_rows : IsSetOf (set_row DYNAMIC_CARDINALITY) (λ S. S.dsd.cardinalities) (λ S (s : Cardinalities). record S { dsd = record S.dsd { cardinalities = s } })
 unfolding has_row with_row without_row
 dsd_cardinality_rows = record {
   plain = λ x. refl;

@@ -9,6 +9,7 @@ use Rattle.rbac_sets.specs.NameOrder.{name_total, name_exact, triple_total, trip
 use Rattle.rbac_sets.specs.declared.command.Command.TheVariants.{DeletePermObj, DeletePermission, RevokePermission, DeleteSession, DropActiveRole, UnlockUserAccount}
 use Rattle.rbac_sets.specs.declared.refusal.Refusal.TheVariants.{NoObject, NoPermission, NotGranted, NotOwner, NotActive}
 use Rattle.rbac_sets.specs.declared.row.Row.TheVariants.{NameRow, PairRow, GrantRow}
+use Rattle.rbac_sets.specs.declared.row.TheConstants.Row.{OBJECT, PERMISSION, ACTIVATED_ROLE}
 use Rattle.rbac_sets.specs.declared.row.Change.TheVariants.{Take}
 use Rattle.admin_mgr.specs.RbacState.{RbacState}
 use Rattle.admin_mgr.specs.Run.{tally}
@@ -32,10 +33,10 @@ unfolding verdict refusals
 delete_perm_obj_there S object accepted = refuse_unless-None (contains S.objects object) NoObject (passed (refusals S (DeletePermObj object)) accepted).0
 
 -- its row is taken
-pub done_delete_perm_obj : (S : RbacState) → IsGood S → (object : Bytes) → verdict S (DeletePermObj object) ≡ None → IsDoneByOne S (DeletePermObj object) Take (NameRow 3 object)
+pub done_delete_perm_obj : (S : RbacState) → IsGood S → (object : Bytes) → verdict S (DeletePermObj object) ≡ None → IsDoneByOne S (DeletePermObj object) Take (NameRow OBJECT object)
 unfolding tally changed
 done_delete_perm_obj S good object accepted = done_by_one S (DeletePermObj object) refl (after_delete_perm_obj S good object) (good_after_delete_perm_obj S good object accepted) refl
-    Take (NameRow 3 object) (steps_take_one object_rows S object (delete_perm_obj_there S object accepted))
+    Take (NameRow OBJECT object) (steps_take_one object_rows S object (delete_perm_obj_there S object accepted))
 
 -- ---- a permission
 
@@ -60,7 +61,7 @@ grant_of_both object operation grant = both_tie (name_cmp grant.0 object) (name_
 
 -- its row is taken, and those of its grants
 pub done_delete_permission : (S : RbacState) → IsGood S → (object operation : Bytes) → verdict S (DeletePermission object operation) ≡ None →
-    IsDoneBy S (DeletePermission object operation) (Take (PairRow 1 object operation) ∷ take_all grant_row (filter (is_grant_of object operation) (members S.grants)))
+    IsDoneBy S (DeletePermission object operation) (Take (PairRow PERMISSION object operation) ∷ take_all grant_row (filter (is_grant_of object operation) (members S.grants)))
 unfolding tally changed
 done_delete_permission S good object operation accepted =
     let left : RbacState = record S { permissions = remove S.permissions (object, operation) } in
@@ -107,11 +108,11 @@ drop_active_role_there S user session role accepted =
 
 -- its row is taken
 pub done_drop_active_role : (S : RbacState) → IsGood S → (user session role : Bytes) → verdict S (DropActiveRole user session role) ≡ None →
-    IsDoneByOne S (DropActiveRole user session role) Take (PairRow 8 session role)
+    IsDoneByOne S (DropActiveRole user session role) Take (PairRow ACTIVATED_ROLE session role)
 unfolding tally changed
 done_drop_active_role S good user session role accepted = done_by_one S (DropActiveRole user session role) refl
     (after_drop_active_role S good user session role) (good_after_drop_active_role S good user session role accepted) refl
-    Take (PairRow 8 session role) (steps_take_one active_rows S (session, role) (drop_active_role_there S user session role accepted))
+    Take (PairRow ACTIVATED_ROLE session role) (steps_take_one active_rows S (session, role) (drop_active_role_there S user session role accepted))
 
 -- ---- a lock
 

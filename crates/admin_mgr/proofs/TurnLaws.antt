@@ -10,6 +10,7 @@ use Rattle.role_order.specs.Order.{geq}
 use Rattle.role_order.proofs.Members.{is_false}
 use Rattle.rbac_sets.specs.declared.row.Row.{Row}
 use Rattle.rbac_sets.specs.declared.row.Row.TheVariants.{NameRow, PairRow, GrantRow, SetRow, LockedRow}
+use Rattle.rbac_sets.specs.declared.row.TheConstants.Row.{USER, ROLE, OBJECT, PERMISSION, ASSIGNMENT, INHERITANCE, CLOSURE_PAIR, STATIC_MEMBER, DYNAMIC_MEMBER, SESSION, ACTIVATED_ROLE, STATIC_CARDINALITY, DYNAMIC_CARDINALITY}
 use Rattle.rbac_sets.specs.declared.row.Change.{Change}
 use Rattle.rbac_sets.specs.declared.row.Change.TheVariants.{Put, Take}
 use Rattle.admin_mgr.specs.RbacState.{RbacState}
@@ -56,13 +57,13 @@ eight false false false false false false false false p q r s t u v w p' q' t' u
 -- they are those of the edges
 pub has_row-edges : (S T : RbacState) (row : Row) → is_plain row ≡ false → S.edges ≡ T.edges → has_row S row ≡ has_row T row
 unfolding has_row
-has_row-edges S T (NameRow k x) other edges = three (nat_eq k 1) (nat_eq k 2) (nat_eq k 3) _ _ _ _ _ _ other
+has_row-edges S T (NameRow k x) other edges = three (nat_eq k USER) (nat_eq k ROLE) (nat_eq k OBJECT) _ _ _ _ _ _ other
 has_row-edges S T (PairRow k x y) other edges =
-    (λ i. if nat_eq k 1 then contains S.permissions (x, y) else if nat_eq k 2 then contains S.assignments (x, y) else if nat_eq k 3 then contains (edges i) (x, y) else if nat_eq k 4 then geq (edges i) x y && not (same_name x y)
-    else if nat_eq k 5 then contains S.ssd.members (x, y) else if nat_eq k 6 then contains S.dsd.members (x, y) else if nat_eq k 7 then contains S.sessions (x, y) else if nat_eq k 8 then contains S.active (x, y) else false)
-    ∙ eight (nat_eq k 1) (nat_eq k 2) (nat_eq k 3) (nat_eq k 4) (nat_eq k 5) (nat_eq k 6) (nat_eq k 7) (nat_eq k 8) _ _ _ _ _ _ _ _ _ _ _ _ _ _ other
+    (λ i. if nat_eq k PERMISSION then contains S.permissions (x, y) else if nat_eq k ASSIGNMENT then contains S.assignments (x, y) else if nat_eq k INHERITANCE then contains (edges i) (x, y) else if nat_eq k CLOSURE_PAIR then geq (edges i) x y && not (same_name x y)
+    else if nat_eq k STATIC_MEMBER then contains S.ssd.members (x, y) else if nat_eq k DYNAMIC_MEMBER then contains S.dsd.members (x, y) else if nat_eq k SESSION then contains S.sessions (x, y) else if nat_eq k ACTIVATED_ROLE then contains S.active (x, y) else false)
+    ∙ eight (nat_eq k PERMISSION) (nat_eq k ASSIGNMENT) (nat_eq k INHERITANCE) (nat_eq k CLOSURE_PAIR) (nat_eq k STATIC_MEMBER) (nat_eq k DYNAMIC_MEMBER) (nat_eq k SESSION) (nat_eq k ACTIVATED_ROLE) _ _ _ _ _ _ _ _ _ _ _ _ _ _ other
 has_row-edges S T (GrantRow x y z) other edges = cc
-has_row-edges S T (SetRow k x n) other edges = two (nat_eq k 1) (nat_eq k 2) _ _ _ _ other
+has_row-edges S T (SetRow k x n) other edges = two (nat_eq k STATIC_CARDINALITY) (nat_eq k DYNAMIC_CARDINALITY) _ _ _ _ other
 has_row-edges S T (LockedRow x) other edges = cc
 
 -- ---- changes that all take, and changes that all put

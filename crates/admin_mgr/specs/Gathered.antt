@@ -5,6 +5,7 @@ use Rattle.std.specs.Coded.{Coded, coded×, code_by}
 use Rattle.rbac_sets.specs.Sets.{Bytes, Pair, Triple, Cardinality, Pairs, coded_set, coded_pair, contains, from_list, insert, same_name}
 use Rattle.rbac_sets.specs.declared.row.Row.{Row}
 use Rattle.rbac_sets.specs.declared.row.Row.TheVariants.{NameRow, PairRow, GrantRow, SetRow, LockedRow}
+use Rattle.rbac_sets.specs.declared.row.TheConstants.Row.{USER, ROLE, OBJECT, PERMISSION, ASSIGNMENT, INHERITANCE, CLOSURE_PAIR, STATIC_MEMBER, DYNAMIC_MEMBER, SESSION, ACTIVATED_ROLE, STATIC_CARDINALITY, DYNAMIC_CARDINALITY}
 use Rattle.admin_mgr.specs.RbacState.{RbacState, coded_state, has_set}
 use Rattle.admin_mgr.specs.Rows.{has_name, has_pair}
 use Rattle.admin_mgr.specs.Changes.{same_row}
@@ -14,13 +15,13 @@ use Rattle.admin_mgr.specs.Stepping.{with_row, with_edges}
 abbrev pub is_among : List Row → Row → Bool
 is_among rows row = list_any (λ (other : Row). same_row other row) rows
 
--- an office of this version may have the row: kinds of names are 1 to 3, of pairs 1 to 8, of sets 1 and 2, and version 1
--- has no locks
+-- an office of this version may have the row: it is of a kind of names, of pairs or of cardinalities, which each are in one
+-- run of numbers, and version 1 has no locks
 abbrev pub is_known : ℕ → Row → Bool
-is_known version (NameRow kind _) = nat_le 1 kind && nat_le kind 3
-is_known version (PairRow kind _ _) = nat_le 1 kind && nat_le kind 8
+is_known version (NameRow kind _) = nat_le USER kind && nat_le kind OBJECT
+is_known version (PairRow kind _ _) = nat_le PERMISSION kind && nat_le kind ACTIVATED_ROLE
 is_known version (GrantRow _ _ _) = true
-is_known version (SetRow kind _ _) = nat_le 1 kind && nat_le kind 2
+is_known version (SetRow kind _ _) = nat_le STATIC_CARDINALITY kind && nat_le kind DYNAMIC_CARDINALITY
 is_known version (LockedRow _) = not (nat_eq version 1)
 
 -- Whether two rows have one key. The key of a set's cardinality is its kind and name, so that a set has one cardinality; the
@@ -77,20 +78,20 @@ unfoldable pub gathered : ℕ → List Row → Gathered
 gathered version rows = record {
   facts = record {
     version = version;
-    users = from_list (names_of 1 rows);
+    users = from_list (names_of USER rows);
     locked = from_list (locks_of rows);
-    roles = from_list (names_of 2 rows);
-    objects = from_list (names_of 3 rows);
-    permissions = from_list (pairs_of 1 rows);
-    assignments = from_list (pairs_of 2 rows);
+    roles = from_list (names_of ROLE rows);
+    objects = from_list (names_of OBJECT rows);
+    permissions = from_list (pairs_of PERMISSION rows);
+    assignments = from_list (pairs_of ASSIGNMENT rows);
     grants = from_list (grants_of rows);
-    edges = from_list (pairs_of 3 rows);
-    sessions = from_list (pairs_of 7 rows);
-    active = from_list (pairs_of 8 rows);
-    ssd = record { members = from_list (pairs_of 5 rows); cardinalities = from_list (cardinalities_of 1 rows) };
-    dsd = record { members = from_list (pairs_of 6 rows); cardinalities = from_list (cardinalities_of 2 rows) };
+    edges = from_list (pairs_of INHERITANCE rows);
+    sessions = from_list (pairs_of SESSION rows);
+    active = from_list (pairs_of ACTIVATED_ROLE rows);
+    ssd = record { members = from_list (pairs_of STATIC_MEMBER rows); cardinalities = from_list (cardinalities_of STATIC_CARDINALITY rows) };
+    dsd = record { members = from_list (pairs_of DYNAMIC_MEMBER rows); cardinalities = from_list (cardinalities_of DYNAMIC_CARDINALITY rows) };
   };
-  pairs = from_list (pairs_of 4 rows);
+  pairs = from_list (pairs_of CLOSURE_PAIR rows);
 }
 
 -- ---- one row more
@@ -103,14 +104,14 @@ with_pair_of kind pairs _ = pairs
 -- one row more
 abbrev pub with_stored : Gathered → Row → Gathered
 with_stored g row = record {
-  facts = with_edges (with_row g.facts row) (with_pair_of 3 g.facts.edges row);
-  pairs = with_pair_of 4 g.pairs row;
+  facts = with_edges (with_row g.facts row) (with_pair_of INHERITANCE g.facts.edges row);
+  pairs = with_pair_of CLOSURE_PAIR g.pairs row;
 }
 
 -- a row of this key is there
 unfoldable pub has_key : Gathered → Row → Bool
 has_key g (NameRow kind a) = has_name g.facts kind a
-has_key g (PairRow kind a b) = if nat_eq kind 4 then contains g.pairs (a, b) else has_pair g.facts kind a b
+has_key g (PairRow kind a b) = if nat_eq kind CLOSURE_PAIR then contains g.pairs (a, b) else has_pair g.facts kind a b
 has_key g (GrantRow a b c) = contains g.facts.grants (a, b, c)
-has_key g (SetRow kind a _) = if nat_eq kind 1 then has_set g.facts.ssd a else if nat_eq kind 2 then has_set g.facts.dsd a else false
+has_key g (SetRow kind a _) = if nat_eq kind STATIC_CARDINALITY then has_set g.facts.ssd a else if nat_eq kind DYNAMIC_CARDINALITY then has_set g.facts.dsd a else false
 has_key g (LockedRow a) = contains g.facts.locked a

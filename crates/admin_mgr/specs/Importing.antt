@@ -7,6 +7,7 @@ use Rattle.rbac_sets.specs.declared.kind.Kind.TheVariants.{Assignment}
 use Rattle.rbac_sets.specs.declared.refusal.Refusal.{Refusal}
 use Rattle.rbac_sets.specs.declared.refusal.Refusal.TheVariants.{NoUser, NoRole, AlreadyAssigned}
 use Rattle.rbac_sets.specs.declared.row.Row.TheVariants.{PairRow}
+use Rattle.rbac_sets.specs.declared.row.TheConstants.Row.{ASSIGNMENT}
 use Rattle.rbac_sets.specs.declared.row.Change.{Change}
 use Rattle.rbac_sets.specs.declared.row.Change.TheVariants.{Put}
 use Rattle.admin_mgr.specs.RbacState.{RbacState}
@@ -26,7 +27,7 @@ accepted S (pair ∷ pairs) =
 
 -- the change that puts the row of an assignment
 abbrev pub put_assignment : Pair → Change
-put_assignment pair = Put (PairRow 2 pair.0 pair.1)
+put_assignment pair = Put (PairRow ASSIGNMENT pair.0 pair.1)
 
 -- what an assignment is refused for where these were added before, but for static separation
 abbrev pub record_refusals : RbacState → Pairs → Pair → List (Option Refusal)

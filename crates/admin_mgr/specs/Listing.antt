@@ -5,6 +5,7 @@ use Rattle.std.specs.List.{flat_map}
 use Rattle.rbac_sets.specs.Sets.{Bytes, Pair, Triple, Pairs, contains, members}
 use Rattle.rbac_sets.specs.declared.row.Row.{Row}
 use Rattle.rbac_sets.specs.declared.row.Row.TheVariants.{PairRow, GrantRow, LockedRow}
+use Rattle.rbac_sets.specs.declared.row.TheConstants.Row.{INHERITANCE, CLOSURE_PAIR, SESSION, ACTIVATED_ROLE}
 use Rattle.rbac_sets.specs.declared.row.Change.{Change}
 use Rattle.rbac_sets.specs.declared.row.Change.TheVariants.{Put, Take}
 use Rattle.admin_mgr.specs.RbacState.{RbacState}
@@ -28,7 +29,7 @@ put_all row entries = map (λ entry. Put (row entry)) entries
 
 -- a session's row goes, and the rows of the roles that were activated in it
 abbrev pub session_rows : RbacState → Pair → List Change
-session_rows S session = Take (PairRow 7 session.0 session.1) ∷ take_all (pair_row 8) (run_of S.active session.0)
+session_rows S session = Take (PairRow SESSION session.0 session.1) ∷ take_all (pair_row ACTIVATED_ROLE) (run_of S.active session.0)
 
 -- the rows of the sessions that don't go on, one session after the other
 abbrev pub ended_rows : RbacState → (Pair → Bool) → List Change
@@ -44,8 +45,8 @@ new_lock_rows S user = if contains S.locked user then [] else Put (LockedRow use
 
 -- the row of an edge comes, and those of the pairs that the order gains by it
 abbrev pub order_puts : Bytes → Bytes → Pairs → List Change
-order_puts asc desc pairs = Put (PairRow 3 asc desc) ∷ put_all (pair_row 4) (members pairs)
+order_puts asc desc pairs = Put (PairRow INHERITANCE asc desc) ∷ put_all (pair_row CLOSURE_PAIR) (members pairs)
 
 -- the row of an edge goes, and those of the pairs that the order loses by it
 abbrev pub order_takes : Bytes → Bytes → Pairs → List Change
-order_takes asc desc pairs = Take (PairRow 3 asc desc) ∷ take_all (pair_row 4) (members pairs)
+order_takes asc desc pairs = Take (PairRow INHERITANCE asc desc) ∷ take_all (pair_row CLOSURE_PAIR) (members pairs)

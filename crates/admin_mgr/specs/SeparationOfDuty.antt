@@ -8,6 +8,7 @@ use Rattle.rbac_sets.specs.declared.kind.Kind.{Kind}
 use Rattle.rbac_sets.specs.declared.kind.Kind.TheVariants.{SsdSet, DsdSet}
 use Rattle.rbac_sets.specs.declared.refusal.Refusal.{Refusal}
 use Rattle.rbac_sets.specs.declared.refusal.Refusal.TheVariants.{StaticSeparation, DynamicSeparation}
+use Rattle.rbac_sets.specs.declared.row.TheConstants.Row.{STATIC_MEMBER, DYNAMIC_MEMBER, STATIC_CARDINALITY, DYNAMIC_CARDINALITY}
 use Rattle.admin_mgr.specs.declared.separation_of_duty.SeparationOfDuty.{SeparationOfDuty}
 use Rattle.admin_mgr.specs.declared.separation_of_duty.SeparationOfDuty.TheVariants.{Static, Dynamic}
 use Rattle.admin_mgr.specs.RbacState.{RbacState, Separation}
@@ -31,13 +32,13 @@ kind_of Dynamic = DsdSet
 
 -- the number of the rows of its sets' members
 abbrev pub member_rows : SeparationOfDuty → ℕ
-member_rows Static = 5
-member_rows Dynamic = 6
+member_rows Static = STATIC_MEMBER
+member_rows Dynamic = DYNAMIC_MEMBER
 
 -- the number of the rows of its sets' cardinalities
 abbrev pub cardinality_rows : SeparationOfDuty → ℕ
-cardinality_rows Static = 1
-cardinality_rows Dynamic = 2
+cardinality_rows Static = STATIC_CARDINALITY
+cardinality_rows Dynamic = DYNAMIC_CARDINALITY
 
 -- no user is authorized for so many of the roles, or no session has so many
 abbrev pub is_kept : SeparationOfDuty → RbacState → Names → ℕ → Bool

@@ -4,6 +4,7 @@ use Rattle.std.specs.Prelude.{◌≡◌, ℕ, ◌+◌, ◌≤◌, Bool, true, fa
 use Rattle.rbac_sets.specs.Sets.{Pairs, insert, remove}
 use Rattle.rbac_sets.specs.declared.row.Row.{Row}
 use Rattle.rbac_sets.specs.declared.row.Row.TheVariants.{NameRow, PairRow, GrantRow, SetRow, LockedRow}
+use Rattle.rbac_sets.specs.declared.row.TheConstants.Row.{USER, ROLE, OBJECT, PERMISSION, ASSIGNMENT, STATIC_MEMBER, DYNAMIC_MEMBER, SESSION, ACTIVATED_ROLE, STATIC_CARDINALITY, DYNAMIC_CARDINALITY}
 use Rattle.rbac_sets.specs.declared.row.Change.{Change}
 use Rattle.rbac_sets.specs.declared.row.Change.TheVariants.{Put, Take}
 use Rattle.admin_mgr.specs.RbacState.{RbacState}
@@ -11,53 +12,53 @@ use Rattle.admin_mgr.specs.Rows.{has_row}
 
 -- a row of a set that changes row by row
 abbrev pub is_plain : Row → Bool
-is_plain (NameRow kind a) = nat_eq kind 1 || nat_eq kind 2 || nat_eq kind 3
-is_plain (PairRow kind a b) = nat_eq kind 1 || nat_eq kind 2 || nat_eq kind 5 || nat_eq kind 6 || nat_eq kind 7 || nat_eq kind 8
+is_plain (NameRow kind a) = nat_eq kind USER || nat_eq kind ROLE || nat_eq kind OBJECT
+is_plain (PairRow kind a b) = nat_eq kind PERMISSION || nat_eq kind ASSIGNMENT || nat_eq kind STATIC_MEMBER || nat_eq kind DYNAMIC_MEMBER || nat_eq kind SESSION || nat_eq kind ACTIVATED_ROLE
 is_plain (GrantRow a b c) = true
-is_plain (SetRow kind a n) = nat_eq kind 1 || nat_eq kind 2
+is_plain (SetRow kind a n) = nat_eq kind STATIC_CARDINALITY || nat_eq kind DYNAMIC_CARDINALITY
 is_plain (LockedRow a) = true
 
 -- one row more
 unfoldable pub with_row : RbacState → Row → RbacState
 with_row S (NameRow kind a) = record S {
-  users = if nat_eq kind 1 then insert S.users a else S.users;
-  roles = if nat_eq kind 2 then insert S.roles a else S.roles;
-  objects = if nat_eq kind 3 then insert S.objects a else S.objects;
+  users = if nat_eq kind USER then insert S.users a else S.users;
+  roles = if nat_eq kind ROLE then insert S.roles a else S.roles;
+  objects = if nat_eq kind OBJECT then insert S.objects a else S.objects;
 }
 with_row S (PairRow kind a b) = record S {
-  permissions = if nat_eq kind 1 then insert S.permissions (a, b) else S.permissions;
-  assignments = if nat_eq kind 2 then insert S.assignments (a, b) else S.assignments;
-  ssd = record S.ssd { members = if nat_eq kind 5 then insert S.ssd.members (a, b) else S.ssd.members };
-  dsd = record S.dsd { members = if nat_eq kind 6 then insert S.dsd.members (a, b) else S.dsd.members };
-  sessions = if nat_eq kind 7 then insert S.sessions (a, b) else S.sessions;
-  active = if nat_eq kind 8 then insert S.active (a, b) else S.active;
+  permissions = if nat_eq kind PERMISSION then insert S.permissions (a, b) else S.permissions;
+  assignments = if nat_eq kind ASSIGNMENT then insert S.assignments (a, b) else S.assignments;
+  ssd = record S.ssd { members = if nat_eq kind STATIC_MEMBER then insert S.ssd.members (a, b) else S.ssd.members };
+  dsd = record S.dsd { members = if nat_eq kind DYNAMIC_MEMBER then insert S.dsd.members (a, b) else S.dsd.members };
+  sessions = if nat_eq kind SESSION then insert S.sessions (a, b) else S.sessions;
+  active = if nat_eq kind ACTIVATED_ROLE then insert S.active (a, b) else S.active;
 }
 with_row S (GrantRow a b c) = record S { grants = insert S.grants (a, b, c) }
 with_row S (SetRow kind a n) = record S {
-  ssd = record S.ssd { cardinalities = if nat_eq kind 1 then insert S.ssd.cardinalities (a, n) else S.ssd.cardinalities };
-  dsd = record S.dsd { cardinalities = if nat_eq kind 2 then insert S.dsd.cardinalities (a, n) else S.dsd.cardinalities };
+  ssd = record S.ssd { cardinalities = if nat_eq kind STATIC_CARDINALITY then insert S.ssd.cardinalities (a, n) else S.ssd.cardinalities };
+  dsd = record S.dsd { cardinalities = if nat_eq kind DYNAMIC_CARDINALITY then insert S.dsd.cardinalities (a, n) else S.dsd.cardinalities };
 }
 with_row S (LockedRow a) = record S { locked = insert S.locked a }
 
 -- one row less
 unfoldable pub without_row : RbacState → Row → RbacState
 without_row S (NameRow kind a) = record S {
-  users = if nat_eq kind 1 then remove S.users a else S.users;
-  roles = if nat_eq kind 2 then remove S.roles a else S.roles;
-  objects = if nat_eq kind 3 then remove S.objects a else S.objects;
+  users = if nat_eq kind USER then remove S.users a else S.users;
+  roles = if nat_eq kind ROLE then remove S.roles a else S.roles;
+  objects = if nat_eq kind OBJECT then remove S.objects a else S.objects;
 }
 without_row S (PairRow kind a b) = record S {
-  permissions = if nat_eq kind 1 then remove S.permissions (a, b) else S.permissions;
-  assignments = if nat_eq kind 2 then remove S.assignments (a, b) else S.assignments;
-  ssd = record S.ssd { members = if nat_eq kind 5 then remove S.ssd.members (a, b) else S.ssd.members };
-  dsd = record S.dsd { members = if nat_eq kind 6 then remove S.dsd.members (a, b) else S.dsd.members };
-  sessions = if nat_eq kind 7 then remove S.sessions (a, b) else S.sessions;
-  active = if nat_eq kind 8 then remove S.active (a, b) else S.active;
+  permissions = if nat_eq kind PERMISSION then remove S.permissions (a, b) else S.permissions;
+  assignments = if nat_eq kind ASSIGNMENT then remove S.assignments (a, b) else S.assignments;
+  ssd = record S.ssd { members = if nat_eq kind STATIC_MEMBER then remove S.ssd.members (a, b) else S.ssd.members };
+  dsd = record S.dsd { members = if nat_eq kind DYNAMIC_MEMBER then remove S.dsd.members (a, b) else S.dsd.members };
+  sessions = if nat_eq kind SESSION then remove S.sessions (a, b) else S.sessions;
+  active = if nat_eq kind ACTIVATED_ROLE then remove S.active (a, b) else S.active;
 }
 without_row S (GrantRow a b c) = record S { grants = remove S.grants (a, b, c) }
 without_row S (SetRow kind a n) = record S {
-  ssd = record S.ssd { cardinalities = if nat_eq kind 1 then remove S.ssd.cardinalities (a, n) else S.ssd.cardinalities };
-  dsd = record S.dsd { cardinalities = if nat_eq kind 2 then remove S.dsd.cardinalities (a, n) else S.dsd.cardinalities };
+  ssd = record S.ssd { cardinalities = if nat_eq kind STATIC_CARDINALITY then remove S.ssd.cardinalities (a, n) else S.ssd.cardinalities };
+  dsd = record S.dsd { cardinalities = if nat_eq kind DYNAMIC_CARDINALITY then remove S.dsd.cardinalities (a, n) else S.dsd.cardinalities };
 }
 without_row S (LockedRow a) = record S { locked = remove S.locked a }
 

@@ -6,7 +6,7 @@ ghost use Rattle.admin_mgr.specs.RbacState.{cardinality_of};
 ghost use Rattle.admin_mgr.specs.SeparationOfDuty.{cardinality_rows, kind_of, member_rows, refusal_of, sets_of};
 
 use crate::state::State;
-use rbac_sets::{CountSet, Kind, Name, PairSet, Refusal};
+use rbac_sets::{CountSet, Kind, Name, PairSet, Refusal, Row};
 
 /// A kind of separation of duty.
 #[derive(Clone, Copy)]
@@ -28,23 +28,23 @@ impl SeparationOfDuty {
         }
     }
 
-    // The number of the rows of its sets' members.
+    // The kind of the rows of its sets' members.
     pub(crate) fn member_rows(self) -> u8
         ensures { result ≡ member_rows self }
     {
         match self {
-            SeparationOfDuty::Static => 5,
-            SeparationOfDuty::Dynamic => 6,
+            SeparationOfDuty::Static => Row::STATIC_MEMBER,
+            SeparationOfDuty::Dynamic => Row::DYNAMIC_MEMBER,
         }
     }
 
-    // The number of the rows of its sets' cardinalities.
+    // The kind of the rows of its sets' cardinalities.
     pub(crate) fn cardinality_rows(self) -> u8
         ensures { result ≡ cardinality_rows self }
     {
         match self {
-            SeparationOfDuty::Static => 1,
-            SeparationOfDuty::Dynamic => 2,
+            SeparationOfDuty::Static => Row::STATIC_CARDINALITY,
+            SeparationOfDuty::Dynamic => Row::DYNAMIC_CARDINALITY,
         }
     }
 

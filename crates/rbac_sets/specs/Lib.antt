@@ -5,3 +5,4 @@ pub mod Refusal
 pub mod Sets
 pub mod SortedSet
 pub mod Stream
+pub mod Table

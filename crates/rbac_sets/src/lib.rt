@@ -14,6 +14,7 @@ pub use sets::{CountSet, GrantSet, NameSet, PairSet};
 pub use sink::{MemorySink, Sink, Writer, write_all};
 pub use sorted_set::{Entry, Prefix, Probe, SortedSet, place};
 pub use source::{Fault, MemorySource, Reader, Source};
+pub use table::Table;
 
 pub mod command;
 pub mod kind;
@@ -24,5 +25,6 @@ pub mod sets;
 pub mod sink;
 pub mod sorted_set;
 pub mod source;
+pub mod table;
 #[cfg(test)]
 mod tests;

@@ -1,22 +1,196 @@
 //! Rows of an office's tables, and changes of them.
-use crate::name::Name;
+ghost use Rattle.std.specs.Prelude.{◌≡◌};
+ghost use Rattle.rbac_sets.specs.declared.row.Row.TheVariants.{NameRow, PairRow, GrantRow, SetRow, LockedRow};
+ghost use Rattle.rbac_sets.specs.Table.{table_of};
 
-/// One row of an office's tables, which is one entry of one of its relations.
+use crate::name::Name;
+use crate::table::Table;
+
+/// One row of an office's tables, which is one entry of one of its relations. Its kind, where its form
+/// has one, is one of the constants below; no table has a row of another kind.
 #[derive(Drop)]
 pub enum Row {
-    /// A name of kind 1 (user), 2 (role) or 3 (object).
+    /// A name of a kind: a user, a role or an object.
     NameRow(u8, Name),
-    /// A pair of kind 1 (permission: object, operation), 2 (assignment: user, role), 3 (immediate
-    /// inheritance: ascendant, descendant), 4 (pair of the role order: a role and another one
-    /// that it inherits from), 5 (static separation of duty: set, member), 6 (dynamic separation
-    /// of duty: set, member), 7 (session, user) or 8 (session, activated role).
+    /// A pair of a kind: a permission, an assignment, an inheritance, a pair of the role order, a member
+    /// of a separation of duty set, a session or an activated role.
     PairRow(u8, Name, Name),
     /// A grant: object, operation, role.
     GrantRow(Name, Name, Name),
-    /// The cardinality of a set of kind 1 (static separation of duty) or 2 (dynamic).
+    /// The cardinality of a separation of duty set, static or dynamic by its kind.
     SetRow(u8, Name, u32),
     /// A locked user. Known to version 2 alone.
     LockedRow(Name),
+}
+
+// The kinds of names.
+impl Row {
+    /// A user.
+    pub const USER: u8 = 1;
+    /// A role.
+    pub const ROLE: u8 = 2;
+    /// An object.
+    pub const OBJECT: u8 = 3;
+}
+
+// The kinds of pairs.
+impl Row {
+    /// A permission: object, operation.
+    pub const PERMISSION: u8 = 1;
+    /// An assignment: user, role.
+    pub const ASSIGNMENT: u8 = 2;
+    /// An immediate inheritance: ascendant, descendant.
+    pub const INHERITANCE: u8 = 3;
+    /// A pair of the role order: a role, and another one that it inherits from.
+    pub const CLOSURE_PAIR: u8 = 4;
+    /// A member of a static separation of duty set: set, role.
+    pub const STATIC_MEMBER: u8 = 5;
+    /// A member of a dynamic separation of duty set: set, role.
+    pub const DYNAMIC_MEMBER: u8 = 6;
+    /// A session: session, user.
+    pub const SESSION: u8 = 7;
+    /// A role that was activated in a session: session, role.
+    pub const ACTIVATED_ROLE: u8 = 8;
+}
+
+// The kinds of cardinalities.
+impl Row {
+    /// Of a static separation of duty set.
+    pub const STATIC_CARDINALITY: u8 = 1;
+    /// Of a dynamic separation of duty set.
+    pub const DYNAMIC_CARDINALITY: u8 = 2;
+}
+
+impl Row {
+    /// The table in which the row stands, and `None` where no table has rows of its kind.
+    pub fn table(&self) -> Option<Table>
+        ensures { result ≡ table_of self.now }
+    {
+        match self {
+            Row::NameRow(Row::USER, _) => Some(Table::Users),
+            Row::NameRow(Row::ROLE, _) => Some(Table::Roles),
+            Row::NameRow(Row::OBJECT, _) => Some(Table::Objects),
+            Row::PairRow(Row::PERMISSION, _, _) => Some(Table::Permissions),
+            Row::PairRow(Row::ASSIGNMENT, _, _) => Some(Table::Assignments),
+            Row::PairRow(Row::INHERITANCE, _, _) => Some(Table::Inheritances),
+            Row::PairRow(Row::CLOSURE_PAIR, _, _) => Some(Table::ClosurePairs),
+            Row::PairRow(Row::STATIC_MEMBER, _, _) => Some(Table::StaticMembers),
+            Row::PairRow(Row::DYNAMIC_MEMBER, _, _) => Some(Table::DynamicMembers),
+            Row::PairRow(Row::SESSION, _, _) => Some(Table::Sessions),
+            Row::PairRow(Row::ACTIVATED_ROLE, _, _) => Some(Table::ActivatedRoles),
+            Row::GrantRow(_, _, _) => Some(Table::Grants),
+            Row::SetRow(Row::STATIC_CARDINALITY, _, _) => Some(Table::StaticCardinalities),
+            Row::SetRow(Row::DYNAMIC_CARDINALITY, _, _) => Some(Table::DynamicCardinalities),
+            Row::LockedRow(_) => Some(Table::Locks),
+            _ => None,
+        }
+    }
+
+    /// The row of a user.
+    pub fn user(name: Name) -> Row
+        ensures { result ≡ NameRow Row.USER name }
+    {
+        Row::NameRow(Row::USER, name)
+    }
+
+    /// The row of a role.
+    pub fn role(name: Name) -> Row
+        ensures { result ≡ NameRow Row.ROLE name }
+    {
+        Row::NameRow(Row::ROLE, name)
+    }
+
+    /// The row of an object.
+    pub fn object(name: Name) -> Row
+        ensures { result ≡ NameRow Row.OBJECT name }
+    {
+        Row::NameRow(Row::OBJECT, name)
+    }
+
+    /// The row of the permission to do `operation` on `object`.
+    pub fn permission(object: Name, operation: Name) -> Row
+        ensures { result ≡ PairRow Row.PERMISSION object operation }
+    {
+        Row::PairRow(Row::PERMISSION, object, operation)
+    }
+
+    /// The row of the assignment of `user` to `role`.
+    pub fn assignment(user: Name, role: Name) -> Row
+        ensures { result ≡ PairRow Row.ASSIGNMENT user role }
+    {
+        Row::PairRow(Row::ASSIGNMENT, user, role)
+    }
+
+    /// The row of the immediate inheritance by which `asc` inherits from `desc`.
+    pub fn inheritance(asc: Name, desc: Name) -> Row
+        ensures { result ≡ PairRow Row.INHERITANCE asc desc }
+    {
+        Row::PairRow(Row::INHERITANCE, asc, desc)
+    }
+
+    /// The row of a pair of the role order: `asc` inherits from `desc`, another role, immediately or
+    /// over others.
+    pub fn closure_pair(asc: Name, desc: Name) -> Row
+        ensures { result ≡ PairRow Row.CLOSURE_PAIR asc desc }
+    {
+        Row::PairRow(Row::CLOSURE_PAIR, asc, desc)
+    }
+
+    /// The row of the member `role` of the static separation of duty set `set`.
+    pub fn static_member(set: Name, role: Name) -> Row
+        ensures { result ≡ PairRow Row.STATIC_MEMBER set role }
+    {
+        Row::PairRow(Row::STATIC_MEMBER, set, role)
+    }
+
+    /// The row of the member `role` of the dynamic separation of duty set `set`.
+    pub fn dynamic_member(set: Name, role: Name) -> Row
+        ensures { result ≡ PairRow Row.DYNAMIC_MEMBER set role }
+    {
+        Row::PairRow(Row::DYNAMIC_MEMBER, set, role)
+    }
+
+    /// The row of the session `session` of `user`.
+    pub fn session(session: Name, user: Name) -> Row
+        ensures { result ≡ PairRow Row.SESSION session user }
+    {
+        Row::PairRow(Row::SESSION, session, user)
+    }
+
+    /// The row of the role `role` that was activated in `session`.
+    pub fn activated_role(session: Name, role: Name) -> Row
+        ensures { result ≡ PairRow Row.ACTIVATED_ROLE session role }
+    {
+        Row::PairRow(Row::ACTIVATED_ROLE, session, role)
+    }
+
+    /// The row of the grant to `role` of the permission to do `operation` on `object`.
+    pub fn grant(object: Name, operation: Name, role: Name) -> Row
+        ensures { result ≡ GrantRow object operation role }
+    {
+        Row::GrantRow(object, operation, role)
+    }
+
+    /// The row of the cardinality of the static separation of duty set `set`.
+    pub fn static_cardinality(set: Name, cardinality: u32) -> Row
+        ensures { result ≡ SetRow Row.STATIC_CARDINALITY set cardinality }
+    {
+        Row::SetRow(Row::STATIC_CARDINALITY, set, cardinality)
+    }
+
+    /// The row of the cardinality of the dynamic separation of duty set `set`.
+    pub fn dynamic_cardinality(set: Name, cardinality: u32) -> Row
+        ensures { result ≡ SetRow Row.DYNAMIC_CARDINALITY set cardinality }
+    {
+        Row::SetRow(Row::DYNAMIC_CARDINALITY, set, cardinality)
+    }
+
+    /// The row of the lock of `user`.
+    pub fn lock(user: Name) -> Row
+        ensures { result ≡ LockedRow user }
+    {
+        Row::LockedRow(user)
+    }
 }
 
 /// The change of one row.

@@ -13,7 +13,7 @@ use crate::planning::rows::{
     take_pairs, take_pairs_with_second,
 };
 use crate::state::State;
-use rbac_sets::{Change, Name, Refusal};
+use rbac_sets::{Change, Name, Refusal, Row};
 use std::alloc::Global;
 
 // The plan of AddUser.
@@ -24,7 +24,7 @@ pub(crate) fn plan_add_user(alloc: Global, state: &State, user: &Name) -> Result
     ensures cause { IfErr result (λ refusal. refusal ≡ Refusal.Memory) }
 {
     state.is_good();
-    one_put(alloc, name_row(alloc, 1, user)?)
+    one_put(alloc, name_row(alloc, Row::USER, user)?)
 }
 
 // The plan of DeleteUser: the user goes with its lock, its assignments and its sessions.
@@ -35,9 +35,14 @@ pub(crate) fn plan_delete_user(alloc: Global, state: &State, user: &Name) -> Res
 {
     state.is_good();
     let mut changes = Vec::new(alloc);
-    take(&mut changes, name_row(alloc, 1, user)?)?;
+    take(&mut changes, name_row(alloc, Row::USER, user)?)?;
     take_lock(alloc, &mut changes, state, user)?;
-    take_pairs(alloc, &mut changes, 2, state.assignments().with_first(user))?;
+    take_pairs(
+        alloc,
+        &mut changes,
+        Row::ASSIGNMENT,
+        state.assignments().with_first(user),
+    )?;
     take_ended(alloc, &mut changes, state, Loss::User(user))?;
     Ok(plain(alloc, changes))
 }
@@ -50,7 +55,7 @@ pub(crate) fn plan_add_role(alloc: Global, state: &State, role: &Name) -> Result
     ensures cause { IfErr result (λ refusal. refusal ≡ Refusal.Memory) }
 {
     state.is_good();
-    one_put(alloc, name_row(alloc, 2, role)?)
+    one_put(alloc, name_row(alloc, Row::ROLE, role)?)
 }
 
 // The plan of DeleteRole: the role goes with its assignments and grants, and sessions may end.
@@ -61,8 +66,14 @@ pub(crate) fn plan_delete_role(alloc: Global, state: &State, role: &Name) -> Res
 {
     state.is_good();
     let mut changes = Vec::new(alloc);
-    take(&mut changes, name_row(alloc, 2, role)?)?;
-    take_pairs_with_second(alloc, &mut changes, 2, state.assignments().as_slice(), role)?;
+    take(&mut changes, name_row(alloc, Row::ROLE, role)?)?;
+    take_pairs_with_second(
+        alloc,
+        &mut changes,
+        Row::ASSIGNMENT,
+        state.assignments().as_slice(),
+        role,
+    )?;
     take_grants_of_role(alloc, &mut changes, state.grants().as_slice(), role)?;
     take_ended(alloc, &mut changes, state, Loss::Role(role))?;
     Ok(plain(alloc, changes))
@@ -80,7 +91,7 @@ pub(crate) fn plan_add_perm_obj(
     ensures cause { IfErr result (λ refusal. refusal ≡ Refusal.Memory) }
 {
     state.is_good();
-    one_put(alloc, name_row(alloc, 3, object)?)
+    one_put(alloc, name_row(alloc, Row::OBJECT, object)?)
 }
 
 // The plan for one object less.
@@ -95,7 +106,7 @@ pub(crate) fn plan_delete_perm_obj(
     ensures cause { IfErr result (λ refusal. refusal ≡ Refusal.Memory) }
 {
     state.is_good();
-    one_taken(alloc, name_row(alloc, 3, object)?)
+    one_taken(alloc, name_row(alloc, Row::OBJECT, object)?)
 }
 
 // The plan for one more permission.
@@ -111,7 +122,7 @@ pub(crate) fn plan_add_permission(
     ensures cause { IfErr result (λ refusal. refusal ≡ Refusal.Memory) }
 {
     state.is_good();
-    one_put(alloc, pair_row(alloc, 1, object, operation)?)
+    one_put(alloc, pair_row(alloc, Row::PERMISSION, object, operation)?)
 }
 
 // The plan for one permission less: it goes with its grants.
@@ -127,7 +138,10 @@ pub(crate) fn plan_delete_permission(
 {
     state.is_good();
     let mut changes = Vec::new(alloc);
-    take(&mut changes, pair_row(alloc, 1, object, operation)?)?;
+    take(
+        &mut changes,
+        pair_row(alloc, Row::PERMISSION, object, operation)?,
+    )?;
     take_grants(
         alloc,
         &mut changes,
@@ -183,7 +197,7 @@ pub(crate) fn plan_assign_user(
     ensures cause { IfErr result (λ refusal. refusal ≡ Refusal.Memory) }
 {
     state.is_good();
-    one_put(alloc, pair_row(alloc, 2, user, role)?)
+    one_put(alloc, pair_row(alloc, Row::ASSIGNMENT, user, role)?)
 }
 
 // The plan of DeassignUser: sessions of the user may end.
@@ -199,7 +213,7 @@ pub(crate) fn plan_deassign_user(
 {
     state.is_good();
     let mut changes = Vec::new(alloc);
-    take(&mut changes, pair_row(alloc, 2, user, role)?)?;
+    take(&mut changes, pair_row(alloc, Row::ASSIGNMENT, user, role)?)?;
     take_ended(alloc, &mut changes, state, Loss::Assignment(user, role))?;
     Ok(plain(alloc, changes))
 }

@@ -11,7 +11,7 @@ ghost use Rattle.admin_mgr.specs.Ending.{is_held_without_role, is_held_without_p
 use crate::lookup::is_same;
 use crate::planning::rows::{pair_row, take, take_pairs};
 use crate::state::State;
-use rbac_sets::{Change, Name, PairSet, Refusal};
+use rbac_sets::{Change, Name, PairSet, Refusal, Row};
 use role_order::RoleOrder;
 use std::alloc::Global;
 
@@ -39,8 +39,13 @@ pub(crate) fn take_session(
     ensures ok { OnOk result (changes.new.items ≡ changes.old.items ++ session_rows state.now.facts (session.now, user.now)) }
     ensures cause { IfErr result (λ refusal. refusal ≡ Refusal.Memory) }
 {
-    take(changes, pair_row(alloc, 7, session, user)?)?;
-    take_pairs(alloc, changes, 8, state.active().with_first(session))
+    take(changes, pair_row(alloc, Row::SESSION, session, user)?)?;
+    take_pairs(
+        alloc,
+        changes,
+        Row::ACTIVATED_ROLE,
+        state.active().with_first(session),
+    )
 }
 
 // Each session that may not go on after the loss goes.

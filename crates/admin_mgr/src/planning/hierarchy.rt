@@ -13,7 +13,7 @@ use crate::planning::ending::{Loss, take_ended};
 use crate::planning::making::with_order;
 use crate::planning::rows::{name_row, pair_row, put, put_pairs, take, take_pairs};
 use crate::state::State;
-use rbac_sets::{Change, Name, Refusal};
+use rbac_sets::{Change, Name, Refusal, Row};
 use role_order::OrderPlan;
 use std::alloc::Global;
 
@@ -71,7 +71,7 @@ pub(crate) fn plan_add_ascendant(
     state.is_good();
     let order = order_with_edge(alloc, state, asc, desc)?;
     let mut changes = Vec::new(alloc);
-    put(&mut changes, name_row(alloc, 2, asc)?)?;
+    put(&mut changes, name_row(alloc, Row::ROLE, asc)?)?;
     put_edge(alloc, &mut changes, asc, desc, &order)?;
     Ok(with_order(alloc, changes, order))
 }
@@ -91,7 +91,7 @@ pub(crate) fn plan_add_descendant(
     state.is_good();
     let order = order_with_edge(alloc, state, asc, desc)?;
     let mut changes = Vec::new(alloc);
-    put(&mut changes, name_row(alloc, 2, desc)?)?;
+    put(&mut changes, name_row(alloc, Row::ROLE, desc)?)?;
     put_edge(alloc, &mut changes, asc, desc, &order)?;
     Ok(with_order(alloc, changes, order))
 }
@@ -136,8 +136,8 @@ fn put_edge(
     ensures ok { OnOk result (changes.new.items ≡ changes.old.items ++ order_puts asc.now desc.now order.now.puts) }
     ensures cause { IfErr result (λ refusal. refusal ≡ Refusal.Memory) }
 {
-    put(changes, pair_row(alloc, 3, asc, desc)?)?;
-    put_pairs(alloc, changes, 4, order.puts().as_slice())
+    put(changes, pair_row(alloc, Row::INHERITANCE, asc, desc)?)?;
+    put_pairs(alloc, changes, Row::CLOSURE_PAIR, order.puts().as_slice())
 }
 
 // An edge goes with the pairs that its plan takes from the order.
@@ -151,6 +151,6 @@ fn take_edge(
     ensures ok { OnOk result (changes.new.items ≡ changes.old.items ++ order_takes asc.now desc.now order.now.takes) }
     ensures cause { IfErr result (λ refusal. refusal ≡ Refusal.Memory) }
 {
-    take(changes, pair_row(alloc, 3, asc, desc)?)?;
-    take_pairs(alloc, changes, 4, order.takes().as_slice())
+    take(changes, pair_row(alloc, Row::INHERITANCE, asc, desc)?)?;
+    take_pairs(alloc, changes, Row::CLOSURE_PAIR, order.takes().as_slice())
 }

@@ -9,7 +9,7 @@ use crate::planning::ending::take_session;
 use crate::planning::making::{one_put, one_taken, plain};
 use crate::planning::rows::{pair_row, put, put_paired};
 use crate::state::State;
-use rbac_sets::{Name, NameSet, Refusal};
+use rbac_sets::{Name, NameSet, Refusal, Row};
 use std::alloc::Global;
 
 // The plan of CreateSession.
@@ -26,8 +26,14 @@ pub(crate) fn plan_create_session(
 {
     state.is_good();
     let mut changes = Vec::new(alloc);
-    put(&mut changes, pair_row(alloc, 7, session, user)?)?;
-    put_paired(alloc, &mut changes, 8, session, roles.as_slice())?;
+    put(&mut changes, pair_row(alloc, Row::SESSION, session, user)?)?;
+    put_paired(
+        alloc,
+        &mut changes,
+        Row::ACTIVATED_ROLE,
+        session,
+        roles.as_slice(),
+    )?;
     Ok(plain(alloc, changes))
 }
 
@@ -62,7 +68,7 @@ pub(crate) fn plan_add_active_role(
     ensures cause { IfErr result (λ refusal. refusal ≡ Refusal.Memory) }
 {
     state.is_good();
-    one_put(alloc, pair_row(alloc, 8, session, role)?)
+    one_put(alloc, pair_row(alloc, Row::ACTIVATED_ROLE, session, role)?)
 }
 
 // The plan of DropActiveRole.
@@ -79,5 +85,5 @@ pub(crate) fn plan_drop_active_role(
     ensures cause { IfErr result (λ refusal. refusal ≡ Refusal.Memory) }
 {
     state.is_good();
-    one_taken(alloc, pair_row(alloc, 8, session, role)?)
+    one_taken(alloc, pair_row(alloc, Row::ACTIVATED_ROLE, session, role)?)
 }

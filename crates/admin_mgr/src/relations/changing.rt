@@ -87,18 +87,22 @@ impl Relations {
         ensures order { order_of self.new ≡ order_of self.old }
     {
         match row {
-            Row::NameRow(1, name) => self.users.insert_reserved(name),
-            Row::NameRow(2, name) => self.roles.insert_reserved(name),
-            Row::NameRow(3, name) => self.objects.insert_reserved(name),
-            Row::PairRow(1, a, b) => self.permissions.insert_reserved((a, b)),
-            Row::PairRow(2, a, b) => self.assignments.insert_reserved((a, b)),
-            Row::PairRow(5, a, b) => self.ssd_members.insert_reserved((a, b)),
-            Row::PairRow(6, a, b) => self.dsd_members.insert_reserved((a, b)),
-            Row::PairRow(7, a, b) => self.sessions.insert_reserved((a, b)),
-            Row::PairRow(8, a, b) => self.active.insert_reserved((a, b)),
+            Row::NameRow(Row::USER, name) => self.users.insert_reserved(name),
+            Row::NameRow(Row::ROLE, name) => self.roles.insert_reserved(name),
+            Row::NameRow(Row::OBJECT, name) => self.objects.insert_reserved(name),
+            Row::PairRow(Row::PERMISSION, a, b) => self.permissions.insert_reserved((a, b)),
+            Row::PairRow(Row::ASSIGNMENT, a, b) => self.assignments.insert_reserved((a, b)),
+            Row::PairRow(Row::STATIC_MEMBER, a, b) => self.ssd_members.insert_reserved((a, b)),
+            Row::PairRow(Row::DYNAMIC_MEMBER, a, b) => self.dsd_members.insert_reserved((a, b)),
+            Row::PairRow(Row::SESSION, a, b) => self.sessions.insert_reserved((a, b)),
+            Row::PairRow(Row::ACTIVATED_ROLE, a, b) => self.active.insert_reserved((a, b)),
             Row::GrantRow(a, b, c) => self.grants.insert_reserved((a, b, c)),
-            Row::SetRow(1, name, n) => self.ssd_cardinalities.insert_reserved((name, n)),
-            Row::SetRow(2, name, n) => self.dsd_cardinalities.insert_reserved((name, n)),
+            Row::SetRow(Row::STATIC_CARDINALITY, name, n) => self
+                .ssd_cardinalities
+                .insert_reserved((name, n)),
+            Row::SetRow(Row::DYNAMIC_CARDINALITY, name, n) => self
+                .dsd_cardinalities
+                .insert_reserved((name, n)),
             Row::LockedRow(name) => self.locked.insert_reserved(name),
             _ => {}
         }
@@ -112,40 +116,40 @@ impl Relations {
         ensures order { order_of self.new ≡ order_of self.old }
     {
         match row {
-            Row::NameRow(1, name) => {
+            Row::NameRow(Row::USER, name) => {
                 self.users.remove(name);
             }
-            Row::NameRow(2, name) => {
+            Row::NameRow(Row::ROLE, name) => {
                 self.roles.remove(name);
             }
-            Row::NameRow(3, name) => {
+            Row::NameRow(Row::OBJECT, name) => {
                 self.objects.remove(name);
             }
-            Row::PairRow(1, a, b) => {
+            Row::PairRow(Row::PERMISSION, a, b) => {
                 self.permissions.remove((a, b));
             }
-            Row::PairRow(2, a, b) => {
+            Row::PairRow(Row::ASSIGNMENT, a, b) => {
                 self.assignments.remove((a, b));
             }
-            Row::PairRow(5, a, b) => {
+            Row::PairRow(Row::STATIC_MEMBER, a, b) => {
                 self.ssd_members.remove((a, b));
             }
-            Row::PairRow(6, a, b) => {
+            Row::PairRow(Row::DYNAMIC_MEMBER, a, b) => {
                 self.dsd_members.remove((a, b));
             }
-            Row::PairRow(7, a, b) => {
+            Row::PairRow(Row::SESSION, a, b) => {
                 self.sessions.remove((a, b));
             }
-            Row::PairRow(8, a, b) => {
+            Row::PairRow(Row::ACTIVATED_ROLE, a, b) => {
                 self.active.remove((a, b));
             }
             Row::GrantRow(a, b, c) => {
                 self.grants.remove((a, b, c));
             }
-            Row::SetRow(1, name, n) => {
+            Row::SetRow(Row::STATIC_CARDINALITY, name, n) => {
                 self.ssd_cardinalities.remove((name, *n));
             }
-            Row::SetRow(2, name, n) => {
+            Row::SetRow(Row::DYNAMIC_CARDINALITY, name, n) => {
                 self.dsd_cardinalities.remove((name, *n));
             }
             Row::LockedRow(name) => {

@@ -159,20 +159,23 @@ impl Gathered {
         ensures { result ≡ has_key self.now row.now }
     {
         match row {
-            Row::NameRow(1, name) => self.users.contains(name),
-            Row::NameRow(2, name) => self.roles.contains(name),
-            Row::NameRow(3, name) => self.objects.contains(name),
-            Row::PairRow(1, a, b) => self.permissions.contains((a, b)),
-            Row::PairRow(2, a, b) => self.assignments.contains((a, b)),
-            Row::PairRow(3, a, b) => self.edges.contains((a, b)),
-            Row::PairRow(4, a, b) => self.pairs.contains((a, b)),
-            Row::PairRow(5, a, b) => self.ssd_members.contains((a, b)),
-            Row::PairRow(6, a, b) => self.dsd_members.contains((a, b)),
-            Row::PairRow(7, a, b) => self.sessions.contains((a, b)),
-            Row::PairRow(8, a, b) => self.active.contains((a, b)),
+            Row::NameRow(Row::USER, name) => self.users.contains(name),
+            Row::NameRow(Row::ROLE, name) => self.roles.contains(name),
+            Row::NameRow(Row::OBJECT, name) => self.objects.contains(name),
+            Row::PairRow(Row::PERMISSION, a, b) => self.permissions.contains((a, b)),
+            Row::PairRow(Row::ASSIGNMENT, a, b) => self.assignments.contains((a, b)),
+            Row::PairRow(Row::INHERITANCE, a, b) => self.edges.contains((a, b)),
+            Row::PairRow(Row::CLOSURE_PAIR, a, b) => self.pairs.contains((a, b)),
+            Row::PairRow(Row::STATIC_MEMBER, a, b) => self.ssd_members.contains((a, b)),
+            Row::PairRow(Row::DYNAMIC_MEMBER, a, b) => self.dsd_members.contains((a, b)),
+            Row::PairRow(Row::SESSION, a, b) => self.sessions.contains((a, b)),
+            Row::PairRow(Row::ACTIVATED_ROLE, a, b) => self.active.contains((a, b)),
             Row::GrantRow(a, b, c) => self.grants.contains((a, b, c)),
-            Row::SetRow(1, name, _) => has_set(&self.ssd_cardinalities, name),
-            Row::SetRow(2, name, _) => has_set(&self.dsd_cardinalities, name),
+            Row::SetRow(Row::STATIC_CARDINALITY, name, _) => has_set(&self.ssd_cardinalities, name),
+            Row::SetRow(Row::DYNAMIC_CARDINALITY, name, _) => has_set(
+                &self.dsd_cardinalities,
+                name,
+            ),
             Row::LockedRow(name) => self.locked.contains(name),
             _ => false,
         }
@@ -186,20 +189,26 @@ impl Gathered {
         ensures cause { IfErr result (λ refusal. refusal ≡ Refusal.Memory) }
     {
         match row {
-            Row::NameRow(1, name) => put(&mut self.users, name),
-            Row::NameRow(2, name) => put(&mut self.roles, name),
-            Row::NameRow(3, name) => put(&mut self.objects, name),
-            Row::PairRow(1, a, b) => put(&mut self.permissions, (a, b)),
-            Row::PairRow(2, a, b) => put(&mut self.assignments, (a, b)),
-            Row::PairRow(3, a, b) => put(&mut self.edges, (a, b)),
-            Row::PairRow(4, a, b) => put(&mut self.pairs, (a, b)),
-            Row::PairRow(5, a, b) => put(&mut self.ssd_members, (a, b)),
-            Row::PairRow(6, a, b) => put(&mut self.dsd_members, (a, b)),
-            Row::PairRow(7, a, b) => put(&mut self.sessions, (a, b)),
-            Row::PairRow(8, a, b) => put(&mut self.active, (a, b)),
+            Row::NameRow(Row::USER, name) => put(&mut self.users, name),
+            Row::NameRow(Row::ROLE, name) => put(&mut self.roles, name),
+            Row::NameRow(Row::OBJECT, name) => put(&mut self.objects, name),
+            Row::PairRow(Row::PERMISSION, a, b) => put(&mut self.permissions, (a, b)),
+            Row::PairRow(Row::ASSIGNMENT, a, b) => put(&mut self.assignments, (a, b)),
+            Row::PairRow(Row::INHERITANCE, a, b) => put(&mut self.edges, (a, b)),
+            Row::PairRow(Row::CLOSURE_PAIR, a, b) => put(&mut self.pairs, (a, b)),
+            Row::PairRow(Row::STATIC_MEMBER, a, b) => put(&mut self.ssd_members, (a, b)),
+            Row::PairRow(Row::DYNAMIC_MEMBER, a, b) => put(&mut self.dsd_members, (a, b)),
+            Row::PairRow(Row::SESSION, a, b) => put(&mut self.sessions, (a, b)),
+            Row::PairRow(Row::ACTIVATED_ROLE, a, b) => put(&mut self.active, (a, b)),
             Row::GrantRow(a, b, c) => put(&mut self.grants, (a, b, c)),
-            Row::SetRow(1, name, n) => put(&mut self.ssd_cardinalities, (name, n)),
-            Row::SetRow(2, name, n) => put(&mut self.dsd_cardinalities, (name, n)),
+            Row::SetRow(Row::STATIC_CARDINALITY, name, n) => put(
+                &mut self.ssd_cardinalities,
+                (name, n),
+            ),
+            Row::SetRow(Row::DYNAMIC_CARDINALITY, name, n) => put(
+                &mut self.dsd_cardinalities,
+                (name, n),
+            ),
             Row::LockedRow(name) => put(&mut self.locked, name),
             _ => Ok(()),
         }
@@ -211,10 +220,11 @@ fn is_known(version: u32, row: &Row) -> bool
     ensures { result ≡ is_known version row.now }
 {
     match row {
-        Row::NameRow(kind, _) => *kind >= 1 && *kind <= 3,
-        Row::PairRow(kind, _, _) => *kind >= 1 && *kind <= 8,
+        Row::NameRow(kind, _) => *kind >= Row::USER && *kind <= Row::OBJECT,
+        Row::PairRow(kind, _, _) => *kind >= Row::PERMISSION && *kind <= Row::ACTIVATED_ROLE,
         Row::GrantRow(_, _, _) => true,
-        Row::SetRow(kind, _, _) => *kind >= 1 && *kind <= 2,
+        Row::SetRow(kind, _, _) => *kind >= Row::STATIC_CARDINALITY
+            && *kind <= Row::DYNAMIC_CARDINALITY,
         Row::LockedRow(_) => version != 1,
     }
 }

@@ -14,31 +14,31 @@ type Line = (char, u8, &'static str, &'static str);
 
 // Ann is a clerk and in a session as one; an auditor inherits from a clerk, who may open the safe.
 const BANK: [Line; 11] = [
-    ('n', 1, "ann", ""),
-    ('n', 2, "clerk", ""),
-    ('n', 2, "auditor", ""),
-    ('n', 3, "safe", ""),
-    ('p', 1, "safe", "open"),
-    ('p', 2, "ann", "clerk"),
-    ('p', 3, "auditor", "clerk"),
-    ('p', 4, "auditor", "clerk"),
-    ('p', 7, "desk", "ann"),
-    ('p', 8, "desk", "clerk"),
+    ('n', Row::USER, "ann", ""),
+    ('n', Row::ROLE, "clerk", ""),
+    ('n', Row::ROLE, "auditor", ""),
+    ('n', Row::OBJECT, "safe", ""),
+    ('p', Row::PERMISSION, "safe", "open"),
+    ('p', Row::ASSIGNMENT, "ann", "clerk"),
+    ('p', Row::INHERITANCE, "auditor", "clerk"),
+    ('p', Row::CLOSURE_PAIR, "auditor", "clerk"),
+    ('p', Row::SESSION, "desk", "ann"),
+    ('p', Row::ACTIVATED_ROLE, "desk", "clerk"),
     ('g', 0, "safe", "open"),
 ];
 
 // Nobody may be authorized for both roles.
 const STATIC: [Line; 3] = [
-    ('s', 1, "duty", ""),
-    ('p', 5, "duty", "clerk"),
-    ('p', 5, "duty", "auditor"),
+    ('s', Row::STATIC_CARDINALITY, "duty", ""),
+    ('p', Row::STATIC_MEMBER, "duty", "clerk"),
+    ('p', Row::STATIC_MEMBER, "duty", "auditor"),
 ];
 
 // No session may have both roles.
 const DYNAMIC: [Line; 3] = [
-    ('s', 2, "duty", ""),
-    ('p', 6, "duty", "clerk"),
-    ('p', 6, "duty", "auditor"),
+    ('s', Row::DYNAMIC_CARDINALITY, "duty", ""),
+    ('p', Row::DYNAMIC_MEMBER, "duty", "clerk"),
+    ('p', Row::DYNAMIC_MEMBER, "duty", "auditor"),
 ];
 
 // The row: grants are to clerks, and cardinalities are 2.
@@ -113,7 +113,7 @@ fn rows_make_a_state(rt: HostRuntime) -> Result<(), Fail> {
 #[test]
 fn rows_make_sets_and_locks(rt: HostRuntime) -> Result<(), Fail> {
     let alloc = rt.alloc();
-    let bob = [('n', 1, "bob", ""), ('l', 0, "bob", "")];
+    let bob = [('n', Row::USER, "bob", ""), ('l', 0, "bob", "")];
     let state = state_of(alloc, 2, &STATIC, &bob)?;
     let duty = name(alloc, "duty")?;
     assert!(rt; state.ssd_n(&duty) == Some(2) && state.locked().len() == 1);
@@ -123,20 +123,40 @@ fn rows_make_sets_and_locks(rt: HostRuntime) -> Result<(), Fail> {
 #[test]
 fn rows_that_no_office_has(rt: HostRuntime) -> Result<(), Fail> {
     let alloc = rt.alloc();
-    assert_eq!(rt; failure(alloc, &[], &[('n', 4, "ann", "")])?, 1);
-    assert_eq!(rt; failure(alloc, &[], &[('n', 0, "ann", "")])?, 1);
-    assert_eq!(rt; failure(alloc, &[], &[('p', 9, "ann", "clerk")])?, 1);
-    assert_eq!(rt; failure(alloc, &[], &[('s', 3, "duty", "")])?, 1);
+    assert_eq!(rt;
+        failure(alloc, &[], &[('n', Row::OBJECT + 1, "ann", "")])?,
+        1
+    );
+    assert_eq!(rt; failure(alloc, &[], &[('n', Row::USER - 1, "ann", "")])?, 1);
+    assert_eq!(rt;
+        failure(
+            alloc,
+            &[],
+            &[('p', Row::ACTIVATED_ROLE + 1, "ann", "clerk")]
+        )?,
+        1
+    );
+    assert_eq!(rt;
+        failure(
+            alloc,
+            &[],
+            &[('s', Row::DYNAMIC_CARDINALITY + 1, "duty", "")]
+        )?,
+        1
+    );
     Ok(())
 }
 
 #[test]
 fn a_row_that_occurs_twice(rt: HostRuntime) -> Result<(), Fail> {
     let alloc = rt.alloc();
-    assert_eq!(rt; failure(alloc, &[], &[('n', 1, "ann", "")])?, 1);
-    assert_eq!(rt; failure(alloc, &[], &[('p', 4, "auditor", "clerk")])?, 1);
+    assert_eq!(rt; failure(alloc, &[], &[('n', Row::USER, "ann", "")])?, 1);
+    assert_eq!(rt;
+        failure(alloc, &[], &[('p', Row::CLOSURE_PAIR, "auditor", "clerk")])?,
+        1
+    );
     let mut rows = bank_with(alloc, &STATIC, &[])?;
-    rows.push(Row::SetRow(1, name(alloc, "duty")?, 3))?;
+    rows.push(Row::SetRow(Row::STATIC_CARDINALITY, name(alloc, "duty")?, 3))?;
     assert_eq!(rt; number_of(State::of_rows(alloc, 2, rows))?, 1);
     Ok(())
 }
@@ -144,7 +164,7 @@ fn a_row_that_occurs_twice(rt: HostRuntime) -> Result<(), Fail> {
 #[test]
 fn version_1_has_no_locks(rt: HostRuntime) -> Result<(), Fail> {
     let alloc = rt.alloc();
-    let bob = [('n', 1, "bob", ""), ('l', 0, "bob", "")];
+    let bob = [('n', Row::USER, "bob", ""), ('l', 0, "bob", "")];
     let rows = bank_with(alloc, &[], &bob)?;
     assert_eq!(rt; number_of(State::of_rows(alloc, 1, rows))?, 1);
     Ok(())
@@ -154,7 +174,7 @@ fn version_1_has_no_locks(rt: HostRuntime) -> Result<(), Fail> {
 fn add_sets(alloc: Global, rows: &mut Vec<Row>, count: u32) -> Result<(), Fail> {
     for number in 0..count {
         let text = format!(in alloc; "set{number}")?;
-        rows.push(Row::SetRow(2, name(alloc, &text)?, 2))?;
+        rows.push(Row::SetRow(Row::DYNAMIC_CARDINALITY, name(alloc, &text)?, 2))?;
     }
     Ok(())
 }
@@ -162,7 +182,7 @@ fn add_sets(alloc: Global, rows: &mut Vec<Row>, count: u32) -> Result<(), Fail> 
 #[test]
 fn limits_come_before_what_is_missing(rt: HostRuntime) -> Result<(), Fail> {
     let alloc = rt.alloc();
-    let carl = [('p', 2, "carl", "clerk")];
+    let carl = [('p', Row::ASSIGNMENT, "carl", "clerk")];
     assert_eq!(rt; failure(alloc, &[], &carl)?, 3);
     let mut rows = bank_with(alloc, &[], &carl)?;
     add_sets(alloc, &mut rows, 65)?;
@@ -179,18 +199,36 @@ fn limits_come_before_what_is_missing(rt: HostRuntime) -> Result<(), Fail> {
 fn what_the_rows_of_a_hierarchy_break(rt: HostRuntime) -> Result<(), Fail> {
     let alloc = rt.alloc();
     assert_eq!(rt; failure(alloc, &[], &[])?, 0);
-    assert_eq!(rt; failure(alloc, &[], &[('p', 3, "clerk", "auditor")])?, 5);
-    assert_eq!(rt; failure(alloc, &[], &[('p', 3, "clerk", "clerk")])?, 5);
-    assert_eq!(rt; failure(alloc, &[], &[('p', 4, "clerk", "auditor")])?, 6);
+    assert_eq!(rt;
+        failure(alloc, &[], &[('p', Row::INHERITANCE, "clerk", "auditor")])?,
+        5
+    );
+    assert_eq!(rt;
+        failure(alloc, &[], &[('p', Row::INHERITANCE, "clerk", "clerk")])?,
+        5
+    );
+    assert_eq!(rt;
+        failure(alloc, &[], &[('p', Row::CLOSURE_PAIR, "clerk", "auditor")])?,
+        6
+    );
     Ok(())
 }
 
 #[test]
 fn what_the_rows_of_sets_break(rt: HostRuntime) -> Result<(), Fail> {
     let alloc = rt.alloc();
-    let auditor = [('p', 2, "ann", "auditor"), ('p', 8, "desk", "auditor")];
-    assert_eq!(rt; failure(alloc, &[], &[('p', 5, "duty", "clerk")])?, 3);
-    assert_eq!(rt; failure(alloc, &[], &[('s', 1, "duty", "")])?, 7);
+    let auditor = [
+        ('p', Row::ASSIGNMENT, "ann", "auditor"),
+        ('p', Row::ACTIVATED_ROLE, "desk", "auditor"),
+    ];
+    assert_eq!(rt;
+        failure(alloc, &[], &[('p', Row::STATIC_MEMBER, "duty", "clerk")])?,
+        3
+    );
+    assert_eq!(rt;
+        failure(alloc, &[], &[('s', Row::STATIC_CARDINALITY, "duty", "")])?,
+        7
+    );
     assert_eq!(rt; failure(alloc, &STATIC, &auditor)?, 9);
     assert_eq!(rt; failure(alloc, &DYNAMIC, &auditor)?, 10);
     Ok(())
@@ -199,9 +237,15 @@ fn what_the_rows_of_sets_break(rt: HostRuntime) -> Result<(), Fail> {
 #[test]
 fn what_the_rows_of_sessions_break(rt: HostRuntime) -> Result<(), Fail> {
     let alloc = rt.alloc();
-    let bob = [('n', 1, "bob", ""), ('p', 7, "desk", "bob")];
+    let bob = [
+        ('n', Row::USER, "bob", ""),
+        ('p', Row::SESSION, "desk", "bob"),
+    ];
     assert_eq!(rt; failure(alloc, &[], &bob)?, 4);
-    assert_eq!(rt; failure(alloc, &[], &[('p', 8, "desk", "auditor")])?, 8);
+    assert_eq!(rt;
+        failure(alloc, &[], &[('p', Row::ACTIVATED_ROLE, "desk", "auditor")])?,
+        8
+    );
     assert_eq!(rt; failure(alloc, &[], &[('l', 0, "ann", "")])?, 11);
     Ok(())
 }
@@ -210,9 +254,9 @@ fn what_the_rows_of_sessions_break(rt: HostRuntime) -> Result<(), Fail> {
 fn two_users_come_before_a_violated_set(rt: HostRuntime) -> Result<(), Fail> {
     let alloc = rt.alloc();
     let bob = [
-        ('n', 1, "bob", ""),
-        ('p', 7, "desk", "bob"),
-        ('p', 2, "ann", "auditor"),
+        ('n', Row::USER, "bob", ""),
+        ('p', Row::SESSION, "desk", "bob"),
+        ('p', Row::ASSIGNMENT, "ann", "auditor"),
     ];
     assert_eq!(rt; failure(alloc, &STATIC, &bob)?, 4);
     Ok(())

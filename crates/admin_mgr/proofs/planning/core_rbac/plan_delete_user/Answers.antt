@@ -1,6 +1,7 @@
 use Rattle.std.proofs.Common.{◌∷◌, [], ◌∙◌, ap, refl}
 use Rattle.rbac_sets.specs.declared.command.Command.TheVariants.{DeleteUser}
 use Rattle.rbac_sets.specs.declared.row.Change.TheVariants.{Take}
+use Rattle.rbac_sets.specs.declared.row.TheConstants.Row.{ASSIGNMENT}
 use Rattle.admin_mgr.specs.Assignment.{end_sessions}
 use Rattle.admin_mgr.specs.Run.{tally}
 use Rattle.admin_mgr.specs.After.{changed, after}
@@ -18,7 +19,7 @@ returns-clause-planned c =
     let S = c.args.state.now.facts in
     let taken = listed_then c.in_ok-take.ensures.ok c.new-changes.ensures.items (λ i. Take (c.in_ok-name_row.ensures.ok i) ∷ []) in
     let unlocked = listed_then c.in_ok-take_lock.ensures.ok taken refl in
-    let deassigned = listed_then c.in_ok-take_pairs.ensures.ok unlocked (λ i. take_all (pair_row 2) ((c.with_first.ensures ∙ ap (λ pairs. run_of pairs c.args.user.now) c.assignments.ensures) i)) in
+    let deassigned = listed_then c.in_ok-take_pairs.ensures.ok unlocked (λ i. take_all (pair_row ASSIGNMENT) ((c.with_first.ensures ∙ ap (λ pairs. run_of pairs c.args.user.now) c.assignments.ensures) i)) in
     plan_of S (DeleteUser c.args.user.now) c.plain.result _ refl
     (c.plain.ensures.changes ∙ listed_then c.in_ok-take_ended.ensures.ok deassigned refl)
     c.plain.ensures.report

@@ -1,5 +1,6 @@
 use Rattle.std.proofs.Common.{◌≡◌, sym, ap, ◌∙◌}
 use Rattle.rbac_sets.specs.declared.row.Row.TheVariants.{SetRow}
+use Rattle.rbac_sets.specs.declared.row.TheConstants.Row.{STATIC_CARDINALITY, DYNAMIC_CARDINALITY}
 use Rattle.admin_mgr.specs.Gathered.{has_key}
 use Rattle.admin_mgr.specs.GatheredView.{gathered_of}
 use Rattle.admin_mgr.proofs.KeyLaws.{no_static_key, no_dynamic_key}
@@ -8,13 +9,13 @@ use Rattle.admin_mgr.proofs.relations.gathered.Gathered.put.Goals as goal
 pub put-requires-in-SetRow-eq1-default-default : goal.put-requires-in-SetRow-eq1-default-default
 put-requires-in-SetRow-eq1-default-default c =
     let row = c.in-SetRow-eq1-default-default.is ∙ ap (λ k. SetRow k c.in-SetRow-eq1-default-default.name c.in-SetRow-eq1-default-default.n) c.in-SetRow-eq1-default-default.field-0-test in
-    let same : has_key (gathered_of c.self.inside) (SetRow 1 c.in-SetRow-eq1-default-default.name c.in-SetRow-eq1-default-default.n) ≡ has_key c.args.self.now c.args.row =
+    let same : has_key (gathered_of c.self.inside) (SetRow STATIC_CARDINALITY c.in-SetRow-eq1-default-default.name c.in-SetRow-eq1-default-default.n) ≡ has_key c.args.self.now c.args.row =
     λ i. has_key (c.self.view_is i) (sym row i) in
     no_static_key (gathered_of c.self.inside) c.in-SetRow-eq1-default-default.name c.in-SetRow-eq1-default-default.n (same ∙ c.requires)
 
 pub put-requires-in-SetRow-eq2-default-default : goal.put-requires-in-SetRow-eq2-default-default
 put-requires-in-SetRow-eq2-default-default c =
     let row = c.in-SetRow-eq2-default-default.is ∙ ap (λ k. SetRow k c.in-SetRow-eq2-default-default.name c.in-SetRow-eq2-default-default.n) c.in-SetRow-eq2-default-default.field-0-test in
-    let same : has_key (gathered_of c.self.inside) (SetRow 2 c.in-SetRow-eq2-default-default.name c.in-SetRow-eq2-default-default.n) ≡ has_key c.args.self.now c.args.row =
+    let same : has_key (gathered_of c.self.inside) (SetRow DYNAMIC_CARDINALITY c.in-SetRow-eq2-default-default.name c.in-SetRow-eq2-default-default.n) ≡ has_key c.args.self.now c.args.row =
     λ i. has_key (c.self.view_is i) (sym row i) in
     no_dynamic_key (gathered_of c.self.inside) c.in-SetRow-eq2-default-default.name c.in-SetRow-eq2-default-default.n (same ∙ c.requires)

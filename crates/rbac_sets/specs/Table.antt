@@ -1,0 +1,31 @@
+-- The table of a row.
+use Rattle.std.specs.Prelude.{Option, Some, None, nat_eq, if◌then◌else◌}
+use Rattle.rbac_sets.specs.declared.row.Row.{Row}
+use Rattle.rbac_sets.specs.declared.row.Row.TheVariants.{NameRow, PairRow, GrantRow, SetRow, LockedRow}
+use Rattle.rbac_sets.specs.declared.row.TheConstants.Row.{USER, ROLE, OBJECT, PERMISSION, ASSIGNMENT, INHERITANCE, CLOSURE_PAIR, STATIC_MEMBER, DYNAMIC_MEMBER, SESSION, ACTIVATED_ROLE, STATIC_CARDINALITY, DYNAMIC_CARDINALITY}
+use Rattle.rbac_sets.specs.declared.table.Table.{Table}
+use Rattle.rbac_sets.specs.declared.table.Table.TheVariants.{Users, Roles, Objects, Permissions, Assignments, Inheritances, ClosurePairs, StaticMembers, DynamicMembers, Sessions, ActivatedRoles, Grants, StaticCardinalities, DynamicCardinalities, Locks}
+
+-- the table in which a row stands, if there is one of its kind
+abbrev pub table_of : Row → Option Table
+table_of (NameRow kind name) =
+    if nat_eq kind USER then Some Users
+    else if nat_eq kind ROLE then Some Roles
+    else if nat_eq kind OBJECT then Some Objects
+    else None
+table_of (PairRow kind a b) =
+    if nat_eq kind PERMISSION then Some Permissions
+    else if nat_eq kind ASSIGNMENT then Some Assignments
+    else if nat_eq kind INHERITANCE then Some Inheritances
+    else if nat_eq kind CLOSURE_PAIR then Some ClosurePairs
+    else if nat_eq kind STATIC_MEMBER then Some StaticMembers
+    else if nat_eq kind DYNAMIC_MEMBER then Some DynamicMembers
+    else if nat_eq kind SESSION then Some Sessions
+    else if nat_eq kind ACTIVATED_ROLE then Some ActivatedRoles
+    else None
+table_of (GrantRow object operation role) = Some Grants
+table_of (SetRow kind set cardinality) =
+    if nat_eq kind STATIC_CARDINALITY then Some StaticCardinalities
+    else if nat_eq kind DYNAMIC_CARDINALITY then Some DynamicCardinalities
+    else None
+table_of (LockedRow user) = Some Locks

@@ -1,0 +1,36 @@
+//! The tables of an office, one for each of its relations.
+
+/// A table of an office: the rows of one of its relations.
+#[derive(Clone, Copy, Debug, PartialEq, Eq)]
+pub enum Table {
+    /// USERS.
+    Users,
+    /// ROLES.
+    Roles,
+    /// OBS, the objects.
+    Objects,
+    /// PRMS, the permissions: an object and an operation.
+    Permissions,
+    /// UA, the user assignments: a user and a role.
+    Assignments,
+    /// The immediate inheritances: an ascendant and a descendant.
+    Inheritances,
+    /// The role order: a role, and another one that it inherits from, immediately or over others.
+    ClosurePairs,
+    /// The roles of static separation of duty sets: a set and a role.
+    StaticMembers,
+    /// The roles of dynamic separation of duty sets: a set and a role.
+    DynamicMembers,
+    /// SESSIONS: a session and its user.
+    Sessions,
+    /// The roles that were activated in sessions: a session and a role.
+    ActivatedRoles,
+    /// PA, the permission assignments: an object, an operation and a role.
+    Grants,
+    /// The static separation of duty sets: a set and its cardinality.
+    StaticCardinalities,
+    /// The dynamic separation of duty sets: a set and its cardinality.
+    DynamicCardinalities,
+    /// The locked users. Known to version 2 alone.
+    Locks,
+}
