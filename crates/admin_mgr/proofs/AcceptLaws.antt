@@ -2,9 +2,9 @@
 use Rattle.std.proofs.Common.{◌≡◌, ℕ, ◌<◌, ◌≤◌, Bool, true, false, not, ◌&&◌, List, [], ◌∷◌, refl, sym, ◌∙◌, ap, subst, inl, inr, arith}
 use Rattle.std.specs.Prelude.{nat_eq, nat_le}
 use Rattle.std.specs.List.{list_any, list_all}
-use Rattle.std.proofs.lemmas.Bool.{or_cases, or_left, or_right, and_parts, and_from, eqb-true, eq-eqb, cases_lt, true≢false}
+use Rattle.std.proofs.lemmas.Bool.{or_cases, or_left, or_right, and_parts, and_from, eqb-true, eq-eqb, cases_lt, true≢false, false_from_ne_true}
 use Rattle.rbac_sets.specs.Sets.{Bytes, Pair, Pairs, name_cmp, contains, same_name}
-use Rattle.rbac_sets.specs.NameOrder.{name_total, name_exact, pair_total, pair_exact, triple_total, triple_exact, cardinality_total, cardinality_exact}
+use Rattle.rbac_sets.specs.NameOrder.{name_total, name_exact, pair_total, pair_exact, cardinality_total, cardinality_exact}
 use Rattle.rbac_sets.proofs.SetLaws.{any-Decides, contains-empty, same_set, tie_Decides}
 use Rattle.rbac_sets.specs.declared.row.Row.{Row}
 use Rattle.rbac_sets.specs.declared.row.Row.TheVariants.{NameRow, PairRow, GrantRow, SetRow, LockedRow}
@@ -13,7 +13,6 @@ use Rattle.rbac_sets.specs.declared.refusal.Refusal.{Refusal}
 use Rattle.rbac_sets.specs.declared.refusal.Refusal.TheVariants.{TooMany, Memory, Damaged}
 use Rattle.role_order.specs.Order.{HasPair, geq, IsClosure}
 use Rattle.role_order.proofs.Leading.{first_step, last_step}
-use Rattle.role_order.proofs.Members.{is_false}
 use Rattle.admin_mgr.specs.RbacState.{RbacState}
 use Rattle.admin_mgr.specs.Rows.{has_row}
 use Rattle.admin_mgr.specs.Changes.{same_row}
@@ -25,19 +24,12 @@ use Rattle.admin_mgr.proofs.KeyLaws.{of_two, pairs_among}
 use Rattle.admin_mgr.proofs.WithinLimits.{no_limit_passed}
 use Rattle.admin_mgr.proofs.StoredLaws.{apart_and_above, unknown_name, unknown_pair, unknown_set, rows_are_among}
 use Rattle.admin_mgr.proofs.CheckLaws.{PassBefore, before_two, before_next}
-
--- a row is one with itself
-same_row_self : (row : Row) → same_row row row ≡ true
-same_row_self (NameRow k a) = and_from _ _ (eq-eqb k k refl) ((tie_Decides name_total name_exact a a).1 refl)
-same_row_self (PairRow k a b) = and_from _ _ (eq-eqb k k refl) ((tie_Decides pair_total pair_exact (a, b) (a, b)).1 refl)
-same_row_self (GrantRow a b c) = (tie_Decides triple_total triple_exact (a, b, c) (a, b, c)).1 refl
-same_row_self (SetRow k a n) = and_from _ _ (eq-eqb k k refl) ((tie_Decides cardinality_total cardinality_exact (a, n) (a, n)).1 refl)
-same_row_self (LockedRow a) = (tie_Decides name_total name_exact a a).1 refl
+use Rattle.admin_mgr.proofs.CommitLaws.{same_row-self}
 
 -- each of the rows passes
 all_from : (p : Row → Bool) (rows : List Row) → ((row : Row) → is_among rows row ≡ true → p row ≡ true) → list_all p rows ≡ true
 all_from p [] each = refl
-all_from p (first ∷ rows) each = and_from _ _ (each first (or_left _ _ (same_row_self first))) (all_from p rows (λ row h. each row (or_right _ _ h)))
+all_from p (first ∷ rows) each = and_from _ _ (each first (or_left _ _ (same_row-self first))) (all_from p rows (λ row h. each row (or_right _ _ h)))
 
 -- ---- the rows of a good state are readable
 
@@ -54,7 +46,7 @@ known_of_good S good (PairRow k x y) there = yes_or _ (λ unknown. true≢false 
 known_of_good S good (GrantRow x y z) there = refl
 known_of_good S good (SetRow k x n) there = yes_or _ (λ unknown. true≢false (sym there ∙ unknown_set S k x n unknown))
 known_of_good S good (LockedRow x) there =
-    ap not (is_false (nat_eq S.version 1) (λ first. true≢false (sym there ∙ ap (λ s. contains s x) (good.no_locks (eqb-true S.version 1 first)) ∙ contains-empty name_cmp x)))
+    ap not (false_from_ne_true (nat_eq S.version 1) (λ first. true≢false (sym there ∙ ap (λ s. contains s x) (good.no_locks (eqb-true S.version 1 first)) ∙ contains-empty name_cmp x)))
 
 -- a set of a good state has one cardinality
 one_number : (S : RbacState) → IsGood S → (k : ℕ) (a : Bytes) (m n : ℕ) → has_row S (SetRow k a m) ≡ true → has_row S (SetRow k a n) ≡ true → m ≡ n
@@ -90,7 +82,7 @@ key_once : (S : RbacState) → IsGood S → (row : Row) (rows : List Row) → ha
 key_once S good (NameRow k a) rows here there free = free
 key_once S good (PairRow k a b) rows here there free = free
 key_once S good (GrantRow a b c) rows here there free = free
-key_once S good (SetRow k a m) rows here there free = is_false _ (λ h.
+key_once S good (SetRow k a m) rows here there free = false_from_ne_true _ (λ h.
     (let found = same_set_found k a m rows h in
     true≢false (sym (found.2 (one_number S good k a m found.0 here (there (SetRow k a found.0) found.1))) ∙ free)))
 key_once S good (LockedRow a) rows here there free = free
@@ -99,7 +91,7 @@ key_once S good (LockedRow a) rows here there free = free
 keys_once : (S : RbacState) → IsGood S → (rows : List Row) → ((row : Row) → is_among rows row ≡ true → has_row S row ≡ true) → OccurOnce rows → HaveKeysOnce rows
 keys_once S good [] there once = tt
 keys_once S good (first ∷ rows) there once = (
-  key_once S good first rows (there first (or_left _ _ (same_row_self first))) (λ row h. there row (or_right _ _ h)) once.0,
+  key_once S good first rows (there first (or_left _ _ (same_row-self first))) (λ row h. there row (or_right _ _ h)) once.0,
   keys_once S good rows (λ row h. there row (or_right _ _ h)) once.1,
 )
 
@@ -190,7 +182,7 @@ skipped false Then Else h e = e
 
 -- a larger number is another one
 other_number : (n k : ℕ) → k < n → nat_eq n k ≡ false
-other_number n k less = is_false _ (λ h. (let same = eqb-true n k h in absurd (omega (arith, less, same))))
+other_number n k less = false_from_ne_true _ (λ h. (let same = eqb-true n k h in absurd (omega (arith, less, same))))
 
 -- there is no check of a higher number
 no_later_check : (g : Gathered) (n : ℕ) → 12 ≤ n → Passes g n

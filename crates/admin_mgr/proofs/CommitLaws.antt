@@ -18,7 +18,8 @@ use Rattle.admin_mgr.specs.Changes.{same_row, is_put, is_taken, IsOnce, Turns}
 use Rattle.admin_mgr.specs.Stepping.{is_plain, with_row, without_row, with_edges, after_change, after_changes, AreFree}
 use Rattle.admin_mgr.specs.Planned.{TurnsEdges, LeadsTo}
 use Rattle.admin_mgr.proofs.RowLaws.{plain_determine}
-use Rattle.admin_mgr.proofs.ChangeLaws.{plain_pairs, has_row-with, has_row-without, has_row-changes}
+use Rattle.admin_mgr.proofs.ChangeLaws.{has_row-with, has_row-without, has_row-changes}
+use Rattle.admin_mgr.proofs.StepLaws.{has_row-with_edges}
 
 -- ---- equal rows
 
@@ -136,15 +137,6 @@ free_put S (Put row ∷ changes) absent once = (
       (λ is. true≢false (sym (subst (λ r. is_put changes r ≡ true) is put) ∙ once.0))) once.1,
 )
 
--- other edges change no row that changes by itself
-kept_rows : (S : RbacState) (edges : Pairs) (row : Row) → is_plain row ≡ true → has_row (with_edges S edges) row ≡ has_row S row
-unfolding has_row
-kept_rows S edges (NameRow k x) plain = refl
-kept_rows S edges (PairRow k x y) plain = plain_pairs (λ kind. has_row (with_edges S edges) (PairRow kind x y) ≡ has_row S (PairRow kind x y)) refl refl refl refl refl refl k plain
-kept_rows S edges (GrantRow x y z) plain = refl
-kept_rows S edges (SetRow k x n) plain = refl
-kept_rows S edges (LockedRow x) plain = refl
-
 -- ---- where they lead
 
 module _ (S T : RbacState) (changes : List Change) (turns : Turns S changes T) where
@@ -168,7 +160,7 @@ module _ (S T : RbacState) (changes : List Change) (turns : Turns S changes T) w
   pub led_to_edges : (edges : Pairs) → edges ≡ T.edges → with_edges (after_changes S changes) edges ≡ T
   led_to_edges edges is =
       plain_determine (with_edges (after_changes S changes) edges) T (version-changes S changes ∙ turns.version) is
-      (λ row plain. kept_rows (after_changes S changes) edges row plain ∙ rows row plain)
+      (λ row plain. has_row-with_edges (after_changes S changes) edges row plain ∙ rows row plain)
 
 -- ---- a whole plan
 

@@ -1,6 +1,7 @@
 -- The changes of the commands on the role hierarchy turn the rows of a good state into those of the state after.
 use Rattle.std.proofs.Common.{◌≡◌, ◌⊎◌, ◌↔◌, true, false, List, [], ◌∷◌, ◌++◌, Result, Ok, Err, sym, ◌∙◌, ap, subst, inl, inr}
 use Rattle.std.specs.Prelude.{None, IfErr, OnErr}
+use Rattle.std.proofs.lemmas.Bool.{false_from_ne_true}
 use Rattle.rbac_sets.specs.Sets.{Bytes, Pairs, contains, insert, remove}
 use Rattle.rbac_sets.specs.declared.command.Command.TheVariants.{AddInheritance, DeleteInheritance, AddAscendant, AddDescendant}
 use Rattle.rbac_sets.specs.declared.refusal.Refusal.{Refusal}
@@ -11,7 +12,6 @@ use Rattle.rbac_sets.specs.declared.row.Change.{Change}
 use Rattle.rbac_sets.specs.declared.row.Change.TheVariants.{Put}
 use Rattle.role_order.specs.Order.{Geq, geq, IsGained}
 use Rattle.role_order.specs.Planned.{Plan, IsPlanOf, changed as changed_edges}
-use Rattle.role_order.proofs.Members.{is_false}
 use Rattle.role_order.proofs.Deciding.{geq-Decides}
 use Rattle.role_order.proofs.Planning.{changed-adds, changed-takes}
 use Rattle.admin_mgr.specs.RbacState.{RbacState}
@@ -102,7 +102,7 @@ edge_there S asc desc accepted = refuse_unless-None (contains S.edges (asc, desc
 
 -- the test that one is above the other fails where it isn't so
 not_above : (edges : Pairs) (a b : Bytes) → (Geq edges a b → ⊥) → geq edges a b ≡ false
-not_above edges a b apart = is_false (geq edges a b) (λ h. apart ((geq-Decides edges a b).0 h))
+not_above edges a b apart = false_from_ne_true (geq edges a b) (λ h. apart ((geq-Decides edges a b).0 h))
 
 -- a new role has no way to what it is put above
 pub ascendant_makes_no_cycle : (S : RbacState) → IsGood S → (asc desc : Bytes) → verdict S (AddAscendant asc desc) ≡ None → geq S.edges desc asc ≡ false

@@ -9,9 +9,9 @@ use Rattle.rbac_sets.specs.Sets.{Bytes, Pair, Names, name_cmp, pair_cmp, triple_
 use Rattle.rbac_sets.proofs.SetLaws.{contains-empty, members-empty}
 use Rattle.rbac_sets.proofs.Members.{len-members}
 use Rattle.role_order.proofs.Closing.{IsAcyclic-none}
+use Rattle.role_order.proofs.Runs.{members_seconds}
 use Rattle.admin_mgr.specs.RbacState.{empty_state, no_separation}
 use Rattle.admin_mgr.specs.Good.{IsGood, IsSeparation}
-use Rattle.admin_mgr.proofs.Lookups.{members_seconds}
 
 -- an empty set has nothing, and nothing behind a name
 not_there : {K : Type 0} (R : K → K → Ordering) (x : K) {A : Type 0} → IsTrue (contains (empty {R = R}) x) → A

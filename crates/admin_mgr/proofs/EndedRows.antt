@@ -7,12 +7,13 @@ use Rattle.std.specs.Ordering.{eq_by_cmp}
 use Rattle.std.specs.Cmp.{IsTotalOrder}
 use Rattle.std.specs.FinMap.{IsAntisymmetric}
 use Rattle.std.specs.FinSet.{FinSet}
-use Rattle.std.proofs.lemmas.Bool.{and_parts, and_from, true≢false}
+use Rattle.std.proofs.lemmas.Bool.{and_parts, and_from, true≢false, false_from_ne_true}
+use Rattle.std.proofs.Math.Bool.{and_assoc}
 use Rattle.rbac_sets.specs.Sets.{Bytes, Pair, Pairs, contains, remove, retain, members, any, pair_cmp, same_name}
 use Rattle.rbac_sets.specs.NameOrder.{name_total, name_exact, pair_total, pair_exact}
 use Rattle.rbac_sets.proofs.SetLaws.{contains-remove, contains-retain, retain-all, any-Decides, tie_Decides, same_set}
 use Rattle.rbac_sets.proofs.Members.{members-retain}
-use Rattle.role_order.proofs.Members.{is_false, same_name-flips}
+use Rattle.role_order.proofs.Members.{same_name-flips}
 use Rattle.rbac_sets.specs.declared.row.Row.TheVariants.{PairRow}
 use Rattle.rbac_sets.specs.declared.row.TheConstants.Row.{SESSION, ACTIVATED_ROLE}
 use Rattle.rbac_sets.specs.declared.row.Change.TheVariants.{Take}
@@ -31,11 +32,7 @@ module _ {K : Type 0} {R : K → K → Ordering} (total : IsTotalOrder R) (exact
   -- to keep by two tests, one after the other, is to keep by both
   pub retain-twice : (s : FinSet R) (p q : K → Bool) → retain (retain s p) q ≡ retain s (λ x. p x && q x)
   retain-twice s p q = same_set total exact _ _ (λ x. contains-retain total exact (retain s p) q x ∙ ap (λ b. b && q x) (contains-retain total exact s p x)
-      ∙ grouped (contains s x) (p x) (q x) ∙ sym (contains-retain total exact s (λ y. p y && q y) x))
-    where
-      grouped : (a b c : Bool) → ((a && b) && c) ≡ (a && (b && c))
-      grouped true b c = refl
-      grouped false b c = refl
+      ∙ and_assoc (contains s x) (p x) (q x) ∙ sym (contains-retain total exact s (λ y. p y && q y) x))
 
   -- tests that agree on the members keep the same
   pub retain-same : (s : FinSet R) (p q : K → Bool) → ((x : K) → IsTrue (contains s x) → p x ≡ q x) → retain s p ≡ retain s q
@@ -89,7 +86,7 @@ other_run pairs first other apart =
 
 -- another session is still there
 still_there : (S : RbacState) (session other : Pair) → same_name session.0 other.0 ≡ false → contains S.sessions other ≡ true → contains (remove S.sessions session) other ≡ true
-still_there S session other apart there = contains-remove pair_total S.sessions session other ∙ and_from _ _ (ap not (is_false (eq_by_cmp pair_cmp other session) not_one)) there
+still_there S session other apart there = contains-remove pair_total S.sessions session other ∙ and_from _ _ (ap not (false_from_ne_true (eq_by_cmp pair_cmp other session) not_one)) there
   where
     not_one : eq_by_cmp pair_cmp other session ≡ true → ⊥
     not_one tie =
@@ -167,7 +164,7 @@ module _
     -- each has a name of its own
     own_names : HaveOwnNames ended
     own_names = distinct_by (eq_by_cmp pair_cmp) (λ (p : Pair) (q : Pair). same_name p.0 q.0)
-        (λ p q here there apart. is_false (same_name p.0 q.0) (λ same. true≢false (sym ((tie_Decides pair_total pair_exact p q).1 (one_session p q here there ((tie_Decides name_total name_exact p.0 q.0).0 same))) ∙ apart)))
+        (λ p q here there apart. false_from_ne_true (same_name p.0 q.0) (λ same. true≢false (sym ((tie_Decides pair_total pair_exact p q).1 (one_session p q here there ((tie_Decides name_total name_exact p.0 q.0).0 same))) ∙ apart)))
         ended there_all (distinct-filter pair_total pair_exact S.sessions ends)
 
     -- a role stays where no session of its name ends, and that is where its session goes on
@@ -196,13 +193,13 @@ module _
         is_owner session here same = one_session session owner here known ((tie_Decides name_total name_exact session.0 active.0).0 same)
 
         by : (b : Bool) → goes_on owner ≡ b → not (list_any named ended) ≡ any (λ (session : Pair). named session && goes_on session) S.sessions
-        by true is = ap not (is_false (list_any named ended) (λ h.
+        by true is = ap not (false_from_ne_true (list_any named ended) (λ h.
             let found = (any-Decides pair_total pair_exact named (retain S.sessions ends)).0 (sym one_ends ∙ h) in
             let parts = and_parts _ _ (sym (contains-retain pair_total pair_exact S.sessions ends found.0) ∙ found.1) in
             true≢false (sym parts.1 ∙ ap ends (is_owner found.0 parts.0 found.2) ∙ ap not is)))
             ∙ sym ((any-Decides pair_total pair_exact (λ (session : Pair). named session && goes_on session) S.sessions).1 (owner, known, and_from _ _ own is))
         by false is = ap not (one_ends ∙ (any-Decides pair_total pair_exact named (retain S.sessions ends)).1 (owner, contains-retain pair_total pair_exact S.sessions ends owner ∙ and_from _ _ known (ap not is), own))
-            ∙ sym (is_false (any (λ (session : Pair). named session && goes_on session) S.sessions) (λ h.
+            ∙ sym (false_from_ne_true (any (λ (session : Pair). named session && goes_on session) S.sessions) (λ h.
             let found = (any-Decides pair_total pair_exact (λ (session : Pair). named session && goes_on session) S.sessions).0 h in
             let parts = and_parts _ _ found.2 in
             true≢false (sym parts.1 ∙ ap goes_on (is_owner found.0 found.1 parts.0) ∙ is)))

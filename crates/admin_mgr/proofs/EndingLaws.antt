@@ -1,16 +1,18 @@
 -- Which sessions of a good state may go on after a command, told without the state after it.
-use Rattle.std.proofs.Common.{◌≡◌, Bool, true, false, not, ◌&&◌, ◌||◌, List, [], ◌∷◌, map, refl, sym, ◌∙◌, ap, inl, inr}
+use Rattle.std.proofs.Common.{◌≡◌, Bool, true, false, not, ◌&&◌, ◌||◌, refl, sym, ◌∙◌, ap, inl, inr}
 use Rattle.std.specs.Prelude.{IsTrue}
 use Rattle.std.specs.List.{list_any, list_all}
 use Rattle.std.specs.Ordering.{eq_by_cmp}
-use Rattle.std.proofs.lemmas.Bool.{and_parts, and_from, not-true, true≢false}
+use Rattle.std.proofs.lemmas.Bool.{and_parts, and_from, not-true, true≢false, false_from_ne_true}
+use Rattle.std.specs.Cmp.{both_ways}
+use Rattle.std.proofs.Math.Bool.{and-true, and_assoc}
 use Rattle.rbac_sets.specs.Sets.{Bytes, Pair, Pairs, pair_cmp, all, any, contains, remove, same_name, seconds}
 use Rattle.rbac_sets.specs.NameOrder.{name_total, name_exact, pair_total, pair_exact}
 use Rattle.rbac_sets.specs.declared.command.Command.TheVariants.{DeleteUser, DeleteRole, DeassignUser, DeleteInheritance, LockUserAccount}
 use Rattle.rbac_sets.proofs.SetLaws.{any-Decides, contains-insert, contains-remove, contains-retain, seconds-Decides, tie_Decides}
 use Rattle.role_order.specs.Order.{geq, IsGained}
 use Rattle.role_order.proofs.Deciding.{geq-Decides, geq_or_not}
-use Rattle.role_order.proofs.Members.{is_false}
+use Rattle.role_order.proofs.Runs.{any_seconds, all_seconds}
 use Rattle.admin_mgr.specs.RbacState.{RbacState, active_roles}
 use Rattle.admin_mgr.specs.Authorization.{is_authorized}
 use Rattle.admin_mgr.specs.Assignment.{may_go_on}
@@ -19,22 +21,10 @@ use Rattle.admin_mgr.specs.Good.{IsGood}
 use Rattle.admin_mgr.specs.Held.{run_of, is_reached}
 use Rattle.admin_mgr.specs.Ending.{is_held_without_role, is_held_without_pairs}
 use Rattle.admin_mgr.proofs.HeldLaws.{authorized_reached}
-use Rattle.admin_mgr.proofs.Lookups.{members_seconds, any_seconds}
 use Rattle.admin_mgr.proofs.PartLaws.{geq-fewer, remove-subset}
 use Rattle.admin_mgr.proofs.SessionLaws.{goes_on}
-use Rattle.admin_mgr.proofs.TouchLaws.{same_test}
 
 -- ---- tests along a run
-
--- a test of what f gives along a list
-all_map : {X Y : Type 0} (f : X → Y) (p : Y → Bool) (xs : List X) → list_all p (map f xs) ≡ list_all (λ x. p (f x)) xs
-all_map f p [] = refl
-all_map f p (x ∷ xs) = ap (λ b. p (f x) && b) (all_map f p xs)
-
--- what is behind a name passes a test where the run does
-all_seconds : (p : Bytes → Bool) (pairs : Pairs) (first : Bytes) → all p (seconds pairs first) ≡ list_all (λ (q : Pair). p q.1) (run_of pairs first)
-unfolding all
-all_seconds p pairs first = ap (list_all p) (members_seconds pairs first) ∙ all_map (λ (q : Pair). q.1) p (run_of pairs first)
 
 -- two runs have one that passes alike, where the tests agree on what is in either
 same_runs : (pairs others : Pairs) (first : Bytes) (p q : Bytes → Bool) → ((x : Bytes) → (contains pairs (first, x) && p x) ≡ (contains others (first, x) && q x)) →
@@ -43,7 +33,7 @@ same_runs pairs others first p q same =
     let one = any-Decides name_total name_exact p (seconds pairs first) in
     let other = any-Decides name_total name_exact q (seconds others first) in
     sym (any_seconds p pairs first)
-    ∙ same_test (any p (seconds pairs first)) (any q (seconds others first))
+    ∙ both_ways (any p (seconds pairs first)) (any q (seconds others first))
     (λ h. (let found = one.0 h in
     let parts = and_parts _ _ (sym (same found.0) ∙ and_from _ _ ((seconds-Decides pairs first found.0).0 found.1) found.2) in
     other.1 (found.0, (seconds-Decides others first found.0).1 parts.0, parts.1)))
@@ -52,18 +42,10 @@ same_runs pairs others first p q same =
     one.1 (found.0, (seconds-Decides pairs first found.0).1 parts.0, parts.1)))
     ∙ any_seconds q others first
 
-and_true : (a : Bool) → (a && true) ≡ a
-and_true true = refl
-and_true false = refl
-
 and_turned : (a b c : Bool) → ((a && b) && c) ≡ (b && (a && c))
 and_turned true b c = refl
 and_turned false true c = refl
 and_turned false false c = refl
-
-and_grouped : (a b c : Bool) → ((a && b) && c) ≡ (a && (b && c))
-and_grouped true b c = refl
-and_grouped false b c = refl
 
 -- two pairs are one where both parts are
 same_pair : (a b x y : Bytes) → eq_by_cmp pair_cmp (a, b) (x, y) ≡ (same_name a x && same_name b y)
@@ -71,7 +53,7 @@ same_pair a b x y =
     let tie = tie_Decides pair_total pair_exact (a, b) (x, y) in
     let first = tie_Decides name_total name_exact a x in
     let second = tie_Decides name_total name_exact b y in
-    same_test _ _
+    both_ways _ _
     (λ h. and_from _ _ (first.1 (ap (λ (p : Pair). p.0) (tie.0 h))) (second.1 (ap (λ (p : Pair). p.1) (tie.0 h))))
     (λ h. (let parts = and_parts _ _ h in tie.1 (λ i. (first.0 parts.0 i, second.0 parts.1 i))))
 
@@ -113,7 +95,7 @@ module _ (S : RbacState) (good : IsGood S) (p : Pair) (there : IsTrue (contains 
           ∙ (λ i. list_all (λ (active : Pair). same_runs (without_first user S.assignments) S.assignments p.1 (λ x. geq S.edges x active.1) (λ x. geq S.edges x active.1) (λ x.
           ap (λ b. b && geq S.edges x active.1)
           (contains-retain pair_total pair_exact S.assignments (λ (pair : Pair). not (same_name pair.0 user)) (p.1, x)
-          ∙ ap (λ b. contains S.assignments (p.1, x) && not b) other ∙ and_true (contains S.assignments (p.1, x)))) i) (run_of S.active p.0))
+          ∙ ap (λ b. contains S.assignments (p.1, x) && not b) other ∙ and-true (contains S.assignments (p.1, x)))) i) (run_of S.active p.0))
           ∙ all_reached
 
   -- the sessions of a user who is locked end, and no others
@@ -158,7 +140,7 @@ module _ (S : RbacState) (good : IsGood S) (p : Pair) (there : IsTrue (contains 
       ∙ (λ i. list_all (λ (active : Pair). same_runs (without_second role S.assignments) S.assignments p.1
       (λ x. geq S.edges x active.1) (λ x. not (same_name x role) && geq S.edges x active.1) (λ x.
       ap (λ b. b && geq S.edges x active.1) (contains-retain pair_total pair_exact S.assignments (λ (pair : Pair). not (same_name pair.1 role)) (p.1, x))
-      ∙ and_grouped (contains S.assignments (p.1, x)) (not (same_name x role)) (geq S.edges x active.1)) i) (run_of S.active p.0))
+      ∙ and_assoc (contains S.assignments (p.1, x)) (not (same_name x role)) (geq S.edges x active.1)) i) (run_of S.active p.0))
 
   -- with the pairs that the order loses: those sessions may go on of which an assignment reaches each role that was
   -- activated over another pair
@@ -170,9 +152,9 @@ module _ (S : RbacState) (good : IsGood S) (p : Pair) (there : IsTrue (contains 
       ∙ (λ i. list_all (λ (active : Pair). list_any (λ (held : Pair). left held.1 active.1 i) (run_of S.assignments p.1)) (run_of S.active p.0))
     where
       left : (a b : Bytes) → geq (remove S.edges (asc, desc)) a b ≡ (geq S.edges a b && not (contains takes (a, b)))
-      left a b = same_test (geq (remove S.edges (asc, desc)) a b) (geq S.edges a b && not (contains takes (a, b)))
+      left a b = both_ways (geq (remove S.edges (asc, desc)) a b) (geq S.edges a b && not (contains takes (a, b)))
           (λ h. and_from _ _ (geq-fewer (remove S.edges (asc, desc)) S.edges (remove-subset pair_total S.edges (asc, desc)) a b h)
-          (ap not (is_false (contains takes (a, b)) (λ taken. ((lost a b).0 taken).1 ((geq-Decides (remove S.edges (asc, desc)) a b).0 h)))))
+          (ap not (false_from_ne_true (contains takes (a, b)) (λ taken. ((lost a b).0 taken).1 ((geq-Decides (remove S.edges (asc, desc)) a b).0 h)))))
           (λ h. (let parts = and_parts (geq S.edges a b) (not (contains takes (a, b))) h in
           elim (geq_or_not (remove S.edges (asc, desc)) a b) [
             | inl leads ↦ (geq-Decides (remove S.edges (asc, desc)) a b).1 leads

@@ -2,7 +2,7 @@
 use Rattle.std.proofs.Common.{◌≡◌, Bool, true, false, not, ◌||◌, List, [], ◌∷◌, ◌++◌, refl, sym, ◌∙◌, ap, subst, inl, inr}
 use Rattle.std.specs.Prelude.{IsTrue, None, filter, if◌then◌else◌}
 use Rattle.std.specs.Ordering.{eq_by_cmp}
-use Rattle.std.proofs.lemmas.Bool.{and_parts, or_cases, true≢false}
+use Rattle.std.proofs.lemmas.Bool.{and_parts, or_cases, true≢false, false_from_ne_true}
 use Rattle.rbac_sets.specs.Sets.{Bytes, Names, Pair, Triple, contains, insert, remove, members, same_name, name_cmp}
 use Rattle.rbac_sets.specs.NameOrder.{name_total, name_exact, pair_total, pair_exact, triple_total, triple_exact}
 use Rattle.rbac_sets.proofs.SetLaws.{contains-insert, tie_Decides, same_set}
@@ -12,7 +12,6 @@ use Rattle.rbac_sets.specs.declared.row.Row.TheVariants.{NameRow, PairRow, Locke
 use Rattle.rbac_sets.specs.declared.row.TheConstants.Row.{USER, ROLE, ASSIGNMENT}
 use Rattle.rbac_sets.specs.declared.row.Change.{Change}
 use Rattle.rbac_sets.specs.declared.row.Change.TheVariants.{Put, Take}
-use Rattle.role_order.proofs.Members.{is_false}
 use Rattle.admin_mgr.specs.RbacState.{RbacState}
 use Rattle.admin_mgr.specs.Rows.{has_row}
 use Rattle.admin_mgr.specs.Held.{run_of}
@@ -123,7 +122,7 @@ module _ (S : RbacState) (good : IsGood S) where
 
       -- no row that goes is a lock that comes
       apart : contains S.locked user ≡ false → AreApart (ended_rows S stays) (Put (LockedRow user) ∷ [])
-      apart absent row = is_false _ (λ h.
+      apart absent row = false_from_ne_true _ (λ h.
           let parts = and_parts (is_taken (ended_rows S stays) row) (is_put (Put (LockedRow user) ∷ []) row) h in
           elim (or_cases (same_row (LockedRow user) row) false parts.1) [
             | inl same ↦ true≢false (sym ((turns_taking steps).there row parts.0) ∙ ap (has_row S) (same_row-is (LockedRow user) row same) ∙ absent)

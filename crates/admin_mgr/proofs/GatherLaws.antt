@@ -1,5 +1,5 @@
 -- What one row more makes of the gathered sets, and when it may come.
-use Rattle.std.proofs.Common.{◌≡◌, ℕ, Bool, true, false, cond, ◌||◌, List, [], ◌∷◌, ◌++◌, refl, sym, ◌∙◌, ap}
+use Rattle.std.proofs.Common.{◌≡◌, ℕ, Bool, true, false, cond, List, [], ◌∷◌, ◌++◌, refl, sym, ◌∙◌, ap}
 use Rattle.std.specs.Prelude.{IsTrue, nat_eq, if◌then◌else◌}
 use Rattle.std.specs.List.{list_any, list_all}
 use Rattle.std.specs.declared.cmp.Ordering.{Ordering}
@@ -7,7 +7,7 @@ use Rattle.std.specs.Cmp.{IsTotalOrder}
 use Rattle.std.specs.FinMap.{IsAntisymmetric}
 use Rattle.std.proofs.lemmas.List.{append-nil}
 use Rattle.std.proofs.lemmas.List.Folds.{list_any-append, list_all-append}
-use Rattle.std.proofs.lemmas.Bool.{and_parts, and_from, true≢false}
+use Rattle.std.proofs.lemmas.Bool.{and_parts, and_from, or_parts, or_from}
 use Rattle.rbac_sets.specs.Sets.{Names, Triples, Cardinalities, insert, from_list}
 use Rattle.rbac_sets.specs.NameOrder.{name_total, name_exact, pair_total, pair_exact, triple_total, triple_exact, cardinality_total, cardinality_exact}
 use Rattle.rbac_sets.proofs.SetLaws.{from_list_push}
@@ -211,22 +211,12 @@ gathered_more version rows row = all_sets ∙ by row
 
 -- ---- keys that occur once
 
--- a test by `or` that fails, by its parts
-pub or_parts : (a b : Bool) → (a || b) ≡ false → (a ≡ false) × (b ≡ false)
-or_parts true b h = absurd (true≢false h)
-or_parts false b h = (refl, h)
-
--- a test by `or` fails where both parts do
-pub neither : (a b : Bool) → a ≡ false → b ≡ false → (a || b) ≡ false
-neither true b h k = absurd (true≢false h)
-neither false b h k = k
-
 -- keys occur once where a row of a new key comes behind
 pub keys_more : (rows : List Row) (row : Row) → HaveKeysOnce rows → list_any (λ (other : Row). same_key other row) rows ≡ false → HaveKeysOnce (rows ++ row ∷ [])
 keys_more [] row once free = (refl, tt)
 keys_more (first ∷ rows) row once free =
     let parts = or_parts (same_key first row) _ free in (
-      list_any-append (λ (other : Row). same_key first other) rows (row ∷ []) ∙ neither _ _ once.0 (neither _ _ parts.0 refl),
+      list_any-append (λ (other : Row). same_key first other) rows (row ∷ []) ∙ or_from _ _ once.0 (or_from _ _ parts.0 refl),
       keys_more rows row once.1 parts.1,
     )
 
@@ -235,7 +225,7 @@ pub keys_before : (rows : List Row) (row : Row) (rest : List Row) → HaveKeysOn
 keys_before [] row rest once = refl
 keys_before (first ∷ rows) row rest once =
     let later = or_parts _ _ (sym (list_any-append (λ (other : Row). same_key first other) rows (row ∷ rest)) ∙ once.0) in
-    neither _ _ (or_parts (same_key first row) _ later.1).0 (keys_before rows row rest once.1)
+    or_from _ _ (or_parts (same_key first row) _ later.1).0 (keys_before rows row rest once.1)
 
 -- ---- rows that may be read
 

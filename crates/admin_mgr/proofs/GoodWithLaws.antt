@@ -2,7 +2,7 @@
 use Rattle.std.proofs.Common.{◌≡◌, ◌<◌, ◌≤◌, Bool, false, sym, ◌∙◌, ap, subst}
 use Rattle.std.specs.Prelude.{IsTrue}
 use Rattle.std.specs.declared.cmp.Ordering.{Ordering}
-use Rattle.std.specs.Cmp.{IsTotalOrder}
+use Rattle.std.specs.Cmp.{IsTotalOrder, both_ways}
 use Rattle.std.specs.FinMap.{IsAntisymmetric}
 use Rattle.std.specs.FinSet.{FinSet}
 use Rattle.std.proofs.lemmas.Bool.{and_parts, and_from, not-true}
@@ -20,7 +20,7 @@ use Rattle.admin_mgr.specs.Assignment.{may_go_on}
 use Rattle.admin_mgr.specs.After.{changed, after}
 use Rattle.admin_mgr.specs.Good.{IsGood, IsSeparation, IsDynamicallySeparated}
 use Rattle.admin_mgr.proofs.SessionLaws.{none_ends}
-use Rattle.admin_mgr.proofs.TouchLaws.{same_test, with_sessions}
+use Rattle.admin_mgr.proofs.TouchLaws.{with_sessions}
 
 -- ---- the state after a command that changes a state into a good one
 
@@ -49,7 +49,7 @@ module _ {K : Type 0} {R : K → K → Ordering} (total : IsTotalOrder R) (exact
 
   -- and one finds an entry exactly if the other does
   pub any_same : any p s ≡ any q s
-  any_same = same_test (any p s) (any q s)
+  any_same = both_ways (any p s) (any q s)
       (λ h. (let one = (any-Decides total exact p s).0 h in (any-Decides total exact q s).1 (one.0, one.1, sym (same one.0 one.1) ∙ one.2)))
       (λ h. (let one = (any-Decides total exact q s).0 h in (any-Decides total exact p s).1 (one.0, one.1, same one.0 one.1 ∙ one.2)))
 

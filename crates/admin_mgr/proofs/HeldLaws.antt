@@ -1,21 +1,17 @@
--- Users and sessions by what they hold.
-use Rattle.std.proofs.Common.{◌≡◌, Bool, true, false, refl, sym, ◌∙◌, ap}
-use Rattle.std.specs.Prelude.{IsTrue, count_by}
+-- Users and sessions by what they hold, and separation of duty sets by their cardinality. The crates above may name these.
+use Rattle.std.proofs.Common.{◌≡◌, Bool, refl, sym, ◌∙◌, ap}
+use Rattle.std.specs.Prelude.{count_by, is_some}
 use Rattle.std.proofs.lemmas.Bool.{and_parts, and_from}
-use Rattle.rbac_sets.specs.Sets.{Bytes, Pair, Pairs, Names, contains, members, retain, seconds, count}
+use Rattle.std.specs.Cmp.{both_ways}
+use Rattle.rbac_sets.specs.Sets.{Bytes, Pair, Pairs, Names, Cardinality, same_name, contains, members, retain, seconds, any, count}
 use Rattle.rbac_sets.specs.NameOrder.{name_total, name_exact, pair_total, pair_exact}
 use Rattle.rbac_sets.proofs.SetLaws.{image-Decides, any-Decides, contains-retain, seconds-Decides}
+use Rattle.rbac_sets.proofs.Lists.{is_some_found}
 use Rattle.role_order.specs.Order.{geq}
-use Rattle.role_order.proofs.Runs.{run_of}
-use Rattle.admin_mgr.specs.RbacState.{RbacState}
+use Rattle.role_order.proofs.Runs.{run_of, any_seconds, count_seconds}
+use Rattle.admin_mgr.specs.RbacState.{RbacState, Separation, cardinality_of, has_set}
 use Rattle.admin_mgr.specs.Authorization.{authorized_users, is_authorized, is_session_role}
 use Rattle.admin_mgr.specs.Held.{is_reached, reached_roles, reached_members}
-use Rattle.admin_mgr.proofs.Lookups.{any_seconds, count_seconds}
-
-same_test : (a b : Bool) → (IsTrue a → IsTrue b) → (IsTrue b → IsTrue a) → a ≡ b
-same_test true b there back = sym (there refl)
-same_test false true there back = back refl
-same_test false false there back = refl
 
 -- a user is authorized for the roles that are reached from its assignments
 pub authorized_reached : (S : RbacState) (user role : Bytes) → is_authorized S user role ≡ is_reached S.edges (run_of S.assignments user) role
@@ -24,7 +20,7 @@ authorized_reached S user role =
     let test : Pair → Bool = λ a. geq S.edges a.1 role in
     let found = image-Decides pair_total pair_exact name_total name_exact (λ (a : Pair). a.0) (retain S.assignments test) user in
     let above = any-Decides name_total name_exact (λ r. geq S.edges r role) (seconds S.assignments user) in
-    same_test _ _
+    both_ways _ _
     (λ h. (let one = found.0 h in
     let parts = and_parts _ _ (sym (contains-retain pair_total pair_exact S.assignments test one.0) ∙ one.1) in
     above.1 (one.0.1, (seconds-Decides S.assignments user one.0.1).1 (sym (ap (λ u. contains S.assignments (u, one.0.1)) one.2) ∙ parts.0), parts.1)))
@@ -62,3 +58,10 @@ pub session_members_count : (S : RbacState) (session : Bytes) (pairs : Pairs) (n
     count (is_session_role S session) (seconds pairs name) ≡ reached_members S.edges (run_of S.active session) (run_of pairs name)
 session_members_count S session pairs name =
     count_seconds (is_session_role S session) pairs name ∙ (λ i. count_by (λ (member : Pair). session_reached S session member.1 i) (run_of pairs name))
+
+-- ---- sets by their cardinality
+
+-- a separation of duty set is there exactly where it has a cardinality
+pub is_some_cardinality : (separation : Separation) (name : Bytes) → is_some (cardinality_of separation name) ≡ has_set separation name
+unfolding cardinality_of any
+is_some_cardinality separation name = is_some_found (λ (entry : Cardinality). entry.1) (λ (entry : Cardinality). same_name entry.0 name) (members separation.cardinalities)

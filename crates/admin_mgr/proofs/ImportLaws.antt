@@ -3,7 +3,7 @@ use Rattle.std.proofs.Common.{◌≡◌, ℕ, ◌+◌, ◌≤◌, Bool, false, c
 use Rattle.std.specs.Prelude.{IsTrue, Option, Some, None, is_none, count_by}
 use Rattle.std.specs.List.{list_any, IsDistinct, AllByRecursion}
 use Rattle.std.specs.Ordering.{eq_by_cmp}
-use Rattle.std.proofs.lemmas.Bool.{or_cases, or_left, or_right, true≢false}
+use Rattle.std.proofs.lemmas.Bool.{or_cases, or_left, or_right, true≢false, false_from_ne_true, or_parts}
 use Rattle.std.proofs.lemmas.List.Sums.{sum_by-cons}
 use Rattle.rbac_sets.specs.Sets.{Pair, pair_cmp, contains, insert_all, from_list, IsDisjoint}
 use Rattle.rbac_sets.specs.NameOrder.{pair_total, pair_exact}
@@ -26,7 +26,7 @@ use Rattle.admin_mgr.specs.Importing.{accepted, with_assignments}
 use Rattle.admin_mgr.specs.Good.{IsGood}
 use Rattle.admin_mgr.proofs.GoodAssignment.{after_assignment_is, good_with_assignment, not_assigned}
 use Rattle.admin_mgr.proofs.TouchLaws.{with_assignment}
-use Rattle.admin_mgr.proofs.UnionLaws.{is_false, or_none, union-empty, insert-union, insert_all-union}
+use Rattle.admin_mgr.proofs.UnionLaws.{union-empty, insert-union, insert_all-union}
 
 -- ---- counting
 
@@ -144,7 +144,7 @@ AreNew S assigned = (p : Pair) → IsTrue (list_any (eq_by_cmp pair_cmp p) assig
 new_before : (S : RbacState) (pair : Pair) (assigned : List Pair) → AreNew (with_assignment S pair) assigned →
     (p : Pair) → IsTrue (list_any (eq_by_cmp pair_cmp p) assigned) → (eq_by_cmp pair_cmp p pair ≡ false) × (contains S.assignments p ≡ false)
 unfolding with_assignment
-new_before S pair assigned rest p h = or_none (eq_by_cmp pair_cmp p pair) (contains S.assignments p) (sym (contains-insert pair_total S.assignments pair p) ∙ rest p h)
+new_before S pair assigned rest p h = or_parts (eq_by_cmp pair_cmp p pair) (contains S.assignments p) (sym (contains-insert pair_total S.assignments pair p) ∙ rest p h)
 
 -- none that is assigned was before
 pub accepted_new : (S : RbacState) → IsGood S → (pairs : List Pair) (p : Pair) → IsTrue (list_any (eq_by_cmp pair_cmp p) (accepted S pairs)) → contains S.assignments p ≡ false
@@ -159,7 +159,7 @@ accepted_new = by_records (λ S pairs assigned. AreNew S assigned) (λ S p h. ab
 each_other : (pair : Pair) (xs : List Pair) → ((p : Pair) → IsTrue (list_any (eq_by_cmp pair_cmp p) xs) → eq_by_cmp pair_cmp p pair ≡ false) → AllByRecursion (λ y. eq_by_cmp pair_cmp pair y ≡ false) xs
 each_other pair [] others = tt
 each_other pair (x ∷ xs) others = (
-  is_false (eq_by_cmp pair_cmp pair x) (λ same. true≢false (
+  false_from_ne_true (eq_by_cmp pair_cmp pair x) (λ same. true≢false (
       sym ((tie_Decides pair_total pair_exact x pair).1 (sym ((tie_Decides pair_total pair_exact pair x).0 same)))
       ∙ others x (or_left (eq_by_cmp pair_cmp x x) _ ((tie_Decides pair_total pair_exact x x).1 refl)))),
   each_other pair xs (λ p h. others p (or_right (eq_by_cmp pair_cmp p x) _ h)),
@@ -187,7 +187,7 @@ accepted_distinct S good pairs = (by_records (λ S pairs assigned. AreNew S assi
 
 -- the assignments have none of them before
 pub accepted_apart : (S : RbacState) → IsGood S → (pairs : List Pair) → IsDisjoint S.assignments (from_list (accepted S pairs))
-accepted_apart S good pairs p there = is_false _ (λ h. true≢false (sym there ∙ accepted_new S good pairs p (sym (contains-from_list pair_total (accepted S pairs) p) ∙ h)))
+accepted_apart S good pairs p there = false_from_ne_true _ (λ h. true≢false (sym there ∙ accepted_new S good pairs p (sym (contains-from_list pair_total (accepted S pairs) p) ∙ h)))
 
 -- the same set as a list that is put in its order
 pub import_puts : (S : RbacState) → IsGood S → (pairs : List Pair) → after_import S pairs ≡ record S { assignments = insert_all S.assignments (accepted S pairs) }

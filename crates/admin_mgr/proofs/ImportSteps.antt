@@ -3,7 +3,7 @@ use Rattle.std.proofs.Common.{◌≡◌, ℕ, suc, ◌+◌, ◌<◌, ◌≤◌, 
 use Rattle.std.specs.Prelude.{Option, Some, None, is_none, count_by}
 use Rattle.std.specs.List.{cons_option, enumerate_from, filter_map}
 use Rattle.std.specs.Ordering.{eq_by_cmp}
-use Rattle.std.proofs.lemmas.Bool.{true≢false}
+use Rattle.std.proofs.lemmas.Bool.{true≢false, false_from_ne_true}
 use Rattle.std.proofs.Math.Seq.{drop-cons}
 use Rattle.std.proofs.lemmas.List.{append_assoc, append-nil, drop_all}
 use Rattle.rbac_sets.specs.Sets.{Pair, pair_cmp, contains, union, IsDisjoint}
@@ -21,7 +21,7 @@ use Rattle.admin_mgr.proofs.TouchLaws.{with_assignment}
 use Rattle.admin_mgr.proofs.GoodAssignment.{good_with_assignment}
 use Rattle.admin_mgr.proofs.ImportLaws.{one_if, counted, accepted_put, accepted_kept, verdicts_put, verdicts_kept}
 use Rattle.admin_mgr.proofs.RecordLaws.{new_to_added}
-use Rattle.admin_mgr.proofs.UnionLaws.{is_false, union-empty, union-insert}
+use Rattle.admin_mgr.proofs.UnionLaws.{union-empty, union-insert}
 
 -- the state with what was assigned so far
 abbrev pub state_now : RbacState → Imported → RbacState
@@ -91,7 +91,7 @@ module _ (S : RbacState) (all rest : List Pair) (pair : Pair) (number : ℕ) (be
       record {
         good = subst IsGood (sym same) (good_with_assignment X stands.good pair put);
         apart = λ x there. ap (λ t. contains t x) assigned.added ∙ contains-insert pair_total (set_of pair_cmp before.added) pair x
-            ∙ (λ i. is_false (eq_by_cmp pair_cmp x pair) (λ tie. true≢false (sym there ∙ ap (contains S.assignments) ((tie_Decides pair_total pair_exact x pair).0 tie) ∙ new)) i || stands.apart x there i);
+            ∙ (λ i. false_from_ne_true (eq_by_cmp pair_cmp x pair) (λ tie. true≢false (sym there ∙ ap (contains S.assignments) ((tie_Decides pair_total pair_exact x pair).0 tie) ∙ new)) i || stands.apart x there i);
         changes = (λ i. assigned.changes i ++ map put_assignment (accepted (same i) rest))
             ∙ append_assoc before.changes.items (put_assignment pair ∷ []) (map put_assignment (accepted (with_assignment X pair) rest))
             ∙ ap (λ ps. before.changes.items ++ map put_assignment ps) (sym (accepted_put X stands.good pair rest put))

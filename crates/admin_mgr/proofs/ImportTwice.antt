@@ -4,7 +4,7 @@ use Rattle.std.specs.Prelude.{IsTrue, Option, Some, None, is_none, nat_lt, nat_e
 use Rattle.std.specs.Option.{option_map}
 use Rattle.std.specs.List.{list_any, enumerate_from, filter_map, cons_option}
 use Rattle.std.specs.Ordering.{eq_by_cmp}
-use Rattle.std.proofs.lemmas.Bool.{and_parts, and_from, or_left, ltb-true, lt-ltb, true≢false}
+use Rattle.std.proofs.lemmas.Bool.{and_parts, and_from, or_left, ltb-true, lt-ltb, true≢false, false_from_ne_true, or_from}
 use Rattle.std.proofs.lemmas.List.Folds.{list_any-append}
 use Rattle.rbac_sets.specs.Refusal.{code_of}
 use Rattle.rbac_sets.specs.Sets.{Bytes, Names, Pair, Pairs, Cardinality, pair_cmp, contains, insert, union, retain, from_list, len, count}
@@ -34,7 +34,6 @@ use Rattle.admin_mgr.proofs.ImportLaws.{one_if, counted, record_put, record_kept
 use Rattle.admin_mgr.proofs.RecordLaws.{named_last, record_verdict, reached_union}
 use Rattle.admin_mgr.proofs.SeparationLaws.{least_violated-None, kept_statically}
 use Rattle.admin_mgr.proofs.TouchLaws.{with_assignment, authorized-assigned}
-use Rattle.admin_mgr.proofs.UnionLaws.{is_false}
 
 -- ---- more assignments never mend a violation
 
@@ -86,14 +85,10 @@ none_named S p separated = ap (option_map StaticSeparation)
 never_later : (p : Pair) (S : RbacState) → IsGood S → (pairs : List Pair) → (IsStaticallySeparated (with_assignment S p) → ⊥) → list_any (eq_by_cmp pair_cmp p) (accepted S pairs) ≡ false
 never_later p = by_records (λ S pairs assigned. (IsStaticallySeparated (with_assignment S p) → ⊥) → list_any (eq_by_cmp pair_cmp p) assigned ≡ false)
     (λ S broken. refl)
-    (λ S good pair pairs assigned is better rest broken. neither (eq_by_cmp pair_cmp p pair) _
-    (is_false (eq_by_cmp pair_cmp p pair) (λ tie. broken (subst (λ x. IsStaticallySeparated (with_assignment S x)) (sym ((tie_Decides pair_total pair_exact p pair).0 tie)) better.static_separation)))
+    (λ S good pair pairs assigned is better rest broken. or_from (eq_by_cmp pair_cmp p pair) _
+    (false_from_ne_true (eq_by_cmp pair_cmp p pair) (λ tie. broken (subst (λ x. IsStaticallySeparated (with_assignment S x)) (sym ((tie_Decides pair_total pair_exact p pair).0 tie)) better.static_separation)))
     (rest (λ separated. broken (separated_before_one S pair p separated))))
     (λ S good pair pairs assigned refusal is rest. rest)
-  where
-    neither : (a b : Bool) → a ≡ false → b ≡ false → (a || b) ≡ false
-    neither true b h k = h
-    neither false b h k = k
 
 -- where there are as many assignments as there may be, no later record is assigned
 full_takes_none : (S : RbacState) → IsGood S → (pairs : List Pair) → is_too_many S Assignment (len S.assignments + 1) ≡ true → accepted S pairs ≡ []

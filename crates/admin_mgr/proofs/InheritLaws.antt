@@ -4,6 +4,8 @@ use Rattle.std.specs.Prelude.{IsTrue, nat_lt, count_by, filter, map}
 use Rattle.std.specs.Option.{option_map}
 use Rattle.std.specs.List.{list_any, list_all}
 use Rattle.std.proofs.lemmas.Bool.{and_parts, and_from, or_cases, or_left, or_right, lt-ltb, true≢false}
+use Rattle.std.specs.Cmp.{both_ways}
+use Rattle.std.proofs.Math.Bool.{or-false}
 use Rattle.rbac_sets.specs.Sets.{Bytes, Pair, Pairs, Cardinality, contains, members, insert, count, all}
 use Rattle.rbac_sets.specs.NameOrder.{name_total, name_exact, pair_total, pair_exact}
 use Rattle.rbac_sets.specs.declared.command.Command.TheVariants.{AddInheritance}
@@ -23,7 +25,7 @@ use Rattle.admin_mgr.specs.Held.{run_of, is_reached, reached_members, reached_wi
 use Rattle.admin_mgr.proofs.HeldLaws.{authorized_reached, authorized_members_count, session_members_count}
 use Rattle.admin_mgr.proofs.KeepLaws.{all_same}
 use Rattle.admin_mgr.proofs.SessionLaws.{none_ends_where}
-use Rattle.admin_mgr.proofs.TouchLaws.{same_test, untouched, violated_by, asked_passed}
+use Rattle.admin_mgr.proofs.TouchLaws.{untouched, violated_by, asked_passed}
 
 -- the role asc is not reached, or fewer than so many of the members are with the role desc
 abbrev keeps_below : Pairs → List Pair → Bytes → Bytes → List Pair → ℕ → Bool
@@ -50,7 +52,7 @@ module _ (S : RbacState) (good : IsGood S) (asc desc : Bytes) (no_back : geq S.e
   crossed r q =
       let no_cycle : Geq S.edges desc asc → ⊥ = λ back. true≢false (sym ((geq-Decides S.edges desc asc).1 back) ∙ no_back) in
       let crosses = (added_edge S.edges asc desc good.acyclic no_cycle).0 r q in
-      same_test (geq (insert S.edges (asc, desc)) r q) (geq S.edges r q || (geq S.edges r asc && geq S.edges desc q))
+      both_ways (geq (insert S.edges (asc, desc)) r q) (geq S.edges r q || (geq S.edges r asc && geq S.edges desc q))
       (λ h. elim (crosses.0 ((geq-Decides (insert S.edges (asc, desc)) r q).0 h)) [
         | inl old ↦ or_left (geq S.edges r q) _ ((geq-Decides S.edges r q).1 old)
         | inr new ↦ or_right (geq S.edges r q) _ (and_from _ _ ((geq-Decides S.edges r asc).1 new.0) ((geq-Decides S.edges desc q).1 new.1))
@@ -74,11 +76,7 @@ module _ (S : RbacState) (good : IsGood S) (asc desc : Bytes) (no_back : geq S.e
     where
       by : (b : Bool) → nat_lt (count_by (λ (m : Pair). is_reached S.edges held m.1 || (b && geq S.edges desc m.1)) members) n ≡ (not b || nat_lt (reached_with S.edges held desc members) n)
       by true = refl
-      by false = ap (λ k. nat_lt k n) (λ i. count_by (λ (m : Pair). or_false (is_reached S.edges held m.1) i) members) ∙ lt-ltb _ _ fewer
-        where
-          or_false : (a : Bool) → (a || false) ≡ a
-          or_false true = refl
-          or_false false = refl
+      by false = ap (λ k. nat_lt k n) (λ i. count_by (λ (m : Pair). or-false (is_reached S.edges held m.1) i) members) ∙ lt-ltb _ _ fewer
 
   -- and only a set with a member that desc reaches
   untouched_keeps : (held members : List Pair) (n : ℕ) → reached_members S.edges held members < n → is_touched S.edges desc members ≡ false → keeps_below S.edges held asc desc members n ≡ true

@@ -1,34 +1,24 @@
 -- Separation of duty with another cardinality, and with one role more.
 use Rattle.std.proofs.Common.{◌≡◌, ℕ, ◌+◌, ◌<◌, ◌≤◌, Bool, true, false, cond, not, ◌||◌, ◌&&◌, List, [], ◌∷◌, refl, sym, ◌∙◌, ap, subst, arith}
-use Rattle.std.specs.Prelude.{IsTrue, Option, Some, None, is_some, find, nat_lt, unwrap_or}
+use Rattle.std.specs.Prelude.{IsTrue, Option, Some, None, find, nat_lt, unwrap_or}
 use Rattle.std.specs.Option.{option_map}
 use Rattle.std.specs.List.{list_any, list_all}
 use Rattle.std.specs.FinMap as finmap
 use Rattle.std.specs.FinSet.{FinSet}
 use Rattle.std.specs.declared.cmp.Ordering.{Ordering}
 use Rattle.std.specs.Ordering.{eq_by_cmp}
-use Rattle.std.specs.Cmp.{IsTotalOrder}
+use Rattle.std.specs.Cmp.{IsTotalOrder, both_ways}
 use Rattle.std.specs.FinMap.{IsAntisymmetric}
-use Rattle.std.proofs.lemmas.Bool.{or_left, or_right, lt-ltb, true≢false}
-use Rattle.rbac_sets.specs.Sets.{Bytes, Pair, Pairs, Names, Cardinality, cardinality_cmp, same_name, contains, members, insert, retain, seconds, len, count, any, all}
+use Rattle.std.proofs.lemmas.Bool.{or_left, or_right, lt-ltb, true≢false, false_from_ne_true}
+use Rattle.rbac_sets.specs.Sets.{Bytes, Pair, Pairs, Names, Cardinality, cardinality_cmp, same_name, contains, members, insert, retain, seconds, len, count, all}
 use Rattle.rbac_sets.specs.NameOrder.{name_total, name_exact, pair_total, pair_exact, cardinality_total, cardinality_exact}
 use Rattle.rbac_sets.proofs.SetLaws.{tie_Decides, contains-members, contains-insert, contains-retain, all-Decides, seconds-Decides, same_set}
 use Rattle.rbac_sets.proofs.Members.{count-len}
-use Rattle.admin_mgr.specs.RbacState.{RbacState, Separation, members_of, has_set, cardinality_of}
+use Rattle.admin_mgr.specs.RbacState.{RbacState, Separation, members_of, cardinality_of}
 use Rattle.admin_mgr.specs.Authorization.{is_authorized, is_session_role}
 use Rattle.admin_mgr.specs.Separation.{is_kept_statically, is_kept_dynamically}
 use Rattle.admin_mgr.specs.Good.{IsGood}
-use Rattle.admin_mgr.proofs.Lookups.{is_some_number}
 use Rattle.admin_mgr.proofs.SeparationLaws.{kept_statically, kept_dynamically}
-
-is_false : (b : Bool) → (b ≡ true → ⊥) → b ≡ false
-is_false true h = absurd (h refl)
-is_false false h = refl
-
-same_test : (a b : Bool) → (IsTrue a → IsTrue b) → (IsTrue b → IsTrue a) → a ≡ b
-same_test true b there back = sym (there refl)
-same_test false true there back = back refl
-same_test false false there back = refl
 
 -- ---- the cardinality of a set
 
@@ -121,7 +111,7 @@ module _ (p : Bytes → Bool) (roles : Names) (role : Bytes) (absent : contains 
       by false is = sym (ap (λ k. nat_lt k n) (count_insert false is) ∙ lt-ltb (count p roles) n fewer)
 
 no_member : (pairs : Pairs) (name role : Bytes) → contains pairs (name, role) ≡ false → contains (seconds pairs name) role ≡ false
-no_member pairs name role absent = is_false (contains (seconds pairs name) role) (λ h. true≢false (sym ((seconds-Decides pairs name role).0 h) ∙ absent))
+no_member pairs name role absent = false_from_ne_true (contains (seconds pairs name) role) (λ h. true≢false (sym ((seconds-Decides pairs name role).0 h) ∙ absent))
 
 pub with_member_statically : (S : RbacState) → IsGood S → (name role : Bytes) (n : ℕ) → IsTrue (contains S.ssd.cardinalities (name, n)) → contains S.ssd.members (name, role) ≡ false →
     list_all (λ user. not (is_authorized S user role) || nat_lt (count (is_authorized S user) (members_of S.ssd name) + 1) n) (members S.users)
@@ -131,7 +121,7 @@ with_member_statically S good name role n there absent =
     λ i. list_all (λ user. fewer_with (is_authorized S user) (members_of S.ssd name) role (no_member S.ssd.members name role absent) n (good.static_separation name user n there) i) (members S.users)
 
 pub all_same : {K : Type 0} {R : K → K → Ordering} (total : IsTotalOrder R) (exact : IsAntisymmetric R) (p q : K → Bool) (s : FinSet R) → ((x : K) → IsTrue (contains s x) → p x ≡ q x) → all p s ≡ all q s
-all_same total exact p q s same = same_test (all p s) (all q s)
+all_same total exact p q s same = both_ways (all p s) (all q s)
     (λ h. (all-Decides total exact q s).1 (λ x there. sym (same x there) ∙ (all-Decides total exact p s).0 h x there))
     (λ h. (all-Decides total exact p s).1 (λ x there. same x there ∙ (all-Decides total exact q s).0 h x there))
 
@@ -145,8 +135,3 @@ with_member_dynamically S good name role n there absent =
     (λ (session : Pair). nat_lt (count (is_session_role S session.0) (insert (members_of S.dsd name) role)) n)
     S.sessions
     (λ session owner. fewer_with (is_session_role S session.0) (members_of S.dsd name) role (no_member S.dsd.members name role absent) n (good.dynamic_separation name session.0 session.1 n there owner))
-
--- a set that is there has a number
-pub is_some_cardinality : (separation : Separation) (name : Bytes) → is_some (cardinality_of separation name) ≡ has_set separation name
-unfolding cardinality_of any
-is_some_cardinality separation name = is_some_number (λ (entry : Cardinality). entry.1) (λ (entry : Cardinality). same_name entry.0 name) (members separation.cardinalities)

@@ -1,31 +1,25 @@
 -- What the gathered sets have is what is among the rows.
-use Rattle.std.proofs.Common.{◌≡◌, ℕ, zero, suc, Bool, true, false, cond, ◌&&◌, ◌||◌, List, [], ◌∷◌, refl, sym, ◌∙◌, ap, subst, inl, inr, arith}
-use Rattle.std.specs.Prelude.{IsTrue, nat_eq, nat_le}
+use Rattle.std.proofs.Common.{◌≡◌, ℕ, zero, suc, Bool, true, false, cond, ◌&&◌, ◌||◌, List, [], ◌∷◌, refl, sym, ◌∙◌, ap, arith}
+use Rattle.std.specs.Prelude.{nat_eq, nat_le}
 use Rattle.std.specs.List.{list_any}
 use Rattle.std.specs.declared.cmp.Ordering.{Ordering}
 use Rattle.std.specs.Ordering.{eq_by_cmp}
-use Rattle.std.specs.Cmp.{IsTotalOrder}
+use Rattle.std.specs.Cmp.{IsTotalOrder, both_ways}
 use Rattle.std.specs.FinMap.{IsAntisymmetric}
-use Rattle.std.proofs.lemmas.Bool.{or_cases, or_left, or_right, and_parts, leb-true, true≢false}
+use Rattle.std.proofs.lemmas.Bool.{and_parts, leb-true, true≢false, false_from_ne_true}
 use Rattle.rbac_sets.specs.Sets.{Bytes, Cardinality, Cardinalities, cardinality_cmp, any, contains, from_list, same_name, name_cmp, pair_cmp, triple_cmp}
 use Rattle.rbac_sets.specs.NameOrder.{name_total, name_exact, pair_total, triple_total, cardinality_total, cardinality_exact}
-use Rattle.rbac_sets.proofs.SetLaws.{any-Decides, contains-from_list, tie_Decides}
-use Rattle.role_order.proofs.Members.{is_false, same_name-flips}
+use Rattle.rbac_sets.proofs.SetLaws.{any-Decides, contains-from_list, tie_Decides, list_any-found, list_any-here}
+use Rattle.role_order.proofs.Members.{same_name-flips}
 use Rattle.rbac_sets.specs.declared.row.Row.{Row}
 use Rattle.rbac_sets.specs.declared.row.Row.TheVariants.{NameRow, PairRow, GrantRow, SetRow, LockedRow}
 use Rattle.rbac_sets.specs.declared.row.TheConstants.Row.{USER, ROLE, OBJECT, PERMISSION, ASSIGNMENT, INHERITANCE, CLOSURE_PAIR, STATIC_MEMBER, DYNAMIC_MEMBER, SESSION, ACTIVATED_ROLE, STATIC_CARDINALITY, DYNAMIC_CARDINALITY}
 use Rattle.admin_mgr.specs.Changes.{same_row}
 use Rattle.admin_mgr.specs.Gathered.{Gathered, gathered, has_key, names_of, pairs_of, grants_of, cardinalities_of, locks_of, is_known, is_among, same_key}
 
--- tests that hold together are one
-pub same_test : (a b : Bool) → (IsTrue a → IsTrue b) → (IsTrue b → IsTrue a) → a ≡ b
-same_test true b there back = sym (there refl)
-same_test false true there back = back refl
-same_test false false there back = refl
-
 -- a set of no name has no cardinality
 pub no_cardinality : (cardinalities : Cardinalities) (name : Bytes) (n : ℕ) → any (λ (entry : Cardinality). same_name entry.0 name) cardinalities ≡ false → contains cardinalities (name, n) ≡ false
-no_cardinality cardinalities name n none = is_false _ (λ there. true≢false (
+no_cardinality cardinalities name n none = false_from_ne_true _ (λ there. true≢false (
     sym ((any-Decides cardinality_total cardinality_exact (λ (entry : Cardinality). same_name entry.0 name) cardinalities).1 ((name, n), there, (tie_Decides name_total name_exact name name).1 refl))
     ∙ none))
 
@@ -179,29 +173,13 @@ any_sets kind x n (SetRow k a m ∷ rows) =
 any_sets kind x n (LockedRow a ∷ rows) = any_sets kind x n rows
 
 module _ {K : Type 0} {R : K → K → Ordering} (total : IsTotalOrder R) (exact : IsAntisymmetric R) where
-  -- a list that passes a test has an item that does
-  one_of : (p : K → Bool) (xs : List K) → list_any p xs ≡ true → (x : K) × (list_any (eq_by_cmp R x) xs ≡ true) × (p x ≡ true)
-  one_of p [] h = absurd (true≢false (sym h))
-  one_of p (x ∷ xs) h = elim (or_cases (p x) (list_any p xs) h) [
-    | inl px ↦ (x, or_left _ _ ((tie_Decides total exact x x).1 refl), px)
-    | inr rest ↦ let found = one_of p xs rest in (found.0, or_right _ _ found.1, found.2)
-  ]
-
-  -- a list with an item that passes a test passes it
-  some_of : (p : K → Bool) (xs : List K) (x : K) → list_any (eq_by_cmp R x) xs ≡ true → p x ≡ true → list_any p xs ≡ true
-  some_of p [] x h px = absurd (true≢false (sym h))
-  some_of p (y ∷ ys) x h px = elim (or_cases (eq_by_cmp R x y) (list_any (eq_by_cmp R x) ys) h) [
-    | inl same ↦ or_left _ _ (subst (λ z. p z ≡ true) ((tie_Decides total exact x y).0 same) px)
-    | inr rest ↦ or_right _ _ (some_of p ys x rest px)
-  ]
-
   -- a test of the members of a list's set is one of the list
   pub any-from_list : (p : K → Bool) (xs : List K) → any p (from_list {R = R} xs) ≡ list_any p xs
   any-from_list p xs =
       let some = any-Decides total exact p (from_list {R = R} xs) in
-      same_test _ _
-      (λ h. (let one = some.0 h in some_of p xs one.0 (sym (contains-from_list total xs one.0) ∙ one.1) one.2))
-      (λ h. (let one = one_of p xs h in some.1 (one.0, contains-from_list total xs one.0 ∙ one.1, one.2)))
+      both_ways _ _
+      (λ h. (let one = some.0 h in list_any-here total exact p xs one.0 (sym (contains-from_list total xs one.0) ∙ one.1) one.2))
+      (λ h. (let one = list_any-found total exact p xs h in some.1 (one.0, contains-from_list total xs one.0 ∙ one.1, one.2)))
 
 -- a key is there exactly if a row has it
 pub key_among : (version : ℕ) (rows : List Row) (row : Row) → is_known version row ≡ true → has_key (gathered version rows) row ≡ list_any (λ (other : Row). same_key other row) rows

@@ -27,7 +27,6 @@ pub mod KeepLaws
 pub mod KeyLaws
 pub mod LimitLaws
 pub mod ListLaws
-pub mod Lookups
 pub mod NewRoleLaws
 pub mod NewSessionLaws
 pub mod NewSessionPlans

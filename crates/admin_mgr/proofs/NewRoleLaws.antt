@@ -2,7 +2,8 @@
 -- before, no session ends, and the state is good.
 use Rattle.std.proofs.Common.{◌≡◌, ◌+◌, ◌≤◌, false, refl, sym, ◌∙◌, ap, inl, inr}
 use Rattle.std.specs.Prelude.{IsTrue, ◌⊎◌, None}
-use Rattle.std.proofs.lemmas.Bool.{true≢false}
+use Rattle.std.proofs.lemmas.Bool.{true≢false, false_from_ne_true}
+use Rattle.std.specs.Cmp.{both_ways}
 use Rattle.rbac_sets.specs.Sets.{Bytes, Pair, contains, insert, len}
 use Rattle.rbac_sets.specs.Kind.{limit_of}
 use Rattle.rbac_sets.specs.NameOrder.{name_total, name_exact, pair_total, pair_exact}
@@ -11,7 +12,6 @@ use Rattle.rbac_sets.specs.declared.kind.Kind.TheVariants.{Role, Edge}
 use Rattle.rbac_sets.specs.declared.refusal.Refusal.TheVariants.{NoRole, RoleExists}
 use Rattle.rbac_sets.proofs.SetLaws.{contains-insert-Decides}
 use Rattle.role_order.specs.Order.{HasPair, Geq, geq}
-use Rattle.role_order.proofs.Members.{is_false}
 use Rattle.role_order.proofs.Leading.{first_step, last_step}
 use Rattle.role_order.proofs.Closing.{added_edge}
 use Rattle.role_order.proofs.Deciding.{geq-Decides}
@@ -21,7 +21,6 @@ use Rattle.admin_mgr.specs.Verdict.{verdict, refusals}
 use Rattle.admin_mgr.specs.Good.{IsGood}
 use Rattle.admin_mgr.proofs.VerdictLaws.{passed, refuse_if-None, refuse_unless-None}
 use Rattle.admin_mgr.proofs.LimitLaws.{too_many-None, one_more_within}
-use Rattle.admin_mgr.proofs.TouchLaws.{same_test}
 use Rattle.admin_mgr.proofs.GoodWithLaws.{after_is_changed, good_after, good_with_roles}
 
 -- ---- edges lead from roles to roles
@@ -64,7 +63,7 @@ module _ (S : RbacState) (good : IsGood S) (role asc desc : Bytes) (new : contai
 
   -- the edge wasn't there
   no_edge_at : contains S.edges (asc, desc) ≡ false
-  no_edge_at = is_false (contains S.edges (asc, desc)) (λ there. (let ends = good.well_formed.edges asc desc there in elim at [
+  no_edge_at = false_from_ne_true (contains S.edges (asc, desc)) (λ there. (let ends = good.well_formed.edges asc desc there in elim at [
     | inl above ↦ true≢false (sym ends.0 ∙ ap (contains S.roles) above.0 ∙ new)
     | inr below ↦ true≢false (sym ends.1 ∙ ap (contains S.roles) below.1 ∙ new)
   ]))
@@ -75,7 +74,7 @@ module _ (S : RbacState) (good : IsGood S) (role asc desc : Bytes) (new : contai
       let ways = (added_edge S.edges asc desc good.acyclic no_cycle_at).0 r q in
       let old = geq-Decides S.edges r q in
       let more = geq-Decides (insert S.edges (asc, desc)) r q in
-      same_test _ _
+      both_ways _ _
       (λ h. elim (ways.0 (more.0 h)) [ inl leads ↦ old.1 leads | inr over ↦ absurd (not_crossed r q is_first is_second over.0 over.1) ])
       (λ h. more.1 (ways.1 (inl (old.0 h))))
 

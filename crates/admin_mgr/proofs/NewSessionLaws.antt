@@ -2,7 +2,7 @@
 use Rattle.std.proofs.Common.{◌≡◌, ◌+◌, ◌≤◌, false, refl, sym, ◌∙◌, ap, subst, inl, inr}
 use Rattle.std.specs.Prelude.{IsTrue, Option, Some, None}
 use Rattle.std.specs.Option.{option_map}
-use Rattle.std.proofs.lemmas.Bool.{or_cases}
+use Rattle.std.proofs.lemmas.Bool.{or_cases, false_from_ne_true}
 use Rattle.rbac_sets.specs.Sets.{Bytes, Pair, Pairs, Names, name_cmp, contains, insert, union, seconds, len, all, IsDisjoint}
 use Rattle.rbac_sets.specs.SortedSet.{Stored, set_of}
 use Rattle.rbac_sets.specs.Kind.{limit_of}
@@ -11,7 +11,7 @@ use Rattle.rbac_sets.specs.declared.command.Command.TheVariants.{CreateSession, 
 use Rattle.rbac_sets.specs.declared.kind.Kind.TheVariants.{Session, ActiveRole}
 use Rattle.rbac_sets.specs.declared.refusal.Refusal.TheVariants.{NoUser, NoRole, SessionExists, NotOwner, NotAuthorized, AlreadyActive, UserLocked, DynamicSeparation}
 use Rattle.rbac_sets.proofs.SetLaws.{contains-union, contains-insert-Decides, all-Decides}
-use Rattle.role_order.proofs.Members.{is_false, same_or_other}
+use Rattle.role_order.proofs.Members.{same_or_other}
 use Rattle.admin_mgr.specs.RbacState.{RbacState, has_session, active_roles}
 use Rattle.admin_mgr.specs.Authorization.{is_authorized}
 use Rattle.admin_mgr.specs.Separation.{dynamic_violation}
@@ -83,12 +83,12 @@ module _ (S : RbacState) (user : Bytes) (roles : Stored Bytes) (session : Bytes)
   module _ (good : IsGood S) where
     -- no user had a session of the name
     pub create_session_absent : (owner : Bytes) → contains S.sessions (session, owner) ≡ false
-    create_session_absent owner = is_false (contains S.sessions (session, owner))
+    create_session_absent owner = false_from_ne_true (contains S.sessions (session, owner))
         (λ there. not_new S good user (set_of name_cmp roles) session create_session_new session owner there refl)
 
     -- no role was activated in it
     pub create_session_inactive : (role : Bytes) → contains S.active (session, role) ≡ false
-    create_session_inactive role = is_false (contains S.active (session, role)) (none_active S good user (set_of name_cmp roles) session create_session_new role)
+    create_session_inactive role = false_from_ne_true (contains S.active (session, role)) (none_active S good user (set_of name_cmp roles) session create_session_new role)
 
     -- none of the pairs that are put there was there
     pub create_session_apart : IsDisjoint (paired session (set_of name_cmp roles)) S.active

@@ -1,5 +1,5 @@
 -- The plan of a new session: its row is put, and those of the roles that are activated in it.
-use Rattle.std.proofs.Common.{◌≡◌, ℕ, List, [], ◌∷◌, map, refl, ◌∙◌, ap, subst}
+use Rattle.std.proofs.Common.{◌≡◌, ◌∷◌, refl, ◌∙◌, ap, subst}
 use Rattle.std.specs.Prelude.{None}
 use Rattle.rbac_sets.specs.Sets.{Bytes, name_cmp, insert, members}
 use Rattle.rbac_sets.specs.SortedSet.{Stored, set_of}
@@ -16,16 +16,11 @@ use Rattle.admin_mgr.specs.Good.{IsGood}
 use Rattle.admin_mgr.specs.Listing.{pair_row, put_all}
 use Rattle.admin_mgr.proofs.StepLaws.Way.{putting}
 use Rattle.admin_mgr.proofs.StepLaws.{Steps, steps_append}
-use Rattle.admin_mgr.proofs.RunLaws.{steps_put_one, steps_put_set}
+use Rattle.admin_mgr.proofs.RunLaws.{steps_put_one, steps_put_set, put_all-map}
 use Rattle.admin_mgr.proofs.SetRows.{session_pair_rows, active_rows}
 use Rattle.admin_mgr.proofs.SetRowLaws.{members_paired}
 use Rattle.admin_mgr.proofs.NewSessionLaws.{create_session_absent, create_session_apart, after_create_session, good_after_create_session}
 use Rattle.admin_mgr.proofs.PlainPlans.{IsDoneBy, done_by}
-
--- the rows of a name with others are those of its pairs with them
-put_pairs_of : (kind : ℕ) (name : Bytes) (others : List Bytes) → put_all (pair_row kind) (map (λ other. (name, other)) others) ≡ put_all (λ other. PairRow kind name other) others
-put_pairs_of kind name [] = refl
-put_pairs_of kind name (other ∷ others) = ap (λ changes. Put (PairRow kind name other) ∷ changes) (put_pairs_of kind name others)
 
 -- the row of the session is put, and those of the roles that are activated in it
 pub done_create_session : (S : RbacState) → IsGood S → (user : Bytes) (roles : Stored Bytes) (session : Bytes) → verdict S (CreateSession user roles session) ≡ None →
@@ -33,7 +28,7 @@ pub done_create_session : (S : RbacState) → IsGood S → (user : Bytes) (roles
 unfolding tally changed
 done_create_session S good user roles session accepted =
     let more : RbacState = record S { sessions = insert S.sessions (session, user) } in
-    let rows = ap (put_all (pair_row ACTIVATED_ROLE)) (members_paired session (set_of name_cmp roles)) ∙ put_pairs_of ACTIVATED_ROLE session (members (set_of name_cmp roles)) in
+    let rows = ap (put_all (pair_row ACTIVATED_ROLE)) (members_paired session (set_of name_cmp roles)) ∙ put_all-map (pair_row ACTIVATED_ROLE) (λ role. (session, role)) (members (set_of name_cmp roles)) in
     done_by S (CreateSession user roles session) refl (after_create_session S good user roles session accepted) (good_after_create_session S good user roles session accepted) refl
     (subst (λ changes. Steps putting S (Put (PairRow SESSION session user) ∷ changes) (changed S (CreateSession user roles session))) rows
     (steps_append (steps_put_one session_pair_rows S (session, user) (create_session_absent S user roles session accepted good user))

@@ -3,14 +3,16 @@ use Rattle.std.proofs.Common.{◌≡◌, ℕ, Bool, true, false, not, ◌&&◌, 
 use Rattle.std.specs.Prelude.{nat_eq, if◌then◌else◌}
 use Rattle.std.specs.List.{list_any, IsDistinct}
 use Rattle.std.specs.Ordering.{eq_by_cmp}
-use Rattle.std.proofs.lemmas.Bool.{eqb-true, eq-eqb, or_cases, or_left, or_right, and_parts, and_from, not-true, true≢false}
+use Rattle.std.proofs.lemmas.Bool.{eqb-true, eq-eqb, or_cases, or_left, or_right, and_parts, and_from, not-true, true≢false, false_from_ne_true}
+use Rattle.std.specs.Cmp.{both_ways}
+use Rattle.std.proofs.Math.Bool.{or-false, or_comm, and_comm}
 use Rattle.rbac_sets.specs.Sets.{Bytes, Pair, Pairs, pair_cmp, contains, insert, remove, members, same_name}
 use Rattle.rbac_sets.specs.NameOrder.{name_total, name_exact, pair_total, pair_exact}
 use Rattle.rbac_sets.proofs.SetLaws.{contains-members, contains-insert, contains-remove, tie_Decides}
 use Rattle.rbac_sets.proofs.InOrder.{none_passes}
 use Rattle.role_order.specs.Order.{HasPair, Geq, geq, IsGained}
 use Rattle.role_order.specs.Planned.{Plan, Fits, changed}
-use Rattle.role_order.proofs.Members.{AddsPair-insert, TakesPair-remove, is_false}
+use Rattle.role_order.proofs.Members.{AddsPair-insert, TakesPair-remove}
 use Rattle.role_order.proofs.Leading.{Leads-from_eq, Leads-mono}
 use Rattle.role_order.proofs.Deciding.{geq-Decides, geq_or_not}
 use Rattle.role_order.proofs.Planning.{changed-adds, changed-takes}
@@ -19,14 +21,14 @@ use Rattle.rbac_sets.specs.declared.row.Row.TheVariants.{NameRow, PairRow, Grant
 use Rattle.rbac_sets.specs.declared.row.TheConstants.Row.{PERMISSION, ASSIGNMENT, INHERITANCE, CLOSURE_PAIR}
 use Rattle.rbac_sets.specs.declared.row.Change.{Change}
 use Rattle.rbac_sets.specs.declared.row.Change.TheVariants.{Put, Take}
+use Rattle.rbac_sets.proofs.Members.{members-distinct}
+use Rattle.rbac_sets.proofs.Lists.{any_map}
 use Rattle.admin_mgr.specs.RbacState.{RbacState}
 use Rattle.admin_mgr.specs.Rows.{has_row}
 use Rattle.admin_mgr.specs.Changes.{same_row, puts, takes, is_put, is_taken, IsOnce, TakesFirst, Turns}
 use Rattle.admin_mgr.specs.Stepping.{with_edges}
 use Rattle.admin_mgr.specs.Listing.{pair_row, put_all, take_all, order_puts, order_takes}
-use Rattle.admin_mgr.proofs.Lookups.{any_map}
 use Rattle.admin_mgr.proofs.CommitLaws.{edges-changes}
-use Rattle.admin_mgr.proofs.RunLaws.{distinct-members}
 use Rattle.admin_mgr.proofs.StepLaws.Way.{taking, putting}
 use Rattle.admin_mgr.proofs.StepLaws.{Steps, steps_with_edges}
 use Rattle.admin_mgr.proofs.TurnLaws.{taking_puts, putting_takes, turns_taking, turns_putting, turns_taking_more, turns_putting_more}
@@ -110,7 +112,7 @@ edge_apart asc desc pairs = none_listed (λ pair. same_row (pair_row CLOSURE_PAI
 
 -- two numbers differ both ways round
 flipped : (k l : ℕ) → nat_eq l k ≡ false → nat_eq k l ≡ false
-flipped k l other = is_false (nat_eq k l) (λ same. true≢false (sym (eq-eqb l k (sym (eqb-true k l same))) ∙ other))
+flipped k l other = false_from_ne_true (nat_eq k l) (λ same. true≢false (sym (eq-eqb l k (sym (eqb-true k l same))) ∙ other))
 
 -- a kind of pairs is that of the edges, that of the order, or another
 by_kind : (P : ℕ → Type 0) → P INHERITANCE → P CLOSURE_PAIR → ((k : ℕ) → nat_eq k INHERITANCE ≡ false → nat_eq k CLOSURE_PAIR ≡ false → P k) → (kind : ℕ) → P kind
@@ -125,15 +127,11 @@ by_kind P edge order others kind = told (nat_eq kind INHERITANCE) (nat_eq kind C
 listed_other : (asc desc : Bytes) (pairs : Pairs) (k : ℕ) (x y : Bytes) → nat_eq k INHERITANCE ≡ false → nat_eq k CLOSURE_PAIR ≡ false → is_listed asc desc pairs (PairRow k x y) ≡ false
 listed_other asc desc pairs k x y no_edge no_pair = λ i.
     (flipped 3 k no_edge i && eq_by_cmp pair_cmp (x, y) (asc, desc))
-    || none_listed (λ pair. nat_eq 4 k && eq_by_cmp pair_cmp (x, y) pair) (members pairs) (λ pair. ap (λ b. b && eq_by_cmp pair_cmp (x, y) pair) (flipped 4 k no_pair)) i
+    || none_listed (λ pair. nat_eq CLOSURE_PAIR k && eq_by_cmp pair_cmp (x, y) pair) (members pairs) (λ pair. ap (λ b. b && eq_by_cmp pair_cmp (x, y) pair) (flipped CLOSURE_PAIR k no_pair)) i
 
 -- of the edges one is listed
 listed_edge : (asc desc : Bytes) (pairs : Pairs) (x y : Bytes) → is_listed asc desc pairs (PairRow INHERITANCE x y) ≡ eq_by_cmp pair_cmp (x, y) (asc, desc)
-listed_edge asc desc pairs x y = ap (λ b. eq_by_cmp pair_cmp (x, y) (asc, desc) || b) (edge_apart x y (members pairs)) ∙ or_none (eq_by_cmp pair_cmp (x, y) (asc, desc))
-  where
-    or_none : (b : Bool) → (b || false) ≡ b
-    or_none true = refl
-    or_none false = refl
+listed_edge asc desc pairs x y = ap (λ b. eq_by_cmp pair_cmp (x, y) (asc, desc) || b) (edge_apart x y (members pairs)) ∙ or-false (eq_by_cmp pair_cmp (x, y) (asc, desc))
 
 -- of the pairs of the order these are
 listed_pair : (asc desc : Bytes) (pairs : Pairs) (x y : Bytes) → is_listed asc desc pairs (PairRow CLOSURE_PAIR x y) ≡ contains pairs (x, y)
@@ -151,39 +149,14 @@ others_stay : (S : RbacState) (edges : Pairs) (k : ℕ) (x y : Bytes) → nat_eq
 unfolding has_row
 others_stay S edges k x y no_edge no_pair = two_skipped (nat_eq k PERMISSION) (nat_eq k ASSIGNMENT) (nat_eq k INHERITANCE) (nat_eq k CLOSURE_PAIR) _ _ _ _ _ _ _ no_edge no_pair
 
--- two tests that imply each other answer alike
-same_answer : (a b : Bool) → (a ≡ true → b ≡ true) → (b ≡ true → a ≡ true) → a ≡ b
-same_answer true b there back = sym (there refl)
-same_answer false true there back = back refl
-same_answer false false there back = refl
-
--- b, or what never holds
-none_or : (b : Bool) → b ≡ (b || false)
-none_or true = refl
-none_or false = refl
-
 -- b, and not what never holds
 and_not_none : (b : Bool) → b ≡ (b && not false)
 and_not_none true = refl
 and_not_none false = refl
 
--- one of the two, in the other order
-or_turned : (a b : Bool) → (a || b) ≡ (b || a)
-or_turned true true = refl
-or_turned true false = refl
-or_turned false true = refl
-or_turned false false = refl
-
--- b and not a, in the other order
-and_turned : (a b : Bool) → (not a && b) ≡ (b && not a)
-and_turned true true = refl
-and_turned true false = refl
-and_turned false true = refl
-and_turned false false = refl
-
 -- two names that a relation tells apart aren't one
 other_names : (edges : Pairs) (a b : Bytes) → (Geq edges a b → ⊥) → not (same_name a b) ≡ true
-other_names edges a b apart = ap not (is_false (same_name a b) (λ same. apart (Leads-from_eq ((tie_Decides name_total name_exact a b).0 same))))
+other_names edges a b apart = ap not (false_from_ne_true (same_name a b) (λ same. apart (Leads-from_eq ((tie_Decides name_total name_exact a b).0 same))))
 
 module _ (S : RbacState) (asc desc : Bytes) (pairs : Pairs) where
   -- no row of another form is listed
@@ -203,7 +176,7 @@ module _ (S : RbacState) (asc desc : Bytes) (pairs : Pairs) where
 
     -- the order after: the pairs before, and those that it gains
     above_put : (x y : Bytes) → (geq more x y && not (same_name x y)) ≡ ((geq S.edges x y && not (same_name x y)) || contains pairs (x, y))
-    above_put x y = same_answer _ _
+    above_put x y = both_ways _ _
         (λ h. (let parts = and_parts _ _ h in elim (geq_or_not S.edges x y) [
           | inl was ↦ or_left _ _ (and_from _ _ ((geq-Decides S.edges x y).1 was) parts.1)
           | inr not_yet ↦ or_right _ _ ((gained x y).1 ((geq-Decides more x y).0 parts.0, not_yet))
@@ -216,16 +189,16 @@ module _ (S : RbacState) (asc desc : Bytes) (pairs : Pairs) where
     -- the rows after: those before, and those that are listed
     rows_put : (row : Row) → has_row (with_edges S more) row ≡ (has_row S row || is_listed asc desc pairs row)
     unfolding has_row
-    rows_put (NameRow k x) = none_or _ ∙ ap (λ b. has_row S (NameRow k x) || b) (sym (no_row))
+    rows_put (NameRow k x) = sym (or-false _) ∙ ap (λ b. has_row S (NameRow k x) || b) (sym (no_row))
     rows_put (PairRow k x y) = by_kind (λ kind. has_row (with_edges S more) (PairRow kind x y) ≡ (has_row S (PairRow kind x y) || is_listed asc desc pairs (PairRow kind x y)))
-        (contains-insert pair_total S.edges (asc, desc) (x, y) ∙ or_turned (eq_by_cmp pair_cmp (x, y) (asc, desc)) (contains S.edges (x, y))
+        (contains-insert pair_total S.edges (asc, desc) (x, y) ∙ or_comm (eq_by_cmp pair_cmp (x, y) (asc, desc)) (contains S.edges (x, y))
         ∙ ap (λ b. contains S.edges (x, y) || b) (sym (listed_edge asc desc pairs x y)))
         (above_put x y ∙ ap (λ b. (geq S.edges x y && not (same_name x y)) || b) (sym (listed_pair asc desc pairs x y)))
-        (λ kind no_edge no_pair. others_stay S more kind x y no_edge no_pair ∙ none_or _ ∙ ap (λ b. has_row S (PairRow kind x y) || b) (sym (listed_other asc desc pairs kind x y no_edge no_pair)))
+        (λ kind no_edge no_pair. others_stay S more kind x y no_edge no_pair ∙ sym (or-false _) ∙ ap (λ b. has_row S (PairRow kind x y) || b) (sym (listed_other asc desc pairs kind x y no_edge no_pair)))
         k
-    rows_put (GrantRow x y z) = none_or _ ∙ ap (λ b. has_row S (GrantRow x y z) || b) (sym (no_row))
-    rows_put (SetRow k x n) = none_or _ ∙ ap (λ b. has_row S (SetRow k x n) || b) (sym (no_row))
-    rows_put (LockedRow x) = none_or _ ∙ ap (λ b. has_row S (LockedRow x) || b) (sym (no_row))
+    rows_put (GrantRow x y z) = sym (or-false _) ∙ ap (λ b. has_row S (GrantRow x y z) || b) (sym (no_row))
+    rows_put (SetRow k x n) = sym (or-false _) ∙ ap (λ b. has_row S (SetRow k x n) || b) (sym (no_row))
+    rows_put (LockedRow x) = sym (or-false _) ∙ ap (λ b. has_row S (LockedRow x) || b) (sym (no_row))
 
     -- none of those that are listed was there
     listed_absent : (row : Row) → is_listed asc desc pairs row ≡ true → has_row S row ≡ false
@@ -233,7 +206,7 @@ module _ (S : RbacState) (asc desc : Bytes) (pairs : Pairs) where
     listed_absent (NameRow k x) = λ h. absurd (true≢false (sym h ∙ no_row))
     listed_absent (PairRow k x y) = by_kind (λ kind. is_listed asc desc pairs (PairRow kind x y) ≡ true → has_row S (PairRow kind x y) ≡ false)
         (λ h. ap (contains S.edges) ((tie_Decides pair_total pair_exact (x, y) (asc, desc)).0 (sym (listed_edge asc desc pairs x y) ∙ h)) ∙ absent)
-        (λ h. is_false (geq S.edges x y && not (same_name x y)) (λ was. ((gained x y).0 (sym (listed_pair asc desc pairs x y) ∙ h)).1 ((geq-Decides S.edges x y).0 (and_parts _ _ was).0)))
+        (λ h. false_from_ne_true (geq S.edges x y && not (same_name x y)) (λ was. ((gained x y).0 (sym (listed_pair asc desc pairs x y) ∙ h)).1 ((geq-Decides S.edges x y).0 (and_parts _ _ was).0)))
         (λ kind no_edge no_pair h. absurd (true≢false (sym h ∙ listed_other asc desc pairs kind x y no_edge no_pair)))
         k
     listed_absent (GrantRow x y z) = λ h. absurd (true≢false (sym h ∙ no_row))
@@ -251,7 +224,7 @@ module _ (S : RbacState) (asc desc : Bytes) (pairs : Pairs) where
       absent = λ row h. listed_absent row (sym (puts_are asc desc pairs row) ∙ h);
       once = (
         any_map (λ pair. Put (pair_row CLOSURE_PAIR pair)) (λ change. puts change (PairRow INHERITANCE asc desc)) (members pairs) ∙ edge_apart asc desc (members pairs),
-        puts_once (members pairs) (distinct-members pair_total pair_exact pairs),
+        puts_once (members pairs) (members-distinct pair_cmp pairs),
       );
       takes_first = (nothing_taken (pair_row CLOSURE_PAIR) (members pairs), puts_last (pair_row CLOSURE_PAIR) (members pairs));
     }
@@ -269,10 +242,10 @@ module _ (S : RbacState) (asc desc : Bytes) (pairs : Pairs) where
 
     -- the order after: the pairs before, without those that it loses
     above_take : (x y : Bytes) → (geq left x y && not (same_name x y)) ≡ ((geq S.edges x y && not (same_name x y)) && not (contains pairs (x, y)))
-    above_take x y = same_answer _ _
+    above_take x y = both_ways _ _
         (λ h. (let parts = and_parts _ _ h in
         let still : Geq left x y = (geq-Decides left x y).0 parts.0 in
-        and_from _ _ (and_from _ _ ((geq-Decides S.edges x y).1 (was_so x y still)) parts.1) (ap not (is_false (contains pairs (x, y)) (λ gone. ((lost x y).0 gone).1 still)))))
+        and_from _ _ (and_from _ _ ((geq-Decides S.edges x y).1 (was_so x y still)) parts.1) (ap not (false_from_ne_true (contains pairs (x, y)) (λ gone. ((lost x y).0 gone).1 still)))))
         (λ h. (let parts = and_parts _ _ h in
         let was = and_parts _ _ parts.0 in
         elim (geq_or_not left x y) [
@@ -285,7 +258,7 @@ module _ (S : RbacState) (asc desc : Bytes) (pairs : Pairs) where
     unfolding has_row
     rows_take (NameRow k x) = and_not_none _ ∙ ap (λ b. has_row S (NameRow k x) && not b) (sym (no_row))
     rows_take (PairRow k x y) = by_kind (λ kind. has_row (with_edges S left) (PairRow kind x y) ≡ (has_row S (PairRow kind x y) && not (is_listed asc desc pairs (PairRow kind x y))))
-        (contains-remove pair_total S.edges (asc, desc) (x, y) ∙ and_turned (eq_by_cmp pair_cmp (x, y) (asc, desc)) (contains S.edges (x, y))
+        (contains-remove pair_total S.edges (asc, desc) (x, y) ∙ and_comm (not (eq_by_cmp pair_cmp (x, y) (asc, desc))) (contains S.edges (x, y))
         ∙ ap (λ b. contains S.edges (x, y) && not b) (sym (listed_edge asc desc pairs x y)))
         (above_take x y ∙ ap (λ b. (geq S.edges x y && not (same_name x y)) && not b) (sym (listed_pair asc desc pairs x y)))
         (λ kind no_edge no_pair. others_stay S left kind x y no_edge no_pair ∙ and_not_none _ ∙ ap (λ b. has_row S (PairRow kind x y) && not b) (sym (listed_other asc desc pairs kind x y no_edge no_pair)))
@@ -312,12 +285,12 @@ module _ (S : RbacState) (asc desc : Bytes) (pairs : Pairs) where
     unfolding is_taken
     turns_order_takes = record {
       version = refl;
-      rows = λ row. rows_take row ∙ none_or _ ∙ (λ i. has_row S row && not (sym (takes_are asc desc pairs row) i) || sym (order_puts_nothing asc desc pairs row) i);
+      rows = λ row. rows_take row ∙ sym (or-false _) ∙ (λ i. has_row S row && not (sym (takes_are asc desc pairs row) i) || sym (order_puts_nothing asc desc pairs row) i);
       there = λ row h. listed_there row (sym (takes_are asc desc pairs row) ∙ h);
       absent = λ row h. absurd (true≢false (sym h ∙ order_puts_nothing asc desc pairs row));
       once = (
         any_map (λ pair. Take (pair_row CLOSURE_PAIR pair)) (λ change. takes change (PairRow INHERITANCE asc desc)) (members pairs) ∙ edge_apart asc desc (members pairs),
-        takes_once (members pairs) (distinct-members pair_total pair_exact pairs),
+        takes_once (members pairs) (members-distinct pair_cmp pairs),
       );
       takes_first = takes_alone (pair_row CLOSURE_PAIR) (members pairs);
     }

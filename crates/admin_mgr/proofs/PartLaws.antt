@@ -5,7 +5,7 @@ use Rattle.std.specs.declared.cmp.Ordering.{Ordering}
 use Rattle.std.specs.Cmp.{IsTotalOrder}
 use Rattle.std.specs.FinMap.{IsAntisymmetric}
 use Rattle.std.specs.FinSet.{FinSet}
-use Rattle.std.proofs.lemmas.Bool.{and_parts, and_from, true≢false}
+use Rattle.std.proofs.lemmas.Bool.{and_parts, and_from, true≢false, false_from_ne_true}
 use Rattle.rbac_sets.specs.Kind.{limit_of}
 use Rattle.rbac_sets.specs.declared.kind.Kind.{Kind}
 use Rattle.rbac_sets.specs.declared.kind.Kind.TheVariants.{User, Role, Object, Permission, Grant, Assignment, Edge, SsdSet, DsdSet, Member, Session, ActiveRole}
@@ -17,7 +17,6 @@ use Rattle.role_order.specs.Order.{geq}
 use Rattle.role_order.proofs.Leading.{Leads-mono}
 use Rattle.role_order.proofs.Closing.{IsAcyclic-subset}
 use Rattle.role_order.proofs.Deciding.{geq-Decides}
-use Rattle.role_order.proofs.Members.{is_false}
 use Rattle.admin_mgr.specs.RbacState.{RbacState, members_of, active_roles}
 use Rattle.admin_mgr.specs.Authorization.{authorized_users, is_authorized, is_session_role}
 use Rattle.admin_mgr.specs.Assignment.{may_go_on, end_sessions}
@@ -175,7 +174,7 @@ module _ (S : RbacState) (part : Part S) where
   unfolding may_go_on
   part_ends_none good users assignments edges owned = none_ends_where T (λ p there.
       let was = part.sessions_within p there in
-      let unlocked : contains T.locked p.1 ≡ false = is_false (contains T.locked p.1) (λ h. true≢false (sym (part.locked_within p.1 h) ∙ good.unlocked p.0 p.1 was)) in
+      let unlocked : contains T.locked p.1 ≡ false = false_from_ne_true (contains T.locked p.1) (λ h. true≢false (sym (part.locked_within p.1 h) ∙ good.unlocked p.0 p.1 was)) in
       and_from _ _ (and_from _ _ (subst (λ (s : Names). IsTrue (contains s p.1)) (sym users) (good.well_formed.sessions p.0 p.1 was)) (ap not unlocked))
       ((all-Decides name_total name_exact (is_authorized T p.1) (active_roles T p.0)).1 (λ role active.
       authorized-same assignments edges p.1 role ∙ good.authorized p.0 p.1 role was (part.active_within (p.0, role) ((seconds-Decides T.active p.0 role).0 active))))) owned
@@ -231,4 +230,4 @@ module _ (S : RbacState) (part : Part S) where
 
       none_of : {K : Type 0} {R : K → K → Ordering} (total : IsTotalOrder R) (exact : IsAntisymmetric R) (small large : FinSet R) → IsSubset small large → large ≡ empty → small ≡ empty
       none_of {R = R} total exact small large within none = same_set total exact small empty (λ x.
-          is_false (contains small x) (λ h. true≢false (sym (within x h) ∙ ap (λ s. contains s x) none ∙ contains-empty R x)) ∙ sym (contains-empty R x))
+          false_from_ne_true (contains small x) (λ h. true≢false (sym (within x h) ∙ ap (λ s. contains s x) none ∙ contains-empty R x)) ∙ sym (contains-empty R x))

@@ -2,8 +2,9 @@
 use Rattle.std.proofs.Common.{◌≡◌, ◌+◌, ◌≤◌, arith, Bool, false, ◌||◌, ◌&&◌, not, List, [], ◌∷◌, ◌++◌, refl, sym, ◌∙◌, ap, inl, inr}
 use Rattle.std.specs.Prelude.{IsTrue, Option, Some, None, nat_lt, count_by, find}
 use Rattle.std.specs.Option.{option_map}
-use Rattle.std.proofs.lemmas.Bool.{or_cases, or_left, or_right}
+use Rattle.std.proofs.lemmas.Bool.{or_cases, or_left, or_right, or_parts}
 use Rattle.std.proofs.lemmas.List.Folds.{list_any-append}
+use Rattle.std.specs.Cmp.{both_ways}
 use Rattle.rbac_sets.specs.Sets.{Bytes, Pair, Pairs, Cardinality, contains, members, union, seconds, any, len, IsDisjoint}
 use Rattle.rbac_sets.specs.NameOrder.{name_total, name_exact, pair_total, pair_exact}
 use Rattle.rbac_sets.specs.declared.kind.Kind.TheVariants.{Assignment}
@@ -11,16 +12,16 @@ use Rattle.rbac_sets.specs.declared.refusal.Refusal.{Refusal}
 use Rattle.rbac_sets.specs.declared.refusal.Refusal.TheVariants.{NoUser, NoRole, AlreadyAssigned, StaticSeparation}
 use Rattle.rbac_sets.proofs.SetLaws.{any-Decides, seconds-Decides, contains-union}
 use Rattle.role_order.specs.Order.{geq}
+use Rattle.role_order.proofs.Runs.{any_seconds}
 use Rattle.admin_mgr.specs.RbacState.{RbacState}
 use Rattle.admin_mgr.specs.Refusing.{refuse_if, refuse_unless, first, too_many, breaks_static}
 use Rattle.admin_mgr.specs.Assignment.{assign_user_refusals, assignment_refusals, assignment_verdict, after_assignment}
 use Rattle.admin_mgr.specs.Importing.{with_assignments, record_refusals}
 use Rattle.admin_mgr.specs.Good.{IsGood}
 use Rattle.admin_mgr.specs.Held.{run_of, is_reached, is_touched, find_in, first_with_one}
-use Rattle.admin_mgr.proofs.Lookups.{any_seconds}
-use Rattle.admin_mgr.proofs.TouchLaws.{same_test, assignment_breaks}
+use Rattle.admin_mgr.proofs.TouchLaws.{assignment_breaks}
 use Rattle.admin_mgr.proofs.GoodAssignment.{not_assigned}
-use Rattle.admin_mgr.proofs.UnionLaws.{or_none, len-union}
+use Rattle.admin_mgr.proofs.UnionLaws.{len-union}
 use Rattle.admin_mgr.proofs.VerdictLaws.{passed, refuse_unless-None, stopped}
 
 -- ---- what a user holds of either set
@@ -31,7 +32,7 @@ any_union p s t x =
     let either = any-Decides name_total name_exact p (seconds (union s t) x) in
     let one = any-Decides name_total name_exact p (seconds s x) in
     let other = any-Decides name_total name_exact p (seconds t x) in
-    same_test (any p (seconds (union s t) x)) (any p (seconds s x) || any p (seconds t x))
+    both_ways (any p (seconds (union s t) x)) (any p (seconds s x) || any p (seconds t x))
     (λ h. (let found = either.0 h in
     elim (or_cases (contains s (x, found.0)) (contains t (x, found.0)) (sym (contains-union pair_total pair_exact s t (x, found.0)) ∙ (seconds-Decides (union s t) x found.0).0 found.1)) [
       | inl old ↦ or_left (any p (seconds s x)) _ (one.1 (found.0, (seconds-Decides s x found.0).1 old, found.2))
@@ -116,5 +117,5 @@ added_len S added good apart =
 -- a pair that is put was not added before
 pub new_to_added : (S : RbacState) (added : Pairs) (pair : Pair) → assignment_verdict (with_assignments S added) pair ≡ None → (contains S.assignments pair ≡ false) × (contains added pair ≡ false)
 unfolding with_assignments
-new_to_added S added pair put = or_none (contains S.assignments pair) (contains added pair)
+new_to_added S added pair put = or_parts (contains S.assignments pair) (contains added pair)
     (sym (contains-union pair_total pair_exact S.assignments added pair) ∙ not_assigned (with_assignments S added) pair put)

@@ -1,5 +1,5 @@
 -- Many rows of one set that go or come.
-use Rattle.std.proofs.Common.{◌≡◌, Bool, true, false, not, ◌&&◌, ◌||◌, List, [], ◌∷◌, refl, sym, ◌∙◌, ap, subst}
+use Rattle.std.proofs.Common.{◌≡◌, Bool, true, false, not, ◌&&◌, ◌||◌, List, [], ◌∷◌, map, refl, sym, ◌∙◌, ap, subst}
 use Rattle.std.specs.Prelude.{if◌then◌else◌, filter}
 use Rattle.std.specs.List.{list_any, AllByRecursion, IsDistinct}
 use Rattle.std.specs.declared.cmp.Ordering.{Ordering}
@@ -7,12 +7,11 @@ use Rattle.std.specs.Ordering.{eq_by_cmp}
 use Rattle.std.specs.Cmp.{IsTotalOrder}
 use Rattle.std.specs.FinMap.{IsAntisymmetric}
 use Rattle.std.specs.FinSet.{FinSet}
-use Rattle.std.proofs.lemmas.Map.Keys.{IsDistinct-from_sorted}
-use Rattle.std.proofs.lemmas.Bool.{and_parts, and_from, true≢false}
+use Rattle.std.proofs.lemmas.Bool.{and_parts, and_from, true≢false, false_from_ne_true, or_right}
+use Rattle.std.proofs.Math.Bool.{and-true}
 use Rattle.rbac_sets.specs.Sets.{contains, insert, remove, retain, members, insert_all, union, IsDisjoint}
 use Rattle.rbac_sets.proofs.SetLaws.{contains-members, contains-insert, contains-remove, contains-retain, tie_Decides, same_set}
-use Rattle.rbac_sets.proofs.Members.{members-retain}
-use Rattle.role_order.proofs.Members.{members-rise, is_false}
+use Rattle.rbac_sets.proofs.Members.{members-retain, members-distinct}
 use Rattle.rbac_sets.specs.declared.row.Row.{Row}
 use Rattle.rbac_sets.specs.declared.row.Change.TheVariants.{Put, Take}
 use Rattle.admin_mgr.specs.RbacState.{RbacState}
@@ -49,10 +48,10 @@ and_move true false c = refl
 and_move false true c = refl
 and_move false false c = refl
 
--- b, and what always holds
-and_true : (b : Bool) → b ≡ (b && true)
-and_true true = refl
-and_true false = refl
+-- the rows of what f gives are those of the entries, by f
+pub put_all-map : {K X : Type 0} (row : K → Row) (f : X → K) (xs : List X) → put_all row (map f xs) ≡ put_all (λ x. row (f x)) xs
+put_all-map row f [] = refl
+put_all-map row f (x ∷ xs) = ap (λ rest. Put (row (f x)) ∷ rest) (put_all-map row f xs)
 
 -- what follows from two facts that hold of each entry
 pub all_two : {K : Type 0} {P Q T : K → Type 0} → ((x : K) → P x → Q x → T x) → (xs : List K) → AllByRecursion P xs → AllByRecursion Q xs → AllByRecursion T xs
@@ -84,7 +83,7 @@ module _ {K : Type 0} {R : K → K → Ordering} (total : IsTotalOrder R) (exact
   -- what is left is what was there and isn't listed
   pub contains-remove_all : (xs : List K) (s : FinSet R) (y : K) → contains (remove_all s xs) y ≡ (contains s y && not (list_any (eq_by_cmp R y) xs))
   unfolding remove_all
-  contains-remove_all [] s y = and_true (contains s y)
+  contains-remove_all [] s y = sym (and-true (contains s y))
   contains-remove_all (x ∷ xs) s y =
       contains-remove_all xs (remove s x) y ∙ ap (λ b. b && not (list_any (eq_by_cmp R y) xs)) (contains-remove total s x y)
       ∙ and_move (eq_by_cmp R y x) (contains s y) (list_any (eq_by_cmp R y) xs)
@@ -129,16 +128,12 @@ module _ {K : Type 0} {R : K → K → Ordering} (total : IsTotalOrder R) (exact
   all_of P [] each = tt
   all_of P (x ∷ xs) each = (
     each x (ap (λ b. b || list_any (eq_by_cmp R x) xs) ((tie_Decides total exact x x).1 refl)),
-    all_of P xs (λ y h. each y (later (eq_by_cmp R y x) _ h)),
+    all_of P xs (λ y h. each y (or_right (eq_by_cmp R y x) _ h)),
   )
-    where
-      later : (a b : Bool) → b ≡ true → (a || b) ≡ true
-      later true b h = refl
-      later false b h = h
 
   -- the test of being one is false both ways round
   other_way : (x y : K) → eq_by_cmp R x y ≡ false → eq_by_cmp R y x ≡ false
-  other_way x y apart = is_false (eq_by_cmp R y x) (λ h. true≢false (sym ((tie_Decides total exact x y).1 (sym ((tie_Decides total exact y x).0 h))) ∙ apart))
+  other_way x y apart = false_from_ne_true (eq_by_cmp R y x) (λ h. true≢false (sym ((tie_Decides total exact x y).1 (sym ((tie_Decides total exact y x).0 h))) ∙ apart))
 
   -- entries that are there, each once, are there when their turn comes
   pub there_each : (xs : List K) (s : FinSet R) → IsDistinct (eq_by_cmp R) xs → AllByRecursion (λ x. contains s x ≡ true) xs → AreThere s xs
@@ -166,13 +161,9 @@ module _ {K : Type 0} {R : K → K → Ordering} (total : IsTotalOrder R) (exact
       by y true tie = sym (ap (contains s) ((tie_Decides total exact y x).0 tie) ∙ absent)
       by y false other = refl
 
-  -- the entries of a set are each there once
-  pub distinct-members : (s : FinSet R) → IsDistinct (eq_by_cmp R) (members s)
-  distinct-members s = IsDistinct-from_sorted R (members s) (members-rise R s)
-
-  -- and those that pass
+  -- the entries of a set that pass are each there once
   pub distinct-filter : (s : FinSet R) (test : K → Bool) → IsDistinct (eq_by_cmp R) (filter test (members s))
-  distinct-filter s test = subst (IsDistinct (eq_by_cmp R)) (members-retain total exact s test) (distinct-members (retain s test))
+  distinct-filter s test = subst (IsDistinct (eq_by_cmp R)) (members-retain total exact s test) (members-distinct R (retain s test))
 
 -- ---- rows
 
@@ -222,7 +213,7 @@ module _ {K : Type 0} {R : K → K → Ordering} {row : K → Row} {get : RbacSt
     -- the rows of a set come, none of which is there
     pub steps_put_set : (S : RbacState) (more : FinSet R) → IsDisjoint more (get S) → Steps putting S (put_all row (members more)) (set S (union (get S) more))
     unfolding union
-    steps_put_set S more absent = steps_put_list S (members more) (distinct-members total exact more) (all_of total exact _ _ (λ x h. absent x (contains-members more x ∙ h)))
+    steps_put_set S more absent = steps_put_list S (members more) (members-distinct R more) (all_of total exact _ _ (λ x h. absent x (contains-members more x ∙ h)))
 
   -- the row goes if it is there
   pub steps_take_any : IsTotalOrder R → IsAntisymmetric R → (S : RbacState) (x : K) → Steps taking S (if contains (get S) x then Take (row x) ∷ [] else []) (set S (remove (get S) x))

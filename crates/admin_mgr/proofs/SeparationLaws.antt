@@ -3,7 +3,7 @@ use Rattle.std.proofs.Common.{◌≡◌, ℕ, ◌<◌, ◌≤◌, Bool, true, fa
 use Rattle.std.specs.Prelude.{IsTrue, ◌↔◌, Option, Some, None, find, nat_lt}
 use Rattle.std.specs.Option.{option_map}
 use Rattle.std.specs.List.{list_any}
-use Rattle.std.proofs.lemmas.Bool.{and_parts, and_from, cases_lt, ltb-true, lt-ltb, not-false, not-true, true≢false}
+use Rattle.std.proofs.lemmas.Bool.{and_parts, and_from, cases_lt, ltb-true, lt-ltb, not-false, not-true, true≢false, false_from_ne_true}
 use Rattle.rbac_sets.specs.Sets.{Bytes, Pair, Names, Cardinality, contains, members, retain, len, count, any}
 use Rattle.rbac_sets.specs.NameOrder.{name_total, name_exact, pair_total, pair_exact, cardinality_total, cardinality_exact}
 use Rattle.rbac_sets.proofs.SetLaws.{contains-retain, image-Decides, any-Decides, all-Decides}
@@ -70,13 +70,9 @@ least_violated-None is_kept separation =
     let some = any-Decides cardinality_total cardinality_exact broken separation.cardinalities in
     let found = none_found broken (members separation.cardinalities) in
     let named = unmapped (λ (entry : Cardinality). entry.0) (find broken (members separation.cardinalities)) in (
-      λ none name n there. not-false _ (is_false (broken (name, n)) (λ h. true≢false (sym (some.1 ((name, n), there, h)) ∙ found.0 (named.0 none)))),
-      λ each. named.1 (found.1 (is_false _ (λ h. (let one = some.0 h in true≢false (sym (each one.0.0 one.0.1 one.1) ∙ not-true _ one.2))))),
+      λ none name n there. not-false _ (false_from_ne_true (broken (name, n)) (λ h. true≢false (sym (some.1 ((name, n), there, h)) ∙ found.0 (named.0 none)))),
+      λ each. named.1 (found.1 (false_from_ne_true _ (λ h. (let one = some.0 h in true≢false (sym (each one.0.0 one.0.1 one.1) ∙ not-true _ one.2))))),
     )
-  where
-    is_false : (b : Bool) → (b ≡ true → ⊥) → b ≡ false
-    is_false true h = absurd (h refl)
-    is_false false h = refl
 
 -- ---- static
 

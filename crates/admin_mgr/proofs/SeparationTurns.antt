@@ -1,14 +1,14 @@
 -- The rows that a command on a separation of duty set puts and takes, for static sets and dynamic ones alike.
-use Rattle.std.proofs.Common.{◌≡◌, ◌≢◌, ℕ, true, false, List, [], ◌∷◌, map, refl, sym, ◌∙◌, ap, subst}
-use Rattle.std.specs.Prelude.{Bool, not, ◌||◌, Some, None, is_some}
-use Rattle.std.proofs.lemmas.Bool.{and_parts, true≢false}
+use Rattle.std.proofs.Common.{◌≡◌, ◌≢◌, ℕ, true, false, List, [], ◌∷◌, sym, ◌∙◌, ap, subst}
+use Rattle.std.specs.Prelude.{not, Some, None, is_some}
+use Rattle.std.proofs.lemmas.Bool.{and_parts, true≢false, false_from_ne_true}
+use Rattle.std.proofs.Math.Bool.{or-false}
 use Rattle.rbac_sets.specs.Sets.{Bytes, Pair, Pairs, Names, Cardinality, Cardinalities, same_name, contains, members, insert, remove, retain, union, IsDisjoint}
 use Rattle.rbac_sets.specs.NameOrder.{pair_total, pair_exact}
 use Rattle.rbac_sets.specs.declared.row.Row.{Row}
 use Rattle.rbac_sets.specs.declared.row.Row.TheVariants.{PairRow, SetRow}
 use Rattle.rbac_sets.specs.declared.row.Change.{Change}
 use Rattle.rbac_sets.specs.declared.row.Change.TheVariants.{Put, Take}
-use Rattle.role_order.proofs.Members.{is_false}
 use Rattle.admin_mgr.specs.RbacState.{RbacState, Separation, has_set, cardinality_of}
 use Rattle.admin_mgr.specs.Held.{run_of}
 use Rattle.admin_mgr.specs.After.{paired, with_set, with_member, without_member, with_cardinality, without_set}
@@ -16,13 +16,14 @@ use Rattle.admin_mgr.specs.Changes.{Turns, is_taken, is_put, same_row}
 use Rattle.admin_mgr.specs.Good.{IsSeparation}
 use Rattle.admin_mgr.specs.Listing.{pair_row, take_all, put_all}
 use Rattle.admin_mgr.proofs.CommitLaws.{same_row-is}
-use Rattle.admin_mgr.proofs.KeepLaws.{cardinality_there, is_some_cardinality}
-use Rattle.admin_mgr.proofs.RunLaws.{IsSetOf, steps_take_one, steps_put_one, steps_take_some, steps_put_set}
+use Rattle.admin_mgr.proofs.KeepLaws.{cardinality_there}
+use Rattle.admin_mgr.proofs.RunLaws.{IsSetOf, steps_take_one, steps_put_one, steps_take_some, steps_put_set, put_all-map}
 use Rattle.admin_mgr.proofs.SetRows.{set_row}
 use Rattle.admin_mgr.proofs.SetRowLaws.{no_cardinality, paired_apart, members_paired, told_cardinality-remove, no_cardinality_left, with_other_cardinality}
 use Rattle.admin_mgr.proofs.StepLaws.Way.{taking, putting}
 use Rattle.admin_mgr.proofs.StepLaws.{Way, Steps, steps_append, steps_to}
 use Rattle.admin_mgr.proofs.TurnLaws.{AreApart, turns_taking, turns_putting, turns_both}
+use Rattle.admin_mgr.proofs.HeldLaws.{is_some_cardinality}
 
 -- The separation of duty sets of one kind, static or dynamic: `get` reads them, `set` is the state with others in their
 -- place, and `pairs` and `sets` are the kinds of the rows of their members and of their cardinalities.
@@ -36,24 +37,15 @@ pub record IsKindOfSets (pairs sets : ℕ) (get : RbacState → Separation) (set
 pub untold_set : (s : Separation) (name : Bytes) → cardinality_of s name ≡ None → has_set s name ≡ true → ⊥
 untold_set s name untold there = true≢false (sym there ∙ sym (is_some_cardinality s name) ∙ ap is_some untold)
 
--- the rows of a name with others are those of the pairs of the name with them
-paired_rows : (pairs : ℕ) (name : Bytes) (roles : List Bytes) → put_all (pair_row pairs) (map (λ role. (name, role)) roles) ≡ put_all (λ role. PairRow pairs name role) roles
-paired_rows pairs name [] = refl
-paired_rows pairs name (role ∷ roles) = ap (λ rest. Put (PairRow pairs name role) ∷ rest) (paired_rows pairs name roles)
-
 -- two different cardinalities of one set have different rows
 rows_apart : (sets : ℕ) (name : Bytes) (before n : ℕ) → before ≢ n → AreApart (Take (SetRow sets name before) ∷ []) (Put (SetRow sets name n) ∷ [])
 unfolding is_taken is_put
-rows_apart sets name before n other row = is_false _ (λ h.
+rows_apart sets name before n other row = false_from_ne_true _ (λ h.
     let parts = and_parts _ _ h in
-    let one = same_row-is (SetRow sets name before) row (alone (same_row (SetRow sets name before) row) parts.0) in
-    let two = same_row-is (SetRow sets name n) row (alone (same_row (SetRow sets name n) row) parts.1) in
+    let one = same_row-is (SetRow sets name before) row (sym (or-false (same_row (SetRow sets name before) row)) ∙ parts.0) in
+    let two = same_row-is (SetRow sets name n) row (sym (or-false (same_row (SetRow sets name n) row)) ∙ parts.1) in
     other (number (sym one ∙ two)))
   where
-    alone : (b : Bool) → (b || false) ≡ true → b ≡ true
-    alone true h = refl
-    alone false h = h
-
     number_of : Row → ℕ
     number_of (SetRow k x m) = m
     number_of _ = 0
@@ -112,7 +104,7 @@ module _ {pairs sets : ℕ} {get : RbacState → Separation} {set : RbacState �
           Turns (set S s) (Put (SetRow sets name n) ∷ put_all (λ role. PairRow pairs name role) (members roles)) (set S (with_set s name roles n))
       turns_create_set roles n absent =
           let numbered : Separation = record s { cardinalities = insert s.cardinalities (name, n) } in
-          let rows = ap (put_all (pair_row pairs)) (members_paired name roles) ∙ paired_rows pairs name (members roles) in
+          let rows = ap (put_all (pair_row pairs)) (members_paired name roles) ∙ put_all-map (pair_row pairs) (λ role. (name, role)) (members roles) in
           turns_putting (steps_append
           (steps_put_cardinality s (name, n) (no_cardinality s name absent n))
           (subst (λ changes. Steps putting (set S numbered) changes (set S (with_set s name roles n))) rows (steps_put_members numbered (paired name roles) (paired_apart s name absent all_roles formed roles))))

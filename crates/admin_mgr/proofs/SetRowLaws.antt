@@ -6,19 +6,20 @@ use Rattle.std.specs.List.Sorted.{IsStrictlySortedBy}
 use Rattle.std.specs.declared.cmp.Ordering.TheVariants.{Less}
 use Rattle.std.specs.Ordering.{ordering_then, eq_by_cmp}
 use Rattle.std.specs.Cmp.{tied_itself}
-use Rattle.std.proofs.lemmas.Bool.{and_parts, and_from, not-true, true≢false}
+use Rattle.std.proofs.lemmas.Bool.{and_parts, and_from, not-true, true≢false, false_from_ne_true}
 use Rattle.rbac_sets.specs.Sets.{Bytes, Pair, Pairs, Names, Cardinality, Cardinalities, name_cmp, pair_cmp, same_name, contains, members, insert, remove, retain, image, IsDisjoint}
 use Rattle.rbac_sets.specs.NameOrder.{name_total, name_exact, pair_total, pair_exact, cardinality_total, cardinality_exact}
 use Rattle.rbac_sets.proofs.SetLaws.{tie_Decides, contains-members, contains-retain, contains-remove, contains-insert-Decides, any-Decides, same_members}
-use Rattle.rbac_sets.proofs.Members.{members-retain}
+use Rattle.rbac_sets.proofs.Members.{members-retain, members-rise}
 use Rattle.rbac_sets.proofs.InOrder.{members-sorted}
-use Rattle.role_order.proofs.Members.{members-rise, is_false, same_or_other}
+use Rattle.role_order.proofs.Members.{same_or_other}
 use Rattle.admin_mgr.specs.RbacState.{Separation, has_set, cardinality_of}
 use Rattle.admin_mgr.specs.After.{paired, without_first, without_cardinality, with_cardinality}
 use Rattle.admin_mgr.specs.Good.{IsSeparation}
 use Rattle.admin_mgr.specs.Held.{run_of}
-use Rattle.admin_mgr.proofs.KeepLaws.{cardinality_there, is_some_cardinality}
+use Rattle.admin_mgr.proofs.KeepLaws.{cardinality_there}
 use Rattle.admin_mgr.proofs.ViolationLaws.{paired-Decides}
+use Rattle.admin_mgr.proofs.HeldLaws.{is_some_cardinality}
 
 -- ---- the names of sets
 
@@ -39,12 +40,12 @@ numbered_set separation name there =
 module _ (separation : Separation) (name : Bytes) (absent : has_set separation name ≡ false) where
   -- a set that is not there has no cardinality
   pub no_cardinality : (n : ℕ) → contains separation.cardinalities (name, n) ≡ false
-  no_cardinality n = is_false _ (λ there. true≢false (sym (has_set-from separation name n there) ∙ absent))
+  no_cardinality n = false_from_ne_true _ (λ there. true≢false (sym (has_set-from separation name n there) ∙ absent))
 
   module _ (all_roles : Names) (formed : IsSeparation all_roles separation) where
     -- nor a member
     pub no_members : (role : Bytes) → contains separation.members (name, role) ≡ false
-    no_members role = is_false _ (λ there. true≢false (sym (formed.members name role there).0 ∙ absent))
+    no_members role = false_from_ne_true _ (λ there. true≢false (sym (formed.members name role there).0 ∙ absent))
 
     -- so none of its pairs is there yet
     pub paired_apart : (roles : Names) → IsDisjoint (paired name roles) separation.members
@@ -87,12 +88,12 @@ other_cardinality name cardinalities x h =
 -- and one that is there, of another name, is one of them
 pub other_cardinality-from : (name : Bytes) (cardinalities : Cardinalities) (x : Cardinality) → IsTrue (contains cardinalities x) → x.0 ≢ name → IsTrue (contains (without_cardinality name cardinalities) x)
 other_cardinality-from name cardinalities x there apart =
-    other_cardinalities name cardinalities x ∙ and_from _ _ there (ap not (is_false _ (λ same. apart ((tie_Decides name_total name_exact x.0 name).0 same))))
+    other_cardinalities name cardinalities x ∙ and_from _ _ there (ap not (false_from_ne_true _ (λ same. apart ((tie_Decides name_total name_exact x.0 name).0 same))))
 
 module _ (separation : Separation) (all_roles : Names) (formed : IsSeparation all_roles separation) (name : Bytes) (before : ℕ) (there : IsTrue (contains separation.cardinalities (name, before))) where
   -- a set has no second cardinality
   pub no_second_cardinality : (n : ℕ) → before ≢ n → contains separation.cardinalities (name, n) ≡ false
-  no_second_cardinality n other = is_false _ (λ h. other (formed.one_cardinality name before n there h))
+  no_second_cardinality n other = false_from_ne_true _ (λ h. other (formed.one_cardinality name before n there h))
 
   -- an entry of this set is its cardinality
   of_this_set : (x : Cardinality) → IsTrue (contains separation.cardinalities x) → x.0 ≡ name → x ≡ (name, before)
@@ -105,7 +106,7 @@ module _ (separation : Separation) (all_roles : Names) (formed : IsSeparation al
   without_cardinality-remove = same_members cardinality_total cardinality_exact (without_cardinality name separation.cardinalities) (remove separation.cardinalities (name, before)) (λ x. (
     λ h. (let other = other_cardinality name separation.cardinalities x h in
         contains-remove cardinality_total separation.cardinalities (name, before) x
-        ∙ and_from _ _ (ap not (is_false _ (λ same. other.1 (ap (λ (c : Cardinality). c.0) ((tie_Decides cardinality_total cardinality_exact x (name, before)).0 same))))) other.0),
+        ∙ and_from _ _ (ap not (false_from_ne_true _ (λ same. other.1 (ap (λ (c : Cardinality). c.0) ((tie_Decides cardinality_total cardinality_exact x (name, before)).0 same))))) other.0),
     λ h. (let parts = and_parts _ _ (sym (contains-remove cardinality_total separation.cardinalities (name, before) x) ∙ h) in
         other_cardinality-from name separation.cardinalities x parts.1 (λ same.
         true≢false (sym ((tie_Decides cardinality_total cardinality_exact x (name, before)).1 (of_this_set x parts.1 same)) ∙ not-true _ parts.0))),
@@ -136,7 +137,7 @@ module _ (separation : Separation) (all_roles : Names) (formed : IsSeparation al
 
   -- nor once the old one is taken
   pub no_cardinality_left : (n : ℕ) → contains (remove separation.cardinalities (name, before)) (name, n) ≡ false
-  no_cardinality_left n = is_false _ (λ h. (other_cardinality name separation.cardinalities (name, n) (subst (λ s. IsTrue (contains s (name, n))) (sym told_cardinality-remove) h)).1 refl)
+  no_cardinality_left n = false_from_ne_true _ (λ h. (other_cardinality name separation.cardinalities (name, n) (subst (λ s. IsTrue (contains s (name, n))) (sym told_cardinality-remove) h)).1 refl)
 
   -- to set another cardinality is to take the old one and put the new one
   pub with_other_cardinality : (n : ℕ) → with_cardinality separation name n ≡ record separation { cardinalities = insert (remove separation.cardinalities (name, before)) (name, n) }

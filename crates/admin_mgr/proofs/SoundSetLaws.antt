@@ -3,24 +3,25 @@ use Rattle.std.proofs.Common.{◌≡◌, ◌≢◌, ℕ, ◌+◌, ◌<◌, ◌�
 use Rattle.std.specs.Prelude.{IsTrue, Option, Some, None}
 use Rattle.std.specs.Ordering.{eq_by_cmp}
 use Rattle.std.specs.FinMap as finmap
-use Rattle.std.proofs.lemmas.Bool.{and_parts, and_from, or_cases, ltb-true, ltb-false, leb-true, not-true, true≢false}
+use Rattle.std.proofs.lemmas.Bool.{and_parts, and_from, or_cases, ltb-true, leb-true, not-true, true≢false, false_from_ne_true}
 use Rattle.rbac_sets.specs.Sets.{Bytes, Pair, Names, Cardinality, Cardinalities, pair_cmp, contains, insert, retain, len, count}
 use Rattle.rbac_sets.specs.Kind.{limit_of}
 use Rattle.rbac_sets.specs.NameOrder.{name_total, name_exact, pair_total, pair_exact, cardinality_total, cardinality_exact}
 use Rattle.rbac_sets.specs.declared.kind.Kind.{Kind}
 use Rattle.rbac_sets.specs.declared.kind.Kind.TheVariants.{Member}
-use Rattle.rbac_sets.specs.declared.refusal.Refusal.TheVariants.{NoRole, NoSet, SetExists, BadCardinality, MemberExists, NoMember, TooMany}
+use Rattle.rbac_sets.specs.declared.refusal.Refusal.TheVariants.{NoRole, NoSet, SetExists, BadCardinality, MemberExists, NoMember}
 use Rattle.rbac_sets.proofs.SetLaws.{tie_Decides, contains-union, contains-retain, contains-remove, contains-insert-Decides, all-Decides, seconds-Decides}
 use Rattle.rbac_sets.proofs.Members.{count-len, len-subset, len-insert-le}
-use Rattle.role_order.proofs.Members.{is_false, same_or_other}
+use Rattle.role_order.proofs.Members.{same_or_other}
 use Rattle.admin_mgr.specs.RbacState.{RbacState, Separation, members_of, has_set, cardinality_of, is_below}
-use Rattle.admin_mgr.specs.Refusing.{first, too_many, is_too_many}
+use Rattle.admin_mgr.specs.Refusing.{first}
 use Rattle.admin_mgr.specs.Verdict.{create_set_refusals, add_member_refusals, delete_member_refusals, set_cardinality_refusals}
 use Rattle.admin_mgr.specs.After.{paired, without_cardinality, with_set, with_member, without_member, with_cardinality, without_set}
 use Rattle.admin_mgr.specs.Good.{IsSeparation}
 use Rattle.admin_mgr.proofs.VerdictLaws.{passed, refuse_if-None, refuse_unless-None}
 use Rattle.admin_mgr.proofs.ViolationLaws.{paired-Decides, with_paired-own, with_paired-others, with_one-own, with_one-others}
 use Rattle.admin_mgr.proofs.SetRowLaws.{IsNumberedOnce, has_set-from, numbered_set, no_cardinality, no_members, told_cardinality, other_cardinality, other_cardinality-from, with_same_cardinality, contains-without_first}
+use Rattle.admin_mgr.proofs.LimitLaws.{too_many-None}
 
 -- ---- what an accepted command finds
 
@@ -52,10 +53,6 @@ pub record CanSetCardinality (separation : Separation) (name : Bytes) (n : ℕ) 
   pub two : 2 ≤ n
   pub fits : n ≤ len (members_of separation name)
 
--- a number that is not refused is within its limit
-within_limit : (S : RbacState) (kind : Kind) (number : ℕ) → too_many S kind number ≡ None → number ≤ limit_of kind S.version
-within_limit S kind number h = ltb-false (limit_of kind S.version) number (refuse_if-None (is_too_many S kind number) (TooMany kind) h)
-
 -- where no refusal holds, the set can be created
 pub can_create : (S : RbacState) (separation : Separation) (kind : Kind) (name : Bytes) (roles : Names) (n : ℕ) →
     first (create_set_refusals S separation kind name roles n) ≡ None → CanCreate S separation kind name roles n
@@ -67,8 +64,8 @@ can_create S separation kind name roles n accepted =
       absent = refuse_if-None (has_set separation name) SetExists all_passed.1.0;
       two = leb-true _ _ fitting.0;
       fits = leb-true _ _ fitting.1;
-      room_for_set = within_limit S kind _ all_passed.1.1.1.0;
-      room_for_members = within_limit S Member _ all_passed.1.1.1.1.0;
+      room_for_set = too_many-None S kind _ all_passed.1.1.1.0;
+      room_for_members = too_many-None S Member _ all_passed.1.1.1.1.0;
     }
 
 -- where no refusal holds, the member can be added
@@ -79,7 +76,7 @@ can_add_member S separation name role accepted =
       there = refuse_unless-None (has_set separation name) NoSet all_passed.0;
       is_role = refuse_unless-None (contains S.roles role) NoRole all_passed.1.0;
       absent = refuse_if-None (contains separation.members (name, role)) MemberExists all_passed.1.1.0;
-      room = within_limit S Member _ all_passed.1.1.1.0;
+      room = too_many-None S Member _ all_passed.1.1.1.0;
     }
 
 -- where no refusal holds, the member can be deleted
@@ -215,7 +212,7 @@ module _ (S : RbacState) (kind : Kind) (separation : Separation) (sound : IsSoun
       (and_parts (not (eq_by_cmp pair_cmp (x, q) (name, role))) (contains separation.members (x, q)) (sym (contains-remove pair_total separation.members (name, role) (x, q)) ∙ h)).1 in
       let stays : (x q : Bytes) → IsTrue (contains separation.members (x, q)) → (◌≡◌ {A = Pair} (x, q) (name, role) → ⊥) → IsTrue (contains T.members (x, q)) = λ x q h other.
       contains-remove pair_total separation.members (name, role) (x, q)
-      ∙ and_from _ _ (ap not (is_false _ (λ same. other ((tie_Decides pair_total pair_exact (x, q) (name, role)).0 same)))) h in
+      ∙ and_from _ _ (ap not (false_from_ne_true _ (λ same. other ((tie_Decides pair_total pair_exact (x, q) (name, role)).0 same)))) h in
       let less : len (members_of separation name) ≤ len (insert (members_of T name) role) = len-subset name_total name_exact (members_of separation name) (insert (members_of T name) role) (λ q h.
       (contains-insert-Decides name_total name_exact (members_of T name) role q).1 (elim (same_or_other q role) [
         | inl same ↦ inl same
@@ -257,7 +254,7 @@ module _ (S : RbacState) (kind : Kind) (separation : Separation) (sound : IsSoun
       let before = numbered_set separation name can.there in
       let whole : len (insert others (name, before.0)) ≡ len separation.cardinalities =
       ap (λ (s : Separation). len s.cardinalities) (with_same_cardinality separation S.roles sound.formed name before.0 before.1) in
-      let rest : len (insert others (name, before.0)) ≡ len others + 1 = len-with others (name, before.0) (is_false _ (none before.0)) in
+      let rest : len (insert others (name, before.0)) ≡ len others + 1 = len-with others (name, before.0) (false_from_ne_true _ (none before.0)) in
       let more : len (insert others (name, n)) ≤ len others + 1 = len-insert-le cardinality_total others (name, n) in
       let limit = sound.sets in
       record {
@@ -289,7 +286,7 @@ module _ (S : RbacState) (kind : Kind) (separation : Separation) (sound : IsSoun
       let parts = and_parts _ _ (sym (contains-without_first separation.members name (x, q)) ∙ h) in
       (parts.0, λ same. true≢false (sym ((tie_Decides name_total name_exact x name).1 same) ∙ not-true _ parts.1)) in
       let stays : (x q : Bytes) → IsTrue (contains separation.members (x, q)) → x ≢ name → IsTrue (contains T.members (x, q)) = λ x q h other.
-      contains-without_first separation.members name (x, q) ∙ and_from _ _ h (ap not (is_false _ (λ same. other ((tie_Decides name_total name_exact x name).0 same)))) in
+      contains-without_first separation.members name (x, q) ∙ and_from _ _ h (ap not (false_from_ne_true _ (λ same. other ((tie_Decides name_total name_exact x name).0 same)))) in
       record {
         formed = record {
           members = λ x q h.

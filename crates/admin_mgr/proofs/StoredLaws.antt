@@ -3,7 +3,8 @@ use Rattle.std.proofs.Common.{◌≡◌, ◌≢◌, ℕ, Bool, true, false, cond
 use Rattle.std.specs.Prelude.{IsTrue, ◌↔◌, nat_eq, nat_le, if◌then◌else◌}
 use Rattle.std.specs.List.{list_any, list_all}
 use Rattle.std.specs.Ordering.{eq_by_cmp}
-use Rattle.std.proofs.lemmas.Bool.{or_cases, or_left, or_right, and_parts, and_from, eqb-true, eq-eqb, not-true, true≢false}
+use Rattle.std.proofs.lemmas.Bool.{or_cases, or_left, or_right, and_parts, and_from, eqb-true, eq-eqb, not-true, true≢false, false_from_ne_true, or_parts, or_from}
+use Rattle.std.specs.Cmp.{both_ways}
 use Rattle.rbac_sets.specs.Sets.{Bytes, Pairs, Cardinality, cardinality_cmp, contains, from_list, same_name, empty}
 use Rattle.rbac_sets.specs.NameOrder.{name_total, name_exact, cardinality_total, cardinality_exact}
 use Rattle.rbac_sets.proofs.SetLaws.{contains-from_list, tie_Decides}
@@ -12,14 +13,12 @@ use Rattle.rbac_sets.specs.declared.row.Row.TheVariants.{NameRow, PairRow, Grant
 use Rattle.rbac_sets.specs.declared.row.TheConstants.Row.{USER, ROLE, OBJECT, PERMISSION, ASSIGNMENT, INHERITANCE, CLOSURE_PAIR, STATIC_MEMBER, DYNAMIC_MEMBER, SESSION, ACTIVATED_ROLE, STATIC_CARDINALITY, DYNAMIC_CARDINALITY}
 use Rattle.role_order.specs.Order.{Geq, geq, IsClosure}
 use Rattle.role_order.proofs.Deciding.{geq-Decides}
-use Rattle.role_order.proofs.Members.{is_false}
 use Rattle.admin_mgr.specs.RbacState.{RbacState}
 use Rattle.admin_mgr.specs.Rows.{has_row}
 use Rattle.admin_mgr.specs.Changes.{same_row}
 use Rattle.admin_mgr.specs.Gathered.{gathered, cardinalities_of, locks_of, is_known, is_among, same_key, HaveKeysOnce}
 use Rattle.admin_mgr.specs.Checked.{AreReadable, OccurOnce}
-use Rattle.admin_mgr.proofs.GatherLaws.{or_parts, neither}
-use Rattle.admin_mgr.proofs.KeyLaws.{same_test, of_three, of_eight, of_two, names_among, pairs_among, grants_among, cardinalities_among, locks_among}
+use Rattle.admin_mgr.proofs.KeyLaws.{of_three, of_eight, of_two, names_among, pairs_among, grants_among, cardinalities_among, locks_among}
 
 -- ---- a row that the version doesn't know
 
@@ -79,17 +78,17 @@ pub apart_and_above : (edges : Pairs) (a b : Bytes) → IsTrue (geq edges a b &&
 apart_and_above edges a b = (
   λ h. (let parts = and_parts (geq edges a b) (not (same_name a b)) h in
       (λ same. true≢false (sym ((tie_Decides name_total name_exact a b).1 same) ∙ not-true _ parts.1), (geq-Decides edges a b).0 parts.0)),
-  λ h. and_from _ _ ((geq-Decides edges a b).1 h.1) (ap not (is_false (same_name a b) (λ tie. h.0 ((tie_Decides name_total name_exact a b).0 tie)))),
+  λ h. and_from _ _ ((geq-Decides edges a b).1 h.1) (ap not (false_from_ne_true (same_name a b) (λ tie. h.0 ((tie_Decides name_total name_exact a b).0 tie)))),
 )
 
 -- the pairs of a closure are those that the state has
 above_pairs : (edges pairs : Pairs) → IsClosure edges pairs → (a b : Bytes) → (geq edges a b && not (same_name a b)) ≡ contains pairs (a, b)
-above_pairs edges pairs closed a b = same_test _ _ (λ h. (closed a b).1 ((apart_and_above edges a b).0 h)) (λ h. (apart_and_above edges a b).1 ((closed a b).0 h))
+above_pairs edges pairs closed a b = both_ways _ _ (λ h. (closed a b).1 ((apart_and_above edges a b).0 h)) (λ h. (apart_and_above edges a b).1 ((closed a b).0 h))
 
 module _ (version : ℕ) (rows : List Row) (known : IsTrue (list_all (is_known version) rows)) (closed : IsClosure (gathered version rows).facts.edges (gathered version rows).pairs) where
   -- an unknown row is not among them
   unknown_none : (row : Row) → is_known version row ≡ false → is_among rows row ≡ false
-  unknown_none row unknown = is_false _ (λ there. true≢false (sym (among_known version rows row known there) ∙ unknown))
+  unknown_none row unknown = false_from_ne_true _ (λ there. true≢false (sym (among_known version rows row known there) ∙ unknown))
 
   -- a row is the state's exactly if it is among them
   pub rows_are_among : (row : Row) → has_row (gathered version rows).facts row ≡ is_among rows row
@@ -125,7 +124,7 @@ other_row (GrantRow a b c) other apart = apart
 other_row (SetRow k a m) (NameRow l x) apart = apart
 other_row (SetRow k a m) (PairRow l x y) apart = apart
 other_row (SetRow k a m) (GrantRow x y z) apart = apart
-other_row (SetRow k a m) (SetRow l x n) apart = is_false _ (λ same.
+other_row (SetRow k a m) (SetRow l x n) apart = false_from_ne_true _ (λ same.
     (let parts = and_parts (nat_eq k l) (eq_by_cmp cardinality_cmp (x, n) (a, m)) same in
     true≢false (sym (and_from _ _ parts.0 ((tie_Decides name_total name_exact x a).1 (ap (λ (q : Cardinality). q.0) ((tie_Decides cardinality_total cardinality_exact (x, n) (a, m)).0 parts.1)))) ∙ apart)))
 other_row (SetRow k a m) (LockedRow x) apart = apart
@@ -136,7 +135,7 @@ none_other : (row : Row) (rows : List Row) → list_any (λ (other : Row). same_
 none_other row [] free = refl
 none_other row (first ∷ rows) free =
     let parts = or_parts (same_key row first) (list_any (λ (other : Row). same_key row other) rows) free in
-    neither _ _ (other_row row first parts.0) (none_other row rows parts.1)
+    or_from _ _ (other_row row first parts.0) (none_other row rows parts.1)
 
 -- rows whose keys occur once occur once
 pub occur_once : (rows : List Row) → HaveKeysOnce rows → OccurOnce rows

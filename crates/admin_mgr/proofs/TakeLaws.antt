@@ -1,18 +1,17 @@
 -- The commands that take keep the state good.
-use Rattle.std.proofs.Common.{◌≡◌, ◌≢◌, Bool, true, false, not, ◌&&◌, ◌||◌, refl, sym, ◌∙◌, ap, subst, inl, inr}
+use Rattle.std.proofs.Common.{◌≡◌, ◌≢◌, Bool, false, not, ◌&&◌, ◌||◌, refl, sym, ◌∙◌, ap, subst, inl, inr}
 use Rattle.std.specs.Prelude.{IsTrue, None, nat_eq, pos}
 use Rattle.std.specs.declared.cmp.Ordering.{Ordering}
 use Rattle.std.specs.Cmp.{IsTotalOrder}
 use Rattle.std.specs.FinMap.{IsAntisymmetric}
 use Rattle.std.specs.FinSet.{FinSet}
 use Rattle.std.specs.Ordering.{eq_by_cmp}
-use Rattle.std.proofs.lemmas.Bool.{and_parts, and_from, or_left, or_right, true≢false}
+use Rattle.std.proofs.lemmas.Bool.{and_parts, and_from, or_left, or_right, true≢false, false_from_ne_true, or_parts}
 use Rattle.rbac_sets.specs.Sets.{Bytes, Pair, Triple, any, contains, remove, retain, same_name}
 use Rattle.rbac_sets.specs.NameOrder.{name_total, name_exact, pair_total, pair_exact, triple_total, triple_exact}
 use Rattle.rbac_sets.specs.declared.command.Command.TheVariants.{DeleteUser, DeleteRole, DeletePermObj, DeletePermission, RevokePermission, DeassignUser, DeleteInheritance, DeleteSession, DropActiveRole, LockUserAccount, UnlockUserAccount}
 use Rattle.rbac_sets.specs.declared.refusal.Refusal.TheVariants.{NoUser, RoleInUse, ObjectInUse, Version}
 use Rattle.rbac_sets.proofs.SetLaws.{any-Decides, contains-retain, contains-remove, contains-insert-Decides, tie_Decides}
-use Rattle.role_order.proofs.Members.{is_false}
 use Rattle.admin_mgr.specs.RbacState.{RbacState}
 use Rattle.admin_mgr.specs.Authorization.{authorized_users}
 use Rattle.admin_mgr.specs.After.{changed, after, without_first, without_second}
@@ -31,7 +30,7 @@ other_name a b h same = true≢false (sym h ∙ ap not ((tie_Decides name_total 
 -- another member stays where one goes
 remove-keeps : {K : Type 0} {R : K → K → Ordering} (total : IsTotalOrder R) (exact : IsAntisymmetric R) (s : FinSet R) (y x : K) → IsTrue (contains s x) → (x ≢ y) → IsTrue (contains (remove s y) x)
 remove-keeps {R = R} total exact s y x h other =
-    contains-remove total s y x ∙ and_from _ _ (ap not (is_false (eq_by_cmp R x y) (λ tie. other ((tie_Decides total exact x y).0 tie)))) h
+    contains-remove total s y x ∙ and_from _ _ (ap not (false_from_ne_true (eq_by_cmp R x y) (λ tie. other ((tie_Decides total exact x y).0 tie)))) h
 
 -- what is left passes the test
 retain-passes : {K : Type 0} {R : K → K → Ordering} (total : IsTotalOrder R) (exact : IsAntisymmetric R) (s : FinSet R) (p : K → Bool) (x : K) → IsTrue (contains (retain s p) x) → IsTrue (p x)
@@ -42,11 +41,6 @@ none_such : {K : Type 0} {R : K → K → Ordering} (total : IsTotalOrder R) (ex
 none_such total exact p s none x h passes = true≢false (sym ((any-Decides total exact p s).1 (x, h, passes)) ∙ none)
 
 -- where it fails that one of two tests holds, both fail
-neither : (a b : Bool) → (a || b) ≡ false → (a ≡ false) × (b ≡ false)
-neither false false h = (refl, refl)
-neither false true h = cc
-neither true b h = cc
-
 module _ (S : RbacState) (good : IsGood S) where
   -- ---- a user goes, with its assignments and its lock
 
@@ -110,9 +104,9 @@ module _ (S : RbacState) (good : IsGood S) where
     unfolding after changed verdict refusals
     good_after_delete_role accepted =
         let formed = good.well_formed in
-        let unused = neither (any (λ edge. same_name edge.0 role || same_name edge.1 role) S.edges || any (λ member. same_name member.1 role) S.ssd.members) (any (λ member. same_name member.1 role) S.dsd.members)
+        let unused = or_parts (any (λ edge. same_name edge.0 role || same_name edge.1 role) S.edges || any (λ member. same_name member.1 role) S.ssd.members) (any (λ member. same_name member.1 role) S.dsd.members)
         (refuse_if-None (is_in_use S role) RoleInUse (passed (refusals S (DeleteRole role)) accepted).1.0) in
-        let others = neither (any (λ edge. same_name edge.0 role || same_name edge.1 role) S.edges) (any (λ member. same_name member.1 role) S.ssd.members) unused.0 in
+        let others = or_parts (any (λ edge. same_name edge.0 role || same_name edge.1 role) S.edges) (any (λ member. same_name member.1 role) S.ssd.members) unused.0 in
         let no_edge = none_such pair_total pair_exact (λ (edge : Pair). same_name edge.0 role || same_name edge.1 role) S.edges others.0 in
         let no_static = none_such pair_total pair_exact (λ (member : Pair). same_name member.1 role) S.ssd.members others.1 in
         let no_dynamic = none_such pair_total pair_exact (λ (member : Pair). same_name member.1 role) S.dsd.members unused.1 in

@@ -2,7 +2,6 @@
 use Rattle.std.proofs.Common.{◌≡◌, ◌+◌, ◌≤◌, Bool, true, false, not, ◌&&◌, refl, sym, ◌∙◌, ap, subst, inl, inr, arith}
 use Rattle.std.specs.Prelude.{IsTrue, ◌↔◌, ◌⊎◌, nat_le, Result, Ok, Err}
 use Rattle.std.specs.List.{list_all}
-use Rattle.std.proofs.lemmas.List.Folds.{list_all-map}
 use Rattle.std.proofs.lemmas.Bool.{and_parts, and_from, not-true, leb-true, le-leb, cases_lt, true≢false}
 use Rattle.rbac_sets.specs.Sets.{Bytes, Pair, Pairs, Triple, Names, Cardinality, contains, seconds, any, all, len, insert, empty, same_name, name_cmp}
 use Rattle.rbac_sets.specs.NameOrder.{name_total, name_exact, pair_total, pair_exact, triple_total, triple_exact, cardinality_total, cardinality_exact}
@@ -10,6 +9,7 @@ use Rattle.rbac_sets.proofs.SetLaws.{contains-empty, contains-insert-Decides, al
 use Rattle.rbac_sets.proofs.Members.{len-subset, a_member, len-insert-le}
 use Rattle.role_order.specs.Order.{IsAcyclic, IsClosure}
 use Rattle.role_order.proofs.Ranking.{len-new}
+use Rattle.role_order.proofs.Runs.{all_seconds}
 use Rattle.rbac_sets.specs.declared.refusal.Refusal.{Refusal}
 use Rattle.rbac_sets.specs.declared.refusal.Refusal.TheVariants.{Memory, Damaged}
 use Rattle.admin_mgr.specs.RbacState.{RbacState, Separation, members_of, active_roles}
@@ -20,16 +20,10 @@ use Rattle.admin_mgr.specs.Good.{IsWellFormed, IsStaticallySeparated, IsDynamica
 use Rattle.admin_mgr.specs.Gathered.{Gathered}
 use Rattle.admin_mgr.specs.Checked.{IsComplete, HasMembersThere, HaveOneUser, HasCardinalities, HaveAuthorizedUsers, HaveUnlockedUsers}
 use Rattle.admin_mgr.specs.Tested.{are_firsts_in, are_seconds_in, have_sets, have_sessions, have_permissions, have_roles, is_core_complete, is_hierarchy_complete, are_sets_complete, are_sessions_complete, is_complete, have_one_user, has_cardinalities, have_authorized_users, are_kept_statically, are_kept_dynamically, have_unlocked_users}
-use Rattle.admin_mgr.proofs.Lookups.{members_seconds}
 use Rattle.admin_mgr.proofs.HeldLaws.{authorized_reached}
 use Rattle.admin_mgr.proofs.SeparationLaws.{static_test, dynamic_test, least_violated-None}
 use Rattle.std.specs.declared.cmp.Ordering.{Ordering}
 use Rattle.std.specs.FinMap as finmap
-
--- a test of what stands behind a name is one of the pairs that begin with it
-pub all_seconds : (p : Bytes → Bool) (pairs : Pairs) (first : Bytes) → all p (seconds pairs first) ≡ list_all (λ (q : Pair). p q.1) (run_of pairs first)
-unfolding all
-all_seconds p pairs first = ap (list_all p) (members_seconds pairs first) ∙ list_all-map p (λ (q : Pair). q.1) (run_of pairs first)
 
 -- the user is authorized for what was activated exactly if each of these roles is reached
 pub authorized_active : (S : RbacState) (session user : Bytes) →

@@ -7,12 +7,14 @@ use Rattle.std.specs.List.{list_any, list_all, filter}
 use Rattle.std.proofs.lemmas.List.Sums.{length-filter}
 use Rattle.std.specs.Ordering.{eq_by_cmp}
 use Rattle.std.proofs.lemmas.Bool.{and_parts, and_from, or_cases, or_left, or_right, ltb-true, lt-ltb, true≢false}
+use Rattle.std.specs.Cmp.{both_ways}
 use Rattle.rbac_sets.specs.Sets.{Bytes, Pair, Pairs, Names, Cardinality, cardinality_cmp, contains, members, insert, retain, seconds, count, any}
 use Rattle.rbac_sets.specs.NameOrder.{name_total, name_exact, pair_total, pair_exact, cardinality_total, cardinality_exact}
 use Rattle.rbac_sets.specs.declared.refusal.Refusal.TheVariants.{StaticSeparation}
 use Rattle.rbac_sets.proofs.SetLaws.{tie_Decides, contains-members, contains-retain, contains-insert-Decides, image-Decides, any-Decides}
 use Rattle.role_order.specs.Order.{geq}
 use Rattle.role_order.proofs.Members.{same_or_other}
+use Rattle.role_order.proofs.Runs.{count_seconds}
 use Rattle.admin_mgr.specs.RbacState.{RbacState, Separation, members_of}
 use Rattle.admin_mgr.specs.Authorization.{authorized_users, is_authorized, is_session_role}
 use Rattle.admin_mgr.specs.Separation.{is_kept_statically, is_kept_dynamically, least_violated}
@@ -20,14 +22,8 @@ use Rattle.admin_mgr.specs.Refusing.{breaks_static}
 use Rattle.admin_mgr.specs.Assignment.{end_sessions, after_assignment}
 use Rattle.admin_mgr.specs.Good.{IsGood}
 use Rattle.admin_mgr.specs.Held.{run_of, is_reached, first_with_one}
-use Rattle.admin_mgr.proofs.Lookups.{count_seconds}
 use Rattle.admin_mgr.proofs.HeldLaws.{authorized_reached, authorized_members_count}
 use Rattle.admin_mgr.proofs.SeparationLaws.{kept_statically, kept_dynamically}
-
-pub same_test : (a b : Bool) → (IsTrue a → IsTrue b) → (IsTrue b → IsTrue a) → a ≡ b
-same_test true b there back = sym (there refl)
-same_test false true there back = back refl
-same_test false false there back = refl
 
 -- two tests that agree on a list find the same
 pub find_same : (p q : Cardinality → Bool) (xs : List Cardinality) → ((x : Cardinality) → IsTrue (list_any (eq_by_cmp cardinality_cmp x) xs) → p x ≡ q x) → find p xs ≡ find q xs
@@ -74,7 +70,7 @@ pub any_insert : (p : Bytes → Bool) (s : Names) (x : Bytes) → any p (insert 
 any_insert p s x =
     let more = any-Decides name_total name_exact p (insert s x) in
     let before = any-Decides name_total name_exact p s in
-    same_test (any p (insert s x)) (any p s || p x)
+    both_ways (any p (insert s x)) (any p s || p x)
     (λ h. (let one = more.0 h in elim ((contains-insert-Decides name_total name_exact s x one.0).0 one.1) [
       | inl same ↦ or_right (any p s) (p x) (ap p (sym same) ∙ one.2)
       | inr old ↦ or_left (any p s) (p x) (before.1 (one.0, old, one.2))
@@ -117,13 +113,13 @@ authorized-assigned S user role other q =
     )
 
 others_as_before : (S : RbacState) (user role other : Bytes) → (other ≢ user) → (q : Bytes) → is_authorized (with_assignment S (user, role)) other q ≡ is_authorized S other q
-others_as_before S user role other apart q = same_test _ _
+others_as_before S user role other apart q = both_ways _ _
     (λ h. elim ((authorized-assigned S user role other q).0 h) [ inl was ↦ was | inr new ↦ absurd (apart new.0) ])
     (λ h. (authorized-assigned S user role other q).1 (inl h))
 
 user_reached : (S : RbacState) (user role q : Bytes) → is_authorized (with_assignment S (user, role)) user q ≡ (is_reached S.edges (run_of S.assignments user) q || geq S.edges role q)
 user_reached S user role q =
-    same_test (is_authorized (with_assignment S (user, role)) user q) (is_authorized S user q || geq S.edges role q)
+    both_ways (is_authorized (with_assignment S (user, role)) user q) (is_authorized S user q || geq S.edges role q)
     (λ h. elim ((authorized-assigned S user role user q).0 h) [ inl was ↦ or_left (is_authorized S user q) _ was | inr new ↦ or_right (is_authorized S user q) _ new.1 ])
     (λ h. (authorized-assigned S user role user q).1 (elim (or_cases (is_authorized S user q) (geq S.edges role q) h) [ inl was ↦ inl was | inr new ↦ inr (refl, new) ]))
     ∙ ap (λ b. b || geq S.edges role q) (authorized_reached S user q)
@@ -133,7 +129,7 @@ module _ (S : RbacState) (good : IsGood S) (user role : Bytes) (is_user : IsTrue
   kept_by_user : (x : Cardinality) → IsTrue (contains S.ssd.cardinalities x) →
       is_kept_statically (with_assignment S (user, role)) (members_of S.ssd x.0) x.1 ≡ nat_lt (count (is_authorized (with_assignment S (user, role)) user) (members_of S.ssd x.0)) x.1
   unfolding with_assignment
-  kept_by_user x there = same_test _ _
+  kept_by_user x there = both_ways _ _
       (λ h. lt-ltb _ _ ((kept_statically (with_assignment S (user, role)) (members_of S.ssd x.0) x.1).0 h user is_user))
       (λ h. (kept_statically (with_assignment S (user, role)) (members_of S.ssd x.0) x.1).1 (λ other _. elim (same_or_other other user) [
         | inl same ↦ subst (λ u. count (is_authorized (with_assignment S (user, role)) u) (members_of S.ssd x.0) < x.1) (sym same) (ltb-true _ _ h)
@@ -164,7 +160,7 @@ module _ (S : RbacState) (good : IsGood S) (sessions active : Pairs) (session us
   kept_by_session : (x : Cardinality) → IsTrue (contains S.dsd.cardinalities x) →
       is_kept_dynamically (with_sessions S sessions active) (members_of S.dsd x.0) x.1 ≡ nat_lt (count (is_session_role (with_sessions S sessions active) session) (members_of S.dsd x.0)) x.1
   unfolding with_sessions
-  kept_by_session x has = same_test _ _
+  kept_by_session x has = both_ways _ _
       (λ h. lt-ltb _ _ ((kept_dynamically (with_sessions S sessions active) (members_of S.dsd x.0) x.1).0 h session user there))
       (λ h. (kept_dynamically (with_sessions S sessions active) (members_of S.dsd x.0) x.1).1 (λ other owner is. elim (others other owner is) [
         | inl same ↦ subst (λ s. count (is_session_role (with_sessions S sessions active) s) (members_of S.dsd x.0) < x.1) (sym same) (ltb-true _ _ h)

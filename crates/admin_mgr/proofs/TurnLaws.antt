@@ -1,13 +1,13 @@
 -- Changes that lead from one state to another turn the rows of the first into those of the second.
 use Rattle.std.proofs.Common.{◌≡◌, Bool, true, false, not, ◌&&◌, ◌||◌, List, [], ◌∷◌, ◌++◌, refl, sym, ◌∙◌, ap, subst, inl, inr}
 use Rattle.std.specs.Prelude.{nat_eq, if◌then◌else◌}
-use Rattle.std.proofs.lemmas.Bool.{or_cases, or_left, or_right, and_parts, and_from, not-true, true≢false}
+use Rattle.std.proofs.lemmas.Bool.{or_cases, or_left, or_right, and_parts, and_from, not-true, true≢false, false_from_ne_true}
 use Rattle.std.proofs.lemmas.List.Folds.{list_any-append}
 use Rattle.std.specs.declared.cmp.Ordering.{Ordering}
 use Rattle.std.specs.FinSet.{FinSet}
+use Rattle.std.proofs.Math.Bool.{or-false}
 use Rattle.rbac_sets.specs.Sets.{contains, insert, same_name}
 use Rattle.role_order.specs.Order.{geq}
-use Rattle.role_order.proofs.Members.{is_false}
 use Rattle.rbac_sets.specs.declared.row.Row.{Row}
 use Rattle.rbac_sets.specs.declared.row.Row.TheVariants.{NameRow, PairRow, GrantRow, SetRow, LockedRow}
 use Rattle.rbac_sets.specs.declared.row.TheConstants.Row.{USER, ROLE, OBJECT, PERMISSION, ASSIGNMENT, INHERITANCE, CLOSURE_PAIR, STATIC_MEMBER, DYNAMIC_MEMBER, SESSION, ACTIVATED_ROLE, STATIC_CARDINALITY, DYNAMIC_CARDINALITY}
@@ -103,7 +103,7 @@ put_absent S (Put first ∷ changes) fits row h = elim (or_cases (same_row first
   | inl same ↦ subst (λ (other : Row). (is_plain other ≡ true) × (has_row S other ≡ false)) (sym (same_row-is first row same)) fits.0
   | inr later ↦
       let rest = put_absent (with_row S first) changes fits.1 row later in
-      (rest.0, is_false (has_row S row) (λ there. true≢false (sym (or_left _ _ there) ∙ sym (has_row-with S first row rest.0) ∙ rest.1)))
+      (rest.0, false_from_ne_true (has_row S row) (λ there. true≢false (sym (or_left _ _ there) ∙ sym (has_row-with S first row rest.0) ∙ rest.1)))
 ]
 
 -- they take each row once
@@ -111,7 +111,7 @@ taken_once : (S : RbacState) (changes : List Change) → AreFitting taking S cha
 taken_once S [] fits = tt
 taken_once S (Put first ∷ changes) fits = absurd fits.0
 taken_once S (Take first ∷ changes) fits = (
-  is_false (is_taken changes first) (λ again.
+  false_from_ne_true (is_taken changes first) (λ again.
       let there = taken_there (without_row S first) changes fits.1 first again in
       true≢false (sym (same_row-self first) ∙ not-true (same_row first first) (and_parts _ _ (sym (has_row-without S first first there.0) ∙ there.1)).1)),
   taken_once (without_row S first) changes fits.1,
@@ -122,7 +122,7 @@ put_once : (S : RbacState) (changes : List Change) → AreFitting putting S chan
 put_once S [] fits = tt
 put_once S (Take first ∷ changes) fits = absurd fits.0
 put_once S (Put first ∷ changes) fits = (
-  is_false (is_put changes first) (λ again.
+  false_from_ne_true (is_put changes first) (λ again.
       let absent = put_absent (with_row S first) changes fits.1 first again in
       true≢false (sym (or_right _ _ (same_row-self first)) ∙ sym (has_row-with S first first absent.0) ∙ absent.1)),
   put_once (with_row S first) changes fits.1,
@@ -169,7 +169,7 @@ pub turns_taking : {S T : RbacState} {changes : List Change} → Steps taking S 
 turns_taking {S} {T} {changes} steps = record {
   version = sym (ap (λ X. X.version) (sym steps.leads) ∙ version-changes S changes);
   rows = led_rows S T changes steps.leads (λ row. not_both _ _ (taking_puts S changes steps.fits row))
-      (λ row other. (is_false _ (λ h. true≢false (sym (taken_there S changes steps.fits row h).0 ∙ other)), taking_puts S changes steps.fits row));
+      (λ row other. (false_from_ne_true _ (λ h. true≢false (sym (taken_there S changes steps.fits row h).0 ∙ other)), taking_puts S changes steps.fits row));
   there = λ row h. (taken_there S changes steps.fits row h).1;
   absent = λ row h. absurd (true≢false (sym h ∙ taking_puts S changes steps.fits row));
   once = taken_once S changes steps.fits;
@@ -181,7 +181,7 @@ pub turns_putting : {S T : RbacState} {changes : List Change} → Steps putting 
 turns_putting {S} {T} {changes} steps = record {
   version = sym (ap (λ X. X.version) (sym steps.leads) ∙ version-changes S changes);
   rows = led_rows S T changes steps.leads (λ row. ap (λ b. b && is_put changes row) (putting_takes S changes steps.fits row))
-      (λ row other. (putting_takes S changes steps.fits row, is_false _ (λ h. true≢false (sym (put_absent S changes steps.fits row h).0 ∙ other))));
+      (λ row other. (putting_takes S changes steps.fits row, false_from_ne_true _ (λ h. true≢false (sym (put_absent S changes steps.fits row h).0 ∙ other))));
   there = λ row h. absurd (true≢false (sym h ∙ putting_takes S changes steps.fits row));
   absent = λ row h. (put_absent S changes steps.fits row h).1;
   once = put_once S changes steps.fits;
@@ -251,19 +251,19 @@ turns_append {S} {M} {T} {xs} {ys} first second back forth takes_first = record 
   ];
   absent = λ row h. elim (or_cases (is_put xs row) (is_put ys row) (sym (put_in xs ys row) ∙ h)) [
     | inl early ↦ first.absent row early
-    | inr late ↦ is_false (has_row S row) (λ was. true≢false (
-        sym (or_left _ _ (and_from _ _ was (ap not (is_false (is_taken xs row) (λ taken. true≢false (sym (and_from _ _ taken late) ∙ forth row))))))
+    | inr late ↦ false_from_ne_true (has_row S row) (λ was. true≢false (
+        sym (or_left _ _ (and_from _ _ was (ap not (false_from_ne_true (is_taken xs row) (λ taken. true≢false (sym (and_from _ _ taken late) ∙ forth row))))))
         ∙ sym (first.rows row) ∙ second.absent row late))
   ];
   once = once_append xs ys
-      (λ row early. is_false (is_put ys row) (λ late. true≢false (sym (or_right (has_row S row && not (is_taken xs row)) _ early) ∙ sym (first.rows row) ∙ second.absent row late)))
-      (λ row early. is_false (is_taken ys row) (λ late. true≢false (sym (second.there row late) ∙ first.rows row ∙ gone row early)))
+      (λ row early. false_from_ne_true (is_put ys row) (λ late. true≢false (sym (or_right (has_row S row && not (is_taken xs row)) _ early) ∙ sym (first.rows row) ∙ second.absent row late)))
+      (λ row early. false_from_ne_true (is_taken ys row) (λ late. true≢false (sym (second.there row late) ∙ first.rows row ∙ gone row early)))
       first.once second.once;
   takes_first = takes_first;
 }
   where
     gone : (row : Row) → is_taken xs row ≡ true → (has_row S row && not (is_taken xs row) || is_put xs row) ≡ false
-    gone row early = is_false _ (λ h. elim (or_cases (has_row S row && not (is_taken xs row)) (is_put xs row) h) [
+    gone row early = false_from_ne_true _ (λ h. elim (or_cases (has_row S row && not (is_taken xs row)) (is_put xs row) h) [
       | inl was ↦ true≢false (sym (and_parts _ _ was).1 ∙ ap not early)
       | inr put ↦ true≢false (sym (first.there row early) ∙ first.absent row put)
     ])
@@ -310,7 +310,7 @@ turns_both {S} {M} {T} {xs} {ys} first second apart =
 
 -- rows that weren't there when the first were taken aren't among these
 pub apart_where_absent : {S M : RbacState} {xs : List Change} (ys : List Change) → Steps taking S xs M → ((row : Row) → is_put ys row ≡ true → has_row S row ≡ false) → AreApart xs ys
-apart_where_absent {S} {M} {xs} ys first absent row = is_false _ (λ both.
+apart_where_absent {S} {M} {xs} ys first absent row = false_from_ne_true _ (λ both.
     let parts = and_parts (is_taken xs row) _ both in
     true≢false (sym (taken_there S xs first.fits row parts.0).1 ∙ absent row parts.1))
 
@@ -323,11 +323,7 @@ still_absent {S} {M} {xs} first row absent =
 pub turns_taking_then_put : {S M : RbacState} {xs : List Change} → Steps taking S xs M → (row : Row) → is_plain row ≡ true → has_row S row ≡ false → Turns S (xs ++ Put row ∷ []) (with_row M row)
 unfolding is_put
 turns_taking_then_put {S} {M} {xs} first row plain absent = turns_both first (steps_put M row plain (still_absent first row absent))
-    (apart_where_absent (Put row ∷ []) first (λ other put. ap (has_row S) (same_row-is row other (only (same_row row other) put)) ∙ absent))
-  where
-    only : (b : Bool) → (b || false) ≡ true → b ≡ true
-    only true h = refl
-    only false h = h
+    (apart_where_absent (Put row ∷ []) first (λ other put. ap (has_row S) (same_row-is row other (sym (or-false (same_row row other)) ∙ put)) ∙ absent))
 
 -- the same, by the set that the row is of
 pub turns_taking_then_put_one :

@@ -1,5 +1,5 @@
 -- Sets to which entries are put: unions, and how many entries there are.
-use Rattle.std.proofs.Common.{◌≡◌, ◌+◌, Bool, true, false, cond, ◌||◌, List, [], ◌∷◌, length, refl, sym, ◌∙◌, ap, arith}
+use Rattle.std.proofs.Common.{◌≡◌, ◌+◌, false, cond, ◌||◌, List, [], ◌∷◌, length, refl, sym, ◌∙◌, ap, arith}
 use Rattle.std.specs.Prelude.{IsTrue}
 use Rattle.std.specs.List.{list_any, IsDistinct}
 use Rattle.std.specs.declared.cmp.Ordering.{Ordering}
@@ -8,35 +8,18 @@ use Rattle.std.specs.Cmp.{IsTotalOrder}
 use Rattle.std.specs.FinMap as finmap
 use Rattle.std.specs.FinMap.{IsAntisymmetric}
 use Rattle.std.specs.FinSet.{FinSet}
-use Rattle.std.proofs.Math.Bool.{or_assoc}
-use Rattle.std.proofs.lemmas.Bool.{or_left, or_right, true≢false}
-use Rattle.std.proofs.lemmas.Map.Keys.{IsDistinct-from_sorted}
+use Rattle.std.proofs.Math.Bool.{or_assoc, or-false}
+use Rattle.std.proofs.lemmas.Bool.{or_left, or_right, true≢false, false_from_ne_true}
 use Rattle.rbac_sets.specs.Sets.{IsDisjoint, empty, contains, insert, insert_all, union, from_list, members, len}
 use Rattle.rbac_sets.proofs.SetLaws.{or_turned, contains-empty, contains-insert, contains-from_list, contains-members, contains-union, same_set, tie_Decides}
 use Rattle.rbac_sets.proofs.InOrder.{none_passes}
-use Rattle.rbac_sets.proofs.Members.{len-members}
-use Rattle.role_order.proofs.Members.{members-rise}
-
--- to add "or false" changes no test
-or_false : (a : Bool) → (a || false) ≡ a
-or_false true = refl
-or_false false = refl
-
--- a test that can not hold is false
-pub is_false : (b : Bool) → (b ≡ true → ⊥) → b ≡ false
-is_false true h = absurd (h refl)
-is_false false h = refl
-
--- where none of two tests holds, each is false
-pub or_none : (a b : Bool) → (a || b) ≡ false → (a ≡ false) × (b ≡ false)
-or_none true b h = absurd (true≢false h)
-or_none false b h = (refl, h)
+use Rattle.rbac_sets.proofs.Members.{len-members, members-distinct}
 
 module _ {K : Type 0} {R : K → K → Ordering} (total : IsTotalOrder R) (exact : IsAntisymmetric R) where
   -- nothing more
   pub union-empty : (s : FinSet R) → union s empty ≡ s
   union-empty s = same_set total exact (union s empty) s (λ y.
-      contains-union total exact s empty y ∙ ap (λ b. contains s y || b) (contains-empty R y) ∙ or_false (contains s y))
+      contains-union total exact s empty y ∙ ap (λ b. contains s y || b) (contains-empty R y) ∙ or-false (contains s y))
 
   -- one more of those that are put
   pub union-insert : (s t : FinSet R) (x : K) → union s (insert t x) ≡ insert (union s t) x
@@ -86,16 +69,12 @@ module _ {K : Type 0} {R : K → K → Ordering} (total : IsTotalOrder R) (exact
       let more : len (insert (insert_all s xs) x) ≡ len (insert_all s xs) + 1 = len-insert-new (insert_all s xs) x new in
       omega (arith, rest, more)
 
-  -- the members of a set are different
-  pub members-distinct : (s : FinSet R) → IsDistinct (eq_by_cmp R) (members s)
-  members-distinct s = IsDistinct-from_sorted R (members s) (members-rise R s)
-
   -- sets that have none in common have as many members as both
   pub len-union : (s t : FinSet R) → IsDisjoint s t → len (union s t) ≡ len s + len t
   unfolding union
   len-union s t apart =
-      let all : len (insert_all s (members t)) ≡ len s + length (members t) = len-insert_all s (members t) (members-distinct t) (λ x there.
-      is_false (contains s x) (λ h. true≢false (sym (contains-members t x ∙ there) ∙ apart x h))) in
+      let all : len (insert_all s (members t)) ≡ len s + length (members t) = len-insert_all s (members t) (members-distinct R t) (λ x there.
+      false_from_ne_true (contains s x) (λ h. true≢false (sym (contains-members t x ∙ there) ∙ apart x h))) in
       let counted : len t ≡ length (members t) = len-members t in
       omega (arith, all, counted)
 

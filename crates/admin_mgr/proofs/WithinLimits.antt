@@ -1,7 +1,7 @@
 -- No limit is passed exactly where the relations are within the limits.
 use Rattle.std.proofs.Common.{◌≡◌, ℕ, ◌≤◌, Bool, true, false, cond, List, [], ◌∷◌, refl, sym, ◌∙◌, inl, inr, arith}
 use Rattle.std.specs.Prelude.{Some, None, find, nat_lt}
-use Rattle.std.proofs.lemmas.Bool.{cases_lt, lt-ltb, ltb-false, ltb-true, true≢false}
+use Rattle.std.proofs.lemmas.Bool.{cases_lt, lt-ltb, ltb-false, ltb-true, true≢false, false_from_ne_true, or_parts, or_from}
 use Rattle.rbac_sets.specs.Sets.{Bytes, Pair, Pairs, len, seconds}
 use Rattle.rbac_sets.specs.NameOrder.{name_total, name_exact, pair_total, pair_exact}
 use Rattle.rbac_sets.proofs.SetLaws.{any-Decides, seconds-Decides}
@@ -9,10 +9,8 @@ use Rattle.rbac_sets.proofs.Members.{a_member}
 use Rattle.rbac_sets.specs.Kind.{limit_of}
 use Rattle.rbac_sets.specs.declared.kind.Kind.{Kind}
 use Rattle.rbac_sets.specs.declared.kind.Kind.TheVariants.{User, Role, Object, Permission, Grant, Assignment, Edge, SsdSet, DsdSet, Member, Session, ActiveRole}
-use Rattle.role_order.proofs.Members.{is_false}
 use Rattle.admin_mgr.specs.RbacState.{RbacState}
 use Rattle.admin_mgr.specs.Good.{IsWithinLimits}
-use Rattle.admin_mgr.proofs.GatherLaws.{or_parts, neither}
 use Rattle.admin_mgr.specs.Checked.{first_passed, is_passed, has_more_behind, limited_kinds}
 
 -- no item of the list passes the test
@@ -40,7 +38,7 @@ one_found {X} p (y ∷ xs) x h none = by (one_found p xs x) (p y) refl h
 
 -- a number that is no more than the limit doesn't pass it
 not_more : (limit n : ℕ) → n ≤ limit → nat_lt limit n ≡ false
-not_more limit n most = is_false _ (λ h. (let more = ltb-true limit n h in absurd (omega (arith, more, most))))
+not_more limit n most = false_from_ne_true _ (λ h. (let more = ltb-true limit n h in absurd (omega (arith, more, most))))
 
 -- no first name has more than so many pairs
 few_behind : (limit : ℕ) (pairs : Pairs) → has_more_behind limit pairs ≡ false → (first : Bytes) → len (seconds pairs first) ≤ limit
@@ -54,7 +52,7 @@ few_behind limit pairs none first = elim (cases_lt limit (len (seconds pairs fir
 
 -- and the other way round
 behind_few : (limit : ℕ) (pairs : Pairs) → ((first : Bytes) → len (seconds pairs first) ≤ limit) → has_more_behind limit pairs ≡ false
-behind_few limit pairs few = is_false _ (λ h.
+behind_few limit pairs few = false_from_ne_true _ (λ h.
     (let one = (any-Decides pair_total pair_exact (λ (pair : Pair). nat_lt limit (len (seconds pairs pair.0))) pairs).0 h in
     let more = ltb-true limit (len (seconds pairs one.0.0)) one.2 in
     let most = few one.0.0 in absurd (omega (arith, more, most))))
@@ -110,7 +108,7 @@ no_limit_passed S kind within found = one_found (is_passed S) limited_kinds kind
                 (
                   not_more (limit_of DsdSet S.version) (len S.dsd.cardinalities) within.dsd_sets,
                   (
-                    neither _ _ (behind_few (limit_of Member S.version) S.ssd.members within.ssd_members) (behind_few (limit_of Member S.version) S.dsd.members within.dsd_members),
+                    or_from _ _ (behind_few (limit_of Member S.version) S.ssd.members within.ssd_members) (behind_few (limit_of Member S.version) S.dsd.members within.dsd_members),
                     (
                       not_more (limit_of Session S.version) (len S.sessions) within.sessions,
                       (

@@ -1,10 +1,11 @@
 //! Whether a command is accepted, and else which refusal is told.
 //!
 //! There is one function for each command, or for the same command on static and on dynamic sets, and
-//! `judge` for any. Its answer is the verdict itself: the
-//! first of the command's refusals that holds, and `None` where the command is accepted. The state is
-//! never copied: what separation of duty says of the state after the command is found from the state
-//! before it.
+//! `judge` for any. Its answer is the verdict itself: the first of the command's refusals that holds, and
+//! `None` where the command is accepted. The state is never copied: what separation of duty says of the
+//! state after the command is found from the state before it. An assignment, an activated role and an
+//! inheritance pass over all sets of the kind, and count in those alone that have a member which the role
+//! reaches; a new session is counted in every dynamic set; a command on one set is counted in that set.
 ghost use Rattle.std.specs.Prelude.{◌≡◌, IfOk};
 ghost use Rattle.admin_mgr.specs.Verdict.{verdict};
 
@@ -29,21 +30,23 @@ use crate::state::State;
 use rbac_sets::{Command, Refusal};
 use std::alloc::{AllocError, Global};
 
-pub mod core_rbac;
-pub mod hierarchy;
+mod core_rbac;
+mod hierarchy;
 pub(crate) mod naming;
-pub mod separation;
-pub mod sessions;
+mod separation;
+mod sessions;
 pub(crate) mod set_refusals;
 
-/// The verdict on a command: the first of its refusals that holds, in their order, and `None` where the
-/// command is accepted.
-///
-/// # Errors
-///
-/// Where memory was refused, for the name of a violated separation of duty set or for the list of who
-/// reaches the ascendant of a new inheritance.
-pub fn judge(alloc: Global, state: &State, command: &Command) -> Result<Option<Refusal>, AllocError>
+// The verdict on a command: the first of its refusals that holds, in their order, and `None` where the
+// command is accepted.
+//
+// An error says that memory was refused, for the name of a violated separation of duty set or for the
+// list of who reaches the ascendant of a new inheritance.
+pub(crate) fn judge(
+    alloc: Global,
+    state: &State,
+    command: &Command,
+) -> Result<Option<Refusal>, AllocError>
     ensures { IfOk result (λ found. found ≡ verdict state.now.facts command.now) }
 {
     match command {

@@ -8,13 +8,12 @@
 #![tactic(auto)]
 
 pub use plan::{Plan, Report};
-pub use relations::Relations;
 pub use state::State;
 
 mod checking;
 mod held;
 mod inheriting;
-pub mod judge;
+mod judge;
 mod keeping;
 mod keeping_sessions;
 mod keeping_users;
@@ -23,8 +22,8 @@ mod limits;
 mod lookup;
 pub mod plan;
 mod planning;
-pub mod relations;
-pub mod separation_of_duty;
+mod relations;
+mod separation_of_duty;
 pub mod state;
 #[cfg(test)]
 mod tests;

@@ -17,7 +17,7 @@ pub(crate) fn is_same(a: &Name, b: &Name) -> bool
 }
 
 // Whether a pair begins with this name.
-#[tactic(auto, using(crate::proofs::Lookups::any_filter), unfolding(rbac_sets::specs::Sets::any))]
+#[tactic(auto, using(rbac_sets::proofs::Lists::any_filter), unfolding(rbac_sets::specs::Sets::any))]
 pub(crate) fn has_first(pairs: &PairSet, first: &Name) -> bool
     ensures { result ≡ any (λ (pair : Pair). same_name pair.0 first.now) (set_of pair_cmp pairs.now) }
 {

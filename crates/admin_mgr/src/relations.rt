@@ -12,13 +12,13 @@ use std::marker::Model;
 mod changing;
 pub(crate) mod gathered;
 
-/// The sets and relations of core RBAC, of the role hierarchy and of separation of duty, between the
-/// changes of one command: they may be anything.
-///
-/// A contract sees them as `facts`, and beside them how many more entries each set can take without
-/// memory.
+// The sets and relations of core RBAC, of the role hierarchy and of separation of duty, between the
+// changes of one command: they may be anything.
+//
+// A contract sees them as `facts`, and beside them how many more entries each set can take without
+// memory.
 #[derive(Drop)]
-pub struct Relations {
+pub(crate) struct Relations {
     version: u32,
     users: NameSet,
     locked: NameSet,

@@ -8,12 +8,12 @@ ghost use Rattle.admin_mgr.specs.SeparationOfDuty.{cardinality_rows, kind_of, me
 use crate::state::State;
 use rbac_sets::{CountSet, Kind, Name, PairSet, Refusal, Row};
 
-/// A kind of separation of duty.
+// A kind of separation of duty.
 #[derive(Clone, Copy)]
-pub enum SeparationOfDuty {
-    /// Of the roles that a user is authorized for (SSD).
+pub(crate) enum SeparationOfDuty {
+    // Of the roles that a user is authorized for (SSD).
     Static,
-    /// Of the roles that a session has (DSD).
+    // Of the roles that a session has (DSD).
     Dynamic,
 }
 

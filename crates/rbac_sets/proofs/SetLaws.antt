@@ -5,7 +5,7 @@ use Rattle.std.specs.Bool.{Decides, one_answer}
 use Rattle.std.specs.List.{list_any, list_all}
 use Rattle.std.specs.declared.cmp.Ordering.{Ordering}
 use Rattle.std.specs.Ordering.{eq_by_cmp}
-use Rattle.std.specs.Cmp.{IsTotalOrder, Equal-is, tied_itself}
+use Rattle.std.specs.Cmp.{IsTotalOrder, Equal-is, tied_itself, both_ways}
 use Rattle.std.specs.Cmp.Lexicographic.{pointwise, bytes_decides}
 use Rattle.std.specs.FinMap as finmap
 use Rattle.std.specs.FinMap.{IsAntisymmetric}
@@ -17,13 +17,9 @@ use Rattle.std.proofs.Math.Bool.{or_comm, or_assoc}
 use Rattle.std.proofs.lemmas.Bool.{or_cases, or_left, or_right, and_parts, and_from, not-true, true≢false}
 use Rattle.rbac_sets.specs.NameOrder.{name_total, name_exact, pair_total, pair_exact}
 use Rattle.rbac_sets.specs.Sets.{union, insert_all, difference, IsDisjoint, Bytes, Pair, Pairs, empty, contains, insert, remove, retain, members, from_list, any, all, image, seconds, same_name}
+use Rattle.rbac_sets.proofs.Lists.{any-push}
 
 -- ---- membership
-
-both_true : (a b : Bool) → (a ≡ true → b ≡ true) → (b ≡ true → a ≡ true) → a ≡ b
-both_true true b f g = sym (f refl)
-both_true false true f g = g refl
-both_true false false f g = refl
 
 pub or_turned : (a b c : Bool) → (a || (b || c)) ≡ (b || (a || c))
 or_turned true true c = refl
@@ -96,7 +92,7 @@ module _ {K : Type 0} {R : K → K → Ordering} (total : IsTotalOrder R) where
     same_set s t same = finmap.same_map total exact s t (λ x. marked _ _ (same x))
 
     pub same_members : (s t : FinSet R) → ((x : K) → IsTrue (contains s x) ↔ IsTrue (contains t x)) → s ≡ t
-    same_members s t same = same_set s t (λ x. both_true (contains s x) (contains t x) (same x).0 (same x).1)
+    same_members s t same = same_set s t (λ x. both_ways (contains s x) (contains t x) (same x).0 (same x).1)
 
     pub from_members : (s : FinSet R) → from_list (members s) ≡ s
     from_members s = same_set (from_list (members s)) s (λ x. contains-from_list (members s) x ∙ sym (contains-members s x))
@@ -128,14 +124,16 @@ module _ {K : Type 0} {R : K → K → Ordering} (total : IsTotalOrder R) where
 
     -- ---- tests of the members
 
-    list_any-found : (p : K → Bool) (xs : List K) → list_any p xs ≡ true → (x : K) × (list_any (eq_by_cmp R x) xs ≡ true) × (p x ≡ true)
+    -- a list that passes a test has an item that does
+    pub list_any-found : (p : K → Bool) (xs : List K) → list_any p xs ≡ true → (x : K) × (list_any (eq_by_cmp R x) xs ≡ true) × (p x ≡ true)
     list_any-found p [] h = absurd (true≢false (sym h))
     list_any-found p (x ∷ xs) h = elim (or_cases (p x) (list_any p xs) h) [
       | inl px ↦ (x, or_left _ _ ((tie_Decides x x).1 refl), px)
       | inr rest ↦ let found = list_any-found p xs rest in (found.0, or_right _ _ found.1, found.2)
     ]
 
-    list_any-here : (p : K → Bool) (xs : List K) (x : K) → list_any (eq_by_cmp R x) xs ≡ true → p x ≡ true → list_any p xs ≡ true
+    -- and one with such an item passes
+    pub list_any-here : (p : K → Bool) (xs : List K) (x : K) → list_any (eq_by_cmp R x) xs ≡ true → p x ≡ true → list_any p xs ≡ true
     list_any-here p [] x h px = absurd (true≢false (sym h))
     list_any-here p (y ∷ ys) x h px = elim (or_cases (eq_by_cmp R x y) (list_any (eq_by_cmp R x) ys) h) [
       | inl same ↦ or_left _ _ (subst (λ z. p z ≡ true) ((tie_Decides x y).0 same) px)
@@ -199,10 +197,6 @@ pub same_bytes : (x y : Bytes) → pointwise nat_eq x y ≡ same_name x y
 same_bytes x y = one_answer (pointwise nat_eq x y) (same_name x y) (bytes_decides x y) (tie_Decides name_total name_exact x y)
 
 module _ {K : Type 0} {R : K → K → Ordering} (total : IsTotalOrder R) (exact : IsAntisymmetric R) where
-  any-push : (p : K → Bool) (xs : List K) (x : K) → list_any p (xs ++ x ∷ []) ≡ (p x || list_any p xs)
-  any-push p [] x = refl
-  any-push p (y ∷ ys) x = ap (λ b. p y || b) (any-push p ys x) ∙ or_turned (p y) (p x) (list_any p ys)
-
   pub from_list_push : (xs : List K) (x : K) → from_list {R = R} (xs ++ x ∷ []) ≡ insert (from_list xs) x
   from_list_push xs x = same_set total exact _ _ (λ y. contains-from_list total (xs ++ x ∷ []) y ∙ any-push (eq_by_cmp R y) xs x
       ∙ ap (λ b. eq_by_cmp R y x || b) (sym (contains-from_list total xs y)) ∙ sym (contains-insert total (from_list xs) x y))

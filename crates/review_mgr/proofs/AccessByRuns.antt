@@ -1,25 +1,21 @@
 -- The access decision by runs.
-use Rattle.std.proofs.Common.{◌≡◌, Bool, true, false, not, length, refl, sym, ◌∙◌, ap}
+use Rattle.std.proofs.Common.{◌≡◌, Bool, true, not, length, refl, sym, ◌∙◌, ap}
 use Rattle.std.specs.Prelude.{IsTrue, ◌==◌}
 use Rattle.std.specs.List.{filter, list_any}
 use Rattle.std.proofs.lemmas.Bool.{and_parts, and_from}
+use Rattle.std.specs.Cmp.{both_ways}
 use Rattle.rbac_sets.specs.Sets.{Bytes, Pair, Pairs, Triple, same_name, contains, members, retain, any}
 use Rattle.rbac_sets.specs.NameOrder.{name_total, name_exact, pair_total, pair_exact, triple_total, triple_exact}
 use Rattle.rbac_sets.proofs.SetLaws.{any-Decides, contains-retain, tie_Decides}
 use Rattle.rbac_sets.proofs.Members.{members-retain}
+use Rattle.rbac_sets.proofs.Lists.{any_filter}
 use Rattle.admin_mgr.specs.RbacState.{RbacState, has_session}
 use Rattle.admin_mgr.specs.Authorization.{session_roles, is_session_role}
 use Rattle.admin_mgr.specs.Good.{IsGood}
 use Rattle.admin_mgr.specs.Held.{run_of, is_reached}
 use Rattle.admin_mgr.proofs.HeldLaws.{session_reached}
-use Rattle.admin_mgr.proofs.Lookups.{any_filter}
 use Rattle.review_mgr.specs.Questions.{has_operation}
 use Rattle.review_mgr.specs.Review.{has_access, permission_of, is_grant_of}
-
-pub same_test : (a b : Bool) → (IsTrue a → IsTrue b) → (IsTrue b → IsTrue a) → a ≡ b
-same_test true b there back = sym (there refl)
-same_test false true there back = back refl
-same_test false false there back = refl
 
 -- a role that is granted the permission is reached from what was activated
 pub access_reached : (S : RbacState) → IsGood S → (session operation object : Bytes) →
@@ -31,7 +27,7 @@ access_reached S good session operation object =
     let by_run = any-Decides triple_total triple_exact reached granted in
     let by_role = any-Decides name_total name_exact (λ role. contains S.grants (object, operation, role)) (session_roles S session) in
     ap (list_any reached) (sym (members-retain triple_total triple_exact S.grants (is_grant_of object operation)))
-    ∙ same_test _ _
+    ∙ both_ways _ _
     (λ h.
     let found = by_run.0 h in
     let grant = found.0 in

@@ -6,12 +6,14 @@ use Rattle.std.specs.List.Sorted.{IsStrictlySortedBy}
 use Rattle.std.proofs.lemmas.List.{take_more}
 use Rattle.std.proofs.Math.Bool.{or_assoc}
 use Rattle.std.proofs.lemmas.Bool.{and_parts, and_from, or_cases, or_left, or_right}
+use Rattle.std.specs.Cmp.{both_ways}
 use Rattle.rbac_sets.specs.Sets.{Bytes, Pair, Pairs, name_cmp, same_name, contains, from_list, insert, members, retain, any}
 use Rattle.rbac_sets.specs.NameOrder.{name_total, name_exact, pair_total, pair_exact}
 use Rattle.rbac_sets.proofs.SetLaws.{any-Decides, contains-empty, contains-insert, contains-retain, or_turned, same_members, tie_Decides}
 use Rattle.rbac_sets.proofs.Members.{members-retain}
 use Rattle.rbac_sets.proofs.InOrder.{members-sorted}
 use Rattle.rbac_sets.proofs.Runs.{take_whole}
+use Rattle.rbac_sets.proofs.Lists.{any-push}
 use Rattle.role_order.specs.Order.{Geq, here, step, geq, IsClosure}
 use Rattle.role_order.proofs.Deciding.{geq-Decides}
 use Rattle.role_order.proofs.Members.{same_or_other}
@@ -20,16 +22,10 @@ use Rattle.admin_mgr.specs.Authorization.{authorized_roles, session_roles, is_au
 use Rattle.admin_mgr.specs.Good.{IsGood, IsWellFormed}
 use Rattle.admin_mgr.specs.Held.{run_of, is_reached}
 use Rattle.admin_mgr.proofs.HeldLaws.{authorized_reached, session_reached}
-use Rattle.review_mgr.proofs.AccessByRuns.{same_test}
 
 -- ---- a loop over a list
 
--- a test of some item, with one more at the end
-any-push : {A : Type 0} (p : A → Bool) (xs : List A) (x : A) → list_any p (xs ++ x ∷ []) ≡ (p x || list_any p xs)
-any-push p [] x = refl
-any-push p (y ∷ ys) x = ap (λ b. p y || b) (any-push p ys x) ∙ or_turned (p y) (p x) (list_any p ys)
-
--- the same over the first items of a list
+-- a test of some of the first items of a list, with one more
 any-more : {A : Type 0} (p : A → Bool) (xs : List A) (i : ℕ) (x : A) → i < length xs → x ≡ get_or xs i x → list_any p (take (i + 1) xs) ≡ (p x || list_any p (take i xs))
 any-more p xs i x within is = ap (list_any p) (take_more xs i x within ∙ ap (λ y. take i xs ++ y ∷ []) (sym is)) ∙ any-push p (take i xs) x
 
@@ -64,7 +60,7 @@ below-are edges pairs closed role q =
     let ends : Pair → Bool = λ pair. same_name q pair.1 in
     let run = any-Decides pair_total pair_exact ends (retain pairs begins) in
     let same = ap (list_any ends) (members-retain pair_total pair_exact pairs begins) in
-    same_test _ _
+    both_ways _ _
     (λ h. (geq-Decides edges role q).1 (elim (or_cases (same_name q role) _ h) [
       | inl one ↦ subst (λ z. Geq edges role z) (sym ((tie_Decides name_total name_exact q role).0 one)) here
       | inr other ↦

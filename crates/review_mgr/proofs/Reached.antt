@@ -1,17 +1,16 @@
 -- What users and sessions have, by the runs of what they hold.
 use Rattle.std.proofs.Common.{◌≡◌, Bool, List, sym, ◌∙◌, ap}
-use Rattle.std.specs.Prelude.{is_some}
 use Rattle.std.proofs.lemmas.Bool.{and_parts, and_from}
-use Rattle.rbac_sets.specs.Sets.{Bytes, Pair, Pairs, Triple, Triples, Cardinality, name_cmp, pair_cmp, same_name, contains, members, retain, image, seconds, any}
+use Rattle.rbac_sets.specs.Sets.{Bytes, Pair, Pairs, Triple, Triples, name_cmp, pair_cmp, same_name, contains, retain, image, seconds}
 use Rattle.rbac_sets.specs.NameOrder.{name_total, name_exact, pair_total, pair_exact, triple_total, triple_exact}
 use Rattle.rbac_sets.proofs.SetLaws.{image-Decides, contains-retain, seconds-Decides, tie_Decides, same_members}
 use Rattle.role_order.specs.Order.{geq}
-use Rattle.admin_mgr.specs.RbacState.{RbacState, Separation, cardinality_of, has_set}
+use Rattle.role_order.proofs.Runs.{any_seconds}
+use Rattle.admin_mgr.specs.RbacState.{RbacState}
 use Rattle.admin_mgr.specs.Authorization.{session_roles, is_session_role}
 use Rattle.admin_mgr.specs.Good.{IsGood}
 use Rattle.admin_mgr.specs.Held.{run_of, is_reached}
 use Rattle.admin_mgr.proofs.HeldLaws.{session_reached}
-use Rattle.admin_mgr.proofs.Lookups.{any_seconds, is_some_number}
 use Rattle.review_mgr.specs.Review.{permission_of, assigned_roles, user_permissions, session_permissions}
 
 -- what is granted to a role that is reached from these pairs
@@ -71,9 +70,3 @@ seconds-permissions grants test object =
             ap (λ (p : Pair). p.1) found.2,
           ),
     ))
-
--- ---- a set has a cardinality exactly if it is there
-
-pub has_set-number : (separation : Separation) (name : Bytes) → is_some (cardinality_of separation name) ≡ has_set separation name
-unfolding cardinality_of any
-has_set-number separation name = is_some_number (λ (entry : Cardinality). entry.1) (λ (entry : Cardinality). same_name entry.0 name) (members separation.cardinalities)

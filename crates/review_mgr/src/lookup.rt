@@ -20,7 +20,7 @@ pub(crate) fn is_same(a: &Name, b: &Name) -> bool
 }
 
 // Whether a pair begins with this name.
-#[tactic(auto, using(admin_mgr::proofs::Lookups::any_filter), unfolding(rbac_sets::specs::Sets::any))]
+#[tactic(auto, using(rbac_sets::proofs::Lists::any_filter), unfolding(rbac_sets::specs::Sets::any))]
 fn has_first(pairs: &PairSet, first: &Name) -> bool
     ensures { result ≡ any (λ (pair : Pair). same_name pair.0 first.now) (set_of pair_cmp pairs.now) }
 {
@@ -35,7 +35,7 @@ pub(crate) fn has_session(state: &State, session: &Name) -> bool
 }
 
 // Whether there is a static separation of duty set of this name.
-#[tactic(auto, using(admin_mgr::proofs::Lookups::is_some_number), unfolding(rbac_sets::specs::Sets::any, admin_mgr::specs::RbacState::cardinality_of))]
+#[tactic(auto, using(rbac_sets::proofs::Lists::is_some_found), unfolding(rbac_sets::specs::Sets::any, admin_mgr::specs::RbacState::cardinality_of))]
 pub(crate) fn has_ssd_set(state: &State, set: &Name) -> bool
     ensures { result ≡ has_set state.now.facts.ssd set.now }
 {
@@ -43,7 +43,7 @@ pub(crate) fn has_ssd_set(state: &State, set: &Name) -> bool
 }
 
 // Whether there is a dynamic separation of duty set of this name.
-#[tactic(auto, using(admin_mgr::proofs::Lookups::is_some_number), unfolding(rbac_sets::specs::Sets::any, admin_mgr::specs::RbacState::cardinality_of))]
+#[tactic(auto, using(rbac_sets::proofs::Lists::is_some_found), unfolding(rbac_sets::specs::Sets::any, admin_mgr::specs::RbacState::cardinality_of))]
 pub(crate) fn has_dsd_set(state: &State, set: &Name) -> bool
     ensures { result ≡ has_set state.now.facts.dsd set.now }
 {

@@ -1,42 +1,20 @@
 -- Images of sets whose members rise with them, as lists in order: the first parts of the pairs with one second part.
-use Rattle.std.proofs.Common.{◌≡◌, ℕ, ◌+◌, ◌<◌, Bool, true, false, cond, List, [], ◌∷◌, ◌++◌, length, map, take, get_or, refl, sym, ap, subst, ◌∙◌, T}
+use Rattle.std.proofs.Common.{◌≡◌, ℕ, ◌+◌, ◌<◌, Bool, true, false, cond, List, [], ◌∷◌, ◌++◌, length, map, take, get_or, refl, sym, ap, subst, ◌∙◌}
 use Rattle.std.specs.List.{filter, AllByRecursion}
 use Rattle.std.specs.List.Sorted.{IsStrictlySortedBy}
 use Rattle.std.specs.declared.cmp.Ordering.{Ordering}
 use Rattle.std.specs.declared.cmp.Ordering.TheVariants.{Less, Equal, Greater}
-use Rattle.std.specs.Ordering.{is_lt, ordering_then}
+use Rattle.std.specs.Ordering.{ordering_then}
 use Rattle.std.specs.Cmp.{IsTotalOrder, tied_itself}
-use Rattle.std.specs.FinMap as finmap
-use Rattle.std.specs.FinMap.{IsAntisymmetric, is_sorted}
-use Rattle.std.specs.FinMap.Entries.{below_all}
+use Rattle.std.specs.FinMap.{IsAntisymmetric}
 use Rattle.std.specs.FinSet.{FinSet}
 use Rattle.std.proofs.lemmas.List.{map-append, append-nil}
 use Rattle.std.proofs.lemmas.List.Elements.{filter_more}
 use Rattle.rbac_sets.specs.NameOrder.{name_total, name_exact, pair_total, pair_exact}
 use Rattle.rbac_sets.specs.Sets.{Bytes, Pair, Pairs, name_cmp, pair_cmp, retain, members, from_list, image, firsts, same_name}
 use Rattle.rbac_sets.proofs.InOrder.{members-sorted}
-use Rattle.rbac_sets.proofs.Members.{first_part, second_part, members-retain}
+use Rattle.rbac_sets.proofs.Members.{members-retain, members-rise}
 use Rattle.rbac_sets.proofs.SetLaws.{tie_Decides}
-
-is_Less : (r : Ordering) → T (is_lt r) → r ≡ Less
-is_Less Less h = refl
-is_Less Equal h = absurd h
-is_Less Greater h = absurd h
-
-module _ {K : Type 0} {R : K → K → Ordering} (total : IsTotalOrder R) (exact : IsAntisymmetric R) where
-  all_above : (x : K) (es : List (K × Unit {0})) → T (below_all R x es) → AllByRecursion (λ y. R x y ≡ Less) (map (λ (e : K × Unit {0}). e.0) es)
-  all_above x [] below = tt
-  all_above x (e ∷ es) below = (is_Less (R x e.0) (first_part total exact _ _ below), all_above x es (second_part total exact (is_lt (R x e.0)) _ below))
-
-  sorted_keys : (es : List (K × Unit {0})) → T (is_sorted R es) → IsStrictlySortedBy R (map (λ (e : K × Unit {0}). e.0) es)
-  unfolding IsStrictlySortedBy
-  sorted_keys [] sorted = tt
-  sorted_keys (e ∷ es) sorted = (all_above e.0 es (first_part total exact _ _ sorted), sorted_keys es (second_part total exact (below_all R e.0 es) _ sorted))
-
-  -- the members of a set stand in strict order
-  pub sorted_members : (s : FinSet R) → IsStrictlySortedBy R (members s)
-  unfolding members
-  sorted_members s = sorted_keys (finmap.entries s) (finmap.entries_sorted s)
 
 -- ---- f rises along the members that pass a test
 
@@ -63,7 +41,7 @@ module _ {K J : Type 0} (R : K → K → Ordering) (Q : J → J → Ordering) (p
   unfolding image
   members-image total exact totals s =
       ap (λ xs. members (from_list {R = Q} (map f xs))) (members-retain total exact s p)
-      ∙ members-sorted totals (map f (filter p (members s))) (sorted_image (members s) (sorted_members total exact s))
+      ∙ members-sorted totals (map f (filter p (members s))) (sorted_image (members s) (members-rise R s))
 
 -- ---- pairs with one second part
 

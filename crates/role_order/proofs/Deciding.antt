@@ -2,13 +2,13 @@
 use Rattle.std.proofs.Common.{◌≡◌, ◌≢◌, ◌↔◌, ◌⊎◌, inl, inr, Bool, true, false, not, ◌&&◌, List, [], ◌∷◌, refl, sym, ◌∙◌, ap, subst}
 use Rattle.std.specs.Prelude.{IsTrue}
 use Rattle.std.specs.Bool.{Decides}
-use Rattle.std.proofs.lemmas.Bool.{or_cases, or_left, or_right, and_parts, and_from, true≢false}
+use Rattle.std.proofs.lemmas.Bool.{or_cases, or_left, or_right, and_parts, and_from, true≢false, false_from_ne_true}
 use Rattle.rbac_sets.specs.Sets.{Bytes, Pair, Names, Pairs, contains, insert, members, from_list, image, same_name}
 use Rattle.rbac_sets.specs.NameOrder.{name_total, name_exact, pair_total, pair_exact}
 use Rattle.rbac_sets.proofs.SetLaws.{tie_Decides, from_members, image-Decides, contains-retain, contains-insert-Decides, same_members}
 use Rattle.role_order.specs.Order.{HasPair, Geq, geq_along, geq, seniors, juniors}
 use Rattle.role_order.specs.Laws.{CrossesAt, TestDecides}
-use Rattle.role_order.proofs.Members.{AddsPair-insert, same_or_other, is_false}
+use Rattle.role_order.proofs.Members.{AddsPair-insert, same_or_other}
 use Rattle.role_order.proofs.Leading.{Leads-from_eq, first_step, last_step}
 use Rattle.role_order.proofs.Closing.{Geq-none, crosses}
 
@@ -45,7 +45,7 @@ geq_or_not edges a b = told (geq edges a b) refl where
 -- ---- seniors and juniors
 
 apart : (a b : Bytes) → (a ≢ b) → not (same_name a b) ≡ true
-apart a b n = ap not (is_false (same_name a b) (λ e. n ((tie_Decides name_total name_exact a b).0 e)))
+apart a b n = ap not (false_from_ne_true (same_name a b) (λ e. n ((tie_Decides name_total name_exact a b).0 e)))
 
 is_apart : (a b : Bytes) → not (same_name a b) ≡ true → a ≢ b
 is_apart a b h e = true≢false (sym h ∙ ap not ((tie_Decides name_total name_exact a b).1 e))
@@ -87,10 +87,10 @@ juniors-same edges r names are = same_members name_total name_exact names (junio
 -- ---- with the role itself
 
 pub not_own_senior : (edges : Pairs) (r : Bytes) → contains (seniors edges r) r ≡ false
-not_own_senior edges r = is_false (contains (seniors edges r) r) (λ h. ((seniors-are edges r r).0 h).0 refl)
+not_own_senior edges r = false_from_ne_true (contains (seniors edges r) r) (λ h. ((seniors-are edges r r).0 h).0 refl)
 
 pub not_own_junior : (edges : Pairs) (r : Bytes) → contains (juniors edges r) r ≡ false
-not_own_junior edges r = is_false (contains (juniors edges r) r) (λ h. ((juniors-are edges r r).0 h).0 refl)
+not_own_junior edges r = false_from_ne_true (contains (juniors edges r) r) (λ h. ((juniors-are edges r r).0 h).0 refl)
 
 pub at_or_above-are : (edges : Pairs) (r : Bytes) (names : Names) → names ≡ insert (seniors edges r) r → (p : Bytes) → IsTrue (contains names p) ↔ Geq edges p r
 at_or_above-are edges r names are p =

@@ -1,19 +1,17 @@
 -- What sets of names and of pairs contain, and their members as lists.
-use Rattle.std.proofs.Common.{◌≡◌, ◌≢◌, ◌↔◌, ◌⊎◌, inl, inr, ℕ, suc, ◌+◌, ◌<◌, Bool, true, false, not, ◌&&◌, List, [], ◌∷◌, ◌++◌, length, get_or, take, map, refl, sym, ap, ◌∙◌, subst, add-one, arith, T}
+use Rattle.std.proofs.Common.{◌≡◌, ◌≢◌, ◌↔◌, ◌⊎◌, inl, inr, ℕ, suc, ◌+◌, ◌<◌, Bool, true, false, not, List, [], ◌∷◌, ◌++◌, length, get_or, take, refl, sym, ap, ◌∙◌, subst, add-one, arith}
 use Rattle.std.specs.Prelude.{IsTrue, Contains}
 use Rattle.std.specs.Bool.{one_answer}
-use Rattle.std.specs.List.{list_any, AllByRecursion}
+use Rattle.std.specs.List.{list_any}
 use Rattle.std.specs.List.Sorted.{IsStrictlySortedBy}
 use Rattle.std.specs.declared.cmp.Ordering.{Ordering}
-use Rattle.std.specs.declared.cmp.Ordering.TheVariants.{Less, Equal, Greater}
-use Rattle.std.specs.Ordering.{eq_by_cmp, is_lt}
+use Rattle.std.specs.declared.cmp.Ordering.TheVariants.{Less}
+use Rattle.std.specs.Ordering.{eq_by_cmp}
 use Rattle.std.specs.Cmp.{IsTotalOrder}
-use Rattle.std.specs.FinMap as finmap
-use Rattle.std.specs.FinMap.{IsAntisymmetric, is_sorted}
-use Rattle.std.specs.FinMap.Entries.{below_all}
+use Rattle.std.specs.FinMap.{IsAntisymmetric}
 use Rattle.std.specs.FinSet.{FinSet}
 use Rattle.std.proofs.Math.Seq.{take-suc}
-use Rattle.std.proofs.lemmas.Bool.{or_cases, or_left, or_right, and_parts, and_from, true≢false}
+use Rattle.std.proofs.lemmas.Bool.{or_cases, or_left, or_right, and_parts, and_from, true≢false, false_from_ne_true}
 use Rattle.std.proofs.lemmas.List.{length-take, get_or-take, get_or_read}
 use Rattle.std.proofs.lemmas.List.Elements.{Contains-push, Contains-append_left, Contains-push_cases}
 use Rattle.std.proofs.lemmas.List.Folds.{list_any_at}
@@ -55,34 +53,7 @@ module _ {K : Type 0} {R : K → K → Ordering} (total : IsTotalOrder R) (exact
     λ h. (Contains-any (members s) x).1 (sym (contains-members s x) ∙ h),
   )
 
-is_Less : (o : Ordering) → T (is_lt o) → o ≡ Less
-is_Less Less h = refl
-is_Less Equal h = absurd h
-is_Less Greater h = absurd h
-
 module _ {K : Type 0} (R : K → K → Ordering) where
-  all_below : (x : K) (es : List (K × Unit {0})) → T (below_all R x es) → AllByRecursion (λ y. R x y ≡ Less) (map (λ (e : K × Unit {0}). e.0) es)
-  all_below x [] h = tt
-  all_below x (e ∷ es) h = (is_Less (R x e.0) (both_parts (is_lt (R x e.0)) (below_all R x es) h).0, all_below x es (both_parts (is_lt (R x e.0)) (below_all R x es) h).1)
-    where
-      both_parts : (a b : Bool) → T (a && b) → T a × T b
-      both_parts true b k = (tt, k)
-      both_parts false b k = absurd k
-
-  entries-rise : (es : List (K × Unit {0})) → T (is_sorted R es) → IsStrictlySortedBy R (map (λ (e : K × Unit {0}). e.0) es)
-  unfolding IsStrictlySortedBy
-  entries-rise [] h = tt
-  entries-rise (e ∷ es) h = (all_below e.0 es (both_parts (below_all R e.0 es) (is_sorted R es) h).0, entries-rise es (both_parts (below_all R e.0 es) (is_sorted R es) h).1)
-    where
-      both_parts : (a b : Bool) → T (a && b) → T a × T b
-      both_parts true b k = (tt, k)
-      both_parts false b k = absurd k
-
-  -- they are in strict order
-  pub members-rise : (s : FinSet R) → IsStrictlySortedBy R (members s)
-  unfolding members
-  members-rise s = entries-rise (finmap.entries s) (finmap.entries_sorted s)
-
   -- what a walk along a strict order has passed is below what it comes to
   pub passed_below : (xs : List K) (i : ℕ) (x y : K) → IsStrictlySortedBy R xs → i < length xs → x ≡ get_or xs i x → Contains (take i xs) y → R y x ≡ Less
   passed_below xs i x y rise lt is found =
@@ -125,17 +96,13 @@ not_true : (b : Bool) → not b ≡ true → b ≡ true → ⊥
 not_true true h e = true≢false (sym h)
 not_true false h e = true≢false (sym e)
 
-pub is_false : (b : Bool) → (b ≡ true → ⊥) → b ≡ false
-is_false true n = absurd (n refl)
-is_false false n = refl
-
 pub TakesPair-remove : (s : Pairs) (a b : Bytes) → TakesPair s (remove s (a, b)) a b
 TakesPair-remove s a b x y =
     let tie = tie_Decides pair_total pair_exact (x, y) (a, b) in (
       λ h.
           let parts = and_parts (not (eq_by_cmp pair_cmp (x, y) (a, b))) (contains s (x, y)) (sym (contains-remove pair_total s (a, b) (x, y)) ∙ h) in
           (parts.1, λ same. not_true (eq_by_cmp pair_cmp (x, y) (a, b)) parts.0 (tie.1 ((pair_parts x y a b).1 same))),
-      λ h. contains-remove pair_total s (a, b) (x, y) ∙ and_from _ _ (ap not (is_false (eq_by_cmp pair_cmp (x, y) (a, b)) (λ e. h.1 ((pair_parts x y a b).0 (tie.0 e))))) h.0,
+      λ h. contains-remove pair_total s (a, b) (x, y) ∙ and_from _ _ (ap not (false_from_ne_true (eq_by_cmp pair_cmp (x, y) (a, b)) (λ e. h.1 ((pair_parts x y a b).0 (tie.0 e))))) h.0,
     )
 
 pub HasPair-union : (s t : Pairs) (x y : Bytes) → HasPair (union s t) x y ↔ (HasPair s x y ⊎ HasPair t x y)
@@ -148,11 +115,11 @@ pub HasPair-difference : (s t : Pairs) (x y : Bytes) → HasPair (difference s t
 HasPair-difference s t x y = (
   λ h. let parts = and_parts (contains s (x, y)) (not (contains t (x, y))) (sym (contains-difference pair_total pair_exact s t (x, y)) ∙ h) in
       (parts.0, not_true (contains t (x, y)) parts.1),
-  λ h. contains-difference pair_total pair_exact s t (x, y) ∙ and_from _ _ h.0 (ap not (is_false (contains t (x, y)) h.1)),
+  λ h. contains-difference pair_total pair_exact s t (x, y) ∙ and_from _ _ h.0 (ap not (false_from_ne_true (contains t (x, y)) h.1)),
 )
 
 pub disjoint-from : (s t : Pairs) → ((x y : Bytes) → HasPair s x y → HasPair t x y → ⊥) → IsDisjoint s t
-disjoint-from s t apart p h = is_false (contains t p) (apart p.0 p.1 h)
+disjoint-from s t apart p h = false_from_ne_true (contains t p) (apart p.0 p.1 h)
 
 pub none_in : {K : Type 0} {R : K → K → Ordering} (s : FinSet R) → s ≡ empty → (x : K) → IsTrue (contains s x) → ⊥
 none_in {K} {R} s none x h = true≢false (sym h ∙ ap (λ (t : FinSet R). contains t x) none ∙ contains-empty R x)

@@ -1,11 +1,12 @@
 -- What changes of the order where the edges change.
 use Rattle.std.proofs.Common.{◌≡◌, ◌↔◌, inl, inr, ℕ, ◌+◌, ◌*◌, true, false, refl, sym, ◌∙◌, ap, subst, arith}
 use Rattle.std.specs.Prelude.{IsTrue}
+use Rattle.std.proofs.lemmas.Bool.{false_from_ne_true}
 use Rattle.rbac_sets.specs.Sets.{Bytes, Names, Pairs, empty, contains, insert, remove, union, difference, len}
 use Rattle.role_order.specs.Order.{HasPair, Geq, IsAcyclic, IsClosure, IsGained, seniors, juniors}
 use Rattle.role_order.specs.Laws.{CrossesAt}
 use Rattle.role_order.specs.Planned.{Plan, changed, Fits, pairs_at}
-use Rattle.role_order.proofs.Members.{AddsPair-insert, TakesPair-remove, HasPair-none, HasPair-union, HasPair-difference, is_false}
+use Rattle.role_order.proofs.Members.{AddsPair-insert, TakesPair-remove, HasPair-none, HasPair-union, HasPair-difference}
 use Rattle.role_order.proofs.Leading.{Leads-from_eq, Leads-trans, Leads-mono}
 use Rattle.role_order.proofs.Closing.{crosses, IsAcyclic-added, IsAcyclic-subset}
 use Rattle.role_order.proofs.Deciding.{geq_or_not, not_own_senior, not_own_junior}
@@ -86,7 +87,7 @@ Fits-added old pairs asc desc above below plan kind same_asc same_desc none abse
     let gained : IsGained old new plan.puts = IsGained-crossed old new pairs asc desc above below plan.puts (crosses old new asc desc adds) no_back closed ups downs rest in
     let lost : IsGained new old plan.takes = subst (λ (takes : Pairs). IsGained new old takes) (sym none) (IsGained-none old new (λ a b h. (adds a b).1 (inl h))) in
     record {
-      absent = λ _. rw (same_asc, same_desc) (is_false (contains old (asc, desc)) absent);
+      absent = λ _. rw (same_asc, same_desc) (false_from_ne_true (contains old (asc, desc)) absent);
       acyclic = subst IsAcyclic (sym is) acyclic;
       puts = subst (λ (edges : Pairs). IsGained old edges plan.puts) (sym is) gained;
       takes = subst (λ (edges : Pairs). IsGained edges old plan.takes) (sym is) lost;

@@ -3,7 +3,7 @@ use Rattle.std.proofs.Common.{◌≡◌, ◌≢◌, inl, inr, ◌+◌, ◌<◌, 
 use Rattle.std.specs.Prelude.{cond}
 use Rattle.std.specs.List.Sorted.{IsNonDecreasingBy}
 use Rattle.std.specs.FinMap as finmap
-use Rattle.std.proofs.lemmas.Bool.{cases_lt}
+use Rattle.std.proofs.lemmas.Bool.{cases_lt, false_from_ne_true}
 use Rattle.std.proofs.lemmas.List.{length-take, get_or-take, get_or_read}
 use Rattle.rbac_sets.specs.Sets.{Bytes, Names, Pairs, contains, insert, len, seconds}
 use Rattle.rbac_sets.specs.NameOrder.{name_total, name_exact}
@@ -11,7 +11,6 @@ use Rattle.rbac_sets.proofs.SetLaws.{seconds-Decides, contains-insert-Decides}
 use Rattle.rbac_sets.proofs.Members.{len-subset}
 use Rattle.role_order.specs.Order.{HasPair, Geq, IsAcyclic, IsClosure}
 use Rattle.role_order.specs.Removal.{junior_count, AreJuniorsFirst}
-use Rattle.role_order.proofs.Members.{is_false}
 use Rattle.role_order.proofs.Leading.{Leads-trans}
 
 -- a new member makes a set larger by one
@@ -23,7 +22,7 @@ len-new s x new = finmap.len-insert name_total s x tt ∙ ap (λ b. cond b (finm
 pub junior_count-lt : (pairs : Pairs) (a z : Bytes) → HasPair pairs a z → (HasPair pairs z z → ⊥) → ((b : Bytes) → HasPair pairs z b → HasPair pairs a b)
     → junior_count pairs z < junior_count pairs a
 junior_count-lt pairs a z pair not_self row =
-    let new : contains (seconds pairs z) z ≡ false = is_false (contains (seconds pairs z) z) (λ h. not_self ((seconds-Decides pairs z z).0 h)) in
+    let new : contains (seconds pairs z) z ≡ false = false_from_ne_true (contains (seconds pairs z) z) (λ h. not_self ((seconds-Decides pairs z z).0 h)) in
     let more : len (insert (seconds pairs z) z) ≤ len (seconds pairs a) = len-subset name_total name_exact (insert (seconds pairs z) z) (seconds pairs a)
     (λ b h. (seconds-Decides pairs a b).1 (elim ((contains-insert-Decides name_total name_exact (seconds pairs z) z b).0 h) [
       | inl same ↦ subst (λ (x : Bytes). HasPair pairs a x) (sym same) pair

@@ -1,8 +1,8 @@
 -- The pairs that begin with one name, and two runs of pairs gone through at once.
 use Rattle.std.proofs.Common.{◌≡◌, ◌≢◌, ◌↔◌, ◌⊎◌, inl, inr, ℕ, zero, suc, ◌+◌, ◌<◌, ◌≤◌, Bool, true, false, cond, List, [], ◌∷◌, length, get_or, drop, map, refl, sym, ◌∙◌, ap, subst, arith}
-use Rattle.std.specs.Prelude.{IsTrue, Contains}
+use Rattle.std.specs.Prelude.{IsTrue, Contains, count_by}
 use Rattle.std.specs.Bool.{Decides}
-use Rattle.std.specs.List.{filter, AllByRecursion}
+use Rattle.std.specs.List.{filter, list_any, list_all, AllByRecursion}
 use Rattle.std.specs.List.Sorted.{IsStrictlySortedBy}
 use Rattle.std.specs.declared.cmp.Ordering.{Ordering}
 use Rattle.std.specs.declared.cmp.Ordering.TheVariants.{Less, Equal}
@@ -11,14 +11,16 @@ use Rattle.std.specs.Cmp.{tied_itself}
 use Rattle.std.proofs.lemmas.Bool.{and_parts, and_from, true≢false}
 use Rattle.std.proofs.Math.Seq.{drop-cons}
 use Rattle.std.proofs.lemmas.List.{length-map, drop-drop, drop_all}
-use Rattle.rbac_sets.specs.Sets.{Bytes, Pair, Pairs, name_cmp, pair_cmp, same_name, contains, members, retain, image, seconds}
+use Rattle.std.proofs.lemmas.List.Folds.{list_all-map}
+use Rattle.rbac_sets.specs.Sets.{Bytes, Pair, Pairs, name_cmp, pair_cmp, same_name, contains, members, from_list, retain, image, seconds, any, all, count}
 use Rattle.rbac_sets.specs.NameOrder.{name_total, name_exact, pair_total, pair_exact}
 use Rattle.rbac_sets.proofs.SetLaws.{tie_Decides, contains-retain}
-use Rattle.rbac_sets.proofs.Members.{members-retain}
-use Rattle.rbac_sets.proofs.InOrder.{len-sorted}
+use Rattle.rbac_sets.proofs.Members.{members-retain, members-rise, len-members}
+use Rattle.rbac_sets.proofs.InOrder.{members-sorted}
+use Rattle.rbac_sets.proofs.Lists.{any_map, count_map}
 use Rattle.role_order.specs.Checked.{second_cmp, is_next, HasSecondsOf}
 use Rattle.role_order.specs.Removal.{junior_count}
-use Rattle.role_order.proofs.Members.{Contains-members, members-rise}
+use Rattle.role_order.proofs.Members.{Contains-members}
 
 -- ---- lists by their first element
 
@@ -91,13 +93,30 @@ unfolding IsStrictlySortedBy
 mapped_rise [] rise = tt
 mapped_rise (p ∷ xs) rise = (mapped_below p xs rise.0, mapped_rise xs rise.1)
 
--- it is as long as a has juniors
-pub run-count : (pairs : Pairs) (a : Bytes) → length (run_of pairs a) ≡ junior_count pairs a
+-- ---- what stands behind a name
+
+-- it is the second names of the run, in its order
+pub members_seconds : (pairs : Pairs) (first : Bytes) → members (seconds pairs first) ≡ map (λ (q : Pair). q.1) (run_of pairs first)
 unfolding seconds image
-run-count pairs a =
-    let rise : IsStrictlySortedBy name_cmp (map (λ (q : Pair). q.1) (members (retain pairs (begins a)))) =
-    mapped_rise _ (subst (IsStrictlySortedBy second_cmp) (run-kept pairs a) (run-rises pairs a)) in
-    ap length (run-kept pairs a) ∙ sym (length-map (members (retain pairs (begins a))) (λ (q : Pair). q.1)) ∙ sym (len-sorted name_total _ rise)
+members_seconds pairs first =
+    ap (λ (xs : List Pair). members (from_list {R = name_cmp} (map (λ (q : Pair). q.1) xs))) (sym (run-kept pairs first))
+    ∙ members-sorted name_total (map (λ (q : Pair). q.1) (run_of pairs first)) (mapped_rise (run_of pairs first) (run-rises pairs first))
+
+pub any_seconds : (p : Bytes → Bool) (pairs : Pairs) (first : Bytes) → any p (seconds pairs first) ≡ list_any (λ (q : Pair). p q.1) (run_of pairs first)
+unfolding any
+any_seconds p pairs first = ap (list_any p) (members_seconds pairs first) ∙ any_map (λ (q : Pair). q.1) p (run_of pairs first)
+
+pub all_seconds : (p : Bytes → Bool) (pairs : Pairs) (first : Bytes) → all p (seconds pairs first) ≡ list_all (λ (q : Pair). p q.1) (run_of pairs first)
+unfolding all
+all_seconds p pairs first = ap (list_all p) (members_seconds pairs first) ∙ list_all-map p (λ (q : Pair). q.1) (run_of pairs first)
+
+pub count_seconds : (p : Bytes → Bool) (pairs : Pairs) (first : Bytes) → count p (seconds pairs first) ≡ count_by (λ (q : Pair). p q.1) (run_of pairs first)
+unfolding count
+count_seconds p pairs first = ap (count_by p) (members_seconds pairs first) ∙ count_map (λ (q : Pair). q.1) p (run_of pairs first)
+
+-- the run is as long as there are: as a has juniors
+pub run-count : (pairs : Pairs) (a : Bytes) → length (run_of pairs a) ≡ junior_count pairs a
+run-count pairs a = sym (len-members (seconds pairs a) ∙ ap length (members_seconds pairs a) ∙ length-map (run_of pairs a) (λ (q : Pair). q.1))
 
 -- ---- two runs at once
 

@@ -1,19 +1,14 @@
 -- The bytes that were read so far, and more of them.
 use Rattle.std.proofs.Common.{◌≡◌, ℕ, ◌+◌, ◌≤◌, true, false, List, [], ◌∷◌, ◌++◌, length, length-append, Option, refl, sym, ap, subst, ◌∙◌, append_assoc, arith}
 use Rattle.std.proofs.lemmas.List.{append-nil}
-use Rattle.std.specs.List.{AllByRecursion}
 use Rattle.std.specs.Io.KnownBytes.{Appends}
 use Rattle.role_wire.specs.Lines.{longest_line, line_feed, split_lines, ended_lines, is_blank, asking, with_line_feeds}
 use Rattle.role_wire.specs.Replay.{AreAnswered}
 use Rattle.role_wire.specs.Reading.{Place, HasNoLineFeed, IsOpenLine, IsRead, EndsLine}
 use Rattle.rbac_sets.proofs.Known.{Appends-none, Appends-more}
+use Rattle.rbac_sets.proofs.Lists.{all_join}
 use Rattle.role_wire.proofs.Splitting.{split_lines-ended, ended_lines-ended, HasNoLineFeed-append}
 use Rattle.role_wire.proofs.Answering.{asking-append, with_line_feeds-append, AreAnswered-none, AreAnswered-append}
-
--- what holds along two lists holds along both
-pub all_append : {X : Type 0} (P : X → Type 0) (xs ys : List X) → AllByRecursion P xs → AllByRecursion P ys → AllByRecursion P (xs ++ ys)
-all_append P [] ys first later = later
-all_append P (x ∷ xs) ys first later = (first.0, all_append P xs ys first.1 later)
 
 module _ {S : Type 0} (answers : S → List ℕ → List ℕ → S → Type 0) where
   -- a line that asks for no answer
@@ -84,7 +79,7 @@ module _ {S : Type 0} (answers : S → List ℕ → List ℕ → S → Type 0) w
         ∙ sym (append_assoc first.lines later.lines (split_lines (now.line ++ rest)));
     ended = λ rest. ap (λ l. ended_lines (start.line ++ l)) (append_assoc xs ys rest) ∙ first.ended (ys ++ rest) ∙ ap (λ l. first.lines ++ l) (later.ended rest)
         ∙ sym (append_assoc first.lines later.lines (ended_lines (now.line ++ rest)));
-    lines_fit = all_append (λ line. length line ≤ longest_line) first.lines later.lines first.lines_fit later.lines_fit;
+    lines_fit = all_join (λ line. length line ≤ longest_line) first.lines later.lines first.lines_fit later.lines_fit;
     open_line = later.open_line;
     are_answered = subst (λ l. AreAnswered answers start.state l (first.texts ++ later.texts) now.state) (sym (asking-append first.lines later.lines))
         (AreAnswered-append answers start.state between.state now.state _ _ _ _ first.are_answered later.are_answered);

@@ -10,9 +10,10 @@ use Rattle.role_wire.specs.Lines.{longest_line, split_lines, ended_lines, is_bla
 use Rattle.role_wire.specs.Replay.{AreAnswered, IsReplayed, IsNext, LeavesOff, IsStopped}
 use Rattle.role_wire.specs.Reading.{Place, HasNoLineFeed, IsOpenLine, IsRead, EndsLine, FailsLine, EndsHere, StopsReading, Halts}
 use Rattle.rbac_sets.proofs.Known.{Appends-none, Appends-more}
+use Rattle.rbac_sets.proofs.Lists.{all_join}
 use Rattle.role_wire.proofs.Splitting.{ended_lines-ended, split_lines-last, ended_lines-last, split_lines-first, HasNoLineFeed-append}
 use Rattle.role_wire.proofs.Answering.{asking-append, with_line_feeds-append, AreAnswered-append}
-use Rattle.role_wire.proofs.ReadSoFar.{all_append, read_none, read_more}
+use Rattle.role_wire.proofs.ReadSoFar.{read_none, read_more}
 
 all_at : {X : Type 0} (P : X → Type 0) (xs : List X) → AllByRecursion P xs → All P xs
 all_at P [] all k d within = absurd (omega arith)
@@ -50,7 +51,7 @@ module _ {S : Type 0} (answers : S → List ℕ → List ℕ → S → Type 0) w
       ap asking splits ∙ asking-append read.lines (split_lines now.line) ∙ ap (λ l. asking read.lines ++ l) (split-open now.line read.open_line.plain) in
       record {
         lines_fit = all_at (λ l. length l ≤ longest_line) (split_lines taken) (subst (AllByRecursion (λ l. length l ≤ longest_line)) (sym splits)
-            (all_append (λ l. length l ≤ longest_line) read.lines (split_lines now.line) read.lines_fit (split-open-fits now.line read.open_line)));
+            (all_join (λ l. length l ≤ longest_line) read.lines (split_lines now.line) read.lines_fit (split-open-fits now.line read.open_line)));
         texts = read.texts ++ ends.texts;
         are_answered = subst (λ l. AreAnswered answers start.state l (read.texts ++ ends.texts) new) (sym asks)
             (AreAnswered-append answers start.state now.state new _ _ _ _ read.are_answered ends.are_answered);

@@ -15,12 +15,12 @@ use crate::state::State;
 use rbac_sets::{Kind, Name, Refusal};
 use std::alloc::{AllocError, Global};
 
-/// The verdict on AddUser.
-///
-/// Refused by `UserExists` where there is such a user, then by `TooMany` where there are as many users
-/// as there may be.
+// The verdict on AddUser.
+//
+// Refused by `UserExists` where there is such a user, then by `TooMany` where there are as many users
+// as there may be.
 #[tactic(auto, unfolding(crate::specs::Verdict::verdict, crate::specs::Verdict::refusals))]
-pub fn judge_add_user(state: &State, user: &Name) -> Option<Refusal>
+pub(crate) fn judge_add_user(state: &State, user: &Name) -> Option<Refusal>
     ensures { result ≡ verdict state.now.facts (AddUser user.now) }
 {
     if state.users().contains(user) {
@@ -32,11 +32,11 @@ pub fn judge_add_user(state: &State, user: &Name) -> Option<Refusal>
     None
 }
 
-/// The verdict on DeleteUser.
-///
-/// Refused by `NoUser` where there is no such user.
+// The verdict on DeleteUser.
+//
+// Refused by `NoUser` where there is no such user.
 #[tactic(auto, unfolding(crate::specs::Verdict::verdict, crate::specs::Verdict::refusals))]
-pub fn judge_delete_user(state: &State, user: &Name) -> Option<Refusal>
+pub(crate) fn judge_delete_user(state: &State, user: &Name) -> Option<Refusal>
     ensures { result ≡ verdict state.now.facts (DeleteUser user.now) }
 {
     if !state.users().contains(user) {
@@ -45,12 +45,12 @@ pub fn judge_delete_user(state: &State, user: &Name) -> Option<Refusal>
     None
 }
 
-/// The verdict on AddRole.
-///
-/// Refused by `RoleExists` where there is such a role, then by `TooMany` where there are as many roles
-/// as there may be.
+// The verdict on AddRole.
+//
+// Refused by `RoleExists` where there is such a role, then by `TooMany` where there are as many roles
+// as there may be.
 #[tactic(auto, unfolding(crate::specs::Verdict::verdict, crate::specs::Verdict::refusals))]
-pub fn judge_add_role(state: &State, role: &Name) -> Option<Refusal>
+pub(crate) fn judge_add_role(state: &State, role: &Name) -> Option<Refusal>
     ensures { result ≡ verdict state.now.facts (AddRole role.now) }
 {
     if state.roles().contains(role) {
@@ -62,12 +62,12 @@ pub fn judge_add_role(state: &State, role: &Name) -> Option<Refusal>
     None
 }
 
-/// The verdict on DeleteRole.
-///
-/// Refused by `NoRole` where there is no such role, then by `RoleInUse` where the role has an immediate
-/// inheritance or is a member of a separation of duty set.
+// The verdict on DeleteRole.
+//
+// Refused by `NoRole` where there is no such role, then by `RoleInUse` where the role has an immediate
+// inheritance or is a member of a separation of duty set.
 #[tactic(auto, unfolding(crate::specs::Verdict::verdict, crate::specs::Verdict::refusals))]
-pub fn judge_delete_role(state: &State, role: &Name) -> Option<Refusal>
+pub(crate) fn judge_delete_role(state: &State, role: &Name) -> Option<Refusal>
     ensures { result ≡ verdict state.now.facts (DeleteRole role.now) }
 {
     if !state.roles().contains(role) {
@@ -89,12 +89,12 @@ fn is_in_use(state: &State, role: &Name) -> bool
         || has_second(state.dsd_members().as_slice(), role)
 }
 
-/// The verdict on the making of an object.
-///
-/// Refused by `ObjectExists` where there is such an object, then by `TooMany` where there are as many
-/// objects as there may be.
+// The verdict on the making of an object.
+//
+// Refused by `ObjectExists` where there is such an object, then by `TooMany` where there are as many
+// objects as there may be.
 #[tactic(auto, unfolding(crate::specs::Verdict::verdict, crate::specs::Verdict::refusals))]
-pub fn judge_add_perm_obj(state: &State, object: &Name) -> Option<Refusal>
+pub(crate) fn judge_add_perm_obj(state: &State, object: &Name) -> Option<Refusal>
     ensures { result ≡ verdict state.now.facts (AddPermObj object.now) }
 {
     if state.objects().contains(object) {
@@ -106,12 +106,12 @@ pub fn judge_add_perm_obj(state: &State, object: &Name) -> Option<Refusal>
     None
 }
 
-/// The verdict on the taking of an object.
-///
-/// Refused by `NoObject` where there is no such object, then by `ObjectInUse` where it has a
-/// permission.
+// The verdict on the taking of an object.
+//
+// Refused by `NoObject` where there is no such object, then by `ObjectInUse` where it has a
+// permission.
 #[tactic(auto, unfolding(crate::specs::Verdict::verdict, crate::specs::Verdict::refusals))]
-pub fn judge_delete_perm_obj(state: &State, object: &Name) -> Option<Refusal>
+pub(crate) fn judge_delete_perm_obj(state: &State, object: &Name) -> Option<Refusal>
     ensures { result ≡ verdict state.now.facts (DeletePermObj object.now) }
 {
     if !state.objects().contains(object) {
@@ -123,12 +123,16 @@ pub fn judge_delete_perm_obj(state: &State, object: &Name) -> Option<Refusal>
     None
 }
 
-/// The verdict on the making of a permission for an operation on an object.
-///
-/// Refused by `NoObject` where there is no such object, then by `PermissionExists` where there is such
-/// a permission, then by `TooMany` where there are as many permissions as there may be.
+// The verdict on the making of a permission for an operation on an object.
+//
+// Refused by `NoObject` where there is no such object, then by `PermissionExists` where there is such
+// a permission, then by `TooMany` where there are as many permissions as there may be.
 #[tactic(auto, unfolding(crate::specs::Verdict::verdict, crate::specs::Verdict::refusals))]
-pub fn judge_add_permission(state: &State, object: &Name, operation: &Name) -> Option<Refusal>
+pub(crate) fn judge_add_permission(
+    state: &State,
+    object: &Name,
+    operation: &Name,
+) -> Option<Refusal>
     ensures { result ≡ verdict state.now.facts (AddPermission object.now operation.now) }
 {
     if !state.objects().contains(object) {
@@ -143,12 +147,16 @@ pub fn judge_add_permission(state: &State, object: &Name, operation: &Name) -> O
     None
 }
 
-/// The verdict on the taking of a permission.
-///
-/// Refused by `NoObject` where there is no such object, then by `NoPermission` where there is no such
-/// permission.
+// The verdict on the taking of a permission.
+//
+// Refused by `NoObject` where there is no such object, then by `NoPermission` where there is no such
+// permission.
 #[tactic(auto, unfolding(crate::specs::Verdict::verdict, crate::specs::Verdict::refusals))]
-pub fn judge_delete_permission(state: &State, object: &Name, operation: &Name) -> Option<Refusal>
+pub(crate) fn judge_delete_permission(
+    state: &State,
+    object: &Name,
+    operation: &Name,
+) -> Option<Refusal>
     ensures { result ≡ verdict state.now.facts (DeletePermission object.now operation.now) }
 {
     if !state.objects().contains(object) {
@@ -160,12 +168,12 @@ pub fn judge_delete_permission(state: &State, object: &Name, operation: &Name) -
     None
 }
 
-/// The verdict on GrantPermission.
-///
-/// Refused by `NoObject`, `NoPermission`, `NoRole` where these are missing, then by `AlreadyGranted`
-/// where the role has the grant, then by `TooMany` where there are as many grants as there may be.
+// The verdict on GrantPermission.
+//
+// Refused by `NoObject`, `NoPermission`, `NoRole` where these are missing, then by `AlreadyGranted`
+// where the role has the grant, then by `TooMany` where there are as many grants as there may be.
 #[tactic(auto, unfolding(crate::specs::Verdict::verdict, crate::specs::Verdict::refusals))]
-pub fn judge_grant_permission(
+pub(crate) fn judge_grant_permission(
     state: &State,
     object: &Name,
     operation: &Name,
@@ -191,12 +199,12 @@ pub fn judge_grant_permission(
     None
 }
 
-/// The verdict on RevokePermission.
-///
-/// Refused by `NoObject`, `NoPermission`, `NoRole` where these are missing, then by `NotGranted` where
-/// the role hasn't the grant.
+// The verdict on RevokePermission.
+//
+// Refused by `NoObject`, `NoPermission`, `NoRole` where these are missing, then by `NotGranted` where
+// the role hasn't the grant.
 #[tactic(auto, unfolding(crate::specs::Verdict::verdict, crate::specs::Verdict::refusals))]
-pub fn judge_revoke_permission(
+pub(crate) fn judge_revoke_permission(
     state: &State,
     object: &Name,
     operation: &Name,
@@ -219,18 +227,16 @@ pub fn judge_revoke_permission(
     None
 }
 
-/// The verdict on AssignUser.
-///
-/// Refused by `NoUser`, `NoRole` where these are missing, then by `AlreadyAssigned` where the user is
-/// assigned to the role, then by `TooMany` where there are as many assignments as there may be, then by
-/// `StaticSeparation` with the first set in byte order from which the user would be authorized for as
-/// many roles as its cardinality.
-///
-/// # Errors
-///
-/// Where memory for the name of the set was refused.
+// The verdict on AssignUser.
+//
+// Refused by `NoUser`, `NoRole` where these are missing, then by `AlreadyAssigned` where the user is
+// assigned to the role, then by `TooMany` where there are as many assignments as there may be, then by
+// `StaticSeparation` with the first set in byte order from which the user would be authorized for as
+// many roles as its cardinality.
+//
+// An error says that memory for the name of the set was refused.
 #[tactic(auto, unfolding(crate::specs::Verdict::verdict, crate::specs::Verdict::refusals, crate::specs::Assignment::assignment_refusals))]
-pub fn judge_assign_user(
+pub(crate) fn judge_assign_user(
     alloc: Global,
     state: &State,
     user: &Name,
@@ -269,12 +275,12 @@ fn refuse_assignment(state: &State, user: &Name, role: &Name) -> Option<Refusal>
     None
 }
 
-/// The verdict on DeassignUser.
-///
-/// Refused by `NoUser`, `NoRole` where these are missing, then by `NotAssigned` where the user isn't
-/// assigned to the role.
+// The verdict on DeassignUser.
+//
+// Refused by `NoUser`, `NoRole` where these are missing, then by `NotAssigned` where the user isn't
+// assigned to the role.
 #[tactic(auto, unfolding(crate::specs::Verdict::verdict, crate::specs::Verdict::refusals))]
-pub fn judge_deassign_user(state: &State, user: &Name, role: &Name) -> Option<Refusal>
+pub(crate) fn judge_deassign_user(state: &State, user: &Name, role: &Name) -> Option<Refusal>
     ensures { result ≡ verdict state.now.facts (DeassignUser user.now role.now) }
 {
     if !state.users().contains(user) {
@@ -289,11 +295,11 @@ pub fn judge_deassign_user(state: &State, user: &Name, role: &Name) -> Option<Re
     None
 }
 
-/// The verdict on an import of assignments: its records are judged one by one only when it is made.
-///
-/// Refused by `TooMany` where it has more records than an import may have.
+// The verdict on an import of assignments: its records are judged one by one only when it is made.
+//
+// Refused by `TooMany` where it has more records than an import may have.
 #[tactic(auto, unfolding(crate::specs::Verdict::verdict, crate::specs::Verdict::refusals))]
-pub fn judge_import_assignments(state: &State, pairs: &Vec<(Name, Name)>) -> Option<Refusal>
+pub(crate) fn judge_import_assignments(state: &State, pairs: &Vec<(Name, Name)>) -> Option<Refusal>
     ensures { result ≡ verdict state.now.facts (ImportAssignments pairs.now) }
 {
     if is_too_many(state, Kind::Record, pairs.len()) {
@@ -302,11 +308,11 @@ pub fn judge_import_assignments(state: &State, pairs: &Vec<(Name, Name)>) -> Opt
     None
 }
 
-/// The verdict on the locking of a user.
-///
-/// Refused by `Version(1)` in version 1, then by `NoUser` where there is no such user.
+// The verdict on the locking of a user.
+//
+// Refused by `Version(1)` in version 1, then by `NoUser` where there is no such user.
 #[tactic(auto, unfolding(crate::specs::Verdict::verdict, crate::specs::Verdict::refusals))]
-pub fn judge_lock_user_account(state: &State, user: &Name) -> Option<Refusal>
+pub(crate) fn judge_lock_user_account(state: &State, user: &Name) -> Option<Refusal>
     ensures { result ≡ verdict state.now.facts (LockUserAccount user.now) }
 {
     if state.version() == 1 {
@@ -318,11 +324,11 @@ pub fn judge_lock_user_account(state: &State, user: &Name) -> Option<Refusal>
     None
 }
 
-/// The verdict on the taking of a user's lock.
-///
-/// Refused by `Version(1)` in version 1, then by `NoUser` where there is no such user.
+// The verdict on the taking of a user's lock.
+//
+// Refused by `Version(1)` in version 1, then by `NoUser` where there is no such user.
 #[tactic(auto, unfolding(crate::specs::Verdict::verdict, crate::specs::Verdict::refusals))]
-pub fn judge_unlock_user_account(state: &State, user: &Name) -> Option<Refusal>
+pub(crate) fn judge_unlock_user_account(state: &State, user: &Name) -> Option<Refusal>
     ensures { result ≡ verdict state.now.facts (UnlockUserAccount user.now) }
 {
     if state.version() == 1 {

@@ -12,20 +12,19 @@ use crate::state::State;
 use rbac_sets::{Kind, Name, Refusal};
 use std::alloc::{AllocError, Global};
 
-/// The verdict on AddInheritance.
-///
-/// Refused by `NoRole` where one of the roles is missing, then by `EdgeExists` where `asc` is an
-/// immediate ascendant of `desc`, then by `Cycle` where `desc` is `asc` or above it, then by `TooMany`
-/// where there are as many immediate inheritances as there may be, then by `StaticSeparation` with the
-/// first static set in byte order from which some user would be authorized for as many roles as its
-/// cardinality, then by `DynamicSeparation` with the first dynamic set in byte order from which some
-/// session would have as many roles as its cardinality.
-///
-/// # Errors
-///
-/// Where memory was refused, for the name of the set or for the list of who is authorized for `asc`.
+// The verdict on AddInheritance.
+//
+// Refused by `NoRole` where one of the roles is missing, then by `EdgeExists` where `asc` is an
+// immediate ascendant of `desc`, then by `Cycle` where `desc` is `asc` or above it, then by `TooMany`
+// where there are as many immediate inheritances as there may be, then by `StaticSeparation` with the
+// first static set in byte order from which some user would be authorized for as many roles as its
+// cardinality, then by `DynamicSeparation` with the first dynamic set in byte order from which some
+// session would have as many roles as its cardinality.
+//
+// An error says that memory was refused, for the name of the set or for the list of who is authorized
+// for `asc`.
 #[tactic(auto, unfolding(crate::specs::Verdict::verdict, crate::specs::Verdict::refusals))]
-pub fn judge_add_inheritance(
+pub(crate) fn judge_add_inheritance(
     alloc: Global,
     state: &State,
     asc: &Name,
@@ -72,12 +71,12 @@ fn refuse_inheritance(state: &State, asc: &Name, desc: &Name) -> Option<Refusal>
     None
 }
 
-/// The verdict on DeleteInheritance.
-///
-/// Refused by `NoRole` where one of the roles is missing, then by `NoEdge` where `asc` isn't an
-/// immediate ascendant of `desc`.
+// The verdict on DeleteInheritance.
+//
+// Refused by `NoRole` where one of the roles is missing, then by `NoEdge` where `asc` isn't an
+// immediate ascendant of `desc`.
 #[tactic(auto, unfolding(crate::specs::Verdict::verdict, crate::specs::Verdict::refusals))]
-pub fn judge_delete_inheritance(state: &State, asc: &Name, desc: &Name) -> Option<Refusal>
+pub(crate) fn judge_delete_inheritance(state: &State, asc: &Name, desc: &Name) -> Option<Refusal>
     ensures { result ≡ verdict state.now.facts (DeleteInheritance asc.now desc.now) }
 {
     if !state.roles().contains(asc) {
@@ -92,13 +91,13 @@ pub fn judge_delete_inheritance(state: &State, asc: &Name, desc: &Name) -> Optio
     None
 }
 
-/// The verdict on AddAscendant.
-///
-/// Refused by `NoRole` where there is no role `desc`, then by `RoleExists` where there is a role `asc`,
-/// then by `TooMany` where there are as many roles, then as many immediate inheritances, as there may
-/// be.
+// The verdict on AddAscendant.
+//
+// Refused by `NoRole` where there is no role `desc`, then by `RoleExists` where there is a role `asc`,
+// then by `TooMany` where there are as many roles, then as many immediate inheritances, as there may
+// be.
 #[tactic(auto, unfolding(crate::specs::Verdict::verdict, crate::specs::Verdict::refusals))]
-pub fn judge_add_ascendant(state: &State, asc: &Name, desc: &Name) -> Option<Refusal>
+pub(crate) fn judge_add_ascendant(state: &State, asc: &Name, desc: &Name) -> Option<Refusal>
     ensures { result ≡ verdict state.now.facts (AddAscendant asc.now desc.now) }
 {
     if !state.roles().contains(desc) {
@@ -116,13 +115,13 @@ pub fn judge_add_ascendant(state: &State, asc: &Name, desc: &Name) -> Option<Ref
     None
 }
 
-/// The verdict on AddDescendant.
-///
-/// Refused by `NoRole` where there is no role `asc`, then by `RoleExists` where there is a role `desc`,
-/// then by `TooMany` where there are as many roles, then as many immediate inheritances, as there may
-/// be.
+// The verdict on AddDescendant.
+//
+// Refused by `NoRole` where there is no role `asc`, then by `RoleExists` where there is a role `desc`,
+// then by `TooMany` where there are as many roles, then as many immediate inheritances, as there may
+// be.
 #[tactic(auto, unfolding(crate::specs::Verdict::verdict, crate::specs::Verdict::refusals))]
-pub fn judge_add_descendant(state: &State, asc: &Name, desc: &Name) -> Option<Refusal>
+pub(crate) fn judge_add_descendant(state: &State, asc: &Name, desc: &Name) -> Option<Refusal>
     ensures { result ≡ verdict state.now.facts (AddDescendant asc.now desc.now) }
 {
     if !state.roles().contains(asc) {

@@ -12,19 +12,17 @@ use crate::state::State;
 use rbac_sets::{Name, NameSet, Refusal};
 use std::alloc::{AllocError, Global};
 
-/// The verdict on CreateSsdSet or CreateDsdSet.
-///
-/// Refused by `NoRole` where one of the roles is missing, then by `SetExists` where there is such a
-/// set, then by `BadCardinality` where the cardinality isn't from two to the number of roles, then by
-/// `TooMany` where there are as many sets of the kind as there may be, or more roles than a set may
-/// have, then by `StaticSeparation` with the set where some user is authorized for so many of the
-/// roles, or by `DynamicSeparation` where some session has so many.
-///
-/// # Errors
-///
-/// Where memory for the name of a violated set was refused.
+// The verdict on CreateSsdSet or CreateDsdSet.
+//
+// Refused by `NoRole` where one of the roles is missing, then by `SetExists` where there is such a
+// set, then by `BadCardinality` where the cardinality isn't from two to the number of roles, then by
+// `TooMany` where there are as many sets of the kind as there may be, or more roles than a set may
+// have, then by `StaticSeparation` with the set where some user is authorized for so many of the
+// roles, or by `DynamicSeparation` where some session has so many.
+//
+// An error says that memory for the name of a violated set was refused.
 #[tactic(auto, unfolding(crate::specs::Verdict::verdict, crate::specs::Verdict::refusals))]
-pub fn judge_create_set(
+pub(crate) fn judge_create_set(
     alloc: Global,
     state: &State,
     duty: SeparationOfDuty,
@@ -51,18 +49,16 @@ pub fn judge_create_set(
     Ok(broken)
 }
 
-/// The verdict on AddSsdRoleMember or AddDsdRoleMember.
-///
-/// Refused by `NoSet`, `NoRole` where these are missing, then by `MemberExists` where the role is a
-/// member of the set, then by `TooMany` where the set has as many members as it may have, then by
-/// `StaticSeparation` with the set where some user is authorized for as many of its roles as its
-/// cardinality, or by `DynamicSeparation` where some session has as many.
-///
-/// # Errors
-///
-/// Where memory for the name of a violated set was refused.
+// The verdict on AddSsdRoleMember or AddDsdRoleMember.
+//
+// Refused by `NoSet`, `NoRole` where these are missing, then by `MemberExists` where the role is a
+// member of the set, then by `TooMany` where the set has as many members as it may have, then by
+// `StaticSeparation` with the set where some user is authorized for as many of its roles as its
+// cardinality, or by `DynamicSeparation` where some session has as many.
+//
+// An error says that memory for the name of a violated set was refused.
 #[tactic(auto, unfolding(crate::specs::Verdict::verdict, crate::specs::Verdict::refusals))]
-pub fn judge_add_member(
+pub(crate) fn judge_add_member(
     alloc: Global,
     state: &State,
     duty: SeparationOfDuty,
@@ -88,13 +84,13 @@ pub fn judge_add_member(
     Ok(broken)
 }
 
-/// The verdict on DeleteSsdRoleMember or DeleteDsdRoleMember.
-///
-/// Refused by `NoSet`, `NoRole` where these are missing, then by `NoMember` where the role is no
-/// member of the set, then by `BadCardinality` where the set has no more members than its
-/// cardinality.
+// The verdict on DeleteSsdRoleMember or DeleteDsdRoleMember.
+//
+// Refused by `NoSet`, `NoRole` where these are missing, then by `NoMember` where the role is no
+// member of the set, then by `BadCardinality` where the set has no more members than its
+// cardinality.
 #[tactic(auto, unfolding(crate::specs::Verdict::verdict, crate::specs::Verdict::refusals))]
-pub fn judge_delete_member(
+pub(crate) fn judge_delete_member(
     state: &State,
     duty: SeparationOfDuty,
     set: &Name,
@@ -111,17 +107,15 @@ pub fn judge_delete_member(
     )
 }
 
-/// The verdict on SetSsdSetCardinality or SetDsdSetCardinality.
-///
-/// Refused by `NoSet` where there is no such set, then by `BadCardinality` where the cardinality isn't
-/// from two to the number of its roles, then by `StaticSeparation` with the set where some user is
-/// authorized for so many of its roles, or by `DynamicSeparation` where some session has so many.
-///
-/// # Errors
-///
-/// Where memory for the name of a violated set was refused.
+// The verdict on SetSsdSetCardinality or SetDsdSetCardinality.
+//
+// Refused by `NoSet` where there is no such set, then by `BadCardinality` where the cardinality isn't
+// from two to the number of its roles, then by `StaticSeparation` with the set where some user is
+// authorized for so many of its roles, or by `DynamicSeparation` where some session has so many.
+//
+// An error says that memory for the name of a violated set was refused.
 #[tactic(auto, unfolding(crate::specs::Verdict::verdict, crate::specs::Verdict::refusals))]
-pub fn judge_set_cardinality(
+pub(crate) fn judge_set_cardinality(
     alloc: Global,
     state: &State,
     duty: SeparationOfDuty,
@@ -146,11 +140,11 @@ pub fn judge_set_cardinality(
     Ok(broken)
 }
 
-/// The verdict on DeleteSsdSet or DeleteDsdSet.
-///
-/// Refused by `NoSet` where there is no such set.
+// The verdict on DeleteSsdSet or DeleteDsdSet.
+//
+// Refused by `NoSet` where there is no such set.
 #[tactic(auto, unfolding(crate::specs::Verdict::verdict, crate::specs::Verdict::refusals, rbac_sets::specs::Sets::any))]
-pub fn judge_delete_set(state: &State, duty: SeparationOfDuty, set: &Name) -> Option<Refusal>
+pub(crate) fn judge_delete_set(state: &State, duty: SeparationOfDuty, set: &Name) -> Option<Refusal>
     ensures { result ≡ verdict state.now.facts (delete_set duty set.now) }
 {
     if !has_set(duty.cardinalities(state), set) {

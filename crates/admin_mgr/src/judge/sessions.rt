@@ -18,19 +18,17 @@ use crate::state::State;
 use rbac_sets::{Kind, Name, NameSet, Refusal};
 use std::alloc::{AllocError, Global};
 
-/// The verdict on CreateSession.
-///
-/// Refused by `NoUser` and, where one of the roles is missing, by `NoRole`, then by `SessionExists`
-/// where there is such a session, then by `NotAuthorized` where the user isn't authorized for one of the
-/// roles, then by `UserLocked` where the user is locked, then by `TooMany` where there are as many
-/// sessions as there may be, or more roles than may be activated in one, then by `DynamicSeparation`
-/// with the first set in byte order from which the session would have as many roles as its cardinality.
-///
-/// # Errors
-///
-/// Where memory for the name of the set was refused.
+// The verdict on CreateSession.
+//
+// Refused by `NoUser` and, where one of the roles is missing, by `NoRole`, then by `SessionExists`
+// where there is such a session, then by `NotAuthorized` where the user isn't authorized for one of the
+// roles, then by `UserLocked` where the user is locked, then by `TooMany` where there are as many
+// sessions as there may be, or more roles than may be activated in one, then by `DynamicSeparation`
+// with the first set in byte order from which the session would have as many roles as its cardinality.
+//
+// An error says that memory for the name of the set was refused.
 #[tactic(auto, unfolding(crate::specs::Verdict::verdict, crate::specs::Verdict::refusals))]
-pub fn judge_create_session(
+pub(crate) fn judge_create_session(
     alloc: Global,
     state: &State,
     user: &Name,
@@ -95,12 +93,12 @@ fn is_authorized(state: &State, user: &Name, role: &Name) -> bool
     is_reached(state.order(), held, role)
 }
 
-/// The verdict on DeleteSession.
-///
-/// Refused by `NoUser`, `NoSession` where these are missing, then by `NotOwner` where the session has
-/// another user.
+// The verdict on DeleteSession.
+//
+// Refused by `NoUser`, `NoSession` where these are missing, then by `NotOwner` where the session has
+// another user.
 #[tactic(auto, unfolding(crate::specs::Verdict::verdict, crate::specs::Verdict::refusals))]
-pub fn judge_delete_session(state: &State, user: &Name, session: &Name) -> Option<Refusal>
+pub(crate) fn judge_delete_session(state: &State, user: &Name, session: &Name) -> Option<Refusal>
     ensures { result ≡ verdict state.now.facts (DeleteSession user.now session.now) }
 {
     if !state.users().contains(user) {
@@ -115,19 +113,17 @@ pub fn judge_delete_session(state: &State, user: &Name, session: &Name) -> Optio
     None
 }
 
-/// The verdict on AddActiveRole.
-///
-/// Refused by `NoUser`, `NoSession`, `NoRole` where these are missing, then by `NotOwner` where the
-/// session has another user, then by `AlreadyActive` where the role was activated in it, then by
-/// `NotAuthorized` where the user isn't authorized for the role, then by `TooMany` where as many roles
-/// were activated as may be, then by `DynamicSeparation` with the first set in byte order from which the
-/// session would have as many roles as its cardinality.
-///
-/// # Errors
-///
-/// Where memory for the name of the set was refused.
+// The verdict on AddActiveRole.
+//
+// Refused by `NoUser`, `NoSession`, `NoRole` where these are missing, then by `NotOwner` where the
+// session has another user, then by `AlreadyActive` where the role was activated in it, then by
+// `NotAuthorized` where the user isn't authorized for the role, then by `TooMany` where as many roles
+// were activated as may be, then by `DynamicSeparation` with the first set in byte order from which the
+// session would have as many roles as its cardinality.
+//
+// An error says that memory for the name of the set was refused.
 #[tactic(auto, unfolding(crate::specs::Verdict::verdict, crate::specs::Verdict::refusals))]
-pub fn judge_add_active_role(
+pub(crate) fn judge_add_active_role(
     alloc: Global,
     state: &State,
     user: &Name,
@@ -180,12 +176,12 @@ fn refuse_activation(state: &State, user: &Name, session: &Name, role: &Name) ->
     None
 }
 
-/// The verdict on DropActiveRole.
-///
-/// Refused by `NoUser`, `NoSession`, `NoRole` where these are missing, then by `NotOwner` where the
-/// session has another user, then by `NotActive` where the role wasn't activated in it.
+// The verdict on DropActiveRole.
+//
+// Refused by `NoUser`, `NoSession`, `NoRole` where these are missing, then by `NotOwner` where the
+// session has another user, then by `NotActive` where the role wasn't activated in it.
 #[tactic(auto, unfolding(crate::specs::Verdict::verdict, crate::specs::Verdict::refusals))]
-pub fn judge_drop_active_role(
+pub(crate) fn judge_drop_active_role(
     state: &State,
     user: &Name,
     session: &Name,

@@ -17,7 +17,7 @@ use rbac_sets::{CountSet, Kind, Name, NameSet, PairSet, Refusal};
 use std::alloc::{AllocError, Global};
 
 // Whether there is a set of this name.
-#[tactic(auto, using(crate::proofs::Lookups::is_some_number), unfolding(rbac_sets::specs::Sets::any))]
+#[tactic(auto, using(rbac_sets::proofs::Lists::is_some_found), unfolding(rbac_sets::specs::Sets::any))]
 pub(crate) fn has_set(cardinalities: &CountSet, set: &Name) -> bool
     ensures { result ≡ any (λ (entry : Cardinality). same_name entry.0 set.now) (set_of cardinality_cmp cardinalities.now) }
 {

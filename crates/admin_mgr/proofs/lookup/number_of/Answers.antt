@@ -4,7 +4,7 @@ use Rattle.std.specs.Option.{option_map, option_copied}
 use Rattle.std.specs.List.{filter, slice_get}
 use Rattle.rbac_sets.specs.Sets.{Bytes, Cardinality, cardinality_cmp, members, same_name}
 use Rattle.rbac_sets.specs.SortedSet.{set_of}
-use Rattle.admin_mgr.proofs.Lookups.{find_filter}
+use Rattle.rbac_sets.proofs.Lists.{find_filter}
 use Rattle.admin_mgr.proofs.lookup.number_of.Goals as goal
 
 -- the number of the first entry of the run is the one that is found

@@ -4,8 +4,8 @@ use Rattle.std.proofs.lemmas.Bool.{true≢false}
 use Rattle.rbac_sets.specs.Sets.{name_cmp, pair_cmp, insert}
 use Rattle.rbac_sets.specs.SortedSet.{set_of}
 use Rattle.rbac_sets.specs.NameOrder.{name_total, name_exact}
+use Rattle.rbac_sets.proofs.Members.{members-rise}
 use Rattle.role_order.specs.Order.{HasPair}
-use Rattle.role_order.proofs.Members.{members-rise}
 use Rattle.role_order.proofs.Walks.{passed_all}
 use Rattle.role_order.proofs.Gathering.{row_above, row_more, row_skip}
 use Rattle.role_order.proofs.building.cross_row.Goals as goal

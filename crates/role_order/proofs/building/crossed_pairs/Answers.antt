@@ -3,7 +3,8 @@ use Rattle.std.specs.List.Sorted.{IsStrictlySortedBy}
 use Rattle.rbac_sets.specs.Sets.{name_cmp, pair_cmp}
 use Rattle.rbac_sets.specs.SortedSet.{set_of}
 use Rattle.rbac_sets.specs.NameOrder.{name_total, name_exact}
-use Rattle.role_order.proofs.Members.{none_in, members-rise, passed_below}
+use Rattle.rbac_sets.proofs.Members.{members-rise}
+use Rattle.role_order.proofs.Members.{none_in, passed_below}
 use Rattle.role_order.proofs.Walks.{passed_all}
 use Rattle.role_order.proofs.Gathering.{rows_more}
 use Rattle.role_order.proofs.building.crossed_pairs.Goals as goal

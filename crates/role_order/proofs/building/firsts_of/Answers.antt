@@ -3,7 +3,8 @@ use Rattle.std.specs.List.Sorted.{IsStrictlySortedBy}
 use Rattle.rbac_sets.specs.Sets.{name_cmp, pair_cmp, insert}
 use Rattle.rbac_sets.specs.SortedSet.{set_of}
 use Rattle.rbac_sets.specs.NameOrder.{pair_total, pair_exact}
-use Rattle.role_order.proofs.Members.{none_in, members-rise}
+use Rattle.rbac_sets.proofs.Members.{members-rise}
+use Rattle.role_order.proofs.Members.{none_in}
 use Rattle.role_order.proofs.Walks.{passed_all}
 use Rattle.role_order.proofs.Gathering.{first_above, firsts_more, firsts_skip}
 use Rattle.role_order.proofs.building.firsts_of.Goals as goal

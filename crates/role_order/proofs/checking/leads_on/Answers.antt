@@ -1,10 +1,9 @@
 use Rattle.std.proofs.Common.{◌∙◌, not, ap, sym, length, refl, subst, arith, ◌==◌}
-use Rattle.std.proofs.lemmas.Bool.{true≢false}
+use Rattle.std.proofs.lemmas.Bool.{true≢false, false_from_ne_true}
 use Rattle.std.proofs.lemmas.Bool.Decides.{Decides-eqb}
 use Rattle.rbac_sets.specs.Sets.{Bytes, pair_cmp}
 use Rattle.rbac_sets.specs.SortedSet.{set_of}
 use Rattle.role_order.specs.Order.{HasPair}
-use Rattle.role_order.proofs.Members.{is_false}
 use Rattle.role_order.proofs.Runs.{has_first}
 use Rattle.role_order.proofs.checking.leads_on.Goals as goal
 
@@ -18,5 +17,5 @@ returns c =
           (first.0.1, subst (λ (x : Bytes). HasPair (set_of pair_cmp c.args.edges.now) x first.0.1) at.1 at.0),
       λ on. (
           let here = (c.run.ensures.members (c.args.m.now, on.0)).1 (on.1, refl) in
-          ap not (c.is_empty.ensures ∙ is_false (length xs == 0) (λ e. absurd (omega (arith, here.1, empty.0 e))))),
+          ap not (c.is_empty.ensures ∙ false_from_ne_true (length xs == 0) (λ e. absurd (omega (arith, here.1, empty.0 e))))),
     )

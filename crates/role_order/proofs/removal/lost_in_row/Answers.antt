@@ -3,8 +3,9 @@ use Rattle.std.specs.List.Sorted.{IsStrictlySortedBy}
 use Rattle.rbac_sets.specs.Sets.{name_cmp, pair_cmp, insert}
 use Rattle.rbac_sets.specs.SortedSet.{set_of}
 use Rattle.rbac_sets.specs.NameOrder.{name_total, name_exact}
+use Rattle.rbac_sets.proofs.Members.{members-rise}
 use Rattle.role_order.specs.Removal.{HasWay}
-use Rattle.role_order.proofs.Members.{none_in, members-rise}
+use Rattle.role_order.proofs.Members.{none_in}
 use Rattle.role_order.proofs.Walks.{passed_all}
 use Rattle.role_order.proofs.Gathering.{row_above, row_more, row_skip}
 use Rattle.role_order.proofs.removal.lost_in_row.Goals as goal

@@ -7,10 +7,11 @@ use Rattle.admin_mgr.specs.After.{after}
 use Rattle.admin_mgr.specs.Verdict.{verdict, add_member_refusals}
 use Rattle.admin_mgr.proofs.VerdictLaws.{passed, refuse_unless-None, stopped, last_decides}
 use Rattle.admin_mgr.proofs.BreakLaws.{add_member_breaks}
-use Rattle.admin_mgr.proofs.KeepLaws.{cardinality_there, is_some_cardinality}
+use Rattle.admin_mgr.proofs.KeepLaws.{cardinality_there}
 use Rattle.admin_mgr.specs.SeparationOfDuty.{sets_of, refusal_of, breaks, add_member}
 use Rattle.admin_mgr.proofs.SetCommandLaws.{refusals_add_member}
 use Rattle.admin_mgr.proofs.judge.separation.judge_add_member.Goals as goal
+use Rattle.admin_mgr.proofs.HeldLaws.{is_some_cardinality}
 
 pub returns-in-Some : goal.returns-in-Some
 unfolding verdict

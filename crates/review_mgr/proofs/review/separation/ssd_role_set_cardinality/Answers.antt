@@ -2,16 +2,16 @@ use Rattle.std.proofs.Common.{sym, ap, ◌∙◌}
 use Rattle.std.specs.Prelude.{is_some, ◌∷◌, []}
 use Rattle.rbac_sets.specs.declared.refusal.Refusal.TheVariants.{NoSet}
 use Rattle.admin_mgr.specs.Refusing.{refuse_unless, first}
+use Rattle.admin_mgr.proofs.HeldLaws.{is_some_cardinality}
 use Rattle.review_mgr.specs.Questions.{refused, refusals}
-use Rattle.review_mgr.proofs.Reached.{has_set-number}
 use Rattle.review_mgr.proofs.review.separation.ssd_role_set_cardinality.Goals as goal
 
 pub returns-in-Some-clause-answered : goal.returns-in-Some-clause-answered
 unfolding refused refusals
 returns-in-Some-clause-answered c =
-    ap (λ there. first (refuse_unless there NoSet ∷ [])) (sym (has_set-number c.args.state.now.facts.ssd c.args.set.now) ∙ ap is_some (sym c.ssd_n.ensures ∙ c.in-Some.is))
+    ap (λ there. first (refuse_unless there NoSet ∷ [])) (sym (is_some_cardinality c.args.state.now.facts.ssd c.args.set.now) ∙ ap is_some (sym c.ssd_n.ensures ∙ c.in-Some.is))
 
 pub returns-in-None-clause-refused : goal.returns-in-None-clause-refused
 unfolding refused refusals
 returns-in-None-clause-refused c =
-    ap (λ there. first (refuse_unless there NoSet ∷ [])) (sym (has_set-number c.args.state.now.facts.ssd c.args.set.now) ∙ ap is_some (sym c.ssd_n.ensures ∙ c.in-None.is))
+    ap (λ there. first (refuse_unless there NoSet ∷ [])) (sym (is_some_cardinality c.args.state.now.facts.ssd c.args.set.now) ∙ ap is_some (sym c.ssd_n.ensures ∙ c.in-None.is))
