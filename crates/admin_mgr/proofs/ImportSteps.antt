@@ -15,7 +15,7 @@ use Rattle.admin_mgr.specs.declared.planning.importing.Imported.{Imported}
 use Rattle.admin_mgr.specs.RbacState.{RbacState}
 use Rattle.admin_mgr.specs.Assignment.{assignment_verdict, import_verdicts, is_already, refused_record, tally_of}
 use Rattle.admin_mgr.specs.Importing.{accepted, with_assignments, put_assignment, IsBegun, IsAssigned, IsTold, Follows}
-use Rattle.admin_mgr.specs.Planned.{IsReportOf}
+use Rattle.admin_mgr.specs.Planned.{tally_of_report}
 use Rattle.admin_mgr.specs.Good.{IsGood}
 use Rattle.admin_mgr.proofs.TouchLaws.{with_assignment}
 use Rattle.admin_mgr.proofs.GoodAssignment.{good_with_assignment}
@@ -157,16 +157,15 @@ unfolding accepted
 ends_with_changes S all number now stands = sym (append-nil now.changes.items) ∙ stands.changes
 
 -- and told
-pub ends_with_report : (S : RbacState) (all : List Pair) (number : ℕ) (now : Imported) → Stands S all [] number now → IsReportOf (tally_of (import_verdicts S all)) now.report
+pub ends_with_report : (S : RbacState) (all : List Pair) (number : ℕ) (now : Imported) → Stands S all [] number now → tally_of_report now.report ≡ tally_of (import_verdicts S all)
 unfolding import_verdicts tally_of
 ends_with_report S all number now stands =
     let all_assigned = stands.assigned in
     let all_already = stands.already in
-    record {
-      assigned = omega (arith, all_assigned);
-      already = omega (arith, all_already);
-      refused = sym (append-nil now.report.refused.items) ∙ stands.refused;
-    }
+    let assigned : now.report.assigned ≡ count_by is_none (import_verdicts S all) = omega (arith, all_assigned) in
+    let already : now.report.already ≡ count_by is_already (import_verdicts S all) = omega (arith, all_already) in
+    let refused = sym (append-nil now.report.refused.items) ∙ stands.refused in
+    λ i. record { assigned = assigned i; already = already i; refused = refused i }
 
 -- the next record and those after it
 pub next_record : (all : List Pair) (i : ℕ) (pair : Pair) → i < length all → pair ≡ get_or all i pair → drop i all ≡ pair ∷ drop (i + 1) all

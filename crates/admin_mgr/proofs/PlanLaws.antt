@@ -1,5 +1,5 @@
 -- A plan from its parts.
-use Rattle.std.proofs.Common.{◌≡◌, List, sym, subst}
+use Rattle.std.proofs.Common.{◌≡◌, ◌∙◌, List, sym, subst}
 use Rattle.std.specs.Prelude.{Some, None}
 use Rattle.rbac_sets.specs.declared.command.Command.{Command}
 use Rattle.rbac_sets.specs.declared.row.Change.{Change}
@@ -11,11 +11,11 @@ use Rattle.admin_mgr.specs.Assignment.{no_tally}
 use Rattle.admin_mgr.specs.Run.{tally}
 use Rattle.admin_mgr.specs.After.{after}
 use Rattle.admin_mgr.specs.Changes.{Turns}
-use Rattle.admin_mgr.specs.Planned.{TurnsEdges, IsReportOf, IsPlanOf}
+use Rattle.admin_mgr.specs.Planned.{TurnsEdges, tally_of_report, IsPlanOf}
 use Rattle.admin_mgr.specs.Good.{IsGood}
 
 module _ (S : RbacState) (command : Command) (plan : Plan) (changes : List Change)
-    (told : tally S command ≡ no_tally) (lists : plan.changes.items ≡ changes) (report : IsReportOf no_tally plan.report)
+    (told : tally S command ≡ no_tally) (lists : plan.changes.items ≡ changes) (report : tally_of_report plan.report ≡ no_tally)
     (turns : Turns S changes (after S command)) (good : IsGood (after S command)) where
   -- where the hierarchy stays
   pub plan_of : plan.order ≡ None → S.edges ≡ (after S command).edges → IsPlanOf S command plan
@@ -25,7 +25,7 @@ module _ (S : RbacState) (command : Command) (plan : Plan) (changes : List Chang
       edges = subst (λ o. TurnsEdges S o (after S command)) (sym none) edges;
       good = good;
     };
-    report = subst (λ t. IsReportOf t plan.report) (sym told) report;
+    report = report ∙ sym told;
   }
 
   -- where the hierarchy changes by a plan of its own
@@ -36,5 +36,5 @@ module _ (S : RbacState) (command : Command) (plan : Plan) (changes : List Chang
       edges = subst (λ o. TurnsEdges S o (after S command)) (sym some) (fits, edges);
       good = good;
     };
-    report = subst (λ t. IsReportOf t plan.report) (sym told) report;
+    report = report ∙ sym told;
   }

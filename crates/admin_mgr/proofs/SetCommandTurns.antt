@@ -18,7 +18,7 @@ use Rattle.admin_mgr.specs.Run.{tally}
 use Rattle.admin_mgr.specs.After.{after}
 use Rattle.admin_mgr.specs.Verdict.{verdict}
 use Rattle.admin_mgr.specs.Changes.{Turns}
-use Rattle.admin_mgr.specs.Planned.{IsReportOf, IsPlanOf}
+use Rattle.admin_mgr.specs.Planned.{tally_of_report, IsPlanOf}
 use Rattle.admin_mgr.specs.Good.{IsGood, IsSeparation}
 use Rattle.admin_mgr.specs.Listing.{pair_row, take_all, put_all}
 use Rattle.admin_mgr.proofs.BreakLaws.{formed_sets, after_create_set, after_add_member, after_delete_member, after_set_cardinality, after_delete_set}
@@ -49,7 +49,7 @@ same_edges : (duty : SeparationOfDuty) (S : RbacState) (other : Separation) → 
 same_edges Static S other = refl
 same_edges Dynamic S other = refl
 
-module _ (duty : SeparationOfDuty) (S : RbacState) (good : IsGood S) (plan : Plan) (report : IsReportOf no_tally plan.report) (none : plan.order ≡ None) where
+module _ (duty : SeparationOfDuty) (S : RbacState) (good : IsGood S) (plan : Plan) (report : tally_of_report plan.report ≡ no_tally) (none : plan.order ≡ None) where
   -- a plan whose changes lead to other sets is that of a command after which these are there
   plan_of_sets : (command : Command) (changes : List Change) (other : Separation) → tally S command ≡ no_tally → plan.changes.items ≡ changes → after S command ≡ with_sets duty S other → IsGood (after S command) →
       Turns (with_sets duty S (sets_of duty S)) changes (with_sets duty S other) → IsPlanOf S command plan

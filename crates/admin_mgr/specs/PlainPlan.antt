@@ -3,10 +3,10 @@ use Rattle.std.specs.Prelude.{◌≡◌, List, None}
 use Rattle.rbac_sets.specs.declared.row.Change.{Change}
 use Rattle.admin_mgr.specs.declared.plan.Plan.{Plan}
 use Rattle.admin_mgr.specs.Assignment.{no_tally}
-use Rattle.admin_mgr.specs.Planned.{IsReportOf}
+use Rattle.admin_mgr.specs.Planned.{tally_of_report}
 
 -- the plan makes these changes of rows, tells nothing and keeps the hierarchy
 pub record IsPlain (listed : List Change) (plan : Plan) : Type 0 where
   pub changes : plan.changes.items ≡ listed
-  pub report : IsReportOf no_tally plan.report
+  pub report : tally_of_report plan.report ≡ no_tally
   pub order : plan.order ≡ None

@@ -25,16 +25,14 @@ pub record LeadsTo (S : RbacState) (plan : Plan) (T : RbacState) : Type 0 where
   pub edges : TurnsEdges S plan.order T
   pub good : IsGood T
 
--- the report tells this tally
-pub record IsReportOf (tally : Tally) (report : Report) : Type 0 where
-  pub assigned : report.assigned ≡ tally.assigned
-  pub already : report.already ≡ tally.already
-  pub refused : report.refused.items ≡ tally.refused
+-- what a report tells
+abbrev pub tally_of_report : Report → Tally
+tally_of_report report = record { assigned = report.assigned; already = report.already; refused = report.refused.items }
 
 -- the plan does in S what the command asks
 pub record IsPlanOf (S : RbacState) (command : Command) (plan : Plan) : Type 0 where
   pub leads : LeadsTo S plan (after S command)
-  pub report : IsReportOf (tally S command) plan.report
+  pub report : tally_of_report plan.report ≡ tally S command
 
 -- the edges of a state with the room for more
 abbrev pub order_of : Kept → Order

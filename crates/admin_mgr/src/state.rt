@@ -9,7 +9,7 @@ ghost use Rattle.admin_mgr.specs.Planned.{LeadsTo, HasRoomFor};
 
 use crate::checking::late_refusal;
 use crate::lookup::number_of;
-use crate::plan::Plan;
+use crate::plan::{Plan, Report};
 use crate::relations::Relations;
 use crate::relations::gathered::Gathered;
 use rbac_sets::{CountSet, GrantSet, Name, NameSet, PairSet, Refusal, Row};
@@ -258,15 +258,16 @@ impl State {
     /// each function of the system on sessions does to the sets and relations, once it is accepted.
     ///
     /// The plan is one that leads from this state to a good one, as `plan` gives, and the state is that
-    /// one afterwards. It takes no memory and can't fail.
-    pub fn commit(&mut self, plan: Plan)
+    /// one afterwards. What the plan tells is handed back. It takes no memory and can't fail.
+    pub fn commit(&mut self, plan: Plan) -> Report
         requires planned { (T : RbacState) × LeadsTo self.old.facts plan T }
         requires room { HasRoomFor self.old plan }
-        ensures { (T : RbacState) → LeadsTo self.old.facts plan T → self.new.facts ≡ T }
+        ensures state { (T : RbacState) → LeadsTo self.old.facts plan T → self.new.facts ≡ T }
+        ensures report { result ≡ plan.report }
     {
         let Plan {
             changes,
-            report: _,
+            report,
             order,
         } = plan;
         self.relations.change(changes);
@@ -274,5 +275,6 @@ impl State {
             Some(order) => self.relations.commit_order(order),
             None => {}
         }
+        report
     }
 }

@@ -11,7 +11,7 @@ ghost use Rattle.admin_mgr.specs.Assignment.{assignment_verdict};
 ghost use Rattle.admin_mgr.specs.Good.{IsGood};
 ghost use Rattle.admin_mgr.specs.Held.{is_reached, is_touched, reached_with, find_in};
 ghost use Rattle.admin_mgr.specs.Importing.{accepted, put_assignment, record_refusals, with_assignments, IsBegun, IsAssigned, IsTold, Follows};
-ghost use Rattle.admin_mgr.specs.Planned.{IsReportOf, IsPlanOf};
+ghost use Rattle.admin_mgr.specs.Planned.{tally_of_report, IsPlanOf};
 ghost use Rattle.admin_mgr.specs.Refusing.{first};
 ghost use Rattle.admin_mgr.specs.Run.{tally};
 ghost use Rattle.admin_mgr.specs.Verdict.{verdict};
@@ -42,7 +42,7 @@ pub(crate) fn import(
 ) -> Result<(Vec<Change>, Report), Refusal>
     requires { verdict state.now.facts (ImportAssignments pairs.now) ≡ None }
     ensures changes { IfOk result (λ done. done.0.items ≡ map put_assignment (accepted state.now.facts pairs.now.items)) }
-    ensures report { IfOk result (λ done. IsReportOf (tally state.now.facts (ImportAssignments pairs.now)) done.1) }
+    ensures report { IfOk result (λ done. tally_of_report done.1 ≡ tally state.now.facts (ImportAssignments pairs.now)) }
     ensures cause { IfErr result (λ refusal. refusal ≡ Refusal.Memory) }
 {
     state.is_good();

@@ -3,7 +3,7 @@ ghost use Rattle.std.specs.Prelude.{◌≡◌, ◌∷◌, [], None, Some, IfOk, 
 ghost use Rattle.rbac_sets.specs.declared.row.Change.TheVariants.{Put, Take};
 ghost use Rattle.admin_mgr.specs.Assignment.{no_tally};
 ghost use Rattle.admin_mgr.specs.PlainPlan.{IsPlain};
-ghost use Rattle.admin_mgr.specs.Planned.{IsReportOf};
+ghost use Rattle.admin_mgr.specs.Planned.{tally_of_report};
 
 use crate::plan::{Plan, Report};
 use crate::planning::rows::{put, take};
@@ -14,7 +14,7 @@ use std::alloc::Global;
 // The plan of a command that keeps the hierarchy.
 pub(crate) fn plain(alloc: Global, changes: Vec<Change>) -> Plan
     ensures changes { result.changes.items ≡ changes.items }
-    ensures report { IsReportOf no_tally result.report }
+    ensures report { tally_of_report result.report ≡ no_tally }
     ensures order { result.order ≡ None }
 {
     Plan {
@@ -47,7 +47,7 @@ pub(crate) fn one_taken(alloc: Global, row: Row) -> Result<Plan, Refusal>
 // The plan of a command that changes the hierarchy.
 pub(crate) fn with_order(alloc: Global, changes: Vec<Change>, order: OrderPlan) -> Plan
     ensures changes { result.changes.items ≡ changes.items }
-    ensures report { IsReportOf no_tally result.report }
+    ensures report { tally_of_report result.report ≡ no_tally }
     ensures order { result.order ≡ Some order }
 {
     Plan {
@@ -59,7 +59,7 @@ pub(crate) fn with_order(alloc: Global, changes: Vec<Change>, order: OrderPlan) 
 
 // The report of a command that is no import.
 fn nothing_told(alloc: Global) -> Report
-    ensures { IsReportOf no_tally result }
+    ensures { tally_of_report result ≡ no_tally }
 {
     Report {
         assigned: 0,

@@ -41,7 +41,7 @@ fn apply(alloc: Global, state: &mut State, command: &Command) -> Result<Told, Re
         report: show_report(alloc, plan.report())?,
     };
     state.make_room(&plan)?;
-    state.commit(plan);
+    let _ = state.commit(plan);
     Ok(told)
 }
 

@@ -89,7 +89,7 @@ fn apply(
     let plan = state.plan(alloc, command)?;
     stored.write(alloc, plan.changes())?;
     state.make_room(&plan)?;
-    state.commit(plan);
+    let _ = state.commit(plan);
     Ok(())
 }
 

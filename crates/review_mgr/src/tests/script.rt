@@ -97,6 +97,6 @@ impl Run {
 fn obey(alloc: Global, state: &mut State, command: &Command) -> Result<(), Refusal> {
     let plan = state.plan(alloc, command)?;
     state.make_room(&plan)?;
-    state.commit(plan);
+    let _ = state.commit(plan);
     Ok(())
 }

@@ -7,16 +7,16 @@ use Rattle.admin_mgr.proofs.state.State.commit.Goals as goal
 pub change-requires-clause-free : goal.change-requires-clause-free
 change-requires-clause-free c = rw (c.self.view_is) (free _ c.requires.planned.0 _ c.requires.planned.1.rows)
 
-pub returns-in-Some : goal.returns-in-Some
-returns-in-Some c T to =
+pub returns-in-Some-clause-state : goal.returns-in-Some-clause-state
+returns-in-Some-clause-state c T to =
     let made : c.change.new.self.facts ≡ after_changes c.args.self.now.facts c.args.plan.changes.items = rw (← c.self.view_is) c.change.ensures.facts in
     c.commit_order.ensures ∙ leads_edges c.args.self.now.facts T c.args.plan c.in-Some.order to c.in-Some.is c.change.new.self.facts made
 
 pub invariant_of-self : goal.invariant_of-self
-invariant_of-self c = subst IsGood (sym (returns-in-Some c c.requires.planned.0 c.requires.planned.1)) c.requires.planned.1.good
+invariant_of-self c = subst IsGood (sym (returns-in-Some-clause-state c c.requires.planned.0 c.requires.planned.1)) c.requires.planned.1.good
 
-pub returns : goal.returns
-returns c T to =
+pub returns-in-None-clause-state : goal.returns-in-None-clause-state
+returns-in-None-clause-state c T to =
     let made : c.change.new.self.facts ≡ after_changes c.args.self.now.facts c.args.plan.changes.items = rw (← c.self.view_is) c.change.ensures.facts in
     leads c.args.self.now.facts T c.args.plan to c.in-None.is c.change.new.self.facts made
 
