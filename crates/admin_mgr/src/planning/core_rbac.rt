@@ -9,8 +9,7 @@ use crate::plan::Plan;
 use crate::planning::ending::{Loss, take_ended};
 use crate::planning::making::{one_put, one_taken, plain};
 use crate::planning::rows::{
-    grant_row, locked_row, name_row, pair_row, put, take, take_grants, take_grants_of_role,
-    take_pairs, take_pairs_with_second,
+    put, take, take_grants, take_grants_of_role, take_pairs, take_pairs_with_second,
 };
 use crate::state::State;
 use rbac_sets::{Change, Name, Refusal, Row};
@@ -24,7 +23,7 @@ pub(crate) fn plan_add_user(alloc: Global, state: &State, user: &Name) -> Result
     ensures cause { IfErr result (λ refusal. refusal ≡ Refusal.Memory) }
 {
     state.is_good();
-    one_put(alloc, name_row(alloc, Row::USER, user)?)
+    one_put(alloc, Row::user(user.copy(alloc)?))
 }
 
 // The plan of DeleteUser: the user goes with its lock, its assignments and its sessions.
@@ -35,7 +34,7 @@ pub(crate) fn plan_delete_user(alloc: Global, state: &State, user: &Name) -> Res
 {
     state.is_good();
     let mut changes = Vec::new(alloc);
-    take(&mut changes, name_row(alloc, Row::USER, user)?)?;
+    take(&mut changes, Row::user(user.copy(alloc)?))?;
     take_lock(alloc, &mut changes, state, user)?;
     take_pairs(
         alloc,
@@ -55,7 +54,7 @@ pub(crate) fn plan_add_role(alloc: Global, state: &State, role: &Name) -> Result
     ensures cause { IfErr result (λ refusal. refusal ≡ Refusal.Memory) }
 {
     state.is_good();
-    one_put(alloc, name_row(alloc, Row::ROLE, role)?)
+    one_put(alloc, Row::role(role.copy(alloc)?))
 }
 
 // The plan of DeleteRole: the role goes with its assignments and grants, and sessions may end.
@@ -66,7 +65,7 @@ pub(crate) fn plan_delete_role(alloc: Global, state: &State, role: &Name) -> Res
 {
     state.is_good();
     let mut changes = Vec::new(alloc);
-    take(&mut changes, name_row(alloc, Row::ROLE, role)?)?;
+    take(&mut changes, Row::role(role.copy(alloc)?))?;
     take_pairs_with_second(
         alloc,
         &mut changes,
@@ -91,7 +90,7 @@ pub(crate) fn plan_add_perm_obj(
     ensures cause { IfErr result (λ refusal. refusal ≡ Refusal.Memory) }
 {
     state.is_good();
-    one_put(alloc, name_row(alloc, Row::OBJECT, object)?)
+    one_put(alloc, Row::object(object.copy(alloc)?))
 }
 
 // The plan for one object less.
@@ -106,7 +105,7 @@ pub(crate) fn plan_delete_perm_obj(
     ensures cause { IfErr result (λ refusal. refusal ≡ Refusal.Memory) }
 {
     state.is_good();
-    one_taken(alloc, name_row(alloc, Row::OBJECT, object)?)
+    one_taken(alloc, Row::object(object.copy(alloc)?))
 }
 
 // The plan for one more permission.
@@ -122,7 +121,10 @@ pub(crate) fn plan_add_permission(
     ensures cause { IfErr result (λ refusal. refusal ≡ Refusal.Memory) }
 {
     state.is_good();
-    one_put(alloc, pair_row(alloc, Row::PERMISSION, object, operation)?)
+    one_put(
+        alloc,
+        Row::permission(object.copy(alloc)?, operation.copy(alloc)?),
+    )
 }
 
 // The plan for one permission less: it goes with its grants.
@@ -140,7 +142,7 @@ pub(crate) fn plan_delete_permission(
     let mut changes = Vec::new(alloc);
     take(
         &mut changes,
-        pair_row(alloc, Row::PERMISSION, object, operation)?,
+        Row::permission(object.copy(alloc)?, operation.copy(alloc)?),
     )?;
     take_grants(
         alloc,
@@ -164,7 +166,14 @@ pub(crate) fn plan_grant_permission(
     ensures cause { IfErr result (λ refusal. refusal ≡ Refusal.Memory) }
 {
     state.is_good();
-    one_put(alloc, grant_row(alloc, object, operation, role)?)
+    one_put(
+        alloc,
+        Row::grant(
+            object.copy(alloc)?,
+            operation.copy(alloc)?,
+            role.copy(alloc)?,
+        ),
+    )
 }
 
 // The plan of RevokePermission.
@@ -181,7 +190,14 @@ pub(crate) fn plan_revoke_permission(
     ensures cause { IfErr result (λ refusal. refusal ≡ Refusal.Memory) }
 {
     state.is_good();
-    one_taken(alloc, grant_row(alloc, object, operation, role)?)
+    one_taken(
+        alloc,
+        Row::grant(
+            object.copy(alloc)?,
+            operation.copy(alloc)?,
+            role.copy(alloc)?,
+        ),
+    )
 }
 
 // The plan of AssignUser.
@@ -197,7 +213,7 @@ pub(crate) fn plan_assign_user(
     ensures cause { IfErr result (λ refusal. refusal ≡ Refusal.Memory) }
 {
     state.is_good();
-    one_put(alloc, pair_row(alloc, Row::ASSIGNMENT, user, role)?)
+    one_put(alloc, Row::assignment(user.copy(alloc)?, role.copy(alloc)?))
 }
 
 // The plan of DeassignUser: sessions of the user may end.
@@ -213,7 +229,10 @@ pub(crate) fn plan_deassign_user(
 {
     state.is_good();
     let mut changes = Vec::new(alloc);
-    take(&mut changes, pair_row(alloc, Row::ASSIGNMENT, user, role)?)?;
+    take(
+        &mut changes,
+        Row::assignment(user.copy(alloc)?, role.copy(alloc)?),
+    )?;
     take_ended(alloc, &mut changes, state, Loss::Assignment(user, role))?;
     Ok(plain(alloc, changes))
 }
@@ -262,7 +281,7 @@ fn take_lock(
     ensures cause { IfErr result (λ refusal. refusal ≡ Refusal.Memory) }
 {
     if state.locked().contains(user) {
-        take(changes, locked_row(alloc, user)?)?;
+        take(changes, Row::lock(user.copy(alloc)?))?;
     }
     Ok(())
 }
@@ -278,7 +297,7 @@ fn put_lock(
     ensures cause { IfErr result (λ refusal. refusal ≡ Refusal.Memory) }
 {
     if !state.locked().contains(user) {
-        put(changes, locked_row(alloc, user)?)?;
+        put(changes, Row::lock(user.copy(alloc)?))?;
     }
     Ok(())
 }

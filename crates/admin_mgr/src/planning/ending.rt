@@ -9,7 +9,7 @@ ghost use Rattle.admin_mgr.specs.Listing.{session_rows, ended_rows};
 ghost use Rattle.admin_mgr.specs.Ending.{is_held_without_role, is_held_without_pairs, goes_on_without_role, goes_on_without_pairs, stays};
 
 use crate::lookup::is_same;
-use crate::planning::rows::{pair_row, take, take_pairs};
+use crate::planning::rows::{take, take_pairs};
 use crate::state::State;
 use rbac_sets::{Change, Name, PairSet, Refusal, Row};
 use role_order::RoleOrder;
@@ -39,7 +39,10 @@ pub(crate) fn take_session(
     ensures ok { OnOk result (changes.new.items ≡ changes.old.items ++ session_rows state.now.facts (session.now, user.now)) }
     ensures cause { IfErr result (λ refusal. refusal ≡ Refusal.Memory) }
 {
-    take(changes, pair_row(alloc, Row::SESSION, session, user)?)?;
+    take(
+        changes,
+        Row::session(session.copy(alloc)?, user.copy(alloc)?),
+    )?;
     take_pairs(
         alloc,
         changes,

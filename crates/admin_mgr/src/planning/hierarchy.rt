@@ -11,7 +11,7 @@ ghost use Rattle.admin_mgr.specs.Planned.{IsPlanOf};
 use crate::plan::Plan;
 use crate::planning::ending::{Loss, take_ended};
 use crate::planning::making::with_order;
-use crate::planning::rows::{name_row, pair_row, put, put_pairs, take, take_pairs};
+use crate::planning::rows::{put, put_pairs, take, take_pairs};
 use crate::state::State;
 use rbac_sets::{Change, Name, Refusal, Row};
 use role_order::OrderPlan;
@@ -71,7 +71,7 @@ pub(crate) fn plan_add_ascendant(
     state.is_good();
     let order = order_with_edge(alloc, state, asc, desc)?;
     let mut changes = Vec::new(alloc);
-    put(&mut changes, name_row(alloc, Row::ROLE, asc)?)?;
+    put(&mut changes, Row::role(asc.copy(alloc)?))?;
     put_edge(alloc, &mut changes, asc, desc, &order)?;
     Ok(with_order(alloc, changes, order))
 }
@@ -91,7 +91,7 @@ pub(crate) fn plan_add_descendant(
     state.is_good();
     let order = order_with_edge(alloc, state, asc, desc)?;
     let mut changes = Vec::new(alloc);
-    put(&mut changes, name_row(alloc, Row::ROLE, desc)?)?;
+    put(&mut changes, Row::role(desc.copy(alloc)?))?;
     put_edge(alloc, &mut changes, asc, desc, &order)?;
     Ok(with_order(alloc, changes, order))
 }
@@ -136,7 +136,10 @@ fn put_edge(
     ensures ok { OnOk result (changes.new.items ≡ changes.old.items ++ order_puts asc.now desc.now order.now.puts) }
     ensures cause { IfErr result (λ refusal. refusal ≡ Refusal.Memory) }
 {
-    put(changes, pair_row(alloc, Row::INHERITANCE, asc, desc)?)?;
+    put(
+        changes,
+        Row::inheritance(asc.copy(alloc)?, desc.copy(alloc)?),
+    )?;
     put_pairs(alloc, changes, Row::CLOSURE_PAIR, order.puts().as_slice())
 }
 
@@ -151,6 +154,9 @@ fn take_edge(
     ensures ok { OnOk result (changes.new.items ≡ changes.old.items ++ order_takes asc.now desc.now order.now.takes) }
     ensures cause { IfErr result (λ refusal. refusal ≡ Refusal.Memory) }
 {
-    take(changes, pair_row(alloc, Row::INHERITANCE, asc, desc)?)?;
+    take(
+        changes,
+        Row::inheritance(asc.copy(alloc)?, desc.copy(alloc)?),
+    )?;
     take_pairs(alloc, changes, Row::CLOSURE_PAIR, order.takes().as_slice())
 }

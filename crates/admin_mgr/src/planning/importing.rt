@@ -102,7 +102,7 @@ impl Imported {
         ensures ok { OnOk result (IsAssigned (user.now, role.now) self.old self.new) }
         ensures cause { IfErr result (λ refusal. refusal ≡ Refusal.Memory) }
     {
-        let row = Row::PairRow(Row::ASSIGNMENT, user.copy(alloc)?, role.copy(alloc)?);
+        let row = Row::assignment(user.copy(alloc)?, role.copy(alloc)?);
         self.changes.push(Change::Put(row))?;
         self.added.reserve(1)?;
         self.added

@@ -2,21 +2,13 @@
 ghost use Rattle.std.specs.Prelude.{◌≡◌, ◌++◌, ◌∷◌, [], filter, IfOk, IfErr, OnOk};
 ghost use Rattle.std.specs.Prelude.{map as list_map};
 ghost use Rattle.rbac_sets.specs.Sets.{Bytes, Pair, Triple, same_name};
-ghost use Rattle.rbac_sets.specs.declared.row.Row.TheVariants.{NameRow, PairRow, GrantRow, SetRow, LockedRow};
+ghost use Rattle.rbac_sets.specs.declared.row.Row.TheVariants.{PairRow, GrantRow, SetRow};
 ghost use Rattle.rbac_sets.specs.declared.row.Change.TheVariants.{Put, Take};
 ghost use Rattle.admin_mgr.specs.Listing.{pair_row, grant_row, take_all, put_all};
 
 use crate::lookup::is_same;
 use rbac_sets::{Change, Name, Refusal, Row};
 use std::alloc::Global;
-
-// The row of a name.
-pub(crate) fn name_row(alloc: Global, kind: u8, name: &Name) -> Result<Row, Refusal>
-    ensures ok { IfOk result (λ row. row ≡ NameRow kind name.now) }
-    ensures cause { IfErr result (λ refusal. refusal ≡ Refusal.Memory) }
-{
-    Ok(Row::NameRow(kind, name.copy(alloc)?))
-}
 
 // The row of a pair.
 pub(crate) fn pair_row(alloc: Global, kind: u8, a: &Name, b: &Name) -> Result<Row, Refusal>
@@ -49,14 +41,6 @@ pub(crate) fn set_row(alloc: Global, kind: u8, set: &Name, cardinality: u32) -> 
     ensures cause { IfErr result (λ refusal. refusal ≡ Refusal.Memory) }
 {
     Ok(Row::SetRow(kind, set.copy(alloc)?, cardinality))
-}
-
-// The row of a lock.
-pub(crate) fn locked_row(alloc: Global, user: &Name) -> Result<Row, Refusal>
-    ensures ok { IfOk result (λ row. row ≡ LockedRow user.now) }
-    ensures cause { IfErr result (λ refusal. refusal ≡ Refusal.Memory) }
-{
-    Ok(Row::LockedRow(user.copy(alloc)?))
 }
 
 // One more row is put.

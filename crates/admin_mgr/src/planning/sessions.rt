@@ -7,7 +7,7 @@ ghost use Rattle.admin_mgr.specs.Planned.{IsPlanOf};
 use crate::plan::Plan;
 use crate::planning::ending::take_session;
 use crate::planning::making::{one_put, one_taken, plain};
-use crate::planning::rows::{pair_row, put, put_paired};
+use crate::planning::rows::{put, put_paired};
 use crate::state::State;
 use rbac_sets::{Name, NameSet, Refusal, Row};
 use std::alloc::Global;
@@ -26,7 +26,10 @@ pub(crate) fn plan_create_session(
 {
     state.is_good();
     let mut changes = Vec::new(alloc);
-    put(&mut changes, pair_row(alloc, Row::SESSION, session, user)?)?;
+    put(
+        &mut changes,
+        Row::session(session.copy(alloc)?, user.copy(alloc)?),
+    )?;
     put_paired(
         alloc,
         &mut changes,
@@ -68,7 +71,10 @@ pub(crate) fn plan_add_active_role(
     ensures cause { IfErr result (λ refusal. refusal ≡ Refusal.Memory) }
 {
     state.is_good();
-    one_put(alloc, pair_row(alloc, Row::ACTIVATED_ROLE, session, role)?)
+    one_put(
+        alloc,
+        Row::activated_role(session.copy(alloc)?, role.copy(alloc)?),
+    )
 }
 
 // The plan of DropActiveRole.
@@ -85,5 +91,8 @@ pub(crate) fn plan_drop_active_role(
     ensures cause { IfErr result (λ refusal. refusal ≡ Refusal.Memory) }
 {
     state.is_good();
-    one_taken(alloc, pair_row(alloc, Row::ACTIVATED_ROLE, session, role)?)
+    one_taken(
+        alloc,
+        Row::activated_role(session.copy(alloc)?, role.copy(alloc)?),
+    )
 }

@@ -156,7 +156,7 @@ fn a_row_that_occurs_twice(rt: HostRuntime) -> Result<(), Fail> {
         1
     );
     let mut rows = bank_with(alloc, &STATIC, &[])?;
-    rows.push(Row::SetRow(Row::STATIC_CARDINALITY, name(alloc, "duty")?, 3))?;
+    rows.push(Row::static_cardinality(name(alloc, "duty")?, 3))?;
     assert_eq!(rt; number_of(State::of_rows(alloc, 2, rows))?, 1);
     Ok(())
 }
@@ -174,7 +174,7 @@ fn version_1_has_no_locks(rt: HostRuntime) -> Result<(), Fail> {
 fn add_sets(alloc: Global, rows: &mut Vec<Row>, count: u32) -> Result<(), Fail> {
     for number in 0..count {
         let text = format!(in alloc; "set{number}")?;
-        rows.push(Row::SetRow(Row::DYNAMIC_CARDINALITY, name(alloc, &text)?, 2))?;
+        rows.push(Row::dynamic_cardinality(name(alloc, &text)?, 2))?;
     }
     Ok(())
 }

@@ -2,8 +2,9 @@ use Rattle.std.proofs.Common.{◌∷◌, [], ◌∙◌, ap, refl}
 use Rattle.std.specs.Prelude.{filter}
 use Rattle.rbac_sets.specs.Sets.{Pair, Triple, members, same_name}
 use Rattle.rbac_sets.specs.declared.command.Command.TheVariants.{DeleteRole}
+use Rattle.rbac_sets.specs.declared.row.Row.TheVariants.{NameRow}
+use Rattle.rbac_sets.specs.declared.row.TheConstants.Row.{ROLE, ASSIGNMENT}
 use Rattle.rbac_sets.specs.declared.row.Change.TheVariants.{Take}
-use Rattle.rbac_sets.specs.declared.row.TheConstants.Row.{ASSIGNMENT}
 use Rattle.admin_mgr.specs.Assignment.{end_sessions}
 use Rattle.admin_mgr.specs.Run.{tally}
 use Rattle.admin_mgr.specs.After.{changed, after}
@@ -18,7 +19,7 @@ pub returns-clause-planned : goal.returns-clause-planned
 unfolding after changed end_sessions tally
 returns-clause-planned c =
     let S = c.args.state.now.facts in
-    let taken = listed_then c.in_ok-take.ensures.ok c.new-changes.ensures.items (λ i. Take (c.in_ok-name_row.ensures.ok i) ∷ []) in
+    let taken = listed_then c.in_ok-take.ensures.ok c.new-changes.ensures.items (λ i. Take ((c.role.ensures ∙ ap (NameRow ROLE) c.in_ok-copy.ensures.ok) i) ∷ []) in
     let deassigned = listed_then c.in_ok-take_pairs_with_second.ensures.ok taken
     (λ i. take_all (pair_row ASSIGNMENT) (filter (λ (pair : Pair). same_name pair.1 c.args.role.now) ((c.as_slice.ensures ∙ ap members c.assignments.ensures) i))) in
     let revoked = listed_then c.in_ok-take_grants_of_role.ensures.ok deassigned

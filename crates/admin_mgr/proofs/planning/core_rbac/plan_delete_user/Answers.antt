@@ -1,7 +1,8 @@
 use Rattle.std.proofs.Common.{◌∷◌, [], ◌∙◌, ap, refl}
 use Rattle.rbac_sets.specs.declared.command.Command.TheVariants.{DeleteUser}
+use Rattle.rbac_sets.specs.declared.row.Row.TheVariants.{NameRow}
+use Rattle.rbac_sets.specs.declared.row.TheConstants.Row.{USER, ASSIGNMENT}
 use Rattle.rbac_sets.specs.declared.row.Change.TheVariants.{Take}
-use Rattle.rbac_sets.specs.declared.row.TheConstants.Row.{ASSIGNMENT}
 use Rattle.admin_mgr.specs.Assignment.{end_sessions}
 use Rattle.admin_mgr.specs.Run.{tally}
 use Rattle.admin_mgr.specs.After.{changed, after}
@@ -17,7 +18,7 @@ pub returns-clause-planned : goal.returns-clause-planned
 unfolding after changed end_sessions tally
 returns-clause-planned c =
     let S = c.args.state.now.facts in
-    let taken = listed_then c.in_ok-take.ensures.ok c.new-changes.ensures.items (λ i. Take (c.in_ok-name_row.ensures.ok i) ∷ []) in
+    let taken = listed_then c.in_ok-take.ensures.ok c.new-changes.ensures.items (λ i. Take ((c.user.ensures ∙ ap (NameRow USER) c.in_ok-copy.ensures.ok) i) ∷ []) in
     let unlocked = listed_then c.in_ok-take_lock.ensures.ok taken refl in
     let deassigned = listed_then c.in_ok-take_pairs.ensures.ok unlocked (λ i. take_all (pair_row ASSIGNMENT) ((c.with_first.ensures ∙ ap (λ pairs. run_of pairs c.args.user.now) c.assignments.ensures) i)) in
     plan_of S (DeleteUser c.args.user.now) c.plain.result _ refl

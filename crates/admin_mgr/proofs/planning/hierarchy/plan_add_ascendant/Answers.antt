@@ -1,5 +1,7 @@
-use Rattle.std.proofs.Common.{◌∷◌, [], ◌∙◌, refl}
+use Rattle.std.proofs.Common.{◌∷◌, [], ◌∙◌, refl, ap}
 use Rattle.rbac_sets.specs.declared.command.Command.TheVariants.{AddAscendant}
+use Rattle.rbac_sets.specs.declared.row.Row.TheVariants.{NameRow}
+use Rattle.rbac_sets.specs.declared.row.TheConstants.Row.{ROLE}
 use Rattle.rbac_sets.specs.declared.row.Change.TheVariants.{Put}
 use Rattle.admin_mgr.specs.Run.{tally}
 use Rattle.admin_mgr.proofs.ListLaws.{listed_then}
@@ -15,7 +17,7 @@ returns-clause-planned c =
     let asc = c.args.asc.now in
     let desc = c.args.desc.now in
     let planned = c.in_ok-order.ensures.planned in
-    let named = listed_then c.in_ok-put.ensures.ok c.new-changes.ensures.items (λ i. Put (c.in_ok-name_row.ensures.ok i) ∷ []) in
+    let named = listed_then c.in_ok-put.ensures.ok c.new-changes.ensures.items (λ i. Put ((c.role.ensures ∙ ap (NameRow ROLE) c.in_ok-copy.ensures.ok) i) ∷ []) in
     plan_with S (AddAscendant asc desc) c.with_order.result _ refl
     (c.with_order.ensures.changes ∙ listed_then c.in_ok-put_edge.ensures.ok named refl)
     c.with_order.ensures.report
