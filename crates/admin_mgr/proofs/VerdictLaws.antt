@@ -5,6 +5,11 @@ use Rattle.std.specs.Option.{option_map}
 use Rattle.rbac_sets.specs.declared.refusal.Refusal.{Refusal}
 use Rattle.admin_mgr.specs.Refusing.{refuse_if, refuse_unless, first}
 
+-- what is no `Some` is `None`
+pub none_unless_some : {X : Type 0} (o : Option X) → ((x : X) → o ≡ Some x → ⊥) → o ≡ None
+none_unless_some None h = refl
+none_unless_some (Some x) h = absurd (h x refl)
+
 -- no refusal of the list holds
 abbrev pub AllPassed : List (Option Refusal) → Type 0
 AllPassed [] = Unit {0}

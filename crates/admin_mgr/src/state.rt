@@ -78,14 +78,12 @@ impl State {
         ensures err { IfErr result (λ refusal. RefusesRows version rows.items refusal) }
     {
         let made = Gathered::of_rows(alloc, version, rows)?;
-        match made.early_refusal() {
-            Some(refusal) => return Err(refusal),
-            None => {}
+        if let Some(refusal) = made.early_refusal() {
+            return Err(refusal);
         }
         let relations = made.into_relations(alloc)?;
-        match late_refusal(&relations) {
-            Some(refusal) => return Err(refusal),
-            None => {}
+        if let Some(refusal) = late_refusal(&relations) {
+            return Err(refusal);
         }
         Ok(State { relations })
     }
@@ -97,7 +95,10 @@ impl State {
         &self.relations
     }
 
-    /// What holds of every state.
+    /// The law of the type, for one state: it is good.
+    ///
+    /// Like the functions of `laws` it does nothing and gives nothing when it runs. Code calls it where
+    /// its proof needs that the state is good.
     pub fn is_good(&self)
         ensures { IsGood self.now.facts }
     {
@@ -247,9 +248,8 @@ impl State {
         ensures cause { IfErr result (λ refusal. refusal ≡ Refusal.Memory) }
     {
         self.relations.make_room(&plan.changes)?;
-        match &plan.order {
-            Some(order) => self.relations.make_order_room(order)?,
-            None => {}
+        if let Some(order) = &plan.order {
+            self.relations.make_order_room(order)?;
         }
         Ok(())
     }

@@ -245,9 +245,8 @@ pub(crate) fn judge_assign_user(
     ensures { IfOk result (λ found. found ≡ verdict state.now.facts (AssignUser user.now role.now)) }
 {
     state.is_good();
-    match refuse_assignment(state, user, role) {
-        Some(refusal) => return Ok(Some(refusal)),
-        None => {}
+    if let Some(refusal) = refuse_assignment(state, user, role) {
+        return Ok(Some(refusal));
     }
     let held = state.assignments().with_first(user);
     let sets = state.ssd_cardinalities().as_slice();

@@ -33,15 +33,13 @@ pub(crate) fn judge_add_inheritance(
     ensures { IfOk result (λ found. found ≡ verdict state.now.facts (AddInheritance asc.now desc.now)) }
 {
     state.is_good();
-    match refuse_inheritance(state, asc, desc) {
-        Some(refusal) => return Ok(Some(refusal)),
-        None => {}
+    if let Some(refusal) = refuse_inheritance(state, asc, desc) {
+        return Ok(Some(refusal));
     }
     let statics = state.ssd_cardinalities().as_slice();
     let violated = first_broken_by_users(alloc, state, asc, desc, statics)?;
-    match name_violated(alloc, SeparationOfDuty::Static, violated)? {
-        Some(broken) => return Ok(Some(broken)),
-        None => {}
+    if let Some(broken) = name_violated(alloc, SeparationOfDuty::Static, violated)? {
+        return Ok(Some(broken));
     }
     let dynamics = state.dsd_cardinalities().as_slice();
     let violated = first_broken_by_sessions(alloc, state, asc, desc, dynamics)?;

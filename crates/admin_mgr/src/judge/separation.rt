@@ -33,7 +33,7 @@ pub(crate) fn judge_create_set(
     ensures { IfOk result (λ found. found ≡ verdict state.now.facts (create_set duty set.now roles.now cardinality)) }
 {
     state.is_good();
-    match refuse_set(
+    if let Some(refusal) = refuse_set(
         state,
         duty.kind(),
         duty.cardinalities(state),
@@ -41,8 +41,7 @@ pub(crate) fn judge_create_set(
         roles,
         cardinality,
     ) {
-        Some(refusal) => return Ok(Some(refusal)),
-        None => {}
+        return Ok(Some(refusal));
     }
     let kept = keeps(state, duty, roles, cardinality);
     let broken = refuse_violated(alloc, duty, kept, set)?;
@@ -68,15 +67,14 @@ pub(crate) fn judge_add_member(
     ensures { IfOk result (λ found. found ≡ verdict state.now.facts (add_member duty set.now role.now)) }
 {
     state.is_good();
-    match refuse_member(
+    if let Some(refusal) = refuse_member(
         state,
         duty.members(state),
         duty.cardinalities(state),
         set,
         role,
     ) {
-        Some(refusal) => return Ok(Some(refusal)),
-        None => {}
+        return Ok(Some(refusal));
     }
     let cardinality = duty.cardinality(state, set).unwrap();
     let kept = keeps_with(state, duty, set, cardinality, role);
@@ -125,14 +123,13 @@ pub(crate) fn judge_set_cardinality(
     ensures { IfOk result (λ found. found ≡ verdict state.now.facts (set_cardinality duty set.now cardinality)) }
 {
     state.is_good();
-    match refuse_cardinality(
+    if let Some(refusal) = refuse_cardinality(
         duty.members(state),
         duty.cardinalities(state),
         set,
         cardinality,
     ) {
-        Some(refusal) => return Ok(Some(refusal)),
-        None => {}
+        return Ok(Some(refusal));
     }
     let before = duty.cardinality(state, set).unwrap();
     let kept = keeps_set(state, duty, set, before, cardinality);

@@ -38,9 +38,8 @@ pub(crate) fn judge_create_session(
     ensures { IfOk result (λ found. found ≡ verdict state.now.facts (CreateSession user.now roles.now session.now)) }
 {
     state.is_good();
-    match refuse_session(state, user, roles, session) {
-        Some(refusal) => return Ok(Some(refusal)),
-        None => {}
+    if let Some(refusal) = refuse_session(state, user, roles, session) {
+        return Ok(Some(refusal));
     }
     let names = roles.as_slice();
     let sets = state.dsd_cardinalities().as_slice();
@@ -133,9 +132,8 @@ pub(crate) fn judge_add_active_role(
     ensures { IfOk result (λ found. found ≡ verdict state.now.facts (AddActiveRole user.now session.now role.now)) }
 {
     state.is_good();
-    match refuse_activation(state, user, session, role) {
-        Some(refusal) => return Ok(Some(refusal)),
-        None => {}
+    if let Some(refusal) = refuse_activation(state, user, session, role) {
+        return Ok(Some(refusal));
     }
     let held = state.active().with_first(session);
     let sets = state.dsd_cardinalities().as_slice();

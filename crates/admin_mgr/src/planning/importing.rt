@@ -138,9 +138,8 @@ fn judge_record(
     requires apart { IsDisjoint state.now.facts.assignments (set_of pair_cmp added.now) }
     ensures { IfOk result (λ found. found ≡ assignment_verdict (with_assignments state.now.facts (set_of pair_cmp added.now)) (user.now, role.now)) }
 {
-    match refuse_record(state, added, user, role) {
-        Some(refusal) => return Ok(Some(refusal)),
-        None => {}
+    if let Some(refusal) = refuse_record(state, added, user, role) {
+        return Ok(Some(refusal));
     }
     let held = state.assignments().with_first(user);
     let more = added.with_first(user);

@@ -97,20 +97,17 @@ pub(crate) fn plan_set_cardinality(
 {
     state.is_good();
     let mut changes = Vec::new(alloc);
-    match duty.cardinality(state, set) {
-        Some(before) => {
-            if before != cardinality {
-                take(
-                    &mut changes,
-                    set_row(alloc, duty.cardinality_rows(), set, before)?,
-                )?;
-                put(
-                    &mut changes,
-                    set_row(alloc, duty.cardinality_rows(), set, cardinality)?,
-                )?;
-            }
+    if let Some(before) = duty.cardinality(state, set) {
+        if before != cardinality {
+            take(
+                &mut changes,
+                set_row(alloc, duty.cardinality_rows(), set, before)?,
+            )?;
+            put(
+                &mut changes,
+                set_row(alloc, duty.cardinality_rows(), set, cardinality)?,
+            )?;
         }
-        None => {}
     }
     Ok(plain(alloc, changes))
 }
@@ -128,12 +125,11 @@ pub(crate) fn plan_delete_set(
 {
     state.is_good();
     let mut changes = Vec::new(alloc);
-    match duty.cardinality(state, set) {
-        Some(cardinality) => take(
+    if let Some(cardinality) = duty.cardinality(state, set) {
+        take(
             &mut changes,
             set_row(alloc, duty.cardinality_rows(), set, cardinality)?,
-        )?,
-        None => {}
+        )?;
     }
     take_pairs(
         alloc,

@@ -34,9 +34,8 @@ impl Gathered {
         requires { (self.now.facts.version ≡ 1) ⊎ (self.now.facts.version ≡ 2) }
         ensures { result ≡ early_refusal self.now }
     {
-        match self.first_passed() {
-            Some(kind) => return Some(Refusal::TooMany(kind)),
-            None => {}
+        if let Some(kind) = self.first_passed() {
+            return Some(Refusal::TooMany(kind));
         }
         if !self.is_complete() {
             return Some(Refusal::Damaged(3));

@@ -8,7 +8,7 @@ use Rattle.admin_mgr.proofs.TouchLaws.{assignment_breaks}
 use Rattle.rbac_sets.specs.declared.refusal.Refusal.TheVariants.{StaticSeparation}
 use Rattle.admin_mgr.specs.Refusing.{breaks_static}
 use Rattle.admin_mgr.specs.Verdict.{verdict, refusals}
-use Rattle.admin_mgr.proofs.VerdictLaws.{passed, refuse_unless-None, stopped, last_decides}
+use Rattle.admin_mgr.proofs.VerdictLaws.{passed, refuse_unless-None, stopped, last_decides, none_unless_some}
 use Rattle.admin_mgr.proofs.judge.core_rbac.judge_assign_user.Goals as goal
 
 pub returns-in-Some : goal.returns-in-Some
@@ -18,7 +18,7 @@ returns-in-Some c = stopped (assign_user_refusals c.args.state.now.facts (c.args
 pub returns : goal.returns
 unfolding verdict refusals assignment_refusals
 returns c =
-    let none = sym c.refuse_assignment.ensures ∙ c.in-None.is in
+    let none = sym c.refuse_assignment.ensures ∙ none_unless_some _ c.in_default.not-Some in
     let all_passed = passed (assign_user_refusals c.args.state.now.facts (c.args.user.now, c.args.role.now)) none in
     c.in_ok-named.ensures
     ∙ ap (λ o. option_map StaticSeparation (option_map (λ (entry : Cardinality). entry.0) o)) (c.first_with_one-violated.ensures

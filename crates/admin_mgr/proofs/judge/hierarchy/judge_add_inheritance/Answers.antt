@@ -10,7 +10,7 @@ use Rattle.admin_mgr.specs.Refusing.{breaks_static, breaks_dynamic}
 use Rattle.admin_mgr.specs.After.{after}
 use Rattle.admin_mgr.specs.Held.{find_broken, is_reached, run_of}
 use Rattle.admin_mgr.specs.Verdict.{verdict, refusals, add_inheritance_refusals}
-use Rattle.admin_mgr.proofs.VerdictLaws.{passed, refuse_if-None, stopped_before, stopped_last, last_two_decide}
+use Rattle.admin_mgr.proofs.VerdictLaws.{passed, refuse_if-None, stopped_before, stopped_last, last_two_decide, none_unless_some}
 use Rattle.admin_mgr.proofs.InheritLaws.{inheritance_breaks_static, inheritance_breaks_dynamic}
 use Rattle.admin_mgr.proofs.judge.hierarchy.judge_add_inheritance.Goals as goal
 
@@ -30,7 +30,7 @@ pub returns-in-Some-2 : goal.returns-in-Some-2
 unfolding verdict refusals
 returns-in-Some-2 c =
     let S = c.args.state.now.facts in
-    let none = sym c.refuse_inheritance.ensures ∙ c.in-None.is in
+    let none = sym c.refuse_inheritance.ensures ∙ none_unless_some _ c.in_default.not-Some in
     let all_passed = passed (add_inheritance_refusals S c.args.asc.now c.args.desc.now) none in
     let no_back = refuse_if-None (geq S.edges c.args.desc.now c.args.asc.now) Cycle all_passed.1.1.1.0 in
     let statically =
@@ -44,7 +44,7 @@ pub returns : goal.returns
 unfolding verdict refusals
 returns c =
     let S = c.args.state.now.facts in
-    let none = sym c.refuse_inheritance.ensures ∙ c.in-None.is in
+    let none = sym c.refuse_inheritance.ensures ∙ none_unless_some _ c.in_default.not-Some in
     let all_passed = passed (add_inheritance_refusals S c.args.asc.now c.args.desc.now) none in
     let no_back = refuse_if-None (geq S.edges c.args.desc.now c.args.asc.now) Cycle all_passed.1.1.1.0 in
     let statically =
@@ -56,4 +56,4 @@ returns c =
     ∙ ap (λ o. option_map DynamicSeparation (option_map (λ (entry : Cardinality). entry.0) o))
     (c.in_ok-violated-2.ensures ∙ ap (broken_dynamically S c.args.asc.now c.args.desc.now) (c.as_slice-dynamics.ensures ∙ ap members c.dsd_cardinalities.ensures))
     ∙ sym (inheritance_breaks_dynamic S c.is_good.ensures c.args.asc.now c.args.desc.now no_back)
-    ∙ sym (last_two_decide (add_inheritance_refusals S c.args.asc.now c.args.desc.now) (breaks_static (after S (AddInheritance c.args.asc.now c.args.desc.now))) (breaks_dynamic (after S (AddInheritance c.args.asc.now c.args.desc.now))) none (sym statically ∙ c.in-None-2.is))
+    ∙ sym (last_two_decide (add_inheritance_refusals S c.args.asc.now c.args.desc.now) (breaks_static (after S (AddInheritance c.args.asc.now c.args.desc.now))) (breaks_dynamic (after S (AddInheritance c.args.asc.now c.args.desc.now))) none (sym statically ∙ none_unless_some _ c.in_default-2.not-Some))

@@ -5,7 +5,7 @@ use Rattle.admin_mgr.specs.RbacState.{has_set}
 use Rattle.admin_mgr.specs.Refusing.{first}
 use Rattle.admin_mgr.specs.After.{after}
 use Rattle.admin_mgr.specs.Verdict.{verdict, add_member_refusals}
-use Rattle.admin_mgr.proofs.VerdictLaws.{passed, refuse_unless-None, stopped, last_decides}
+use Rattle.admin_mgr.proofs.VerdictLaws.{passed, refuse_unless-None, stopped, last_decides, none_unless_some}
 use Rattle.admin_mgr.proofs.BreakLaws.{add_member_breaks}
 use Rattle.admin_mgr.proofs.KeepLaws.{cardinality_there}
 use Rattle.admin_mgr.specs.SeparationOfDuty.{sets_of, refusal_of, breaks, add_member}
@@ -23,7 +23,7 @@ returns-in-Some c =
 pub unwrap-cardinality-requires : goal.unwrap-cardinality-requires
 unwrap-cardinality-requires c =
     let front = c.refuse_member.ensures ∙ (λ i. first (add_member_refusals c.args.state.now.facts (record { members = c.members.ensures i; cardinalities = c.cardinalities.ensures i }) c.args.set.now c.args.role.now)) in
-    let all = passed (add_member_refusals c.args.state.now.facts (sets_of c.args.duty c.args.state.now.facts) c.args.set.now c.args.role.now) (sym front ∙ c.in-None.is) in
+    let all = passed (add_member_refusals c.args.state.now.facts (sets_of c.args.duty c.args.state.now.facts) c.args.set.now c.args.role.now) (sym front ∙ none_unless_some _ c.in_default.not-Some) in
     ap is_some c.cardinality.ensures ∙ is_some_cardinality (sets_of c.args.duty c.args.state.now.facts) c.args.set.now ∙ refuse_unless-None (has_set (sets_of c.args.duty c.args.state.now.facts) c.args.set.now) NoSet all.0
 
 pub keeps_with-kept-requires-clause-there : goal.keeps_with-kept-requires-clause-there
@@ -37,5 +37,5 @@ returns c =
     c.in_ok-broken.ensures
     ∙ ap (λ b. cond b None (Some (refusal_of c.args.duty c.args.set.now))) c.keeps_with-kept.ensures
     ∙ sym (add_member_breaks c.args.duty c.args.state.now.facts c.is_good.ensures c.args.set.now c.args.role.now c.unwrap-cardinality.result there)
-    ∙ sym (last_decides (add_member_refusals c.args.state.now.facts (sets_of c.args.duty c.args.state.now.facts) c.args.set.now c.args.role.now) (breaks c.args.duty (after c.args.state.now.facts (add_member c.args.duty c.args.set.now c.args.role.now))) (sym front ∙ c.in-None.is))
+    ∙ sym (last_decides (add_member_refusals c.args.state.now.facts (sets_of c.args.duty c.args.state.now.facts) c.args.set.now c.args.role.now) (breaks c.args.duty (after c.args.state.now.facts (add_member c.args.duty c.args.set.now c.args.role.now))) (sym front ∙ none_unless_some _ c.in_default.not-Some))
     ∙ ap first (sym (refusals_add_member c.args.duty c.args.state.now.facts c.args.set.now c.args.role.now))

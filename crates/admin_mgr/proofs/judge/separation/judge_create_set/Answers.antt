@@ -7,7 +7,7 @@ use Rattle.admin_mgr.specs.RbacState.{has_set}
 use Rattle.admin_mgr.specs.Refusing.{first}
 use Rattle.admin_mgr.specs.After.{after}
 use Rattle.admin_mgr.specs.Verdict.{verdict, create_set_refusals}
-use Rattle.admin_mgr.proofs.VerdictLaws.{passed, refuse_if-None, stopped, last_decides}
+use Rattle.admin_mgr.proofs.VerdictLaws.{passed, refuse_if-None, stopped, last_decides, none_unless_some}
 use Rattle.admin_mgr.proofs.BreakLaws.{create_set_breaks}
 use Rattle.admin_mgr.specs.SeparationOfDuty.{sets_of, kind_of, refusal_of, breaks, create_set}
 use Rattle.admin_mgr.proofs.SetCommandLaws.{refusals_create_set}
@@ -24,7 +24,7 @@ pub returns : goal.returns
 unfolding verdict
 returns c =
     let front = c.refuse_set.ensures (sets_of c.args.duty c.args.state.now.facts).members ∙ (λ i. first (create_set_refusals c.args.state.now.facts (record { members = (sets_of c.args.duty c.args.state.now.facts).members; cardinalities = c.cardinalities.ensures i }) (c.kind.ensures i) c.args.set.now (set_of name_cmp c.args.roles.now) c.args.cardinality)) in
-    let none = sym front ∙ c.in-None.is in
+    let none = sym front ∙ none_unless_some _ c.in_default.not-Some in
     let absent = refuse_if-None (has_set (sets_of c.args.duty c.args.state.now.facts) c.args.set.now) SetExists (passed (create_set_refusals c.args.state.now.facts (sets_of c.args.duty c.args.state.now.facts) (kind_of c.args.duty) c.args.set.now (set_of name_cmp c.args.roles.now) c.args.cardinality) none).1.0 in
     c.in_ok-broken.ensures
     ∙ ap (λ b. cond b None (Some (refusal_of c.args.duty c.args.set.now))) c.keeps-kept.ensures

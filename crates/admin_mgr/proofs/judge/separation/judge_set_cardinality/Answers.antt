@@ -5,7 +5,7 @@ use Rattle.admin_mgr.specs.RbacState.{has_set}
 use Rattle.admin_mgr.specs.Refusing.{first}
 use Rattle.admin_mgr.specs.After.{after}
 use Rattle.admin_mgr.specs.Verdict.{verdict, set_cardinality_refusals}
-use Rattle.admin_mgr.proofs.VerdictLaws.{passed, refuse_unless-None, stopped, last_decides}
+use Rattle.admin_mgr.proofs.VerdictLaws.{passed, refuse_unless-None, stopped, last_decides, none_unless_some}
 use Rattle.admin_mgr.proofs.BreakLaws.{set_cardinality_breaks}
 use Rattle.admin_mgr.proofs.KeepLaws.{cardinality_there}
 use Rattle.admin_mgr.specs.SeparationOfDuty.{sets_of, refusal_of, breaks, set_cardinality}
@@ -23,7 +23,7 @@ returns-in-Some c =
 pub unwrap-before-requires : goal.unwrap-before-requires
 unwrap-before-requires c =
     let front = c.refuse_cardinality.ensures ∙ (λ i. first (set_cardinality_refusals (record { members = c.members.ensures i; cardinalities = c.cardinalities.ensures i }) c.args.set.now c.args.cardinality)) in
-    let all = passed (set_cardinality_refusals (sets_of c.args.duty c.args.state.now.facts) c.args.set.now c.args.cardinality) (sym front ∙ c.in-None.is) in
+    let all = passed (set_cardinality_refusals (sets_of c.args.duty c.args.state.now.facts) c.args.set.now c.args.cardinality) (sym front ∙ none_unless_some _ c.in_default.not-Some) in
     ap is_some c.cardinality.ensures ∙ is_some_cardinality (sets_of c.args.duty c.args.state.now.facts) c.args.set.now ∙ refuse_unless-None (has_set (sets_of c.args.duty c.args.state.now.facts) c.args.set.now) NoSet all.0
 
 pub keeps_set-kept-requires : goal.keeps_set-kept-requires
@@ -36,5 +36,5 @@ returns c =
     c.in_ok-broken.ensures
     ∙ ap (λ b. cond b None (Some (refusal_of c.args.duty c.args.set.now))) c.keeps_set-kept.ensures
     ∙ sym (set_cardinality_breaks c.args.duty c.args.state.now.facts c.is_good.ensures c.args.set.now c.args.cardinality)
-    ∙ sym (last_decides (set_cardinality_refusals (sets_of c.args.duty c.args.state.now.facts) c.args.set.now c.args.cardinality) (breaks c.args.duty (after c.args.state.now.facts (set_cardinality c.args.duty c.args.set.now c.args.cardinality))) (sym front ∙ c.in-None.is))
+    ∙ sym (last_decides (set_cardinality_refusals (sets_of c.args.duty c.args.state.now.facts) c.args.set.now c.args.cardinality) (breaks c.args.duty (after c.args.state.now.facts (set_cardinality c.args.duty c.args.set.now c.args.cardinality))) (sym front ∙ none_unless_some _ c.in_default.not-Some))
     ∙ ap first (sym (refusals_set_cardinality c.args.duty c.args.state.now.facts c.args.set.now c.args.cardinality))

@@ -11,7 +11,7 @@ use Rattle.rbac_sets.specs.declared.command.Command.TheVariants.{AddActiveRole}
 use Rattle.rbac_sets.specs.declared.refusal.Refusal.TheVariants.{DynamicSeparation}
 use Rattle.admin_mgr.specs.Refusing.{breaks_dynamic}
 use Rattle.admin_mgr.specs.Verdict.{verdict, refusals}
-use Rattle.admin_mgr.proofs.VerdictLaws.{passed, refuse_unless-None, stopped, last_decides}
+use Rattle.admin_mgr.proofs.VerdictLaws.{passed, refuse_unless-None, stopped, last_decides, none_unless_some}
 use Rattle.admin_mgr.proofs.judge.sessions.judge_add_active_role.Goals as goal
 
 pub returns-in-Some : goal.returns-in-Some
@@ -21,7 +21,7 @@ returns-in-Some c = stopped (add_active_role_refusals c.args.state.now.facts c.a
 pub returns : goal.returns
 unfolding verdict refusals
 returns c =
-    let none = sym c.refuse_activation.ensures ∙ c.in-None.is in
+    let none = sym c.refuse_activation.ensures ∙ none_unless_some _ c.in_default.not-Some in
     let all_passed = passed (add_active_role_refusals c.args.state.now.facts c.args.user.now c.args.session.now c.args.role.now) none in
     c.in_ok-named.ensures
     ∙ ap (λ o. option_map DynamicSeparation (option_map (λ (entry : Cardinality). entry.0) o)) (c.first_with_one-violated.ensures

@@ -13,7 +13,7 @@ use Rattle.rbac_sets.specs.declared.command.Command.TheVariants.{CreateSession}
 use Rattle.rbac_sets.specs.declared.refusal.Refusal.TheVariants.{DynamicSeparation}
 use Rattle.admin_mgr.specs.Refusing.{breaks_dynamic}
 use Rattle.admin_mgr.specs.Verdict.{verdict, refusals}
-use Rattle.admin_mgr.proofs.VerdictLaws.{passed, refuse_if-None, refuse_unless-None, stopped, last_decides}
+use Rattle.admin_mgr.proofs.VerdictLaws.{passed, refuse_if-None, refuse_unless-None, stopped, last_decides, none_unless_some}
 use Rattle.admin_mgr.proofs.judge.sessions.judge_create_session.Goals as goal
 
 pub returns-in-Some : goal.returns-in-Some
@@ -23,7 +23,7 @@ returns-in-Some c = stopped (create_session_refusals c.args.state.now.facts c.ar
 pub returns : goal.returns
 unfolding verdict refusals
 returns c =
-    let none = sym c.refuse_session.ensures ∙ c.in-None.is in
+    let none = sym c.refuse_session.ensures ∙ none_unless_some _ c.in_default.not-Some in
     let all_passed = passed (create_session_refusals c.args.state.now.facts c.args.user.now (set_of name_cmp c.args.roles.now) c.args.session.now) none in
     c.in_ok-named.ensures
     ∙ ap (λ o. option_map DynamicSeparation (option_map (λ (entry : Cardinality). entry.0) o)) (c.first_with_all-violated.ensures

@@ -6,7 +6,7 @@ use Rattle.rbac_sets.specs.declared.refusal.Refusal.TheVariants.{StaticSeparatio
 use Rattle.admin_mgr.specs.Importing.{record_refusals}
 use Rattle.admin_mgr.specs.Held.{run_of, find_in}
 use Rattle.admin_mgr.proofs.RecordLaws.{named_last, record_verdict}
-use Rattle.admin_mgr.proofs.VerdictLaws.{stopped, last_decides}
+use Rattle.admin_mgr.proofs.VerdictLaws.{stopped, last_decides, none_unless_some}
 use Rattle.admin_mgr.proofs.planning.importing.judge_record.Goals as goal
 
 pub returns-in-Some : goal.returns-in-Some
@@ -17,7 +17,7 @@ returns-in-Some c =
 
 pub returns : goal.returns
 returns c =
-    let none = sym c.refuse_record.ensures ∙ c.in-None.is in
+    let none = sym c.refuse_record.ensures ∙ none_unless_some _ c.in_default.not-Some in
     c.in_ok-named.ensures
     ∙ ap (λ o. option_map StaticSeparation (option_map (λ (entry : Cardinality). entry.0) o)) (c.first_with_both-violated.ensures
     ∙ (λ i. find_in (c.order.ensures i) ((c.with_first-held.ensures ∙ ap (λ s. run_of s c.args.user.now) c.assignments.ensures) i ++ c.with_first-more.ensures i) c.args.role.now (c.ssd_members.ensures i)

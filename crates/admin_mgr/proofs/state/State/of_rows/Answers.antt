@@ -11,6 +11,7 @@ use Rattle.admin_mgr.proofs.TestLaws.{RefusesOrder}
 use Rattle.admin_mgr.proofs.RowSteps.{version-gathered}
 use Rattle.admin_mgr.proofs.CheckLaws.{PassBefore, early_told, early_passed, order_told, late_told, late_passed, before_next, is_state_of, refuses_rows}
 use Rattle.admin_mgr.proofs.state.State.of_rows.Goals as goal
+use Rattle.admin_mgr.proofs.VerdictLaws.{none_unless_some}
 
 pub early_refusal-requires : goal.early_refusal-requires
 early_refusal-requires c =
@@ -38,7 +39,7 @@ returns-in_err-relations-clause-err c =
     let made = c.in_ok-made.ensures.ok in
     rw (p.1, p.2) (refuses_rows c.args.version c.args.rows.items c.in_err-relations.field-0.0 made.1
     (order_told (gathered c.args.version c.args.rows.items) c.in_err-relations.field-0.0
-    (made_is c.args.version c.args.rows.items c.in_ok-made.made made.0 (sym c.early_refusal.ensures ∙ c.in-None.is))
+    (made_is c.args.version c.args.rows.items c.in_ok-made.made made.0 (sym c.early_refusal.ensures ∙ none_unless_some _ c.in_default.not-Some))
     (subst (λ (g : Gathered). RefusesOrder g c.in_err-relations.field-0.0) made.0 c.in_err-relations.ensures.err)))
 
 pub returns-in-Some-late_refusal-clause-err : goal.returns-in-Some-late_refusal-clause-err
@@ -48,7 +49,7 @@ returns-in-Some-late_refusal-clause-err c =
     let told = sym (c.late_refusal.ensures ∙ ap late_refusal facts) ∙ c.in-Some-late_refusal.is in
     refuses_rows c.args.version c.args.rows.items c.in-Some-late_refusal.refusal made.1
     (late_told c.args.version c.args.rows.items made.1 c.in-Some-late_refusal.refusal
-    (to_seven c.args.version c.args.rows.items c.in_ok-made.made made.0 (sym c.early_refusal.ensures ∙ c.in-None.is) c.in_ok-relations.ensures.order) told)
+    (to_seven c.args.version c.args.rows.items c.in_ok-made.made made.0 (sym c.early_refusal.ensures ∙ none_unless_some _ c.in_default.not-Some) c.in_ok-relations.ensures.order) told)
 
 -- where nothing is refused, the relations are the state of the rows
 is_state : (version : ℕ) (rows : List Row) (made : Gathered) (S : RbacState) → (version ≡ 1) ⊎ (version ≡ 2) → made ≡ gathered version rows → AreReadable version rows → early_refusal made ≡ None
@@ -60,10 +61,10 @@ is_state version rows made S known is readable early order facts late =
 
 pub returns-clause-ok : goal.returns-clause-ok
 returns-clause-ok c =
-    is_state c.args.version c.args.rows.items c.in_ok-made.made c.in_ok-relations.relations.facts c.requires c.in_ok-made.ensures.ok.0 c.in_ok-made.ensures.ok.1 (sym c.early_refusal.ensures ∙ c.in-None.is)
-    c.in_ok-relations.ensures.order c.in_ok-relations.ensures.facts (sym c.late_refusal.ensures ∙ c.in-None-late_refusal.is)
+    is_state c.args.version c.args.rows.items c.in_ok-made.made c.in_ok-relations.relations.facts c.requires c.in_ok-made.ensures.ok.0 c.in_ok-made.ensures.ok.1 (sym c.early_refusal.ensures ∙ none_unless_some _ c.in_default.not-Some)
+    c.in_ok-relations.ensures.order c.in_ok-relations.ensures.facts (sym c.late_refusal.ensures ∙ none_unless_some _ c.in_default-late_refusal.not-Some)
 
 pub invariant_of-result : goal.invariant_of-result
 invariant_of-result c =
-    (is_state c.args.version c.args.rows.items c.in_ok-made.made c.in_ok-relations.relations.facts c.requires c.in_ok-made.ensures.ok.0 c.in_ok-made.ensures.ok.1 (sym c.early_refusal.ensures ∙ c.in-None.is)
-    c.in_ok-relations.ensures.order c.in_ok-relations.ensures.facts (sym c.late_refusal.ensures ∙ c.in-None-late_refusal.is)).good
+    (is_state c.args.version c.args.rows.items c.in_ok-made.made c.in_ok-relations.relations.facts c.requires c.in_ok-made.ensures.ok.0 c.in_ok-made.ensures.ok.1 (sym c.early_refusal.ensures ∙ none_unless_some _ c.in_default.not-Some)
+    c.in_ok-relations.ensures.order c.in_ok-relations.ensures.facts (sym c.late_refusal.ensures ∙ none_unless_some _ c.in_default-late_refusal.not-Some)).good
