@@ -1,5 +1,5 @@
 -- Users and sessions by what they hold, and separation of duty sets by their cardinality. The crates above may name these.
-use Rattle.std.proofs.Common.{◌≡◌, Bool, refl, sym, ◌∙◌, ap}
+use Rattle.std.proofs.Common.{◌≡◌, Bool, List, refl, sym, ◌∙◌, ap}
 use Rattle.std.specs.Prelude.{count_by, is_some}
 use Rattle.std.proofs.lemmas.Bool.{and_parts, and_from}
 use Rattle.std.specs.Cmp.{both_ways}
@@ -49,15 +49,18 @@ pub session_roles_count : (S : RbacState) (session : Bytes) (roles : Names) →
 unfolding count
 session_roles_count S session roles = λ i. count_by (λ role. session_reached S session role i) (members roles)
 
+-- the members of a set by their run
+pub reached_seconds : (edges : Pairs) (held : List Pair) (pairs : Pairs) (name : Bytes) → reached_roles edges held (members (seconds pairs name)) ≡ reached_members edges held (run_of pairs name)
+unfolding count
+reached_seconds edges held = count_seconds (is_reached edges held)
+
 pub authorized_members_count : (S : RbacState) (user : Bytes) (pairs : Pairs) (name : Bytes) →
     count (is_authorized S user) (seconds pairs name) ≡ reached_members S.edges (run_of S.assignments user) (run_of pairs name)
-authorized_members_count S user pairs name =
-    count_seconds (is_authorized S user) pairs name ∙ (λ i. count_by (λ (member : Pair). authorized_reached S user member.1 i) (run_of pairs name))
+authorized_members_count S user pairs name = authorized_roles_count S user (seconds pairs name) ∙ reached_seconds S.edges (run_of S.assignments user) pairs name
 
 pub session_members_count : (S : RbacState) (session : Bytes) (pairs : Pairs) (name : Bytes) →
     count (is_session_role S session) (seconds pairs name) ≡ reached_members S.edges (run_of S.active session) (run_of pairs name)
-session_members_count S session pairs name =
-    count_seconds (is_session_role S session) pairs name ∙ (λ i. count_by (λ (member : Pair). session_reached S session member.1 i) (run_of pairs name))
+session_members_count S session pairs name = session_roles_count S session (seconds pairs name) ∙ reached_seconds S.edges (run_of S.active session) pairs name
 
 -- ---- sets by their cardinality
 

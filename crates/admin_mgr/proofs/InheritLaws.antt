@@ -1,29 +1,31 @@
 -- One more immediate inheritance: who is authorized for more, and which set is named.
-use Rattle.std.proofs.Common.{◌≡◌, ℕ, ◌<◌, Bool, true, false, not, ◌||◌, ◌&&◌, List, [], ◌∷◌, refl, sym, ◌∙◌, ap, subst, inl, inr}
-use Rattle.std.specs.Prelude.{IsTrue, nat_lt, count_by, filter, map}
+use Rattle.std.proofs.Common.{◌≡◌, ℕ, ◌<◌, Bool, true, false, not, ◌||◌, ◌&&◌, List, [], ◌∷◌, refl, sym, ◌∙◌, ap, inl, inr}
+use Rattle.std.specs.Prelude.{IsTrue, nat_lt, count_by, filter}
 use Rattle.std.specs.Option.{option_map}
 use Rattle.std.specs.List.{list_any, list_all}
-use Rattle.std.proofs.lemmas.Bool.{and_parts, and_from, or_cases, or_left, or_right, lt-ltb, true≢false}
+use Rattle.std.proofs.lemmas.Bool.{and_parts, and_from, or_cases, or_left, or_right, ltb-true, lt-ltb, true≢false}
 use Rattle.std.specs.Cmp.{both_ways}
 use Rattle.std.proofs.Math.Bool.{or-false}
-use Rattle.rbac_sets.specs.Sets.{Bytes, Pair, Pairs, Cardinality, contains, members, insert, count, all}
-use Rattle.rbac_sets.specs.NameOrder.{name_total, name_exact, pair_total, pair_exact}
+use Rattle.rbac_sets.specs.Sets.{Bytes, Pair, Pairs, Cardinality, contains, members, insert}
+use Rattle.rbac_sets.specs.NameOrder.{name_total, name_exact}
 use Rattle.rbac_sets.specs.declared.command.Command.TheVariants.{AddInheritance}
-use Rattle.rbac_sets.specs.declared.refusal.Refusal.TheVariants.{StaticSeparation, DynamicSeparation}
 use Rattle.rbac_sets.proofs.SetLaws.{all-Decides, seconds-Decides}
 use Rattle.role_order.specs.Order.{Geq, geq}
 use Rattle.role_order.proofs.Closing.{added_edge}
 use Rattle.role_order.proofs.Deciding.{geq-Decides}
+use Rattle.admin_mgr.specs.declared.separation_of_duty.SeparationOfDuty.{SeparationOfDuty}
+use Rattle.admin_mgr.specs.declared.separation_of_duty.SeparationOfDuty.TheVariants.{Static, Dynamic}
 use Rattle.admin_mgr.specs.RbacState.{RbacState, members_of, active_roles}
-use Rattle.admin_mgr.specs.Authorization.{authorized_users, is_authorized, is_session_role}
-use Rattle.admin_mgr.specs.Separation.{is_kept_statically, is_kept_dynamically}
-use Rattle.admin_mgr.specs.Refusing.{breaks_static, breaks_dynamic}
-use Rattle.admin_mgr.specs.Assignment.{may_go_on, end_sessions}
+use Rattle.admin_mgr.specs.Authorization.{is_authorized}
+use Rattle.admin_mgr.specs.Separation.{least_violated}
+use Rattle.admin_mgr.specs.SeparationOfDuty.{sets_of, is_kept, refusal_of, breaks}
+use Rattle.admin_mgr.specs.Assignment.{may_go_on}
 use Rattle.admin_mgr.specs.After.{changed, after}
 use Rattle.admin_mgr.specs.Good.{IsGood}
 use Rattle.admin_mgr.specs.Held.{run_of, is_reached, reached_members, reached_with, is_touched, find_broken}
-use Rattle.admin_mgr.proofs.HeldLaws.{authorized_reached, authorized_members_count, session_members_count}
-use Rattle.admin_mgr.proofs.KeepLaws.{all_same}
+use Rattle.admin_mgr.specs.Holders.{runs_of}
+use Rattle.admin_mgr.proofs.HeldLaws.{authorized_reached}
+use Rattle.admin_mgr.proofs.KeepLaws.{same_where, kept_members, kept_before}
 use Rattle.admin_mgr.proofs.SessionLaws.{none_ends_where}
 use Rattle.admin_mgr.proofs.TouchLaws.{untouched, violated_by, asked_passed}
 
@@ -87,59 +89,7 @@ module _ (S : RbacState) (good : IsGood S) (asc desc : Bytes) (no_back : geq S.e
   touched_only true kept h = refl
   touched_only false kept h = ap not (h refl)
 
-  -- ---- users
-
-  user_counted : (user : Bytes) (x : Cardinality) → count (is_authorized (with_edge S asc desc) user) (members_of S.ssd x.0) ≡ reached_members (insert S.edges (asc, desc)) (run_of S.assignments user) (run_of S.ssd.members x.0)
-  unfolding with_edge
-  user_counted user x = authorized_members_count (with_edge S asc desc) user S.ssd.members x.0
-
-  user_before : (user : Bytes) (x : Cardinality) → IsTrue (contains S.ssd.cardinalities x) → reached_members S.edges (run_of S.assignments user) (run_of S.ssd.members x.0) < x.1
-  user_before user x there = subst (λ k. k < x.1) (authorized_members_count S user S.ssd.members x.0) (good.static_separation x.0 user x.1 there)
-
-  users_keep : (x : Cardinality) → IsTrue (contains S.ssd.cardinalities x) →
-      is_kept_statically (with_edge S asc desc) (members_of S.ssd x.0) x.1 ≡ list_all (λ user. keeps_below S.edges (run_of S.assignments user) asc desc (run_of S.ssd.members x.0) x.1) (members S.users)
-  unfolding is_kept_statically all with_edge
-  users_keep x there = λ i. list_all (λ user. (ap (λ k. nat_lt k x.1) (user_counted user x)
-      ∙ counted_below (run_of S.assignments user) (run_of S.ssd.members x.0) x.1 (user_before user x there)) i) (members S.users)
-
-  users_untouched : (x : Cardinality) → IsTrue (contains S.ssd.cardinalities x) → is_touched S.edges desc (run_of S.ssd.members x.0) ≡ false →
-      list_all (λ user. keeps_below S.edges (run_of S.assignments user) asc desc (run_of S.ssd.members x.0) x.1) (members S.users) ≡ true
-  unfolding all
-  users_untouched x there none = (all-Decides name_total name_exact (λ user. keeps_below S.edges (run_of S.assignments user) asc desc (run_of S.ssd.members x.0) x.1) S.users).1
-      (λ user _. untouched_keeps (run_of S.assignments user) (run_of S.ssd.members x.0) x.1 (user_before user x there) none)
-
-  pub inheritance_breaks_static : breaks_static (after S (AddInheritance asc desc)) ≡ option_map StaticSeparation (option_map (λ (x : Cardinality). x.0)
-      (find_broken S.edges (map (run_of S.assignments) (filter (λ user. is_reached S.edges (run_of S.assignments user) asc) (members S.users))) desc S.ssd.members (members S.ssd.cardinalities)))
-  unfolding after changed end_sessions is_kept_statically authorized_users with_edge
-  inheritance_breaks_static = ap (option_map StaticSeparation) (violated_by (is_kept_statically (with_edge S asc desc)) S.ssd _ (λ x there.
-      ap not (users_keep x there) ∙ touched_only (is_touched S.edges desc (run_of S.ssd.members x.0)) _ (users_untouched x there)
-      ∙ ap (λ kept. is_touched S.edges desc (run_of S.ssd.members x.0) && not kept)
-      (asked_passed (run_of S.assignments) (λ user. is_reached S.edges (run_of S.assignments user) asc) (λ held. nat_lt (reached_with S.edges held desc (run_of S.ssd.members x.0)) x.1) (members S.users))))
-
-  -- ---- sessions
-
-  session_counted : (session : Bytes) (x : Cardinality) → count (is_session_role (with_edge S asc desc) session) (members_of S.dsd x.0) ≡ reached_members (insert S.edges (asc, desc)) (run_of S.active session) (run_of S.dsd.members x.0)
-  unfolding with_edge
-  session_counted session x = session_members_count (with_edge S asc desc) session S.dsd.members x.0
-
-  session_before : (session : Pair) (x : Cardinality) → IsTrue (contains S.dsd.cardinalities x) → IsTrue (contains S.sessions session) → reached_members S.edges (run_of S.active session.0) (run_of S.dsd.members x.0) < x.1
-  session_before session x there owner = subst (λ k. k < x.1) (session_members_count S session.0 S.dsd.members x.0) (good.dynamic_separation x.0 session.0 session.1 x.1 there owner)
-
-  sessions_keep : (x : Cardinality) → IsTrue (contains S.dsd.cardinalities x) →
-      is_kept_dynamically (with_edge S asc desc) (members_of S.dsd x.0) x.1 ≡ list_all (λ (session : Pair). keeps_below S.edges (run_of S.active session.0) asc desc (run_of S.dsd.members x.0) x.1) (members S.sessions)
-  unfolding is_kept_dynamically all with_edge
-  sessions_keep x there = all_same pair_total pair_exact
-      (λ (session : Pair). nat_lt (count (is_session_role (with_edge S asc desc) session.0) (members_of S.dsd x.0)) x.1)
-      (λ (session : Pair). keeps_below S.edges (run_of S.active session.0) asc desc (run_of S.dsd.members x.0) x.1)
-      S.sessions
-      (λ session owner. ap (λ k. nat_lt k x.1) (session_counted session.0 x)
-      ∙ counted_below (run_of S.active session.0) (run_of S.dsd.members x.0) x.1 (session_before session x there owner))
-
-  sessions_untouched : (x : Cardinality) → IsTrue (contains S.dsd.cardinalities x) → is_touched S.edges desc (run_of S.dsd.members x.0) ≡ false →
-      list_all (λ (session : Pair). keeps_below S.edges (run_of S.active session.0) asc desc (run_of S.dsd.members x.0) x.1) (members S.sessions) ≡ true
-  unfolding all
-  sessions_untouched x there none = (all-Decides pair_total pair_exact (λ (session : Pair). keeps_below S.edges (run_of S.active session.0) asc desc (run_of S.dsd.members x.0) x.1) S.sessions).1
-      (λ session owner. untouched_keeps (run_of S.active session.0) (run_of S.dsd.members x.0) x.1 (session_before session x there owner) none)
+  -- ---- who goes on
 
   pub still_authorized : (user role : Bytes) → IsTrue (is_authorized S user role) → IsTrue (is_authorized (with_edge S asc desc) user role)
   unfolding with_edge
@@ -153,12 +103,37 @@ module _ (S : RbacState) (good : IsGood S) (asc desc : Bytes) (no_back : geq S.e
       ((all-Decides name_total name_exact (is_authorized (with_edge S asc desc) p.1) (active_roles S p.0)).1 (λ role active.
       still_authorized p.1 role (good.authorized p.0 p.1 role there ((seconds-Decides S.active p.0 role).0 active))))
 
-  pub inheritance_breaks_dynamic : breaks_dynamic (after S (AddInheritance asc desc)) ≡ option_map DynamicSeparation (option_map (λ (x : Cardinality). x.0)
-      (find_broken S.edges (map (λ (session : Pair). run_of S.active session.0) (filter (λ (session : Pair). is_reached S.edges (run_of S.active session.0) asc) (members S.sessions))) desc S.dsd.members (members S.dsd.cardinalities)))
+  -- ---- what users and sessions violate
+
+  -- a set of the state is kept where each holder of asc has fewer than so many with desc
+  kept_below : (duty : SeparationOfDuty) (x : Cardinality) → IsTrue (contains (sets_of duty S).cardinalities x) →
+      is_kept duty (with_edge S asc desc) (members_of (sets_of duty S) x.0) x.1 ≡ list_all (λ held. keeps_below S.edges held asc desc (run_of (sets_of duty S).members x.0) x.1) (runs_of duty S)
+  unfolding with_edge
+  kept_below duty x there =
+      kept_members duty (with_edge S asc desc) (sets_of duty S) x.0 x.1 ∙ ap (list_all _) (same_runs duty)
+      ∙ same_where _ _ _ (runs_of duty S) (kept_before duty S good x there) (λ held fewer. counted_below held (run_of (sets_of duty S).members x.0) x.1 (ltb-true _ _ fewer))
+    where
+      same_runs : (duty : SeparationOfDuty) → runs_of duty (with_edge S asc desc) ≡ runs_of duty S
+      same_runs Static = refl
+      same_runs Dynamic = refl
+
+  untouched_kept : (duty : SeparationOfDuty) (x : Cardinality) → IsTrue (contains (sets_of duty S).cardinalities x) → is_touched S.edges desc (run_of (sets_of duty S).members x.0) ≡ false →
+      list_all (λ held. keeps_below S.edges held asc desc (run_of (sets_of duty S).members x.0) x.1) (runs_of duty S) ≡ true
+  untouched_kept duty x there none =
+      let kept = kept_before duty S good x there in
+      same_where _ _ _ (runs_of duty S) kept (λ held fewer. untouched_keeps held (run_of (sets_of duty S).members x.0) x.1 (ltb-true _ _ fewer) none ∙ sym fewer) ∙ kept
+
+  pub inheritance_breaks : (duty : SeparationOfDuty) → breaks duty (after S (AddInheritance asc desc)) ≡ option_map (refusal_of duty) (option_map (λ (x : Cardinality). x.0)
+      (find_broken S.edges (filter (λ held. is_reached S.edges held asc) (runs_of duty S)) desc (sets_of duty S).members (members (sets_of duty S).cardinalities)))
   unfolding after changed with_edge
-  inheritance_breaks_dynamic =
-      ap breaks_dynamic (none_ends_where (with_edge S asc desc) goes_on_below good.well_formed.owned)
-      ∙ ap (option_map DynamicSeparation) (violated_by (is_kept_dynamically (with_edge S asc desc)) S.dsd _ (λ x there.
-      ap not (sessions_keep x there) ∙ touched_only (is_touched S.edges desc (run_of S.dsd.members x.0)) _ (sessions_untouched x there)
-      ∙ ap (λ kept. is_touched S.edges desc (run_of S.dsd.members x.0) && not kept)
-      (asked_passed (λ (session : Pair). run_of S.active session.0) (λ (session : Pair). is_reached S.edges (run_of S.active session.0) asc) (λ held. nat_lt (reached_with S.edges held desc (run_of S.dsd.members x.0)) x.1) (members S.sessions))))
+  inheritance_breaks duty =
+      ap (breaks duty) (none_ends_where (with_edge S asc desc) goes_on_below good.well_formed.owned)
+      ∙ named duty
+      ∙ ap (option_map (refusal_of duty)) (violated_by (is_kept duty (with_edge S asc desc)) (sets_of duty S) _ (λ x there.
+      ap not (kept_below duty x there) ∙ touched_only (is_touched S.edges desc (run_of (sets_of duty S).members x.0)) _ (untouched_kept duty x there)
+      ∙ ap (λ kept. is_touched S.edges desc (run_of (sets_of duty S).members x.0) && not kept)
+      (asked_passed (λ held. is_reached S.edges held asc) (λ held. nat_lt (reached_with S.edges held desc (run_of (sets_of duty S).members x.0)) x.1) (runs_of duty S))))
+    where
+      named : (duty : SeparationOfDuty) → breaks duty (with_edge S asc desc) ≡ option_map (refusal_of duty) (least_violated (is_kept duty (with_edge S asc desc)) (sets_of duty S))
+      named Static = refl
+      named Dynamic = refl

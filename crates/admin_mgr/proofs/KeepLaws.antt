@@ -1,24 +1,27 @@
--- Separation of duty with another cardinality, and with one role more.
+-- Separation of duty by the runs of users or sessions: with another cardinality, and with one role more.
 use Rattle.std.proofs.Common.{◌≡◌, ℕ, ◌+◌, ◌<◌, ◌≤◌, Bool, true, false, cond, not, ◌||◌, ◌&&◌, List, [], ◌∷◌, refl, sym, ◌∙◌, ap, subst, arith}
 use Rattle.std.specs.Prelude.{IsTrue, Option, Some, None, find, nat_lt, unwrap_or}
 use Rattle.std.specs.Option.{option_map}
 use Rattle.std.specs.List.{list_any, list_all}
 use Rattle.std.specs.FinMap as finmap
-use Rattle.std.specs.FinSet.{FinSet}
-use Rattle.std.specs.declared.cmp.Ordering.{Ordering}
 use Rattle.std.specs.Ordering.{eq_by_cmp}
-use Rattle.std.specs.Cmp.{IsTotalOrder, both_ways}
-use Rattle.std.specs.FinMap.{IsAntisymmetric}
-use Rattle.std.proofs.lemmas.Bool.{or_left, or_right, lt-ltb, true≢false, false_from_ne_true}
-use Rattle.rbac_sets.specs.Sets.{Bytes, Pair, Pairs, Names, Cardinality, cardinality_cmp, same_name, contains, members, insert, retain, seconds, len, count, all}
-use Rattle.rbac_sets.specs.NameOrder.{name_total, name_exact, pair_total, pair_exact, cardinality_total, cardinality_exact}
-use Rattle.rbac_sets.proofs.SetLaws.{tie_Decides, contains-members, contains-insert, contains-retain, all-Decides, seconds-Decides, same_set}
+use Rattle.std.specs.Cmp.{both_ways}
+use Rattle.std.proofs.lemmas.Bool.{and_parts, or_left, or_right, ltb-true, lt-ltb, true≢false, false_from_ne_true}
+use Rattle.std.proofs.lemmas.List.Folds.{list_all-map}
+use Rattle.rbac_sets.specs.Sets.{Bytes, Pair, Pairs, Names, Cardinality, cardinality_cmp, same_name, contains, members, insert, retain, seconds, len, count, any, all}
+use Rattle.rbac_sets.specs.NameOrder.{name_total, name_exact, cardinality_total, cardinality_exact}
+use Rattle.rbac_sets.proofs.SetLaws.{tie_Decides, contains-members, contains-insert, contains-retain, seconds-Decides, same_set}
 use Rattle.rbac_sets.proofs.Members.{count-len}
+use Rattle.admin_mgr.specs.declared.separation_of_duty.SeparationOfDuty.{SeparationOfDuty}
+use Rattle.admin_mgr.specs.declared.separation_of_duty.SeparationOfDuty.TheVariants.{Static, Dynamic}
 use Rattle.admin_mgr.specs.RbacState.{RbacState, Separation, members_of, cardinality_of}
-use Rattle.admin_mgr.specs.Authorization.{is_authorized, is_session_role}
 use Rattle.admin_mgr.specs.Separation.{is_kept_statically, is_kept_dynamically}
+use Rattle.admin_mgr.specs.SeparationOfDuty.{sets_of, is_kept}
 use Rattle.admin_mgr.specs.Good.{IsGood}
-use Rattle.admin_mgr.proofs.SeparationLaws.{kept_statically, kept_dynamically}
+use Rattle.admin_mgr.specs.Held.{run_of, is_reached, reached_roles, reached_members}
+use Rattle.admin_mgr.specs.Holders.{runs_of}
+use Rattle.admin_mgr.proofs.HeldLaws.{authorized_roles_count, session_roles_count, reached_seconds}
+use Rattle.admin_mgr.proofs.BreakLaws.{kept_sets}
 
 -- ---- the cardinality of a set
 
@@ -48,17 +51,41 @@ cardinality_there separation name n told =
     let same : one.0 ≡ (name, n) = λ i. ((tie_Decides name_total name_exact one.0.0 name).0 found.1 i, one.2 i) in
     subst (λ x. IsTrue (contains separation.cardinalities x)) same (contains-members separation.cardinalities one.0 ∙ found.0)
 
--- ---- a larger cardinality
+-- ---- who a set is kept by
 
-pub larger_statically : (S : RbacState) → IsGood S → (name : Bytes) (before n : ℕ) → IsTrue (contains S.ssd.cardinalities (name, before)) → before ≤ n →
-    is_kept_statically S (members_of S.ssd name) n ≡ true
-larger_statically S good name before n there larger = (kept_statically S (members_of S.ssd name) n).1 (λ user _.
-    let fewer = good.static_separation name user before there in omega (arith, fewer, larger))
+-- two tests agree on a list that do where a third holds, as it does of each entry
+pub same_where : {X : Type 0} (holds p q : X → Bool) (xs : List X) → list_all holds xs ≡ true → ((x : X) → holds x ≡ true → p x ≡ q x) → list_all p xs ≡ list_all q xs
+same_where holds p q [] each same = refl
+same_where holds p q (x ∷ xs) each same = let parts = and_parts (holds x) _ each in λ i. same x parts.0 i && same_where holds p q xs parts.1 same i
 
-pub larger_dynamically : (S : RbacState) → IsGood S → (name : Bytes) (before n : ℕ) → IsTrue (contains S.dsd.cardinalities (name, before)) → before ≤ n →
-    is_kept_dynamically S (members_of S.dsd name) n ≡ true
-larger_dynamically S good name before n there larger = (kept_dynamically S (members_of S.dsd name) n).1 (λ session user owner.
-    let fewer = good.dynamic_separation name session user before there owner in omega (arith, fewer, larger))
+-- roles are kept where each user or session reaches fewer of them
+pub kept_by_runs : (duty : SeparationOfDuty) (S : RbacState) (roles : Names) (n : ℕ) →
+    is_kept duty S roles n ≡ list_all (λ held. nat_lt (reached_roles S.edges held (members roles)) n) (runs_of duty S)
+unfolding is_kept_statically is_kept_dynamically all
+kept_by_runs Static S roles n =
+    (λ i. list_all (λ user. nat_lt (authorized_roles_count S user roles i) n) (members S.users)) ∙ sym (list_all-map (λ held. nat_lt (reached_roles S.edges held (members roles)) n) (run_of S.assignments) (members S.users))
+kept_by_runs Dynamic S roles n =
+    (λ i. list_all (λ (session : Pair). nat_lt (session_roles_count S session.0 roles i) n) (members S.sessions))
+    ∙ sym (list_all-map (λ held. nat_lt (reached_roles S.edges held (members roles)) n) (λ (session : Pair). run_of S.active session.0) (members S.sessions))
+
+pub kept_members : (duty : SeparationOfDuty) (S : RbacState) (separation : Separation) (name : Bytes) (n : ℕ) →
+    is_kept duty S (members_of separation name) n ≡ list_all (λ held. nat_lt (reached_members S.edges held (run_of separation.members name)) n) (runs_of duty S)
+kept_members duty S separation name n =
+    kept_by_runs duty S (members_of separation name) n ∙ (λ i. list_all (λ held. nat_lt (reached_seconds S.edges held separation.members name i) n) (runs_of duty S))
+
+-- a set of a good state is kept
+pub kept_before : (duty : SeparationOfDuty) (S : RbacState) → IsGood S → (x : Cardinality) → IsTrue (contains (sets_of duty S).cardinalities x) →
+    list_all (λ held. nat_lt (reached_members S.edges held (run_of (sets_of duty S).members x.0)) x.1) (runs_of duty S) ≡ true
+kept_before duty S good x there = sym (kept_members duty S (sets_of duty S) x.0 x.1) ∙ kept_sets duty S good x there
+
+-- so it is with a larger cardinality
+pub larger : (duty : SeparationOfDuty) (S : RbacState) → IsGood S → (name : Bytes) (before n : ℕ) → IsTrue (contains (sets_of duty S).cardinalities (name, before)) → before ≤ n →
+    is_kept duty S (members_of (sets_of duty S) name) n ≡ true
+larger duty S good name before n there more =
+    let kept = kept_before duty S good (name, before) there in
+    kept_members duty S (sets_of duty S) name n
+    ∙ same_where _ _ _ (runs_of duty S) kept (λ held fewer. (let few = ltb-true _ _ fewer in lt-ltb _ _ (omega (arith, few, more))) ∙ sym fewer)
+    ∙ kept
 
 -- ---- one more role
 
@@ -113,25 +140,14 @@ module _ (p : Bytes → Bool) (roles : Names) (role : Bytes) (absent : contains 
 no_member : (pairs : Pairs) (name role : Bytes) → contains pairs (name, role) ≡ false → contains (seconds pairs name) role ≡ false
 no_member pairs name role absent = false_from_ne_true (contains (seconds pairs name) role) (λ h. true≢false (sym ((seconds-Decides pairs name role).0 h) ∙ absent))
 
-pub with_member_statically : (S : RbacState) → IsGood S → (name role : Bytes) (n : ℕ) → IsTrue (contains S.ssd.cardinalities (name, n)) → contains S.ssd.members (name, role) ≡ false →
-    list_all (λ user. not (is_authorized S user role) || nat_lt (count (is_authorized S user) (members_of S.ssd name) + 1) n) (members S.users)
-    ≡ is_kept_statically S (insert (members_of S.ssd name) role) n
-unfolding is_kept_statically all
-with_member_statically S good name role n there absent =
-    λ i. list_all (λ user. fewer_with (is_authorized S user) (members_of S.ssd name) role (no_member S.ssd.members name role absent) n (good.static_separation name user n there) i) (members S.users)
-
-pub all_same : {K : Type 0} {R : K → K → Ordering} (total : IsTotalOrder R) (exact : IsAntisymmetric R) (p q : K → Bool) (s : FinSet R) → ((x : K) → IsTrue (contains s x) → p x ≡ q x) → all p s ≡ all q s
-all_same total exact p q s same = both_ways (all p s) (all q s)
-    (λ h. (all-Decides total exact q s).1 (λ x there. sym (same x there) ∙ (all-Decides total exact p s).0 h x there))
-    (λ h. (all-Decides total exact p s).1 (λ x there. same x there ∙ (all-Decides total exact q s).0 h x there))
-
-pub with_member_dynamically : (S : RbacState) → IsGood S → (name role : Bytes) (n : ℕ) → IsTrue (contains S.dsd.cardinalities (name, n)) → contains S.dsd.members (name, role) ≡ false →
-    list_all (λ (session : Pair). not (is_session_role S session.0 role) || nat_lt (count (is_session_role S session.0) (members_of S.dsd name) + 1) n) (members S.sessions)
-    ≡ is_kept_dynamically S (insert (members_of S.dsd name) role) n
-unfolding is_kept_dynamically all
-with_member_dynamically S good name role n there absent =
-    all_same pair_total pair_exact
-    (λ (session : Pair). not (is_session_role S session.0 role) || nat_lt (count (is_session_role S session.0) (members_of S.dsd name) + 1) n)
-    (λ (session : Pair). nat_lt (count (is_session_role S session.0) (insert (members_of S.dsd name) role)) n)
-    S.sessions
-    (λ session owner. fewer_with (is_session_role S session.0) (members_of S.dsd name) role (no_member S.dsd.members name role absent) n (good.dynamic_separation name session.0 session.1 n there owner))
+pub with_member : (duty : SeparationOfDuty) (S : RbacState) → IsGood S → (name role : Bytes) (n : ℕ) → IsTrue (contains (sets_of duty S).cardinalities (name, n)) → contains (sets_of duty S).members (name, role) ≡ false →
+    list_all (λ held. not (is_reached S.edges held role) || nat_lt (reached_members S.edges held (run_of (sets_of duty S).members name) + 1) n) (runs_of duty S)
+    ≡ is_kept duty S (insert (members_of (sets_of duty S) name) role) n
+unfolding count
+with_member duty S good name role n there absent =
+    let pairs = (sets_of duty S).members in
+    same_where _ _ _ (runs_of duty S) (kept_before duty S good (name, n) there) (λ held fewer.
+    let same = reached_seconds S.edges held pairs name in
+    ap (λ k. not (is_reached S.edges held role) || nat_lt (k + 1) n) (sym same)
+    ∙ fewer_with (is_reached S.edges held) (seconds pairs name) role (no_member pairs name role absent) n (ltb-true _ _ (ap (λ k. nat_lt k n) same ∙ fewer)))
+    ∙ sym (kept_by_runs duty S (insert (seconds pairs name) role) n)

@@ -1,6 +1,6 @@
 -- Which set is named where a command touches one user or one session.
 use Rattle.std.proofs.Common.{◌≡◌, ◌≢◌, ℕ, suc, ◌<◌, Bool, true, false, cond, not, ◌||◌, ◌&&◌, List, [], ◌∷◌, length, refl, sym, ◌∙◌, ap, subst, inl, inr}
-use Rattle.std.specs.Prelude.{IsTrue, ◌⊎◌, Some, None, map, find, nat_lt, count_by}
+use Rattle.std.specs.Prelude.{IsTrue, ◌⊎◌, Some, None, find, nat_lt, count_by}
 use Rattle.std.specs.Bool.{Decides}
 use Rattle.std.specs.Option.{option_map}
 use Rattle.std.specs.List.{list_any, list_all, filter}
@@ -185,11 +185,11 @@ none_broken touched kept (x ∷ xs) none = by (touched x) refl (none_broken touc
     by false is rest = rw is (rest (ap (λ t. t || list_any touched xs) (sym is) ∙ none))
 
 -- to ask those that pass a test is to ask each whether it fails it or keeps
-pub asked_passed : {K : Type 0} (run : K → List Pair) (passes : K → Bool) (keeps : List Pair → Bool) (xs : List K) → list_all (λ x. not (passes x) || keeps (run x)) xs ≡ list_all keeps (map run (filter passes xs))
-asked_passed run passes keeps [] = refl
-asked_passed run passes keeps (x ∷ xs) = by (passes x) refl (asked_passed run passes keeps xs)
+pub asked_passed : {K : Type 0} (passes keeps : K → Bool) (xs : List K) → list_all (λ x. not (passes x) || keeps x) xs ≡ list_all keeps (filter passes xs)
+asked_passed passes keeps [] = refl
+asked_passed passes keeps (x ∷ xs) = by (passes x) refl (asked_passed passes keeps xs)
   where
-    by : (b : Bool) → passes x ≡ b → list_all (λ y. not (passes y) || keeps (run y)) xs ≡ list_all keeps (map run (filter passes xs))
-        → list_all (λ y. not (passes y) || keeps (run y)) (x ∷ xs) ≡ list_all keeps (map run (filter passes (x ∷ xs)))
-    by true is rest = rw is (ap (λ all. keeps (run x) && all) rest)
+    by : (b : Bool) → passes x ≡ b → list_all (λ y. not (passes y) || keeps y) xs ≡ list_all keeps (filter passes xs)
+        → list_all (λ y. not (passes y) || keeps y) (x ∷ xs) ≡ list_all keeps (filter passes (x ∷ xs))
+    by true is rest = rw is (ap (λ all. keeps x && all) rest)
     by false is rest = rw is rest

@@ -35,6 +35,12 @@ stopped [] last refusal h = cc
 stopped (None ∷ rest) last refusal h = stopped rest last refusal h
 stopped (Some one ∷ rest) last refusal h = sym h
 
+-- and of one that is longer by two
+pub stopped_before : (refusals : List (Option Refusal)) (one other : Option Refusal) (refusal : Refusal) → first refusals ≡ Some refusal → Some refusal ≡ first (refusals ++ one ∷ other ∷ [])
+stopped_before [] one other refusal h = cc
+stopped_before (None ∷ rest) one other refusal h = stopped_before rest one other refusal h
+stopped_before (Some found ∷ rest) one other refusal h = sym h
+
 -- where none holds, the last one decides
 pub last_decides : (refusals : List (Option Refusal)) (last : Option Refusal) → first refusals ≡ None → first (refusals ++ last ∷ []) ≡ last
 last_decides [] None h = refl
@@ -52,22 +58,3 @@ all_but_last (Some refusal ∷ rest) last h = cc
 pub mapped_cond : (b : Bool) {A B : Type 0} (f : A → B) (x : A) → option_map f (cond b None (Some x)) ≡ cond b None (Some (f x))
 mapped_cond true f x = refl
 mapped_cond false f x = refl
-
--- where none holds, the first of the last two decides
-pub last_two_decide : (refusals : List (Option Refusal)) (one other : Option Refusal) → first refusals ≡ None → one ≡ None → first (refusals ++ one ∷ other ∷ []) ≡ other
-last_two_decide [] None None h none = refl
-last_two_decide [] None (Some refusal) h none = refl
-last_two_decide [] (Some refusal) other h none = cc
-last_two_decide (None ∷ rest) one other h none = last_two_decide rest one other h none
-last_two_decide (Some refusal ∷ rest) one other h none = cc
-
-pub stopped_last : (refusals : List (Option Refusal)) (one other : Option Refusal) (refusal : Refusal) → first refusals ≡ None → one ≡ Some refusal → Some refusal ≡ first (refusals ++ one ∷ other ∷ [])
-stopped_last [] (Some found) other refusal h is = sym is
-stopped_last [] None other refusal h is = cc
-stopped_last (None ∷ rest) one other refusal h is = stopped_last rest one other refusal h is
-stopped_last (Some found ∷ rest) one other refusal h is = cc
-
-pub stopped_before : (refusals : List (Option Refusal)) (one other : Option Refusal) (refusal : Refusal) → first refusals ≡ Some refusal → Some refusal ≡ first (refusals ++ one ∷ other ∷ [])
-stopped_before [] one other refusal h = cc
-stopped_before (None ∷ rest) one other refusal h = stopped_before rest one other refusal h
-stopped_before (Some found ∷ rest) one other refusal h = sym h

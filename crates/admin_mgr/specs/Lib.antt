@@ -8,6 +8,7 @@ pub mod Gathered
 pub mod GatheredView
 pub mod Good
 pub mod Held
+pub mod Holders
 pub mod Importing
 pub mod Kept
 pub mod Laws

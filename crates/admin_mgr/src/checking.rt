@@ -10,9 +10,9 @@ ghost use Rattle.admin_mgr.specs.Tested.{late_refusal, has_cardinalities, have_a
 
 use crate::held::is_reached;
 use crate::judge::set_refusals::{is_cardinality, member_count};
-use crate::keeping_sessions::keep_sessions_from;
-use crate::keeping_users::keep_users_from;
+use crate::keeping::keeps_members;
 use crate::relations::Relations;
+use crate::separation_of_duty::SeparationOfDuty;
 use rbac_sets::{CountSet, Name, PairSet, Refusal};
 use role_order::RoleOrder;
 
@@ -91,11 +91,12 @@ fn are_reached(order: &RoleOrder, held: &[(Name, Name)], pairs: &[(Name, Name)])
 fn are_kept_statically(relations: &Relations) -> bool
     ensures { result ≡ are_kept_statically relations.now.facts }
 {
-    relations
-        .ssd_cardinalities()
-        .as_slice()
-        .iter()
-        .all(|entry| keep_users_from(relations, &entry.0, entry.1))
+    relations.ssd_cardinalities().as_slice().iter().all(|entry| keeps_members(
+        relations,
+        SeparationOfDuty::Static,
+        &entry.0,
+        entry.1,
+    ))
 }
 
 // Whether each dynamic set is kept by each session.
@@ -103,11 +104,12 @@ fn are_kept_statically(relations: &Relations) -> bool
 fn are_kept_dynamically(relations: &Relations) -> bool
     ensures { result ≡ are_kept_dynamically relations.now.facts }
 {
-    relations
-        .dsd_cardinalities()
-        .as_slice()
-        .iter()
-        .all(|entry| keep_sessions_from(relations, &entry.0, entry.1))
+    relations.dsd_cardinalities().as_slice().iter().all(|entry| keeps_members(
+        relations,
+        SeparationOfDuty::Dynamic,
+        &entry.0,
+        entry.1,
+    ))
 }
 
 // Whether no locked user has a session.

@@ -2,94 +2,56 @@
 //!
 //! Only who reaches the ascendant can come to violate a set: the roles that each of these has are
 //! gathered once, and then the sets are asked one after another.
-ghost use Rattle.std.specs.Prelude.{◌≡◌, ◌&&◌, IfOk, filter, find, not, nat_lt};
+ghost use Rattle.std.specs.Prelude.{◌≡◌, ◌&&◌, IfOk, filter, not, nat_lt};
 ghost use Rattle.std.specs.Prelude.{map as list_map};
 ghost use Rattle.std.specs.List.{list_all, list_any};
 ghost use Rattle.std.specs.Option.{option_copied};
-ghost use Rattle.rbac_sets.specs.Sets.{Cardinality, Pair, members, pair_cmp};
+ghost use Rattle.rbac_sets.specs.Sets.{Cardinality, members, pair_cmp};
 ghost use Rattle.rbac_sets.specs.SortedSet.{set_of};
 ghost use Rattle.admin_mgr.specs.Held.{find_broken, is_reached, is_touched, reached_with, run_of};
+ghost use Rattle.admin_mgr.specs.Holders.{runs_of};
+ghost use Rattle.admin_mgr.specs.SeparationOfDuty.{sets_of};
 
 use crate::held::{is_reached, is_touched, reached_with};
+use crate::separation_of_duty::SeparationOfDuty;
 use crate::state::State;
 use rbac_sets::{Name, PairSet};
 use role_order::RoleOrder;
 use std::alloc::{AllocError, Global};
 
-// The first of the static sets, pairs (set, cardinality), from which some user that is authorized for
-// `asc` would be authorized for as many roles as its cardinality, with `desc` below `asc`. Only a set
-// with a member that `desc` reaches is asked.
-pub(crate) fn first_broken_by_users<'a>(
+// The first of the sets of this kind from which somebody who reaches `asc` would have as many roles as
+// its cardinality, with `desc` below `asc`. Only a set with a member that `desc` reaches is asked.
+pub(crate) fn first_broken<'a>(
     alloc: Global,
-    state: &State,
+    state: &'a State,
+    duty: SeparationOfDuty,
     asc: &Name,
     desc: &Name,
-    sets: &'a [(Name, u32)],
 ) -> Result<Option<&'a (Name, u32)>, AllocError>
-    ensures { IfOk result (λ found. option_copied found ≡ find_broken state.now.facts.edges (list_map (run_of state.now.facts.assignments) (filter (λ user. is_reached state.now.facts.edges (run_of state.now.facts.assignments user) asc.now) (members state.now.facts.users))) desc.now state.now.facts.ssd.members sets.now) }
+    ensures { IfOk result (λ found. option_copied found ≡ find_broken state.now.facts.edges (filter (λ held. is_reached state.now.facts.edges held asc.now) (runs_of duty state.now.facts)) desc.now (sets_of duty state.now.facts).members (members (sets_of duty state.now.facts).cardinalities)) }
 {
-    let members = state.ssd_members();
+    let members = duty.members(state);
+    let sets = duty.cardinalities(state).as_slice();
     if !touches_some(state.order(), desc, members, sets) {
         return Ok(None);
     }
-    let runs = users_that_reach(alloc, state, asc)?;
-    Ok(first_broken(state.order(), &runs, desc, members, sets))
+    let runs = who_reach(alloc, state, duty, asc)?;
+    Ok(find_broken(state.order(), &runs, desc, members, sets))
 }
 
-// The first of the dynamic sets, pairs (set, cardinality), from which some session that has `asc`
-// would have as many roles as its cardinality, with `desc` below `asc`. Only a set with a member that
-// `desc` reaches is asked.
-pub(crate) fn first_broken_by_sessions<'a>(
-    alloc: Global,
-    state: &State,
-    asc: &Name,
-    desc: &Name,
-    sets: &'a [(Name, u32)],
-) -> Result<Option<&'a (Name, u32)>, AllocError>
-    ensures { IfOk result (λ found. option_copied found ≡ find_broken state.now.facts.edges (list_map (λ (session : Pair). run_of state.now.facts.active session.0) (filter (λ (session : Pair). is_reached state.now.facts.edges (run_of state.now.facts.active session.0) asc.now) (members state.now.facts.sessions))) desc.now state.now.facts.dsd.members sets.now) }
-{
-    let members = state.dsd_members();
-    if !touches_some(state.order(), desc, members, sets) {
-        return Ok(None);
-    }
-    let runs = sessions_that_reach(alloc, state, asc)?;
-    Ok(first_broken(state.order(), &runs, desc, members, sets))
-}
-
-// The assignments of each user that is authorized for the role.
-fn users_that_reach<'a>(
+// What each user who is authorized for the role is assigned, or what was activated in each session that
+// has it.
+fn who_reach<'a>(
     alloc: Global,
     state: &'a State,
+    duty: SeparationOfDuty,
     role: &Name,
 ) -> Result<Vec<&'a [(Name, Name)]>, AllocError>
-    ensures { IfOk result (λ runs. list_map (λ run. run.now) runs.items ≡ list_map (run_of state.now.facts.assignments) (filter (λ user. is_reached state.now.facts.edges (run_of state.now.facts.assignments user) role.now) (members state.now.facts.users))) }
+    ensures { IfOk result (λ runs. list_map (λ run. run.now) runs.items ≡ filter (λ held. is_reached state.now.facts.edges held role.now) (runs_of duty state.now.facts)) }
 {
-    let mut runs = Vec::new(alloc);
-    for user in state.users().as_slice() {
-        let held = state.assignments().with_first(user);
-        if is_reached(state.order(), held, role) {
-            runs.push(held)?;
-        }
-    }
-    Ok(runs)
-}
-
-// The roles that were activated in each session that has the role.
-fn sessions_that_reach<'a>(
-    alloc: Global,
-    state: &'a State,
-    role: &Name,
-) -> Result<Vec<&'a [(Name, Name)]>, AllocError>
-    ensures { IfOk result (λ runs. list_map (λ run. run.now) runs.items ≡ list_map (λ (session : Pair). run_of state.now.facts.active session.0) (filter (λ (session : Pair). is_reached state.now.facts.edges (run_of state.now.facts.active session.0) role.now) (members state.now.facts.sessions))) }
-{
-    let mut runs = Vec::new(alloc);
-    for session in state.sessions().as_slice() {
-        let held = state.active().with_first(&session.0);
-        if is_reached(state.order(), held, role) {
-            runs.push(held)?;
-        }
-    }
-    Ok(runs)
+    duty.runs(state.relations())
+        .filter(|held| is_reached(state.order(), held, role))
+        .collect(alloc)
 }
 
 // Whether the role reaches a member of one of the sets.
@@ -101,7 +63,7 @@ fn touches_some(order: &RoleOrder, role: &Name, members: &PairSet, sets: &[(Name
 
 // The first of the sets from which one of these runs and one more role reach as many members as its
 // cardinality. Only a set with a member that the role reaches is asked.
-fn first_broken<'a>(
+fn find_broken<'a>(
     order: &RoleOrder,
     runs: &[&[(Name, Name)]],
     more: &Name,

@@ -1,15 +1,17 @@
-//! Whether separation of duty sets of either kind are kept.
-ghost use Rattle.std.specs.Prelude.{◌≡◌, IsTrue, false};
+//! Whether separation of duty sets are kept: static ones by each user, dynamic ones by each session.
+ghost use Rattle.std.specs.Prelude.{◌≡◌, ◌+◌, ◌||◌, not, nat_lt, IsTrue, false};
 ghost use Rattle.rbac_sets.specs.Sets.{contains, insert, name_cmp};
 ghost use Rattle.rbac_sets.specs.SortedSet.{set_of};
+ghost use Rattle.admin_mgr.specs.Held.{is_reached, reached_members};
 ghost use Rattle.admin_mgr.specs.RbacState.{members_of};
 ghost use Rattle.admin_mgr.specs.SeparationOfDuty.{is_kept, sets_of};
 
-use crate::keeping_sessions::{keep_sessions, keep_sessions_of, keep_sessions_with};
-use crate::keeping_users::{keep_users, keep_users_of, keep_users_with};
+use crate::held::{is_reached, reached_members, reached_roles};
+use crate::relations::Relations;
 use crate::separation_of_duty::SeparationOfDuty;
 use crate::state::State;
 use rbac_sets::{Name, NameSet};
+use role_order::RoleOrder;
 
 // Whether nobody has so many of the roles.
 pub(crate) fn keeps(
@@ -20,10 +22,9 @@ pub(crate) fn keeps(
 ) -> bool
     ensures { result ≡ is_kept duty state.now.facts (set_of name_cmp roles.now) cardinality }
 {
-    match duty {
-        SeparationOfDuty::Static => keep_users(state, roles, cardinality),
-        SeparationOfDuty::Dynamic => keep_sessions(state, roles, cardinality),
-    }
+    let order = state.order();
+    duty.runs(state.relations()).all(|held| reached_roles(order, held, roles.as_slice())
+        < cardinality as usize)
 }
 
 // Whether nobody has so many of the set's roles, where the set has the cardinality `before`.
@@ -37,10 +38,25 @@ pub(crate) fn keeps_set(
     requires there { IsTrue (contains (sets_of duty state.now.facts).cardinalities (set.now, before)) }
     ensures { result ≡ is_kept duty state.now.facts (members_of (sets_of duty state.now.facts) set.now) cardinality }
 {
-    match duty {
-        SeparationOfDuty::Static => keep_users_of(state, set, before, cardinality),
-        SeparationOfDuty::Dynamic => keep_sessions_of(state, set, before, cardinality),
+    state.is_good();
+    if cardinality >= before {
+        return true;
     }
+    keeps_members(state.relations(), duty, set, cardinality)
+}
+
+// Whether nobody has so many of the set's roles. The relations may be anything.
+pub(crate) fn keeps_members(
+    relations: &Relations,
+    duty: SeparationOfDuty,
+    set: &Name,
+    cardinality: u32,
+) -> bool
+    ensures { result ≡ is_kept duty relations.now.facts (members_of (sets_of duty relations.now.facts) set.now) cardinality }
+{
+    let order = relations.order();
+    let members = duty.members_in(relations).with_first(set);
+    duty.runs(relations).all(|held| reached_members(order, held, members) < cardinality as usize)
 }
 
 // Whether nobody has so many of the set's roles and one more, where so many are the set's cardinality
@@ -56,8 +72,22 @@ pub(crate) fn keeps_with(
     requires absent { contains (sets_of duty state.now.facts).members (set.now, role.now) ≡ false }
     ensures { result ≡ is_kept duty state.now.facts (insert (members_of (sets_of duty state.now.facts) set.now) role.now) cardinality }
 {
-    match duty {
-        SeparationOfDuty::Static => keep_users_with(state, set, cardinality, role),
-        SeparationOfDuty::Dynamic => keep_sessions_with(state, set, cardinality, role),
-    }
+    state.is_good();
+    let order = state.order();
+    let members = duty.members(state).with_first(set);
+    duty.runs(state.relations()).all(|held| is_below_with(order, held, role, members, cardinality))
+}
+
+// Whether the role isn't reached, or fewer than so many of the members and it.
+fn is_below_with(
+    order: &RoleOrder,
+    held: &[(Name, Name)],
+    role: &Name,
+    members: &[(Name, Name)],
+    cardinality: u32,
+) -> bool
+    ensures { result ≡ (not (is_reached order.now.edges held.now role.now) || nat_lt (reached_members order.now.edges held.now members.now + 1) cardinality) }
+{
+    !is_reached(order, held, role)
+        || reached_members(order, held, members) + 1 < cardinality as usize
 }

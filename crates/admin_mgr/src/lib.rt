@@ -12,11 +12,10 @@ pub use state::State;
 
 mod checking;
 mod held;
+mod holders;
 mod inheriting;
 mod judge;
 mod keeping;
-mod keeping_sessions;
-mod keeping_users;
 pub mod laws;
 mod limits;
 mod lookup;

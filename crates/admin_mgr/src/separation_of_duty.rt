@@ -2,9 +2,12 @@
 ghost use Rattle.std.specs.Prelude.{◌≡◌};
 ghost use Rattle.rbac_sets.specs.Sets.{cardinality_cmp, pair_cmp};
 ghost use Rattle.rbac_sets.specs.SortedSet.{set_of};
+ghost use Rattle.admin_mgr.specs.Holders.{runs_left, runs_of};
 ghost use Rattle.admin_mgr.specs.RbacState.{cardinality_of};
 ghost use Rattle.admin_mgr.specs.SeparationOfDuty.{cardinality_rows, kind_of, member_rows, refusal_of, sets_of};
 
+use crate::holders::Runs;
+use crate::relations::Relations;
 use crate::state::State;
 use rbac_sets::{CountSet, Kind, Name, PairSet, Refusal, Row};
 
@@ -62,9 +65,16 @@ impl SeparationOfDuty {
     pub(crate) fn members(self, state: &State) -> &PairSet
         ensures { set_of pair_cmp result.now ≡ (sets_of self state.now.facts).members }
     {
+        self.members_in(state.relations())
+    }
+
+    // The same of relations that may be anything.
+    pub(crate) fn members_in(self, relations: &Relations) -> &PairSet
+        ensures { set_of pair_cmp result.now ≡ (sets_of self relations.now.facts).members }
+    {
         match self {
-            SeparationOfDuty::Static => state.ssd_members(),
-            SeparationOfDuty::Dynamic => state.dsd_members(),
+            SeparationOfDuty::Static => relations.ssd_members(),
+            SeparationOfDuty::Dynamic => relations.dsd_members(),
         }
     }
 
@@ -85,6 +95,20 @@ impl SeparationOfDuty {
         match self {
             SeparationOfDuty::Static => state.ssd_n(set),
             SeparationOfDuty::Dynamic => state.dsd_n(set),
+        }
+    }
+    // Who this kind goes over: of each user the assignments, or of each session the roles that were
+    // activated in it, as pairs (holder, role).
+    pub(crate) fn runs(self, relations: &Relations) -> Runs<'_>
+        ensures { runs_left result ≡ runs_of self relations.now.facts }
+    {
+        match self {
+            SeparationOfDuty::Static => {
+                Runs::OfUsers(relations.users().as_slice(), relations.assignments())
+            }
+            SeparationOfDuty::Dynamic => {
+                Runs::OfSessions(relations.sessions().as_slice(), relations.active())
+            }
         }
     }
 }

@@ -1,10 +1,13 @@
 //! The verdicts on the commands of the role hierarchy.
-ghost use Rattle.std.specs.Prelude.{◌≡◌, IfOk};
+ghost use Rattle.std.specs.Prelude.{◌≡◌, IfOk, false};
 ghost use Rattle.rbac_sets.specs.declared.command.Command.TheVariants.{AddInheritance, DeleteInheritance, AddAscendant, AddDescendant};
+ghost use Rattle.role_order.specs.Order.{geq};
+ghost use Rattle.admin_mgr.specs.After.{after};
 ghost use Rattle.admin_mgr.specs.Refusing.{first};
+ghost use Rattle.admin_mgr.specs.SeparationOfDuty.{breaks};
 ghost use Rattle.admin_mgr.specs.Verdict.{verdict, add_inheritance_refusals};
 
-use crate::inheriting::{first_broken_by_sessions, first_broken_by_users};
+use crate::inheriting::first_broken;
 use crate::judge::naming::name_violated;
 use crate::limits::is_full;
 use crate::separation_of_duty::SeparationOfDuty;
@@ -36,14 +39,28 @@ pub(crate) fn judge_add_inheritance(
     if let Some(refusal) = refuse_inheritance(state, asc, desc) {
         return Ok(Some(refusal));
     }
-    let statics = state.ssd_cardinalities().as_slice();
-    let violated = first_broken_by_users(alloc, state, asc, desc, statics)?;
-    if let Some(broken) = name_violated(alloc, SeparationOfDuty::Static, violated)? {
-        return Ok(Some(broken));
+    if let Some(refusal) = refuse_broken(alloc, state, SeparationOfDuty::Static, asc, desc)? {
+        return Ok(Some(refusal));
     }
-    let dynamics = state.dsd_cardinalities().as_slice();
-    let violated = first_broken_by_sessions(alloc, state, asc, desc, dynamics)?;
-    let named = name_violated(alloc, SeparationOfDuty::Dynamic, violated)?;
+    let broken = refuse_broken(alloc, state, SeparationOfDuty::Dynamic, asc, desc)?;
+    Ok(broken)
+}
+
+// Why `asc` can't become an immediate ascendant of `desc` for the first set of this kind that somebody
+// would violate.
+fn refuse_broken(
+    alloc: Global,
+    state: &State,
+    duty: SeparationOfDuty,
+    asc: &Name,
+    desc: &Name,
+) -> Result<Option<Refusal>, AllocError>
+    requires { geq state.now.facts.edges desc.now asc.now ≡ false }
+    ensures { IfOk result (λ found. found ≡ breaks duty (after state.now.facts (AddInheritance asc.now desc.now))) }
+{
+    state.is_good();
+    let violated = first_broken(alloc, state, duty, asc, desc)?;
+    let named = name_violated(alloc, duty, violated)?;
     Ok(named)
 }
 

@@ -1,33 +1,22 @@
-use Rattle.std.proofs.Common.{List, not, nat_lt, ◌&&◌, map, sym, ◌∙◌, ap, rules}
-use Rattle.std.proofs.Math.ListN.{drop_of_length-le}
-use Rattle.std.specs.List.{list_all}
-use Rattle.rbac_sets.specs.Sets.{Cardinality, Pair, pair_cmp}
-use Rattle.rbac_sets.specs.SortedSet.{set_of}
+use Rattle.std.proofs.Common.{◌≡◌, false, List, map, nat_lt, sym, ◌∙◌, ap}
+use Rattle.std.specs.List.{list_all, list_any}
+use Rattle.rbac_sets.specs.Sets.{Cardinality, Pair, members}
 use Rattle.admin_mgr.specs.Held.{find_broken, is_touched, reached_with, run_of}
-use Rattle.admin_mgr.proofs.ListLaws.{found_later, found_here}
+use Rattle.admin_mgr.specs.SeparationOfDuty.{sets_of}
+use Rattle.admin_mgr.proofs.TouchLaws.{none_broken}
 use Rattle.admin_mgr.proofs.inheriting.first_broken.Goals as goal
 
-pub returns-then-is_broken : goal.returns-then-is_broken
-returns-then-is_broken c =
-    let edges = c.args.order.now.edges in
-    let runs : List (List Pair) = map (λ run. run.now) c.args.runs.now in
-    let broken = λ (members : List Pair) (n : _). is_touched edges c.args.more.now members && not (list_all (λ held. nat_lt (reached_with edges held c.args.more.now members) n) runs) in
-    let p = λ (entry : Cardinality). broken (run_of (set_of pair_cmp c.args.members.now) entry.0) entry.1 in
-    sym (found_here p c.args.sets.now c.loop-entry.entry-index c.entry-item.result (search rules) c.entry-item.is
-    (ap (λ members. broken members c.entry-item.result.1) (sym c.with_first.ensures) ∙ sym c.is_broken.ensures ∙ c.if-is_broken.true))
-    ∙ c.loop-entry.invariant
-
-pub loop-entry-preserved : goal.loop-entry-preserved
-loop-entry-preserved c =
-    let edges = c.args.order.now.edges in
-    let runs : List (List Pair) = map (λ run. run.now) c.args.runs.now in
-    let broken = λ (members : List Pair) (n : _). is_touched edges c.args.more.now members && not (list_all (λ held. nat_lt (reached_with edges held c.args.more.now members) n) runs) in
-    let p = λ (entry : Cardinality). broken (run_of (set_of pair_cmp c.args.members.now) entry.0) entry.1 in
-    sym (found_later p c.args.sets.now c.loop-entry.entry-index c.entry-item.result (search rules) c.entry-item.is
-    (ap (λ members. broken members c.entry-item.result.1) (sym c.with_first.ensures) ∙ sym c.is_broken.ensures ∙ c.if-is_broken.false))
-    ∙ c.loop-entry.invariant
+pub returns-then-not-touches_some : goal.returns-then-not-touches_some
+returns-then-not-touches_some c =
+    let S = c.args.state.now.facts in
+    let sets = sets_of c.args.duty S in
+    let touched = λ (entry : Cardinality). is_touched S.edges c.args.desc.now (run_of sets.members entry.0) in
+    let none : list_any touched (members sets.cardinalities) ≡ false =
+    sym (λ i. list_any (λ (entry : Cardinality). is_touched (c.order.ensures i) c.args.desc.now (run_of (c.members-members.ensures i) entry.0)) ((c.as_slice-sets.ensures ∙ ap members c.cardinalities.ensures) i))
+    ∙ sym c.touches_some.ensures ∙ c.if-not-touches_some.true in
+    sym (none_broken touched (λ (entry : Cardinality). list_all (λ (held : List Pair). nat_lt (reached_with S.edges held c.args.desc.now (run_of sets.members entry.0)) entry.1) _) (members sets.cardinalities) none)
 
 pub returns : goal.returns
 returns c =
-    sym (ap (find_broken c.args.order.now.edges (map (λ run. run.now) c.args.runs.now) c.args.more.now (set_of pair_cmp c.args.members.now)) (drop_of_length-le c.args.sets.now c.loop-entry-test.false))
-    ∙ c.loop-entry.invariant
+    c.find_broken.ensures
+    ∙ (λ i. find_broken (c.order-2.ensures i) ((ap (map (λ run. run.now)) c.deref.ensures.value ∙ c.in_ok-runs.ensures) i) c.args.desc.now (c.members-members.ensures i) ((c.as_slice-sets.ensures ∙ ap members c.cardinalities.ensures) i))

@@ -1,0 +1,12 @@
+use Rattle.std.proofs.Common.{sym, ◌∙◌, ap}
+use Rattle.std.specs.Option.{option_map}
+use Rattle.rbac_sets.specs.Sets.{Cardinality}
+use Rattle.admin_mgr.specs.SeparationOfDuty.{refusal_of}
+use Rattle.admin_mgr.proofs.InheritLaws.{inheritance_breaks}
+use Rattle.admin_mgr.proofs.judge.hierarchy.refuse_broken.Goals as goal
+
+pub returns : goal.returns
+returns c =
+    c.in_ok-named.ensures
+    ∙ ap (λ o. option_map (refusal_of c.args.duty) (option_map (λ (entry : Cardinality). entry.0) o)) c.in_ok-violated.ensures
+    ∙ sym (inheritance_breaks c.args.state.now.facts c.is_good.ensures c.args.asc.now c.args.desc.now c.requires c.args.duty)

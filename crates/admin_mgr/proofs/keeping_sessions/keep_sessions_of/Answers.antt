@@ -1,6 +1,0 @@
-use Rattle.std.proofs.Common.{sym}
-use Rattle.admin_mgr.proofs.KeepLaws.{larger_dynamically}
-use Rattle.admin_mgr.proofs.keeping_sessions.keep_sessions_of.Goals as goal
-
-pub returns-then-cardinality-before : goal.returns-then-cardinality-before
-returns-then-cardinality-before c = sym (larger_dynamically c.args.state.now.facts c.is_good.ensures c.args.set.now c.args.before c.args.cardinality c.requires.there c.if-cardinality-before.true)
