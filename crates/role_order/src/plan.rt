@@ -62,7 +62,8 @@ impl OrderPlan {
     /// How many pairs were judged: those of the ascendant or a role above it and the descendant or a
     /// role below it.
     ///
-    /// It takes no memory.
+    /// It says what the plan cost, for whoever measures or bounds the work of a change; `commit` goes by
+    /// the pairs alone. It takes no memory.
     pub fn judged(&self) -> u64
         ensures { result ≡ self.now.judged }
     {
