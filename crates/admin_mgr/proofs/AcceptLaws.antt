@@ -1,6 +1,6 @@
 -- The rows of a good state pass every check.
 use Rattle.std.proofs.Common.{◌≡◌, ℕ, ◌<◌, ◌≤◌, Bool, true, false, not, ◌&&◌, List, [], ◌∷◌, refl, sym, ◌∙◌, ap, subst, inl, inr, arith}
-use Rattle.std.specs.Prelude.{nat_eq, nat_le}
+use Rattle.std.specs.Prelude.{nat_eq, is_some}
 use Rattle.std.specs.List.{list_any, list_all}
 use Rattle.std.proofs.lemmas.Bool.{or_cases, or_left, or_right, and_parts, and_from, eqb-true, eq-eqb, cases_lt, true≢false, false_from_ne_true}
 use Rattle.rbac_sets.specs.Sets.{Bytes, Pair, Pairs, name_cmp, contains, same_name}
@@ -8,9 +8,10 @@ use Rattle.rbac_sets.specs.NameOrder.{name_total, name_exact, pair_total, pair_e
 use Rattle.rbac_sets.proofs.SetLaws.{any-Decides, contains-empty, same_set, tie_Decides}
 use Rattle.rbac_sets.specs.declared.row.Row.{Row}
 use Rattle.rbac_sets.specs.declared.row.Row.TheVariants.{NameRow, PairRow, GrantRow, SetRow, LockedRow}
-use Rattle.rbac_sets.specs.declared.row.TheConstants.Row.{INHERITANCE, CLOSURE_PAIR, STATIC_CARDINALITY, DYNAMIC_CARDINALITY}
+use Rattle.rbac_sets.specs.declared.row.TheConstants.Row.{INHERITANCE, CLOSURE_PAIR}
 use Rattle.rbac_sets.specs.declared.refusal.Refusal.{Refusal}
 use Rattle.rbac_sets.specs.declared.refusal.Refusal.TheVariants.{TooMany, Memory, Damaged}
+use Rattle.rbac_sets.specs.Table.{table_of}
 use Rattle.role_order.specs.Order.{HasPair, geq, IsClosure}
 use Rattle.role_order.proofs.Leading.{first_step, last_step}
 use Rattle.admin_mgr.specs.RbacState.{RbacState}
@@ -20,7 +21,7 @@ use Rattle.admin_mgr.specs.Good.{IsGood}
 use Rattle.admin_mgr.specs.Gathered.{Gathered, gathered, is_known, is_among, same_key, HaveKeysOnce}
 use Rattle.admin_mgr.specs.Checked.{Choose, AreReadable, AreRowsOf, OccurOnce, GoodRowsAreRead, IsComplete, Passes, RefusesSets, RefusesRows}
 use Rattle.admin_mgr.proofs.RowLaws.{rows_determine}
-use Rattle.admin_mgr.proofs.KeyLaws.{of_two, pairs_among}
+use Rattle.admin_mgr.proofs.KeyLaws.{known_sets, pairs_among}
 use Rattle.admin_mgr.proofs.WithinLimits.{no_limit_passed}
 use Rattle.admin_mgr.proofs.StoredLaws.{apart_and_above, unknown_name, unknown_pair, unknown_set, rows_are_among}
 use Rattle.admin_mgr.proofs.CheckLaws.{PassBefore, before_two, before_next}
@@ -52,9 +53,9 @@ known_of_good S good (LockedRow x) there =
 one_number : (S : RbacState) → IsGood S → (k : ℕ) (a : Bytes) (m n : ℕ) → has_row S (SetRow k a m) ≡ true → has_row S (SetRow k a n) ≡ true → m ≡ n
 unfolding has_row
 one_number S good k a m n here there =
-    let known : (nat_le STATIC_CARDINALITY k && nat_le k DYNAMIC_CARDINALITY) ≡ true = yes_or _ (λ unknown. true≢false (sym here ∙ unknown_set S k a m unknown)) in
-    of_two (λ i. has_row S (SetRow i a m) ≡ true → has_row S (SetRow i a n) ≡ true → m ≡ n)
-    (good.well_formed.ssd.one_cardinality a m n) (good.well_formed.dsd.one_cardinality a m n) k known here there
+    let known : is_some (table_of (SetRow k a m)) ≡ true = yes_or _ (λ unknown. true≢false (sym here ∙ unknown_set S k a m unknown)) in
+    known_sets (λ i. has_row S (SetRow i a m) ≡ true → has_row S (SetRow i a n) ≡ true → m ≡ n)
+    (good.well_formed.ssd.one_cardinality a m n) (good.well_formed.dsd.one_cardinality a m n) k a m known here there
 
 -- a row with the key of a set's cardinality is another cardinality of the set, or the same row
 same_set_found : (k : ℕ) (a : Bytes) (m : ℕ) (rows : List Row) → list_any (λ (other : Row). same_key (SetRow k a m) other) rows ≡ true →

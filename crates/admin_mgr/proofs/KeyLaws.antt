@@ -1,12 +1,12 @@
 -- What the gathered sets have is what is among the rows.
-use Rattle.std.proofs.Common.{◌≡◌, ℕ, zero, suc, Bool, true, false, cond, ◌&&◌, ◌||◌, List, [], ◌∷◌, refl, sym, ◌∙◌, ap, arith}
-use Rattle.std.specs.Prelude.{nat_eq, nat_le}
+use Rattle.std.proofs.Common.{◌≡◌, ℕ, Bool, true, false, cond, ◌&&◌, is_some, Option, Some, ◌||◌, List, [], ◌∷◌, refl, sym, ◌∙◌, ap, subst, inl, inr}
+use Rattle.std.specs.Prelude.{IsTrue, nat_eq, if◌then◌else◌}
 use Rattle.std.specs.List.{list_any}
 use Rattle.std.specs.declared.cmp.Ordering.{Ordering}
 use Rattle.std.specs.Ordering.{eq_by_cmp}
 use Rattle.std.specs.Cmp.{IsTotalOrder, both_ways}
 use Rattle.std.specs.FinMap.{IsAntisymmetric}
-use Rattle.std.proofs.lemmas.Bool.{and_parts, leb-true, true≢false, false_from_ne_true}
+use Rattle.std.proofs.lemmas.Bool.{or_cases, or_left, or_right, and_parts, eqb-true, true≢false, false_from_ne_true}
 use Rattle.rbac_sets.specs.Sets.{Bytes, Cardinality, Cardinalities, cardinality_cmp, any, contains, from_list, same_name, name_cmp, pair_cmp, triple_cmp}
 use Rattle.rbac_sets.specs.NameOrder.{name_total, name_exact, pair_total, triple_total, cardinality_total, cardinality_exact}
 use Rattle.rbac_sets.proofs.SetLaws.{any-Decides, contains-from_list, tie_Decides, list_any-found, list_any-here}
@@ -14,6 +14,8 @@ use Rattle.role_order.proofs.Members.{same_name-flips}
 use Rattle.rbac_sets.specs.declared.row.Row.{Row}
 use Rattle.rbac_sets.specs.declared.row.Row.TheVariants.{NameRow, PairRow, GrantRow, SetRow, LockedRow}
 use Rattle.rbac_sets.specs.declared.row.TheConstants.Row.{USER, ROLE, OBJECT, PERMISSION, ASSIGNMENT, INHERITANCE, CLOSURE_PAIR, STATIC_MEMBER, DYNAMIC_MEMBER, SESSION, ACTIVATED_ROLE, STATIC_CARDINALITY, DYNAMIC_CARDINALITY}
+use Rattle.rbac_sets.specs.Table.{table_of}
+use Rattle.rbac_sets.specs.declared.table.Table.{Table}
 use Rattle.admin_mgr.specs.Changes.{same_row}
 use Rattle.admin_mgr.specs.Gathered.{Gathered, gathered, has_key, names_of, pairs_of, grants_of, cardinalities_of, locks_of, is_known, is_among, same_key}
 
@@ -35,40 +37,31 @@ no_dynamic_key g name n none = no_cardinality g.facts.dsd.cardinalities name n n
 
 -- ---- kinds
 
--- what holds at each kind of names holds at any number among them
-pub of_three : (P : ℕ → Type 0) → P USER → P ROLE → P OBJECT → (k : ℕ) → (nat_le USER k && nat_le k OBJECT) ≡ true → P k
-of_three P one two three zero h = cc
-of_three P one two three (suc zero) h = one
-of_three P one two three (suc (suc zero)) h = two
-of_three P one two three (suc (suc (suc zero))) h = three
-of_three P one two three (suc (suc (suc (suc k)))) h =
-    let most : nat_le (suc (suc (suc (suc k)))) OBJECT ≡ true = (and_parts (nat_le 1 (suc (suc (suc (suc k))))) (nat_le (suc (suc (suc (suc k)))) OBJECT) h).1 in
-    let le = leb-true (suc (suc (suc (suc k)))) OBJECT most in absurd (omega (arith, le))
+-- a kind that has a table is the first of some kinds, or one of the others
+first_or : (P : ℕ → Type 0) (k n : ℕ) (table : Table) (others : Option Table) → P n → (is_some others ≡ true → P k) → is_some (if nat_eq k n then Some table else others) ≡ true → P k
+first_or P k n table others at rest = by (nat_eq k n) refl
+  where
+    by : (b : Bool) → nat_eq k n ≡ b → is_some (if b then Some table else others) ≡ true → P k
+    by true is known = subst P (sym (eqb-true k n is)) at
+    by false is known = rest known
 
--- what holds at each kind of cardinalities holds at any number among them
-pub of_two : (P : ℕ → Type 0) → P STATIC_CARDINALITY → P DYNAMIC_CARDINALITY → (k : ℕ) → (nat_le STATIC_CARDINALITY k && nat_le k DYNAMIC_CARDINALITY) ≡ true → P k
-of_two P one two zero h = cc
-of_two P one two (suc zero) h = one
-of_two P one two (suc (suc zero)) h = two
-of_two P one two (suc (suc (suc k))) h =
-    let most : nat_le (suc (suc (suc k))) DYNAMIC_CARDINALITY ≡ true = (and_parts (nat_le STATIC_CARDINALITY (suc (suc (suc k)))) (nat_le (suc (suc (suc k))) DYNAMIC_CARDINALITY) h).1 in
-    let le = leb-true (suc (suc (suc k))) DYNAMIC_CARDINALITY most in absurd (omega (arith, le))
+-- what holds at each kind of names holds at any kind of a name that has a table
+pub known_names : (P : ℕ → Type 0) → P USER → P ROLE → P OBJECT → (k : ℕ) (x : Bytes) → is_some (table_of (NameRow k x)) ≡ true → P k
+known_names P user role object k x =
+    first_or P k USER _ _ user (first_or P k ROLE _ _ role (first_or P k OBJECT _ _ object (λ none. absurd (true≢false (sym none)))))
 
--- what holds at each kind of pairs holds at any number among them
-pub of_eight :
-    (P : ℕ → Type 0) → P PERMISSION → P ASSIGNMENT → P INHERITANCE → P CLOSURE_PAIR → P STATIC_MEMBER → P DYNAMIC_MEMBER → P SESSION → P ACTIVATED_ROLE → (k : ℕ) → (nat_le PERMISSION k && nat_le k ACTIVATED_ROLE) ≡ true → P k
-of_eight P p1 p2 p3 p4 p5 p6 p7 p8 zero h = cc
-of_eight P p1 p2 p3 p4 p5 p6 p7 p8 (suc zero) h = p1
-of_eight P p1 p2 p3 p4 p5 p6 p7 p8 (suc (suc zero)) h = p2
-of_eight P p1 p2 p3 p4 p5 p6 p7 p8 (suc (suc (suc zero))) h = p3
-of_eight P p1 p2 p3 p4 p5 p6 p7 p8 (suc (suc (suc (suc zero)))) h = p4
-of_eight P p1 p2 p3 p4 p5 p6 p7 p8 (suc (suc (suc (suc (suc zero))))) h = p5
-of_eight P p1 p2 p3 p4 p5 p6 p7 p8 (suc (suc (suc (suc (suc (suc zero)))))) h = p6
-of_eight P p1 p2 p3 p4 p5 p6 p7 p8 (suc (suc (suc (suc (suc (suc (suc zero))))))) h = p7
-of_eight P p1 p2 p3 p4 p5 p6 p7 p8 (suc (suc (suc (suc (suc (suc (suc (suc zero)))))))) h = p8
-of_eight P p1 p2 p3 p4 p5 p6 p7 p8 (suc (suc (suc (suc (suc (suc (suc (suc (suc k))))))))) h =
-    let most : nat_le (suc (suc (suc (suc (suc (suc (suc (suc (suc k))))))))) ACTIVATED_ROLE ≡ true = (and_parts (nat_le PERMISSION (suc (suc (suc (suc (suc (suc (suc (suc (suc k)))))))))) (nat_le (suc (suc (suc (suc (suc (suc (suc (suc (suc k))))))))) ACTIVATED_ROLE) h).1 in
-    let le = leb-true (suc (suc (suc (suc (suc (suc (suc (suc (suc k))))))))) ACTIVATED_ROLE most in absurd (omega (arith, le))
+-- what holds at each kind of pairs holds at any kind of a pair that has a table
+pub known_pairs : (P : ℕ → Type 0) → P PERMISSION → P ASSIGNMENT → P INHERITANCE → P CLOSURE_PAIR → P STATIC_MEMBER → P DYNAMIC_MEMBER → P SESSION → P ACTIVATED_ROLE
+    → (k : ℕ) (x y : Bytes) → is_some (table_of (PairRow k x y)) ≡ true → P k
+known_pairs P permission assignment inheritance closure static dynamic session activated k x y =
+    first_or P k PERMISSION _ _ permission (first_or P k ASSIGNMENT _ _ assignment (first_or P k INHERITANCE _ _ inheritance (first_or P k CLOSURE_PAIR _ _ closure
+    (first_or P k STATIC_MEMBER _ _ static (first_or P k DYNAMIC_MEMBER _ _ dynamic (first_or P k SESSION _ _ session (first_or P k ACTIVATED_ROLE _ _ activated
+    (λ none. absurd (true≢false (sym none))))))))))
+
+-- what holds at both kinds of cardinalities holds at any kind of a cardinality that has a table
+pub known_sets : (P : ℕ → Type 0) → P STATIC_CARDINALITY → P DYNAMIC_CARDINALITY → (k : ℕ) (x : Bytes) (n : ℕ) → is_some (table_of (SetRow k x n)) ≡ true → P k
+known_sets P static dynamic k x n =
+    first_or P k STATIC_CARDINALITY _ _ static (first_or P k DYNAMIC_CARDINALITY _ _ dynamic (λ none. absurd (true≢false (sym none))))
 
 -- ---- membership
 
@@ -185,15 +178,15 @@ module _ {K : Type 0} {R : K → K → Ordering} (total : IsTotalOrder R) (exact
 pub key_among : (version : ℕ) (rows : List Row) (row : Row) → is_known version row ≡ true → has_key (gathered version rows) row ≡ list_any (λ (other : Row). same_key other row) rows
 unfolding gathered has_key
 key_among version rows (NameRow k x) known =
-    of_three (λ k. has_key (gathered version rows) (NameRow k x) ≡ is_among rows (NameRow k x)) (names_among USER rows x) (names_among ROLE rows x) (names_among OBJECT rows x) k known
+    known_names (λ k. has_key (gathered version rows) (NameRow k x) ≡ is_among rows (NameRow k x)) (names_among USER rows x) (names_among ROLE rows x) (names_among OBJECT rows x) k x known
     ∙ among_by_key (NameRow k x) (λ l a n h. cc) rows
 key_among version rows (PairRow k x y) known =
-    of_eight (λ k. has_key (gathered version rows) (PairRow k x y) ≡ is_among rows (PairRow k x y)) (pairs_among PERMISSION rows x y) (pairs_among ASSIGNMENT rows x y) (pairs_among INHERITANCE rows x y) (pairs_among CLOSURE_PAIR rows x y)
-    (pairs_among STATIC_MEMBER rows x y) (pairs_among DYNAMIC_MEMBER rows x y) (pairs_among SESSION rows x y) (pairs_among ACTIVATED_ROLE rows x y) k known
+    known_pairs (λ k. has_key (gathered version rows) (PairRow k x y) ≡ is_among rows (PairRow k x y)) (pairs_among PERMISSION rows x y) (pairs_among ASSIGNMENT rows x y) (pairs_among INHERITANCE rows x y) (pairs_among CLOSURE_PAIR rows x y)
+    (pairs_among STATIC_MEMBER rows x y) (pairs_among DYNAMIC_MEMBER rows x y) (pairs_among SESSION rows x y) (pairs_among ACTIVATED_ROLE rows x y) k x y known
     ∙ among_by_key (PairRow k x y) (λ l a n h. cc) rows
 key_among version rows (GrantRow x y z) known = grants_among rows x y z ∙ among_by_key (GrantRow x y z) (λ l a n h. cc) rows
 key_among version rows (SetRow k x n) known =
-    of_two (λ k. has_key (gathered version rows) (SetRow k x n) ≡ list_any (λ (other : Row). same_key other (SetRow k x n)) rows)
+    known_sets (λ k. has_key (gathered version rows) (SetRow k x n) ≡ list_any (λ (other : Row). same_key other (SetRow k x n)) rows)
     (any-from_list cardinality_total cardinality_exact (λ (entry : Cardinality). same_name entry.0 x) (cardinalities_of STATIC_CARDINALITY rows) ∙ any_sets STATIC_CARDINALITY x n rows)
-    (any-from_list cardinality_total cardinality_exact (λ (entry : Cardinality). same_name entry.0 x) (cardinalities_of DYNAMIC_CARDINALITY rows) ∙ any_sets DYNAMIC_CARDINALITY x n rows) k known
+    (any-from_list cardinality_total cardinality_exact (λ (entry : Cardinality). same_name entry.0 x) (cardinalities_of DYNAMIC_CARDINALITY rows) ∙ any_sets DYNAMIC_CARDINALITY x n rows) k x n known
 key_among version rows (LockedRow x) known = locks_among rows x ∙ among_by_key (LockedRow x) (λ l a n h. cc) rows

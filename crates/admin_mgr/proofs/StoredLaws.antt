@@ -1,6 +1,6 @@
 -- Readable rows: what their sets have, and what they have not.
 use Rattle.std.proofs.Common.{◌≡◌, ◌≢◌, ℕ, Bool, true, false, cond, not, ◌&&◌, ◌||◌, List, [], ◌∷◌, refl, sym, ◌∙◌, ap, subst, inl, inr}
-use Rattle.std.specs.Prelude.{IsTrue, ◌↔◌, nat_eq, nat_le, if◌then◌else◌}
+use Rattle.std.specs.Prelude.{IsTrue, ◌↔◌, nat_eq, is_some, if◌then◌else◌}
 use Rattle.std.specs.List.{list_any, list_all}
 use Rattle.std.specs.Ordering.{eq_by_cmp}
 use Rattle.std.proofs.lemmas.Bool.{or_cases, or_left, or_right, and_parts, and_from, eqb-true, eq-eqb, not-true, true≢false, false_from_ne_true, or_parts, or_from}
@@ -11,6 +11,7 @@ use Rattle.rbac_sets.proofs.SetLaws.{contains-from_list, tie_Decides}
 use Rattle.rbac_sets.specs.declared.row.Row.{Row}
 use Rattle.rbac_sets.specs.declared.row.Row.TheVariants.{NameRow, PairRow, GrantRow, SetRow, LockedRow}
 use Rattle.rbac_sets.specs.declared.row.TheConstants.Row.{USER, ROLE, OBJECT, PERMISSION, ASSIGNMENT, INHERITANCE, CLOSURE_PAIR, STATIC_MEMBER, DYNAMIC_MEMBER, SESSION, ACTIVATED_ROLE, STATIC_CARDINALITY, DYNAMIC_CARDINALITY}
+use Rattle.rbac_sets.specs.Table.{table_of}
 use Rattle.role_order.specs.Order.{Geq, geq, IsClosure}
 use Rattle.role_order.proofs.Deciding.{geq-Decides}
 use Rattle.admin_mgr.specs.RbacState.{RbacState}
@@ -18,7 +19,7 @@ use Rattle.admin_mgr.specs.Rows.{has_row}
 use Rattle.admin_mgr.specs.Changes.{same_row}
 use Rattle.admin_mgr.specs.Gathered.{gathered, cardinalities_of, locks_of, is_known, is_among, same_key, HaveKeysOnce}
 use Rattle.admin_mgr.specs.Checked.{AreReadable, OccurOnce}
-use Rattle.admin_mgr.proofs.KeyLaws.{of_three, of_eight, of_two, names_among, pairs_among, grants_among, cardinalities_among, locks_among}
+use Rattle.admin_mgr.proofs.KeyLaws.{known_names, known_pairs, known_sets, names_among, pairs_among, grants_among, cardinalities_among, locks_among}
 
 -- ---- a row that the version doesn't know
 
@@ -31,33 +32,33 @@ unless known k n A rest unknown known_n is = by (nat_eq k n) refl
     by false e = is
 
 -- a state has no row of an unknown kind: no name,
-pub unknown_name : (S : RbacState) (k : ℕ) (x : Bytes) → (nat_le USER k && nat_le k OBJECT) ≡ false → has_row S (NameRow k x) ≡ false
+pub unknown_name : (S : RbacState) (k : ℕ) (x : Bytes) → is_some (table_of (NameRow k x)) ≡ false → has_row S (NameRow k x) ≡ false
 unfolding has_row
 unknown_name S k x unknown =
-    let kinds : ℕ → Bool = λ n. nat_le USER n && nat_le n OBJECT in
+    let kinds : ℕ → Bool = λ n. is_some (table_of (NameRow n x)) in
     unless kinds k USER _ _ unknown refl (unless kinds k ROLE _ _ unknown refl (unless kinds k OBJECT _ _ unknown refl refl))
 
 -- no pair,
-pub unknown_pair : (S : RbacState) (k : ℕ) (x y : Bytes) → (nat_le PERMISSION k && nat_le k ACTIVATED_ROLE) ≡ false → has_row S (PairRow k x y) ≡ false
+pub unknown_pair : (S : RbacState) (k : ℕ) (x y : Bytes) → is_some (table_of (PairRow k x y)) ≡ false → has_row S (PairRow k x y) ≡ false
 unfolding has_row
 unknown_pair S k x y unknown =
-    let kinds : ℕ → Bool = λ n. nat_le PERMISSION n && nat_le n ACTIVATED_ROLE in
+    let kinds : ℕ → Bool = λ n. is_some (table_of (PairRow n x y)) in
     unless kinds k PERMISSION _ _ unknown refl (unless kinds k ASSIGNMENT _ _ unknown refl (unless kinds k INHERITANCE _ _ unknown refl (unless kinds k CLOSURE_PAIR _ _ unknown refl
     (unless kinds k STATIC_MEMBER _ _ unknown refl (unless kinds k DYNAMIC_MEMBER _ _ unknown refl (unless kinds k SESSION _ _ unknown refl (unless kinds k ACTIVATED_ROLE _ _ unknown refl refl)))))))
 
 -- and no cardinality
-pub unknown_set : (S : RbacState) (k : ℕ) (x : Bytes) (n : ℕ) → (nat_le STATIC_CARDINALITY k && nat_le k DYNAMIC_CARDINALITY) ≡ false → has_row S (SetRow k x n) ≡ false
+pub unknown_set : (S : RbacState) (k : ℕ) (x : Bytes) (n : ℕ) → is_some (table_of (SetRow k x n)) ≡ false → has_row S (SetRow k x n) ≡ false
 unfolding has_row
 unknown_set S k x n unknown =
-    let kinds : ℕ → Bool = λ i. nat_le STATIC_CARDINALITY i && nat_le i DYNAMIC_CARDINALITY in
+    let kinds : ℕ → Bool = λ i. is_some (table_of (SetRow i x n)) in
     unless kinds k STATIC_CARDINALITY _ _ unknown refl (unless kinds k DYNAMIC_CARDINALITY _ _ unknown refl refl)
 
 -- equal rows are known alike
 known_same : (version : ℕ) (row other : Row) → same_row row other ≡ true → is_known version row ≡ is_known version other
-known_same version (NameRow k a) (NameRow l x) h = ap (λ n. nat_le USER n && nat_le n OBJECT) (eqb-true k l (and_parts (nat_eq k l) _ h).0)
-known_same version (PairRow k a b) (PairRow l x y) h = ap (λ n. nat_le PERMISSION n && nat_le n ACTIVATED_ROLE) (eqb-true k l (and_parts (nat_eq k l) _ h).0)
+known_same version (NameRow k a) (NameRow l x) h = ap (λ n. is_some (table_of (NameRow n x))) (eqb-true k l (and_parts (nat_eq k l) _ h).0)
+known_same version (PairRow k a b) (PairRow l x y) h = ap (λ n. is_some (table_of (PairRow n x y))) (eqb-true k l (and_parts (nat_eq k l) _ h).0)
 known_same version (GrantRow a b c) (GrantRow x y z) h = refl
-known_same version (SetRow k a m) (SetRow l x n) h = ap (λ i. nat_le STATIC_CARDINALITY i && nat_le i DYNAMIC_CARDINALITY) (eqb-true k l (and_parts (nat_eq k l) _ h).0)
+known_same version (SetRow k a m) (SetRow l x n) h = ap (λ i. is_some (table_of (SetRow i x n))) (eqb-true k l (and_parts (nat_eq k l) _ h).0)
 known_same version (LockedRow a) (LockedRow x) h = refl
 known_same version _ _ h = absurd (true≢false (sym h))
 
@@ -93,24 +94,24 @@ module _ (version : ℕ) (rows : List Row) (known : IsTrue (list_all (is_known v
   -- a row is the state's exactly if it is among them
   pub rows_are_among : (row : Row) → has_row (gathered version rows).facts row ≡ is_among rows row
   unfolding gathered has_row
-  rows_are_among (NameRow k x) = by (nat_le USER k && nat_le k OBJECT) refl
+  rows_are_among (NameRow k x) = by (is_some (table_of (NameRow k x))) refl
     where
-      by : (b : Bool) → (nat_le USER k && nat_le k OBJECT) ≡ b → has_row (gathered version rows).facts (NameRow k x) ≡ is_among rows (NameRow k x)
-      by true known_kind = of_three (λ n. has_row (gathered version rows).facts (NameRow n x) ≡ is_among rows (NameRow n x)) (names_among USER rows x) (names_among ROLE rows x) (names_among OBJECT rows x) k known_kind
+      by : (b : Bool) → is_some (table_of (NameRow k x)) ≡ b → has_row (gathered version rows).facts (NameRow k x) ≡ is_among rows (NameRow k x)
+      by true known_kind = known_names (λ n. has_row (gathered version rows).facts (NameRow n x) ≡ is_among rows (NameRow n x)) (names_among USER rows x) (names_among ROLE rows x) (names_among OBJECT rows x) k x known_kind
       by false unknown = unknown_name (gathered version rows).facts k x unknown ∙ sym (unknown_none (NameRow k x) unknown)
-  rows_are_among (PairRow k x y) = by (nat_le PERMISSION k && nat_le k ACTIVATED_ROLE) refl
+  rows_are_among (PairRow k x y) = by (is_some (table_of (PairRow k x y))) refl
     where
-      by : (b : Bool) → (nat_le PERMISSION k && nat_le k ACTIVATED_ROLE) ≡ b → has_row (gathered version rows).facts (PairRow k x y) ≡ is_among rows (PairRow k x y)
-      by true known_kind = of_eight (λ n. has_row (gathered version rows).facts (PairRow n x y) ≡ is_among rows (PairRow n x y))
+      by : (b : Bool) → is_some (table_of (PairRow k x y)) ≡ b → has_row (gathered version rows).facts (PairRow k x y) ≡ is_among rows (PairRow k x y)
+      by true known_kind = known_pairs (λ n. has_row (gathered version rows).facts (PairRow n x y) ≡ is_among rows (PairRow n x y))
           (pairs_among PERMISSION rows x y) (pairs_among ASSIGNMENT rows x y) (pairs_among INHERITANCE rows x y)
           (above_pairs (gathered version rows).facts.edges (gathered version rows).pairs closed x y ∙ pairs_among CLOSURE_PAIR rows x y)
-          (pairs_among STATIC_MEMBER rows x y) (pairs_among DYNAMIC_MEMBER rows x y) (pairs_among SESSION rows x y) (pairs_among ACTIVATED_ROLE rows x y) k known_kind
+          (pairs_among STATIC_MEMBER rows x y) (pairs_among DYNAMIC_MEMBER rows x y) (pairs_among SESSION rows x y) (pairs_among ACTIVATED_ROLE rows x y) k x y known_kind
       by false unknown = unknown_pair (gathered version rows).facts k x y unknown ∙ sym (unknown_none (PairRow k x y) unknown)
   rows_are_among (GrantRow x y z) = grants_among rows x y z
-  rows_are_among (SetRow k x n) = by (nat_le STATIC_CARDINALITY k && nat_le k DYNAMIC_CARDINALITY) refl
+  rows_are_among (SetRow k x n) = by (is_some (table_of (SetRow k x n))) refl
     where
-      by : (b : Bool) → (nat_le STATIC_CARDINALITY k && nat_le k DYNAMIC_CARDINALITY) ≡ b → has_row (gathered version rows).facts (SetRow k x n) ≡ is_among rows (SetRow k x n)
-      by true known_kind = of_two (λ i. has_row (gathered version rows).facts (SetRow i x n) ≡ is_among rows (SetRow i x n)) (cardinalities_among STATIC_CARDINALITY rows x n) (cardinalities_among DYNAMIC_CARDINALITY rows x n) k known_kind
+      by : (b : Bool) → is_some (table_of (SetRow k x n)) ≡ b → has_row (gathered version rows).facts (SetRow k x n) ≡ is_among rows (SetRow k x n)
+      by true known_kind = known_sets (λ i. has_row (gathered version rows).facts (SetRow i x n) ≡ is_among rows (SetRow i x n)) (cardinalities_among STATIC_CARDINALITY rows x n) (cardinalities_among DYNAMIC_CARDINALITY rows x n) k x n known_kind
       by false unknown = unknown_set (gathered version rows).facts k x n unknown ∙ sym (unknown_none (SetRow k x n) unknown)
   rows_are_among (LockedRow x) = locks_among rows x
 

@@ -1,11 +1,12 @@
 -- The sets that a list of rows makes.
-use Rattle.std.specs.Prelude.{◌≡◌, refl, ℕ, Bool, true, false, not, ◌&&◌, nat_eq, nat_le, if◌then◌else◌, List, [], ◌∷◌}
+use Rattle.std.specs.Prelude.{◌≡◌, refl, ℕ, Bool, false, not, ◌&&◌, nat_eq, is_some, if◌then◌else◌, List, [], ◌∷◌}
 use Rattle.std.specs.List.{list_any}
 use Rattle.std.specs.Coded.{Coded, coded×, code_by}
 use Rattle.rbac_sets.specs.Sets.{Bytes, Pair, Triple, Cardinality, Pairs, coded_set, coded_pair, contains, from_list, insert, same_name}
 use Rattle.rbac_sets.specs.declared.row.Row.{Row}
 use Rattle.rbac_sets.specs.declared.row.Row.TheVariants.{NameRow, PairRow, GrantRow, SetRow, LockedRow}
 use Rattle.rbac_sets.specs.declared.row.TheConstants.Row.{USER, ROLE, OBJECT, PERMISSION, ASSIGNMENT, INHERITANCE, CLOSURE_PAIR, STATIC_MEMBER, DYNAMIC_MEMBER, SESSION, ACTIVATED_ROLE, STATIC_CARDINALITY, DYNAMIC_CARDINALITY}
+use Rattle.rbac_sets.specs.Table.{table_of}
 use Rattle.admin_mgr.specs.RbacState.{RbacState, coded_state, has_set}
 use Rattle.admin_mgr.specs.Rows.{has_name, has_pair}
 use Rattle.admin_mgr.specs.Changes.{same_row}
@@ -15,14 +16,10 @@ use Rattle.admin_mgr.specs.Stepping.{with_row, with_edges}
 abbrev pub is_among : List Row → Row → Bool
 is_among rows row = list_any (λ (other : Row). same_row other row) rows
 
--- an office of this version may have the row: it is of a kind of names, of pairs or of cardinalities, which each are in one
--- run of numbers, and version 1 has no locks
+-- an office of this version may have the row: there is a table of its kind, and version 1 has no locks
 abbrev pub is_known : ℕ → Row → Bool
-is_known version (NameRow kind _) = nat_le USER kind && nat_le kind OBJECT
-is_known version (PairRow kind _ _) = nat_le PERMISSION kind && nat_le kind ACTIVATED_ROLE
-is_known version (GrantRow _ _ _) = true
-is_known version (SetRow kind _ _) = nat_le STATIC_CARDINALITY kind && nat_le kind DYNAMIC_CARDINALITY
 is_known version (LockedRow _) = not (nat_eq version 1)
+is_known version row = is_some (table_of row)
 
 -- Whether two rows have one key. The key of a set's cardinality is its kind and name, so that a set has one cardinality; the
 -- key of any other row is the whole row.

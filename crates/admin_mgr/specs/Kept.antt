@@ -5,8 +5,8 @@ use Rattle.rbac_sets.specs.Sets.{pair_cmp, cardinality_cmp, Pair, Cardinality}
 use Rattle.rbac_sets.specs.SortedSet.{Stored, set_of}
 use Rattle.admin_mgr.specs.RbacState.{RbacState, Separation, coded_state}
 
--- the state, and how many more entries each set can take without memory: by the number of its place, and of the hierarchy
--- by its edges and its pairs
+-- the state, and how many more entries each set can take without memory: by the number of its table, and of the hierarchy by
+-- its edges and its pairs
 pub record Kept : Type 0 where
   pub facts : RbacState
   pub room : List (ℕ × ℕ)

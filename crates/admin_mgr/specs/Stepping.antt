@@ -1,12 +1,14 @@
 -- A state with one row more or less, and the room that a list of changes takes. The rows of the hierarchy change with its
 -- edges, all at once, and no change of one row touches them.
-use Rattle.std.specs.Prelude.{◌≡◌, ℕ, ◌+◌, ◌≤◌, Bool, true, false, ◌&&◌, ◌||◌, nat_eq, if◌then◌else◌, List, [], ◌∷◌}
+use Rattle.std.specs.Prelude.{◌≡◌, ℕ, ◌+◌, ◌≤◌, Bool, true, false, ◌&&◌, ◌||◌, nat_eq, if◌then◌else◌, List, [], ◌∷◌, Option, None}
 use Rattle.rbac_sets.specs.Sets.{Pairs, insert, remove}
 use Rattle.rbac_sets.specs.declared.row.Row.{Row}
 use Rattle.rbac_sets.specs.declared.row.Row.TheVariants.{NameRow, PairRow, GrantRow, SetRow, LockedRow}
 use Rattle.rbac_sets.specs.declared.row.TheConstants.Row.{USER, ROLE, OBJECT, PERMISSION, ASSIGNMENT, STATIC_MEMBER, DYNAMIC_MEMBER, SESSION, ACTIVATED_ROLE, STATIC_CARDINALITY, DYNAMIC_CARDINALITY}
 use Rattle.rbac_sets.specs.declared.row.Change.{Change}
 use Rattle.rbac_sets.specs.declared.row.Change.TheVariants.{Put, Take}
+use Rattle.rbac_sets.specs.declared.table.Table.{Table}
+use Rattle.rbac_sets.specs.Table.{table_of, is_number}
 use Rattle.admin_mgr.specs.RbacState.{RbacState}
 use Rattle.admin_mgr.specs.Rows.{has_row}
 
@@ -87,29 +89,26 @@ AreFree S (change ∷ changes) = IsFree S change × AreFree (after_change S chan
 
 -- ---- room
 
--- the set in which a row is kept, as a number
-abbrev pub place_of : Row → ℕ
-place_of (NameRow kind a) = kind
-place_of (PairRow kind a b) = 10 + kind
-place_of (GrantRow a b c) = 20
-place_of (SetRow kind a n) = 20 + kind
-place_of (LockedRow a) = 30
+-- the table in which a change puts a row
+abbrev pub table_put : Change → Option Table
+table_put (Put row) = table_of row
+table_put (Take row) = None
 
+-- the change puts a row in the table of this number
 abbrev pub puts_at : ℕ → Change → Bool
-puts_at place (Put row) = nat_eq (place_of row) place
-puts_at place (Take row) = false
+puts_at number change = is_number number (table_put change)
 
--- how many of the changes put a row in the set
+-- how many of the changes put a row in the table of this number
 abbrev pub puts_of : ℕ → List Change → ℕ
-puts_of place [] = 0
-puts_of place (change ∷ changes) = (if puts_at place change then 1 else 0) + puts_of place changes
+puts_of number [] = 0
+puts_of number (change ∷ changes) = (if puts_at number change then 1 else 0) + puts_of number changes
 
--- each set has room for the rows that are put there
+-- each table, given by its number, has room for the rows that are put there
 abbrev pub HasRoom : List (ℕ × ℕ) → List Change → Type 0
 HasRoom [] changes = Unit {0}
-HasRoom (place ∷ places) changes = (puts_of place.0 changes ≤ place.1) × HasRoom places changes
+HasRoom (table ∷ tables) changes = (puts_of table.0 changes ≤ table.1) × HasRoom tables changes
 
--- the same sets with no less room, but for one entry in the set of the change
+-- the same tables with no less room, but for one entry in the table of the change
 abbrev pub Spends : Change → List (ℕ × ℕ) → List (ℕ × ℕ) → Type 0
 Spends change [] [] = Unit {0}
 Spends change (old ∷ olds) (new ∷ news) = (old.0 ≡ new.0) × (old.1 ≤ new.1 + (if puts_at old.0 change then 1 else 0)) × Spends change olds news

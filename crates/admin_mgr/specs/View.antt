@@ -2,11 +2,12 @@
 use Rattle.std.specs.Prelude.{[], ◌∷◌}
 use Rattle.rbac_sets.specs.Sets.{name_cmp, pair_cmp, triple_cmp}
 use Rattle.rbac_sets.specs.SortedSet.{set_of}
+use Rattle.rbac_sets.specs.Table.{number_of}
+use Rattle.rbac_sets.specs.declared.table.Table.TheVariants.{Users, Roles, Objects, Permissions, Assignments, StaticMembers, DynamicMembers, Sessions, ActivatedRoles, Grants, StaticCardinalities, DynamicCardinalities, Locks}
 use Rattle.admin_mgr.specs.Kept.{Kept, separation_of}
 use Rattle.admin_mgr.specs.declared.relations.Relations.TheInside.{Inside}
 
--- the places are numbered as the rows are: names by their kind, pairs by 10 and their kind, grants by 20, cardinalities by
--- 20 and their kind, locks by 30
+-- the room is told by table, but for the tables of the role hierarchy
 abbrev pub view_of : Inside → Kept
 view_of a = record {
   facts = record {
@@ -24,10 +25,12 @@ view_of a = record {
     ssd = separation_of a.ssd_members a.ssd_cardinalities;
     dsd = separation_of a.dsd_members a.dsd_cardinalities;
   };
-  room = (1, a.users.room) ∷ (2, a.roles.room) ∷ (3, a.objects.room)
-      ∷ (11, a.permissions.room) ∷ (12, a.assignments.room)
-      ∷ (15, a.ssd_members.room) ∷ (16, a.dsd_members.room) ∷ (17, a.sessions.room) ∷ (18, a.active.room)
-      ∷ (20, a.grants.room) ∷ (21, a.ssd_cardinalities.room) ∷ (22, a.dsd_cardinalities.room) ∷ (30, a.locked.room) ∷ [];
+  room = (number_of Users, a.users.room) ∷ (number_of Roles, a.roles.room) ∷ (number_of Objects, a.objects.room)
+      ∷ (number_of Permissions, a.permissions.room) ∷ (number_of Assignments, a.assignments.room)
+      ∷ (number_of StaticMembers, a.ssd_members.room) ∷ (number_of DynamicMembers, a.dsd_members.room)
+      ∷ (number_of Sessions, a.sessions.room) ∷ (number_of ActivatedRoles, a.active.room) ∷ (number_of Grants, a.grants.room)
+      ∷ (number_of StaticCardinalities, a.ssd_cardinalities.room) ∷ (number_of DynamicCardinalities, a.dsd_cardinalities.room)
+      ∷ (number_of Locks, a.locked.room) ∷ [];
   edge_room = a.order.edge_room;
   pair_room = a.order.pair_room;
 }

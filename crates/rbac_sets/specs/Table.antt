@@ -1,5 +1,5 @@
--- The table of a row.
-use Rattle.std.specs.Prelude.{Option, Some, None, nat_eq, if◌then◌else◌}
+-- The table of a row, and the order of the tables.
+use Rattle.std.specs.Prelude.{ℕ, Bool, false, Option, Some, None, nat_eq, if◌then◌else◌}
 use Rattle.rbac_sets.specs.declared.row.Row.{Row}
 use Rattle.rbac_sets.specs.declared.row.Row.TheVariants.{NameRow, PairRow, GrantRow, SetRow, LockedRow}
 use Rattle.rbac_sets.specs.declared.row.TheConstants.Row.{USER, ROLE, OBJECT, PERMISSION, ASSIGNMENT, INHERITANCE, CLOSURE_PAIR, STATIC_MEMBER, DYNAMIC_MEMBER, SESSION, ACTIVATED_ROLE, STATIC_CARDINALITY, DYNAMIC_CARDINALITY}
@@ -29,3 +29,26 @@ table_of (SetRow kind set cardinality) =
     else if nat_eq kind DYNAMIC_CARDINALITY then Some DynamicCardinalities
     else None
 table_of (LockedRow user) = Some Locks
+
+-- the number of a table in their order
+abbrev pub number_of : Table → ℕ
+number_of Users = 0
+number_of Roles = 1
+number_of Objects = 2
+number_of Permissions = 3
+number_of Assignments = 4
+number_of Inheritances = 5
+number_of ClosurePairs = 6
+number_of StaticMembers = 7
+number_of DynamicMembers = 8
+number_of Sessions = 9
+number_of ActivatedRoles = 10
+number_of Grants = 11
+number_of StaticCardinalities = 12
+number_of DynamicCardinalities = 13
+number_of Locks = 14
+
+-- it is the table of this number
+abbrev pub is_number : ℕ → Option Table → Bool
+is_number number None = false
+is_number number (Some table) = nat_eq (number_of table) number

@@ -1,4 +1,6 @@
 //! The tables of an office, one for each of its relations.
+ghost use Rattle.std.specs.Prelude.{◌≡◌, ◌<◌};
+ghost use Rattle.rbac_sets.specs.Table.{number_of};
 
 /// A table of an office: the rows of one of its relations.
 #[derive(Clone, Copy, Debug, PartialEq, Eq)]
@@ -33,4 +35,17 @@ pub enum Table {
     DynamicCardinalities,
     /// The locked users. Known to version 2 alone.
     Locks,
+}
+
+impl Table {
+    /// How many tables there are.
+    pub const COUNT: usize = 15;
+
+    /// The number of the table in their order, from 0.
+    pub fn number(self) -> usize
+        ensures number { result ≡ number_of self }
+        ensures below { result < Table.COUNT }
+    {
+        self as usize
+    }
 }

@@ -1,12 +1,13 @@
 //! Changes of the sets and relations in place, in room that was made before.
-ghost use Rattle.std.specs.Prelude.{◌≡◌, ◌∷◌, [], Some, IfErr, OnOk};
+ghost use Rattle.std.specs.Prelude.{◌≡◌, ◌∷◌, [], ◌<◌, ℕ, Some, IfErr, OnOk, get_or};
+ghost use Rattle.rbac_sets.specs.declared.table.TheConstants.Table.{COUNT};
 ghost use Rattle.rbac_sets.specs.declared.row.Change.TheVariants.{Put, Take};
 ghost use Rattle.role_order.specs.Planned.{Fits, changed};
-ghost use Rattle.admin_mgr.specs.Stepping.{with_row, without_row, with_edges, after_change, after_changes, IsFree, AreFree, HasRoom, Spends, place_of, puts_at, puts_of};
+ghost use Rattle.admin_mgr.specs.Stepping.{with_row, without_row, with_edges, after_change, after_changes, IsFree, AreFree, HasRoom, Spends, table_put, puts_of};
 ghost use Rattle.admin_mgr.specs.Planned.{order_of, HasRoomIn};
 
 use crate::relations::Relations;
-use rbac_sets::{Change, Refusal, Row};
+use rbac_sets::{Change, Refusal, Row, Table};
 use role_order::OrderPlan;
 
 impl Relations {
@@ -16,19 +17,24 @@ impl Relations {
         ensures room { OnOk result (HasRoom self.new.room changes.now) }
         ensures cause { IfErr result (λ refusal. refusal ≡ Refusal.Memory) }
     {
-        self.users.reserve(count_puts(changes, 1))?;
-        self.roles.reserve(count_puts(changes, 2))?;
-        self.objects.reserve(count_puts(changes, 3))?;
-        self.permissions.reserve(count_puts(changes, 11))?;
-        self.assignments.reserve(count_puts(changes, 12))?;
-        self.ssd_members.reserve(count_puts(changes, 15))?;
-        self.dsd_members.reserve(count_puts(changes, 16))?;
-        self.sessions.reserve(count_puts(changes, 17))?;
-        self.active.reserve(count_puts(changes, 18))?;
-        self.grants.reserve(count_puts(changes, 20))?;
-        self.ssd_cardinalities.reserve(count_puts(changes, 21))?;
-        self.dsd_cardinalities.reserve(count_puts(changes, 22))?;
-        self.locked.reserve(count_puts(changes, 30))?;
+        let puts = count_puts(changes);
+        self.users.reserve(puts[Table::Users.number()])?;
+        self.roles.reserve(puts[Table::Roles.number()])?;
+        self.objects.reserve(puts[Table::Objects.number()])?;
+        self.permissions.reserve(puts[Table::Permissions.number()])?;
+        self.assignments.reserve(puts[Table::Assignments.number()])?;
+        self.ssd_members
+            .reserve(puts[Table::StaticMembers.number()])?;
+        self.dsd_members
+            .reserve(puts[Table::DynamicMembers.number()])?;
+        self.sessions.reserve(puts[Table::Sessions.number()])?;
+        self.active.reserve(puts[Table::ActivatedRoles.number()])?;
+        self.grants.reserve(puts[Table::Grants.number()])?;
+        self.ssd_cardinalities
+            .reserve(puts[Table::StaticCardinalities.number()])?;
+        self.dsd_cardinalities
+            .reserve(puts[Table::DynamicCardinalities.number()])?;
+        self.locked.reserve(puts[Table::Locks.number()])?;
         Ok(())
     }
 
@@ -160,38 +166,26 @@ impl Relations {
     }
 }
 
-// How many of the changes put a row in the set of this number.
-fn count_puts(changes: &[Change], place: usize) -> usize
-    ensures { result ≡ puts_of place changes.now }
+// How many of the changes put a row in each table, by the table's number.
+fn count_puts(changes: &[Change]) -> [usize; Table::COUNT]
+    ensures { (number : ℕ) → number < COUNT → get_or result number 0 ≡ puts_of number changes.now }
 {
-    let mut count = 0;
+    let mut counts = [0; Table::COUNT];
     for change in changes {
-        if is_put_at(change, place) {
-            count += 1;
+        match table_put(change) {
+            Some(table) => counts[table.number()] += 1,
+            None => {}
         }
     }
-    count
+    counts
 }
 
-// Whether the change puts a row in the set of this number.
-fn is_put_at(change: &Change, place: usize) -> bool
-    ensures { result ≡ puts_at place change.now }
+// The table in which the change puts a row.
+fn table_put(change: &Change) -> Option<Table>
+    ensures { result ≡ table_put change.now }
 {
     match change {
-        Change::Put(row) => place_of(row) == place,
-        Change::Take(_) => false,
-    }
-}
-
-// The number of the set in which the row is kept.
-fn place_of(row: &Row) -> usize
-    ensures { result ≡ place_of row.now }
-{
-    match row {
-        Row::NameRow(kind, _) => *kind as usize,
-        Row::PairRow(kind, _, _) => 10 + *kind as usize,
-        Row::GrantRow(_, _, _) => 20,
-        Row::SetRow(kind, _, _) => 20 + *kind as usize,
-        Row::LockedRow(_) => 30,
+        Change::Put(row) => row.table(),
+        Change::Take(_) => None,
     }
 }

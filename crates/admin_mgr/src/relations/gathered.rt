@@ -220,12 +220,8 @@ fn is_known(version: u32, row: &Row) -> bool
     ensures { result ≡ is_known version row.now }
 {
     match row {
-        Row::NameRow(kind, _) => *kind >= Row::USER && *kind <= Row::OBJECT,
-        Row::PairRow(kind, _, _) => *kind >= Row::PERMISSION && *kind <= Row::ACTIVATED_ROLE,
-        Row::GrantRow(_, _, _) => true,
-        Row::SetRow(kind, _, _) => *kind >= Row::STATIC_CARDINALITY
-            && *kind <= Row::DYNAMIC_CARDINALITY,
         Row::LockedRow(_) => version != 1,
+        _ => row.table().is_some(),
     }
 }
 
