@@ -28,6 +28,8 @@ pub mod KeyLaws
 pub mod LimitLaws
 pub mod ListLaws
 pub mod Lookups
+pub mod MigratedLaws
+pub mod NamedLaws
 pub mod NewRoleLaws
 pub mod NewSessionLaws
 pub mod NewSessionPlans

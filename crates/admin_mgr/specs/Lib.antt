@@ -13,6 +13,7 @@ pub mod Kept
 pub mod Laws
 pub mod Life
 pub mod Listing
+pub mod Named
 pub mod PlainPlan
 pub mod Planned
 pub mod RbacState
@@ -21,6 +22,7 @@ pub mod Rows
 pub mod Run
 pub mod Separation
 pub mod SeparationOfDuty
+pub mod StateLaws
 pub mod Stepping
 pub mod Tested
 pub mod Verdict

@@ -1,4 +1,7 @@
 //! Rows of an office's tables, and changes of them.
+ghost use Rattle.std.specs.Prelude.{◌≡◌, true};
+ghost use Rattle.rbac_sets.specs.Named.{is_named, row_of};
+
 use crate::name::Name;
 
 /// One row of an office's tables, which is one entry of one of its relations.
@@ -19,6 +22,28 @@ pub enum Row {
     LockedRow(Name),
 }
 
+impl Row {
+    /// What holds of every row: each of its names is a name.
+    pub fn is_named(&self)
+        ensures { is_named self.now ≡ true }
+    {
+        match self {
+            Row::NameRow(_, a) | Row::SetRow(_, a, _) | Row::LockedRow(a) => {
+                a.as_str();
+            }
+            Row::PairRow(_, a, b) => {
+                a.as_str();
+                b.as_str();
+            }
+            Row::GrantRow(a, b, c) => {
+                a.as_str();
+                b.as_str();
+                c.as_str();
+            }
+        }
+    }
+}
+
 /// The change of one row.
 #[derive(Drop)]
 pub enum Change {
@@ -26,4 +51,15 @@ pub enum Change {
     Put(Row),
     /// A row that is there is taken.
     Take(Row),
+}
+
+impl Change {
+    /// What holds of every change: each name of its row is a name.
+    pub fn is_named(&self)
+        ensures { is_named (row_of self.now) ≡ true }
+    {
+        match self {
+            Change::Put(row) | Change::Take(row) => row.is_named(),
+        }
+    }
 }
