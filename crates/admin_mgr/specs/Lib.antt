@@ -1,8 +1,10 @@
 pub mod After
+pub mod Asked
 pub mod Assignment
 pub mod Authorization
 pub mod Changes
 pub mod Checked
+pub mod CommandLaws
 pub mod Ending
 pub mod Gathered
 pub mod GatheredView
@@ -19,6 +21,7 @@ pub mod Planned
 pub mod RbacState
 pub mod Refusing
 pub mod Rows
+pub mod RowsAfter
 pub mod Run
 pub mod Separation
 pub mod SeparationOfDuty

@@ -1,3 +1,4 @@
+pub mod Asked
 pub mod Kind
 pub mod Name
 pub mod NameOrder
