@@ -1,11 +1,11 @@
 -- What becomes of a command goes by what it asks for.
 use Rattle.std.proofs.Common.{◌≡◌, refl, ap, sym}
 use Rattle.rbac_sets.specs.NameOrder.{name_total, name_exact}
-use Rattle.rbac_sets.specs.Asked.{Single, Import, asked_of, without_room}
-use Rattle.rbac_sets.specs.Sets.{Bytes, Names, members, name_cmp}
+use Rattle.rbac_sets.specs.Asked.{Single, asked_of, without_room}
+use Rattle.rbac_sets.specs.Sets.{Bytes, name_cmp}
 use Rattle.rbac_sets.specs.SortedSet.{Stored, set_of}
 use Rattle.rbac_sets.specs.declared.command.Command.{Command}
-use Rattle.rbac_sets.specs.declared.command.Command.TheVariants.{AddUser, DeleteUser, AddRole, DeleteRole, AddPermObj, DeletePermObj, AddPermission, DeletePermission, GrantPermission, RevokePermission, AssignUser, DeassignUser, AddInheritance, DeleteInheritance, AddAscendant, AddDescendant, CreateSsdSet, AddSsdRoleMember, DeleteSsdRoleMember, SetSsdSetCardinality, DeleteSsdSet, CreateDsdSet, AddDsdRoleMember, DeleteDsdRoleMember, SetDsdSetCardinality, DeleteDsdSet, CreateSession, DeleteSession, AddActiveRole, DropActiveRole, ImportAssignments, LockUserAccount, UnlockUserAccount}
+use Rattle.rbac_sets.specs.declared.command.Command.TheVariants.{CreateSsdSet, CreateDsdSet, CreateSession, ImportAssignments}
 use Rattle.rbac_sets.proofs.SetLaws.{from_members}
 use Rattle.admin_mgr.specs.RbacState.{RbacState}
 use Rattle.admin_mgr.specs.After.{after, changed}

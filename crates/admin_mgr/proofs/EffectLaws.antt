@@ -59,7 +59,7 @@ assigned_by_command S _ user role h = inl h
 -- ---- what an import keeps
 
 -- an import keeps what each assignment keeps
-import_keeps : {A : Type 0} (part : RbacState → A) → ((S : RbacState) (pair : Pair) → part (after_assignment S pair) ≡ part S) → (S : RbacState) (pairs : List Pair) →
+pub import_keeps : {A : Type 0} (part : RbacState → A) → ((S : RbacState) (pair : Pair) → part (after_assignment S pair) ≡ part S) → (S : RbacState) (pairs : List Pair) →
     part (after_import S pairs) ≡ part S
 unfolding after_import after_record
 import_keeps part keeps S [] = refl

@@ -1,6 +1,6 @@
 -- The state in which nothing was done yet is good, and has no row.
 use Rattle.std.proofs.Common.{◌≡◌, ℕ, ◌≤◌, List, [], length, map, refl, sym, ◌∙◌, ap, arith}
-use Rattle.std.specs.Prelude.{IsTrue, ◌⊎◌}
+use Rattle.std.specs.Prelude.{IsTrue}
 use Rattle.std.specs.declared.cmp.Ordering.{Ordering}
 use Rattle.std.specs.FinMap as finmap
 use Rattle.std.specs.List.{filter}
@@ -9,9 +9,9 @@ use Rattle.rbac_sets.specs.Sets.{Bytes, Pair, Names, name_cmp, pair_cmp, triple_
 use Rattle.rbac_sets.proofs.SetLaws.{contains-empty, members-empty}
 use Rattle.rbac_sets.proofs.Members.{len-members}
 use Rattle.role_order.proofs.Closing.{IsAcyclic-none, IsClosure-none}
-use Rattle.admin_mgr.specs.RbacState.{empty_state, no_separation}
+use Rattle.admin_mgr.specs.RbacState.{no_separation}
 use Rattle.admin_mgr.specs.Gathered.{gathered}
-use Rattle.admin_mgr.specs.Good.{IsGood, IsSeparation}
+use Rattle.admin_mgr.specs.Good.{IsSeparation}
 use Rattle.admin_mgr.specs.StateLaws.{EmptyIsGood, EmptyHasNoRow}
 use Rattle.admin_mgr.proofs.Lookups.{members_seconds}
 use Rattle.admin_mgr.proofs.StoredLaws.{rows_are_among}

@@ -1,15 +1,13 @@
 -- A good state of version 1 that is taken into version 2 is good, and its names stay names.
-use Rattle.std.proofs.Common.{◌≡◌, ◌≤◌, ℕ, false, refl, sym, ◌∙◌, ap, subst, inl, inr, arith}
-use Rattle.std.specs.Prelude.{IsTrue}
-use Rattle.rbac_sets.specs.Sets.{Bytes, name_cmp, empty, contains, len}
+use Rattle.std.proofs.Common.{◌≤◌, ℕ, refl, sym, ◌∙◌, subst, inr, arith}
+use Rattle.rbac_sets.specs.Sets.{name_cmp, len}
 use Rattle.rbac_sets.specs.Kind.{limit_of}
-use Rattle.rbac_sets.specs.declared.kind.Kind.TheVariants.{User, Role, Object, Permission, Grant, Assignment, Edge, SsdSet, DsdSet, Member, Session, ActiveRole}
+use Rattle.rbac_sets.specs.declared.kind.Kind.TheVariants.{User, Role, Edge}
 use Rattle.rbac_sets.specs.declared.row.Row.TheVariants.{NameRow, PairRow, GrantRow, SetRow, LockedRow}
 use Rattle.rbac_sets.proofs.SetLaws.{contains-empty}
 use Rattle.std.proofs.lemmas.Bool.{true≢false}
 use Rattle.admin_mgr.specs.RbacState.{RbacState}
 use Rattle.admin_mgr.specs.Authorization.{authorized_users}
-use Rattle.admin_mgr.specs.Good.{IsGood}
 use Rattle.admin_mgr.specs.Rows.{has_row}
 use Rattle.admin_mgr.specs.Named.{AreNamed}
 use Rattle.admin_mgr.specs.Life.{taken_into_version_2}

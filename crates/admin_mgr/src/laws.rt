@@ -36,9 +36,9 @@ pub fn dynamic_test()
     ensures { DynamicTest }
 {}
 
-/// An import of assignments that is made again changes nothing: it assigns no record, tells those that
-/// were assigned as assigned before, and refuses the same records as the first time. Where static
-/// separation of duty refused one, there may be too many assignments by then.
+/// An import of assignments that is made again changes nothing, whatever the state was: it assigns no
+/// record, tells those that were assigned as assigned before, and refuses the same records as the
+/// first time. Where static separation of duty refused one, there may be too many assignments by then.
 pub fn import_twice()
     ensures { ImportTwice }
 {}

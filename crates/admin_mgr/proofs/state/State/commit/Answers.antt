@@ -1,5 +1,4 @@
 use Rattle.std.proofs.Common.{◌≡◌, sym, subst, ◌∙◌}
-use Rattle.admin_mgr.specs.RbacState.{RbacState}
 use Rattle.admin_mgr.specs.Kept.{Kept}
 use Rattle.admin_mgr.specs.Stepping.{after_changes}
 use Rattle.admin_mgr.specs.Good.{IsGood}
