@@ -20,6 +20,7 @@ use Rattle.admin_mgr.specs.Changes.{same_row}
 use Rattle.admin_mgr.specs.Good.{IsGood}
 use Rattle.admin_mgr.specs.Gathered.{Gathered, gathered, is_known, is_among, same_key, HaveKeysOnce}
 use Rattle.admin_mgr.specs.Checked.{Choose, AreReadable, AreRowsOf, OccurOnce, GoodRowsAreRead, IsComplete, Passes, RefusesSets, RefusesRows}
+use Rattle.admin_mgr.specs.StateLaws.{GoodRowsAreReadable}
 use Rattle.admin_mgr.proofs.RowLaws.{rows_determine}
 use Rattle.admin_mgr.proofs.KeyLaws.{known_sets, pairs_among}
 use Rattle.admin_mgr.proofs.WithinLimits.{no_limit_passed}
@@ -97,7 +98,7 @@ keys_once S good (first ∷ rows) there once = (
 )
 
 -- and the rows are readable
-readable_of_good : (S : RbacState) (rows : List Row) → IsGood S → AreRowsOf S rows → AreReadable S.version rows
+pub readable_of_good : GoodRowsAreReadable
 readable_of_good S rows good are = record {
   known = all_from (is_known S.version) rows (λ row h. known_of_good S good row (are.rows_are row ∙ h));
   keys = keys_once S good rows (λ row h. are.rows_are row ∙ h) are.once;

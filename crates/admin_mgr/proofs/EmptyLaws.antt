@@ -1,17 +1,20 @@
--- The state in which nothing was done yet is good.
-use Rattle.std.proofs.Common.{◌≡◌, ℕ, ◌≤◌, List, length, map, refl, sym, ◌∙◌, ap, arith}
-use Rattle.std.specs.Prelude.{IsTrue, ◌⊎◌}
+-- The state in which nothing was done yet is good, and has no row.
+use Rattle.std.proofs.Common.{◌≡◌, ℕ, ◌≤◌, List, [], length, map, refl, sym, ◌∙◌, ap, arith}
+use Rattle.std.specs.Prelude.{IsTrue}
 use Rattle.std.specs.declared.cmp.Ordering.{Ordering}
 use Rattle.std.specs.FinMap as finmap
 use Rattle.std.specs.List.{filter}
 use Rattle.std.proofs.lemmas.Bool.{true≢false}
-use Rattle.rbac_sets.specs.Sets.{Bytes, Pair, Names, name_cmp, pair_cmp, triple_cmp, cardinality_cmp, same_name, empty, contains, len, seconds}
+use Rattle.rbac_sets.specs.Sets.{Bytes, Pair, Names, name_cmp, pair_cmp, triple_cmp, cardinality_cmp, same_name, empty, contains, len, seconds, from_list}
 use Rattle.rbac_sets.proofs.SetLaws.{contains-empty, members-empty}
 use Rattle.rbac_sets.proofs.Members.{len-members}
-use Rattle.role_order.proofs.Closing.{IsAcyclic-none}
+use Rattle.role_order.proofs.Closing.{IsAcyclic-none, IsClosure-none}
 use Rattle.role_order.proofs.Runs.{members_seconds}
-use Rattle.admin_mgr.specs.RbacState.{empty_state, no_separation}
-use Rattle.admin_mgr.specs.Good.{IsGood, IsSeparation}
+use Rattle.admin_mgr.specs.RbacState.{no_separation}
+use Rattle.admin_mgr.specs.Gathered.{gathered}
+use Rattle.admin_mgr.specs.Good.{IsSeparation}
+use Rattle.admin_mgr.specs.StateLaws.{EmptyIsGood, EmptyHasNoRow}
+use Rattle.admin_mgr.proofs.StoredLaws.{rows_are_among}
 
 -- an empty set has nothing, and nothing behind a name
 not_there : {K : Type 0} (R : K → K → Ordering) (x : K) {A : Type 0} → IsTrue (contains (empty {R = R}) x) → A
@@ -34,7 +37,7 @@ no_sets roles = record {
   one_cardinality = λ name n other h _. not_there cardinality_cmp (name, n) h;
 }
 
-pub empty_is_good : (version : ℕ) → (version ≡ 1) ⊎ (version ≡ 2) → IsGood (empty_state version)
+pub empty_is_good : EmptyIsGood
 empty_is_good version known = record {
   well_formed = record {
     permissions = λ object operation h. not_there pair_cmp (object, operation) h;
@@ -72,3 +75,8 @@ empty_is_good version known = record {
   version = known;
   no_locks = λ _. refl;
 }
+
+-- its rows are those of an empty list
+pub empty_has_no_row : EmptyHasNoRow
+unfolding gathered from_list
+empty_has_no_row version row = rows_are_among version [] refl IsClosure-none row

@@ -5,10 +5,10 @@ use Rattle.std.specs.List.{list_any, IsDistinct, AllByRecursion}
 use Rattle.std.specs.Ordering.{eq_by_cmp}
 use Rattle.std.proofs.lemmas.Bool.{or_cases, or_left, or_right, true≢false, false_from_ne_true, or_parts}
 use Rattle.std.proofs.lemmas.List.Sums.{sum_by-cons}
-use Rattle.rbac_sets.specs.Sets.{Pair, pair_cmp, contains, insert_all, from_list, IsDisjoint}
+use Rattle.rbac_sets.specs.Sets.{Pair, pair_cmp, contains, insert_all, from_list}
 use Rattle.rbac_sets.specs.NameOrder.{pair_total, pair_exact}
 use Rattle.rbac_sets.specs.declared.refusal.Refusal.{Refusal}
-use Rattle.rbac_sets.proofs.SetLaws.{contains-insert, contains-from_list, tie_Decides}
+use Rattle.rbac_sets.proofs.SetLaws.{contains-insert, tie_Decides}
 use Rattle.admin_mgr.specs.RbacState.{RbacState}
 use Rattle.rbac_sets.specs.declared.command.Command.TheVariants.{ImportAssignments}
 use Rattle.rbac_sets.specs.declared.kind.Kind.TheVariants.{Record}
@@ -183,13 +183,9 @@ accepted_distinct S good pairs = (by_records (λ S pairs assigned. AreNew S assi
       (each_other pair assigned (λ p h. (new_before S pair assigned rest.0 p h).0), rest.1),
     )
 
--- ---- the state after it, as one set
+-- ---- the state after it
 
--- the assignments have none of them before
-pub accepted_apart : (S : RbacState) → IsGood S → (pairs : List Pair) → IsDisjoint S.assignments (from_list (accepted S pairs))
-accepted_apart S good pairs p there = false_from_ne_true _ (λ h. true≢false (sym there ∙ accepted_new S good pairs p (sym (contains-from_list pair_total (accepted S pairs) p) ∙ h)))
-
--- the same set as a list that is put in its order
+-- as a list that is put in its order
 pub import_puts : (S : RbacState) → IsGood S → (pairs : List Pair) → after_import S pairs ≡ record S { assignments = insert_all S.assignments (accepted S pairs) }
 unfolding with_assignments
 import_puts S good pairs = import_is S good pairs ∙ (λ i. record S { assignments = sym (insert_all-union pair_total pair_exact S.assignments (accepted S pairs)) i })

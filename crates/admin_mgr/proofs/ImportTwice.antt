@@ -1,104 +1,148 @@
--- An import that is made again changes nothing.
-use Rattle.std.proofs.Common.{◌≡◌, ℕ, ◌+◌, ◌≤◌, Bool, true, false, cond, ◌||◌, List, [], ◌∷◌, ◌++◌, map, refl, sym, ◌∙◌, ap, subst, arith, inl, inr}
-use Rattle.std.specs.Prelude.{IsTrue, Option, Some, None, is_none, nat_lt, nat_eq, count_by}
+-- An import that is made again changes nothing, whatever the state.
+use Rattle.std.proofs.Common.{◌≡◌, ℕ, ◌+◌, ◌≤◌, Bool, true, false, cond, List, [], ◌∷◌, map, refl, sym, ◌∙◌, ap, subst, arith, inl, inr}
+use Rattle.std.specs.Prelude.{IsTrue, ◌&&◌, Option, Some, None, is_none, nat_lt, nat_eq, count_by}
 use Rattle.std.specs.Option.{option_map}
-use Rattle.std.specs.List.{list_any, enumerate_from, filter_map, cons_option}
-use Rattle.std.specs.Ordering.{eq_by_cmp}
-use Rattle.std.proofs.lemmas.Bool.{and_parts, and_from, or_left, ltb-true, lt-ltb, true≢false, false_from_ne_true, or_from}
-use Rattle.std.proofs.lemmas.List.Folds.{list_any-append}
+use Rattle.std.specs.List.{enumerate_from, filter_map, cons_option}
+use Rattle.std.proofs.lemmas.Bool.{and_parts, and_from, ltb-true, lt-ltb, true≢false, false_from_ne_true}
 use Rattle.rbac_sets.specs.Refusal.{code_of}
-use Rattle.rbac_sets.specs.Sets.{Bytes, Names, Pair, Pairs, Cardinality, pair_cmp, contains, insert, union, retain, from_list, len, count}
+use Rattle.rbac_sets.specs.Sets.{Bytes, Pair, Pairs, same_name, empty, any, contains, insert, len}
 use Rattle.rbac_sets.specs.NameOrder.{name_total, name_exact, pair_total, pair_exact}
-use Rattle.rbac_sets.specs.declared.command.Command.TheVariants.{ImportAssignments}
 use Rattle.rbac_sets.specs.declared.kind.Kind.TheVariants.{Assignment}
 use Rattle.rbac_sets.specs.declared.refusal.Refusal.{Refusal}
 use Rattle.rbac_sets.specs.declared.refusal.Refusal.TheVariants.{NoUser, NoRole, AlreadyAssigned, StaticSeparation, TooMany}
-use Rattle.rbac_sets.proofs.SetLaws.{contains-insert-Decides, contains-retain, contains-from_list, tie_Decides}
-use Rattle.rbac_sets.proofs.Members.{count-len, len-subset}
-use Rattle.role_order.specs.Order.{geq}
-use Rattle.admin_mgr.specs.RbacState.{RbacState, members_of}
+use Rattle.rbac_sets.proofs.SetLaws.{contains-insert-Decides, contains-retain, tie_Decides, any-Decides, all-Decides, seconds-Decides}
+use Rattle.rbac_sets.proofs.Members.{len-subset}
+use Rattle.admin_mgr.specs.RbacState.{RbacState, members_of, active_roles}
 use Rattle.admin_mgr.specs.Authorization.{authorized_users, is_authorized}
 use Rattle.admin_mgr.specs.Separation.{is_kept_statically, static_violation}
 use Rattle.admin_mgr.specs.Refusing.{refuse_if, refuse_unless, first, is_too_many, breaks_static}
-use Rattle.admin_mgr.specs.Assignment.{end_sessions, after_assignment, after_record, after_import, assignment_verdict, assignment_refusals, import_verdicts, is_already, refused_record, tally_of}
-use Rattle.admin_mgr.specs.After.{changed}
+use Rattle.admin_mgr.specs.Assignment.{may_go_on, end_sessions, after_assignment, after_record, after_import, assignment_verdict, assignment_refusals, import_verdicts, is_already, refused_record, tally_of}
+use Rattle.admin_mgr.specs.After.{changed, after}
 use Rattle.admin_mgr.specs.Verdict.{verdict, refusals}
 use Rattle.admin_mgr.specs.Run.{tally}
-use Rattle.admin_mgr.specs.Good.{IsGood, IsStaticallySeparated}
-use Rattle.admin_mgr.specs.Importing.{accepted, with_assignments, record_refusals}
-use Rattle.admin_mgr.specs.Laws.{IsSameCode, RefuseTheSame, IsIdleAgain, ImportTwice}
-use Rattle.admin_mgr.specs.Held.{run_of, is_reached, first_with_one}
-use Rattle.admin_mgr.proofs.HeldLaws.{authorized_reached}
-use Rattle.admin_mgr.proofs.GoodAssignment.{good_with_assignment, room_for_assignment, assigned_user, assigned_role}
-use Rattle.admin_mgr.proofs.ImportLaws.{one_if, counted, record_put, record_kept, good_record, by_records, import_is, accepted_apart, good_import, after_import_assignments}
-use Rattle.admin_mgr.proofs.RecordLaws.{named_last, record_verdict, reached_union}
+use Rattle.admin_mgr.specs.Laws.{IsSameCode, RefuseTheSame, ImportTwice}
+use Rattle.admin_mgr.proofs.EffectLaws.{import_keeps}
+use Rattle.admin_mgr.proofs.EndLaws.{count-fewer}
+use Rattle.admin_mgr.proofs.GoodAssignment.{room_for_assignment, assigned_user, assigned_role}
+use Rattle.admin_mgr.proofs.ImportLaws.{one_if, counted, record_kept}
+use Rattle.admin_mgr.proofs.PartLaws.{IsSubset, whole, authorized-fewer}
 use Rattle.admin_mgr.proofs.SeparationLaws.{least_violated-None, kept_statically}
-use Rattle.admin_mgr.proofs.TouchLaws.{with_assignment, authorized-assigned}
+use Rattle.admin_mgr.proofs.SessionLaws.{none_ends_where}
+use Rattle.admin_mgr.proofs.VerdictLaws.{passed}
+
+-- ---- what an import keeps of a state, and what it adds to
+
+-- the state with these assignments, and without its sessions
+abbrev holding : RbacState → Pairs → RbacState
+holding S assignments = record S { assignments = assignments; sessions = empty; active = empty }
+
+-- a verdict on a record asks for no session
+verdict_holding : (S : RbacState) (p : Pair) → assignment_verdict S p ≡ assignment_verdict (holding S S.assignments) p
+unfolding assignment_verdict assignment_refusals after_assignment end_sessions is_kept_statically authorized_users
+verdict_holding S p = refl
+
+-- the states differ in their assignments and their sessions alone
+abbrev IsAlike : RbacState → RbacState → Type 0
+IsAlike S T = holding S empty ≡ holding T empty
+
+-- so the verdict is by the assignments
+verdict_alike : (S T : RbacState) → IsAlike S T → (p : Pair) → assignment_verdict T p ≡ assignment_verdict (holding S T.assignments) p
+verdict_alike S T alike p = verdict_holding T p ∙ ap (λ X. assignment_verdict (record X { assignments = T.assignments }) p) (sym alike)
+
+-- an import keeps all but these
+alike_import : (S : RbacState) (pairs : List Pair) → IsAlike S (after_import S pairs)
+unfolding after_assignment end_sessions
+alike_import S pairs = sym (import_keeps (λ X. holding X empty) kept S pairs)
+  where
+    kept : (S : RbacState) (pair : Pair) → holding (after_assignment S pair) empty ≡ holding S empty
+    kept S pair = refl
+
+-- the assignments after a record
+after_put : (S : RbacState) (pair : Pair) → assignment_verdict S pair ≡ None → (after_record S pair).assignments ≡ insert S.assignments pair
+unfolding after_record after_assignment end_sessions
+after_put S pair put = ap (λ v. (cond (is_none v) (after_assignment S pair) S).assignments) put
+
+-- a record adds to them
+record_grows : (S : RbacState) (pair : Pair) → IsSubset S.assignments (after_record S pair).assignments
+record_grows S pair p there = by (assignment_verdict S pair) refl
+  where
+    by : (v : Option Refusal) → assignment_verdict S pair ≡ v → IsTrue (contains (after_record S pair).assignments p)
+    by None put = ap (λ s. contains s p) (after_put S pair put) ∙ (contains-insert-Decides pair_total pair_exact S.assignments pair p).1 (inr there)
+    by (Some refusal) told = ap (λ X. contains X.assignments p) (record_kept S pair refusal told) ∙ there
+
+-- and so does an import
+import_grows : (S : RbacState) (pairs : List Pair) → IsSubset S.assignments (after_import S pairs).assignments
+unfolding after_import
+import_grows S [] p there = there
+import_grows S (pair ∷ pairs) p there = import_grows (after_record S pair) pairs p (record_grows S pair p there)
 
 -- ---- more assignments never mend a violation
 
--- fewer pass a test that is harder
-fewer_pass : (p q : Bytes → Bool) (s : Names) → ((x : Bytes) → IsTrue (p x) → IsTrue (q x)) → count p s ≤ count q s
-fewer_pass p q s harder =
-    let fewer = len-subset name_total name_exact (retain s p) (retain s q) (λ x h.
-    let parts = and_parts _ _ (sym (contains-retain name_total name_exact s p x) ∙ h) in
-    contains-retain name_total name_exact s q x ∙ and_from _ _ parts.0 (harder x parts.1)) in
-    let counted = count-len name_total name_exact p s in
-    let counted_more = count-len name_total name_exact q s in
-    omega (arith, fewer, counted, counted_more)
+module _ (S : RbacState) (few many : Pairs) (within : IsSubset few many) where
+  -- with more assignments nobody is authorized for less
+  authorized_more : (user role : Bytes) → IsTrue (is_authorized (holding S few) user role) → IsTrue (is_authorized (holding S many) user role)
+  authorized_more = authorized-fewer (holding S many) (record (whole (holding S many)) { assignments = few; assignments_within = within })
 
--- a pair that would violate a static set where there are more assignments would violate it where there are fewer
-separated_before : (S : RbacState) (more : Pairs) (p : Pair) → ((user role : Bytes) → IsTrue (is_authorized S user role) → IsTrue (is_authorized (record S { assignments = more }) user role)) →
-    IsStaticallySeparated (with_assignment (record S { assignments = more }) p) → IsStaticallySeparated (with_assignment S p)
-unfolding with_assignment
-separated_before S more p keeps separated name user n there =
-    let among_more = separated name user n there in
-    let fewer = fewer_pass (is_authorized (with_assignment S p) user) (is_authorized (with_assignment (record S { assignments = more }) p) user) (members_of S.ssd name) (λ role h.
-    (authorized-assigned (record S { assignments = more }) p.0 p.1 user role).1 (elim ((authorized-assigned S p.0 p.1 user role).0 h) [
-      | inl was ↦ inl (keeps user role was)
-      | inr new ↦ inr new
-    ])) in
-    omega (arith, among_more, fewer)
+  -- so where none is named with more of them, none is with fewer
+  none_before : breaks_static (holding S many) ≡ None → breaks_static (holding S few) ≡ None
+  none_before none = ap (option_map StaticSeparation)
+      ((least_violated-None (is_kept_statically (holding S few)) S.ssd).1 (λ name n there.
+      (kept_statically (holding S few) (members_of S.ssd name) n).1 (λ user is_user.
+      (let kept = (kept_statically (holding S many) (members_of S.ssd name) n).0 ((least_violated-None (is_kept_statically (holding S many)) S.ssd).0 (unmapped (static_violation (holding S many)) none) name n there) user is_user in
+      let fewer = count-fewer (is_authorized (holding S few) user) (is_authorized (holding S many) user) (members_of S.ssd name) (members_of S.ssd name) (λ x member. member) (authorized_more user) in
+      omega (arith, fewer, kept)))))
+    where
+      unmapped : (o : Option Bytes) → option_map StaticSeparation o ≡ None → o ≡ None
+      unmapped None h = refl
+      unmapped (Some name) h = cc
 
--- as after one more assignment
-separated_before_one : (S : RbacState) (pair p : Pair) → IsStaticallySeparated (with_assignment (with_assignment S pair) p) → IsStaticallySeparated (with_assignment S p)
-unfolding with_assignment
-separated_before_one S pair p = separated_before S (insert S.assignments pair) p (λ user role was. (authorized-assigned S pair.0 pair.1 user role).1 (inl was))
+-- the static set that is named once the pair is assigned
+abbrev named_with : RbacState → Pairs → Pair → Option Bytes
+named_with S assignments p = static_violation (holding S (insert assignments p))
 
--- or after several
-separated_before_all : (S : RbacState) (added : Pairs) (p : Pair) → IsStaticallySeparated (with_assignment (with_assignments S added) p) → IsStaticallySeparated (with_assignment S p)
-unfolding with_assignments
-separated_before_all S added p = separated_before S (union S.assignments added) p (λ user role was.
-    authorized_reached (record S { assignments = union S.assignments added }) user role
-    ∙ reached_union S.edges S.assignments added user role
-    ∙ list_any-append (λ (pair : Pair). geq S.edges pair.1 role) (run_of S.assignments user) (run_of added user)
-    ∙ or_left (is_reached S.edges (run_of S.assignments user) role) _ (sym (authorized_reached S user role) ∙ was))
+-- more may be within more with one pair each
+one_more : (few many : Pairs) (p : Pair) → IsSubset few many → IsSubset (insert few p) (insert many p)
+one_more few many p within x h = (contains-insert-Decides pair_total pair_exact many p x).1 (elim ((contains-insert-Decides pair_total pair_exact few p x).0 h) [
+  | inl same ↦ inl same
+  | inr old ↦ inr (within x old)
+])
 
--- where none is violated, none is named
-none_named : (S : RbacState) (p : Pair) → IsStaticallySeparated (with_assignment S p) → breaks_static (after_assignment S p) ≡ None
-unfolding after_assignment end_sessions is_kept_statically authorized_users with_assignment
-none_named S p separated = ap (option_map StaticSeparation)
-    ((least_violated-None (is_kept_statically (with_assignment S p)) S.ssd).1 (λ name n there.
-    (kept_statically (with_assignment S p) (members_of S.ssd name) n).1 (λ user _. separated name user n there)))
+-- ---- a record that is refused is assigned by no later one
 
--- a pair that would violate a static set is assigned by no later record
-never_later : (p : Pair) (S : RbacState) → IsGood S → (pairs : List Pair) → (IsStaticallySeparated (with_assignment S p) → ⊥) → list_any (eq_by_cmp pair_cmp p) (accepted S pairs) ≡ false
-never_later p = by_records (λ S pairs assigned. (IsStaticallySeparated (with_assignment S p) → ⊥) → list_any (eq_by_cmp pair_cmp p) assigned ≡ false)
-    (λ S broken. refl)
-    (λ S good pair pairs assigned is better rest broken. or_from (eq_by_cmp pair_cmp p pair) _
-    (false_from_ne_true (eq_by_cmp pair_cmp p pair) (λ tie. broken (subst (λ x. IsStaticallySeparated (with_assignment S x)) (sym ((tie_Decides pair_total pair_exact p pair).0 tie)) better.static_separation)))
-    (rest (λ separated. broken (separated_before_one S pair p separated))))
-    (λ S good pair pairs assigned refusal is rest. rest)
+-- whatever is assigned besides, the record is refused
+abbrev IsBlocked : RbacState → Pairs → Pair → Type 0
+IsBlocked S assignments p = (more : Pairs) → IsSubset assignments more → assignment_verdict (holding S more) p ≡ None → ⊥
 
--- where there are as many assignments as there may be, no later record is assigned
-full_takes_none : (S : RbacState) → IsGood S → (pairs : List Pair) → is_too_many S Assignment (len S.assignments + 1) ≡ true → accepted S pairs ≡ []
-full_takes_none = by_records (λ S pairs assigned. is_too_many S Assignment (len S.assignments + 1) ≡ true → assigned ≡ [])
-    (λ S full. refl)
-    (λ S good pair pairs assigned is better rest full.
-    let room = room_for_assignment S pair is in
-    let over = ltb-true 20000 (len S.assignments + 1) full in
-    absurd (omega (arith, room, over)))
-    (λ S good pair pairs assigned refusal is rest. rest)
+-- where there are as many assignments as there may be
+blocked_full : (S : RbacState) (assignments : Pairs) (p : Pair) → is_too_many S Assignment (len assignments + 1) ≡ true → IsBlocked S assignments p
+blocked_full S assignments p full more within put =
+    let room = room_for_assignment (holding S more) p put in
+    let over = ltb-true 20000 (len assignments + 1) full in
+    let fewer = len-subset pair_total pair_exact assignments more within in
+    absurd (omega (arith, room, over, fewer))
+
+-- where static separation refuses it
+blocked_static : (S : RbacState) (assignments : Pairs) (p : Pair) → (option_map StaticSeparation (named_with S assignments p) ≡ None → ⊥) → IsBlocked S assignments p
+unfolding assignment_verdict assignment_refusals after_assignment end_sessions is_kept_statically authorized_users
+blocked_static S assignments p broken more within put =
+    broken (none_before S (insert assignments p) (insert more p) (one_more assignments more p within) (passed (assignment_refusals (holding S more) p) put).1.1.1.1.0)
+
+-- a pair that is blocked stays out
+stays_out : (p : Pair) (S X : RbacState) → IsAlike S X → IsBlocked S X.assignments p → contains X.assignments p ≡ false → (pairs : List Pair) → contains (after_import X pairs).assignments p ≡ false
+unfolding after_import
+stays_out p S X alike blocked out [] = out
+stays_out p S X alike blocked out (pair ∷ pairs) =
+    stays_out p S (after_record X pair) (alike ∙ one) (λ more within. blocked more (λ x there. within x (record_grows X pair x there))) (by (assignment_verdict X pair) refl) pairs
+  where
+    one : IsAlike X (after_record X pair)
+    one = alike_import X (pair ∷ [])
+
+    by : (v : Option Refusal) → assignment_verdict X pair ≡ v → contains (after_record X pair).assignments p ≡ false
+    by (Some refusal) told = ap (λ Y. contains Y.assignments p) (record_kept X pair refusal told) ∙ out
+    by None put = false_from_ne_true _ (λ h. elim ((contains-insert-Decides pair_total pair_exact X.assignments pair p).0 (sym (ap (λ s. contains s p) (after_put X pair put)) ∙ h)) [
+      | inl same ↦ blocked X.assignments (λ x there. there) (sym (verdict_alike S X alike p) ∙ ap (assignment_verdict X) same ∙ put)
+      | inr old ↦ true≢false (sym old ∙ out)
+    ])
 
 -- ---- the verdict on a record, and on the same record the second time
 
@@ -137,77 +181,73 @@ first_alone : (l : Option Refusal) → first (l ∷ []) ≡ l
 first_alone None = refl
 first_alone (Some refusal) = refl
 
--- by the tests: those of the user and the role are the same, the pair may have been added, and there may be too many by then
-refused_again : (is_user is_role is_assigned is_full added later_full : Bool) (o o' : Option Bytes) (refusal : Refusal) →
+-- by the tests: those of the user and the role are the same, the pair may be assigned by then, and there may be too many
+refused_again : (is_user is_role is_assigned is_full later_assigned later_full : Bool) (o o' : Option Bytes) (refusal : Refusal) →
     judged is_user is_role is_assigned is_full (option_map StaticSeparation o) ≡ Some refusal →
-    (is_full ≡ true → (added ≡ false) × (later_full ≡ true)) →
-    (option_map StaticSeparation o ≡ Some refusal → added ≡ false) →
-    (option_map StaticSeparation o ≡ Some refusal → judged is_user is_role (is_assigned || added) later_full (option_map StaticSeparation o') ≡ None → ⊥) →
-    Again (Some refusal) (judged is_user is_role (is_assigned || added) later_full (option_map StaticSeparation o'))
-refused_again false b c d e f o o' refusal is full last some = told_same refusal NoUser is
-refused_again true false c d e f o o' refusal is full last some = told_same refusal NoRole is
-refused_again true true true d e f o o' refusal is full last some = told_same refusal AlreadyAssigned is
-refused_again true true false true true f o o' refusal is full last some = absurd (true≢false (full refl).0)
-refused_again true true false true false true o o' refusal is full last some = told_same refusal (TooMany Assignment) is
-refused_again true true false true false false o o' refusal is full last some = absurd (true≢false (sym (full refl).1))
-refused_again true true false false true f o o' refusal is full last some = absurd (true≢false (last (sym (first_alone (option_map StaticSeparation o)) ∙ is)))
-refused_again true true false false false true o o' refusal is full last some = told_full o refusal (sym (first_alone (option_map StaticSeparation o)) ∙ is)
-refused_again true true false false false false o o' refusal is full last some =
+    (is_assigned ≡ true → later_assigned ≡ true) →
+    (is_assigned ≡ false → is_full ≡ true → (later_assigned ≡ false) × (later_full ≡ true)) →
+    (is_assigned ≡ false → option_map StaticSeparation o ≡ Some refusal → later_assigned ≡ false) →
+    (option_map StaticSeparation o ≡ Some refusal → option_map StaticSeparation o' ≡ None → ⊥) →
+    Again (Some refusal) (judged is_user is_role later_assigned later_full (option_map StaticSeparation o'))
+refused_again false b c d e f o o' refusal is stays full last some = told_same refusal NoUser is
+refused_again true false c d e f o o' refusal is stays full last some = told_same refusal NoRole is
+refused_again true true true d true f o o' refusal is stays full last some = told_same refusal AlreadyAssigned is
+refused_again true true true d false f o o' refusal is stays full last some = absurd (true≢false (sym (stays refl)))
+refused_again true true false true true f o o' refusal is stays full last some = absurd (true≢false (full refl refl).0)
+refused_again true true false true false true o o' refusal is stays full last some = told_same refusal (TooMany Assignment) is
+refused_again true true false true false false o o' refusal is stays full last some = absurd (true≢false (sym (full refl refl).1))
+refused_again true true false false true f o o' refusal is stays full last some = absurd (true≢false (last refl (sym (first_alone (option_map StaticSeparation o)) ∙ is)))
+refused_again true true false false false true o o' refusal is stays full last some = told_full o refusal (sym (first_alone (option_map StaticSeparation o)) ∙ is)
+refused_again true true false false false false o o' refusal is stays full last some =
     let named = sym (first_alone (option_map StaticSeparation o)) ∙ is in
-    told_last o o' refusal named (λ none. some named (first_alone (option_map StaticSeparation o') ∙ none))
+    told_last o o' refusal named (some named)
 
--- the verdict on the record in the state once the others were judged too
-put_again : (S : RbacState) → IsGood S → (pair : Pair) (rest : List Pair) → assignment_verdict S pair ≡ None → assignment_verdict (after_import (with_assignment S pair) rest) pair ≡ Some AlreadyAssigned
-unfolding with_assignment
-put_again S good pair rest put =
-    let better = good_with_assignment S good pair put in
-    let added : Pairs = from_list (accepted (with_assignment S pair) rest) in
-    let same : after_import (with_assignment S pair) rest ≡ with_assignments (with_assignment S pair) added = import_is (with_assignment S pair) better rest in
-    ap (λ X. assignment_verdict X pair) same
-    ∙ record_verdict (with_assignment S pair) added (subst IsGood same (good_import (with_assignment S pair) better rest)) (accepted_apart (with_assignment S pair) better rest) pair.0 pair.1
-    ∙ is_there S pair added (assigned_user S pair put) (assigned_role S pair put)
-  where
-    is_there : (S : RbacState) (pair : Pair) (added : Pairs) → IsTrue (contains S.users pair.0) → IsTrue (contains S.roles pair.1) →
-        first (record_refusals (with_assignment S pair) added pair ++ named_last (with_assignment S pair) added pair.0 pair.1 ∷ []) ≡ Some AlreadyAssigned
-    is_there S pair added is_user is_role =
-        let X : RbacState = with_assignment S pair in
-        let here : contains X.assignments pair ≡ true = (contains-insert-Decides pair_total pair_exact S.assignments pair pair).1 (inl refl) in
-        λ i. judged (is_user i) (is_role i) (here i || contains added pair) (is_too_many X Assignment (len X.assignments + len added + 1)) (named_last X added pair.0 pair.1)
+-- a verdict by its tests
+as_judged : (S : RbacState) (assignments : Pairs) (p : Pair) →
+    assignment_verdict (holding S assignments) p
+    ≡ judged (contains S.users p.0) (contains S.roles p.1) (contains assignments p) (is_too_many S Assignment (len assignments + 1)) (option_map StaticSeparation (named_with S assignments p))
+unfolding assignment_verdict assignment_refusals after_assignment end_sessions is_kept_statically authorized_users
+as_judged S assignments p = refl
 
--- where the record was refused
-kept_again : (S : RbacState) → IsGood S → (pair : Pair) (rest : List Pair) (refusal : Refusal) → assignment_verdict S pair ≡ Some refusal → Again (Some refusal) (assignment_verdict (after_import S rest) pair)
-unfolding assignment_verdict assignment_refusals
-kept_again S good pair rest refusal is =
-    let added : Pairs = from_list (accepted S rest) in
-    let same : after_import S rest ≡ with_assignments S added = import_is S good rest in
-    let later = subst IsGood same (good_import S good rest) in
-    let told : assignment_verdict (with_assignments S added) pair ≡ first (record_refusals S added pair ++ named_last S added pair.0 pair.1 ∷ []) = record_verdict S added later (accepted_apart S good rest) pair.0 pair.1 in
-    subst (Again (Some refusal)) (sym (ap (λ X. assignment_verdict X pair) same ∙ told))
+-- the verdict on the record in a state in which it is assigned
+put_again : (S T : RbacState) → IsAlike S T → (pair : Pair) → assignment_verdict S pair ≡ None → IsTrue (contains T.assignments pair) → assignment_verdict T pair ≡ Some AlreadyAssigned
+put_again S T alike pair put there =
+    let is_user = assigned_user S pair put in
+    let is_role = assigned_role S pair put in
+    verdict_alike S T alike pair ∙ as_judged S T.assignments pair
+    ∙ (λ i. judged (is_user i) (is_role i) (there i) (is_too_many S Assignment (len T.assignments + 1)) (option_map StaticSeparation (named_with S T.assignments pair)))
+
+-- where the record was refused, once the others were judged too
+kept_again : (S : RbacState) (pair : Pair) (rest : List Pair) (refusal : Refusal) → assignment_verdict S pair ≡ Some refusal → Again (Some refusal) (assignment_verdict (after_import S rest) pair)
+kept_again S pair rest refusal is =
+    let later : Pairs = (after_import S rest).assignments in
+    let grows : IsSubset S.assignments later = import_grows S rest in
+    let out = stays_out pair S S refl in
+    subst (Again (Some refusal)) (sym (verdict_alike S (after_import S rest) (alike_import S rest) pair ∙ as_judged S later pair))
     (refused_again (contains S.users pair.0) (contains S.roles pair.1) (contains S.assignments pair) (is_too_many S Assignment (len S.assignments + 1))
-    (contains added pair) (is_too_many S Assignment (len S.assignments + len added + 1))
-    (static_violation (after_assignment S pair)) (option_map (λ (x : Cardinality). x.0) (first_with_one S.edges (run_of S.assignments pair.0 ++ run_of added pair.0) pair.1 S.ssd)) refusal
-    (as_judged S pair ∙ is)
-    (λ full. (contains-from_list pair_total (accepted S rest) pair ∙ ap (list_any (eq_by_cmp pair_cmp pair)) (full_takes_none S good rest full), still_full (len S.assignments) (len added) full))
-    (λ named. contains-from_list pair_total (accepted S rest) pair ∙ never_later pair S good rest (λ separated. none_and_some (none_named S pair separated) named))
-    (λ named none. none_and_some (none_named S pair (separated_before_all S added pair (good_with_assignment (with_assignments S added) later pair (told ∙ none)).static_separation)) named))
+    (contains later pair) (is_too_many S Assignment (len later + 1))
+    (named_with S S.assignments pair) (named_with S later pair) refusal
+    (sym (as_judged S S.assignments pair) ∙ sym (verdict_holding S pair) ∙ is)
+    (grows pair)
+    (λ new full. (out (blocked_full S S.assignments pair full) new rest, still_full full (len-subset pair_total pair_exact S.assignments later grows)))
+    (λ new named. out (blocked_static S S.assignments pair (λ none. none_and_some none named)) new rest)
+    (λ named none. none_and_some (none_before S (insert S.assignments pair) (insert later pair) (one_more S.assignments later pair grows) none) named))
   where
     none_and_some : {o : Option Refusal} {refusal : Refusal} → o ≡ None → o ≡ Some refusal → ⊥
     none_and_some h k = cc (h, k)
 
-    still_full : (m n : ℕ) → nat_lt 20000 (m + 1) ≡ true → nat_lt 20000 (m + n + 1) ≡ true
-    still_full m n full = let over = ltb-true 20000 (m + 1) full in lt-ltb 20000 (m + n + 1) (omega (arith, over))
-
-    as_judged : (S : RbacState) (pair : Pair) →
-        judged (contains S.users pair.0) (contains S.roles pair.1) (contains S.assignments pair) (is_too_many S Assignment (len S.assignments + 1)) (breaks_static (after_assignment S pair)) ≡ assignment_verdict S pair
-    as_judged S pair = refl
+    still_full : {m n : ℕ} → nat_lt 20000 (m + 1) ≡ true → m ≤ n → nat_lt 20000 (n + 1) ≡ true
+    still_full {m} {n} full more = let over = ltb-true 20000 (m + 1) full in lt-ltb 20000 (n + 1) (omega (arith, over, more))
 
 -- the verdict on a record, and on the same record once all were judged
-record_again : (S : RbacState) → IsGood S → (pair : Pair) (rest : List Pair) → Again (assignment_verdict S pair) (assignment_verdict (after_import (after_record S pair) rest) pair)
-record_again S good pair rest = by (assignment_verdict S pair) refl
+record_again : (S : RbacState) (pair : Pair) (rest : List Pair) → Again (assignment_verdict S pair) (assignment_verdict (after_import (after_record S pair) rest) pair)
+unfolding after_import
+record_again S pair rest = by (assignment_verdict S pair) refl
   where
     by : (v : Option Refusal) → assignment_verdict S pair ≡ v → Again v (assignment_verdict (after_import (after_record S pair) rest) pair)
-    by None is = ap (λ X. assignment_verdict (after_import X rest) pair) (record_put S good pair is) ∙ put_again S good pair rest is
-    by (Some refusal) is = subst (λ X. Again (Some refusal) (assignment_verdict (after_import X rest) pair)) (sym (record_kept S pair refusal is)) (kept_again S good pair rest refusal is)
+    by None put = put_again S (after_import (after_record S pair) rest) (alike_import S (pair ∷ rest)) pair put
+        (import_grows (after_record S pair) rest pair (ap (λ s. contains s pair) (after_put S pair put) ∙ (contains-insert-Decides pair_total pair_exact S.assignments pair pair).1 (inl refl)))
+    by (Some refusal) told = subst (λ X. Again (Some refusal) (assignment_verdict (after_import X rest) pair)) (sym (record_kept S pair refusal told)) (kept_again S pair rest refusal told)
 
 -- ---- all records
 
@@ -218,12 +258,12 @@ AllAgain (v ∷ vs) (w ∷ ws) = Again v w × AllAgain vs ws
 AllAgain _ _ = ⊥
 
 -- each record is refused the second time, in the state once all were judged
-all_again : (S : RbacState) → IsGood S → (pairs : List Pair) (T : RbacState) → after_import S pairs ≡ T → AllAgain (import_verdicts S pairs) (map (assignment_verdict T) pairs)
+all_again : (S : RbacState) (pairs : List Pair) (T : RbacState) → after_import S pairs ≡ T → AllAgain (import_verdicts S pairs) (map (assignment_verdict T) pairs)
 unfolding after_import import_verdicts
-all_again S good [] T is = tt
-all_again S good (pair ∷ pairs) T is = (
-  subst (λ X. Again (assignment_verdict S pair) (assignment_verdict X pair)) is (record_again S good pair pairs),
-  all_again (after_record S pair) (good_record S good pair) pairs T is,
+all_again S [] T is = tt
+all_again S (pair ∷ pairs) T is = (
+  subst (λ X. Again (assignment_verdict S pair) (assignment_verdict X pair)) is (record_again S pair pairs),
+  all_again (after_record S pair) pairs T is,
 )
 
 -- there is a refusal the second time
@@ -316,22 +356,53 @@ refused_the_same n [] (w ∷ ws) again = absurd again
 refused_the_same n (v ∷ vs) [] again = absurd again
 refused_the_same n (v ∷ vs) (w ∷ ws) again = told_again n v w _ _ again.0 (refused_the_same (n + 1) vs ws again.1)
 
+-- ---- sessions end once
+
+-- what a session that is left may do
+kept_session : (S : RbacState) (p : Pair) → IsTrue (contains (end_sessions S).sessions p) → IsTrue (may_go_on (end_sessions S) p)
+unfolding end_sessions may_go_on authorized_users
+kept_session S p h =
+    let first = and_parts _ _ (and_parts _ _ (sym (contains-retain pair_total pair_exact S.sessions (may_go_on S) p) ∙ h)).1 in
+    and_from _ _ first.0 ((all-Decides name_total name_exact (is_authorized S p.1) (active_roles (end_sessions S) p.0)).1 (λ role active.
+    (all-Decides name_total name_exact (is_authorized S p.1) (active_roles S p.0)).0 first.1 role ((seconds-Decides S.active p.0 role).1
+    (and_parts _ _ (sym (contains-retain pair_total pair_exact S.active (λ active. any (λ session. same_name session.0 active.0 && may_go_on S session) S.sessions) (p.0, role))
+    ∙ (seconds-Decides (end_sessions S).active p.0 role).0 active)).0)))
+
+-- a role that is left active is one of a session that is left
+kept_owner : (S : RbacState) (session role : Bytes) → IsTrue (contains (end_sessions S).active (session, role)) → (user : Bytes) × IsTrue (contains (end_sessions S).sessions (session, user))
+unfolding end_sessions
+kept_owner S session role h =
+    let parts = and_parts _ _ (sym (contains-retain pair_total pair_exact S.active (λ active. any (λ session. same_name session.0 active.0 && may_go_on S session) S.sessions) (session, role)) ∙ h) in
+    let owner = (any-Decides pair_total pair_exact (λ (other : Pair). same_name other.0 session && may_go_on S other) S.sessions).0 parts.1 in
+    let tests = and_parts _ _ owner.2 in
+    let same : owner.0 ≡ (session, owner.0.1) = λ i. ((tie_Decides name_total name_exact owner.0.0 session).0 tests.0 i, owner.0.1) in
+    (owner.0.1, subst (λ p. IsTrue (contains (end_sessions S).sessions p)) same (contains-retain pair_total pair_exact S.sessions (may_go_on S) owner.0 ∙ and_from _ _ owner.1 tests.1))
+
+-- those that are left go on
+ended_once : (S : RbacState) → end_sessions (end_sessions S) ≡ end_sessions S
+ended_once S = none_ends_where (end_sessions S) (kept_session S) (kept_owner S)
+
+-- and a verdict on a record is the same
+verdict_ended : (S : RbacState) (p : Pair) → assignment_verdict (end_sessions S) p ≡ assignment_verdict S p
+unfolding assignment_verdict assignment_refusals after_assignment end_sessions is_kept_statically authorized_users
+verdict_ended S p = refl
+
 -- ---- the law
 
 -- a second import of the same records changes nothing
 pub import_twice : ImportTwice
-unfolding verdict refusals tally tally_of
-import_twice S pairs good accepted_one =
-    let c = ImportAssignments pairs in
-    let T : RbacState = after_import S pairs.items in
-    let better : IsGood T = good_import S good pairs.items in
-    let again : AllAgain (import_verdicts S pairs.items) (map (assignment_verdict T) pairs.items) = all_again S good pairs.items T refl in
-    let idle : import_verdicts T pairs.items ≡ map (assignment_verdict T) pairs.items = idle_verdicts T pairs.items (import_verdicts S pairs.items) again in
-    subst (λ X. IsIdleAgain S X pairs) (sym (after_import_assignments S good pairs)) (record {
+unfolding verdict refusals tally tally_of after changed
+import_twice S pairs accepted_one =
+    let M : RbacState = after_import S pairs.items in
+    let T : RbacState = end_sessions M in
+    let vs = import_verdicts S pairs.items in
+    let again : AllAgain vs (map (assignment_verdict T) pairs.items) =
+    subst (λ f. AllAgain vs (map f pairs.items)) (λ i p. sym (verdict_ended M p) i) (all_again S pairs.items M refl) in
+    let idle : import_verdicts T pairs.items ≡ map (assignment_verdict T) pairs.items = idle_verdicts T pairs.items vs again in
+    record {
       accepted = accepted_one;
-      state = after_import_assignments T better pairs ∙ idle_state T pairs.items (import_verdicts S pairs.items) again;
-      assigned = ap (count_by is_none) idle ∙ none_assigned (import_verdicts S pairs.items) _ again;
-      already = ap (count_by is_already) idle ∙ assigned_before (import_verdicts S pairs.items) _ again;
-      refused = subst (λ ws. RefuseTheSame (filter_map refused_record (enumerate_from 1 (import_verdicts S pairs.items))) (filter_map refused_record (enumerate_from 1 ws))) (sym idle)
-          (refused_the_same 1 (import_verdicts S pairs.items) _ again);
-    })
+      state = ap end_sessions (idle_state T pairs.items vs again) ∙ ended_once M;
+      assigned = ap (count_by is_none) idle ∙ none_assigned vs _ again;
+      already = ap (count_by is_already) idle ∙ assigned_before vs _ again;
+      refused = subst (λ ws. RefuseTheSame (filter_map refused_record (enumerate_from 1 vs)) (filter_map refused_record (enumerate_from 1 ws))) (sym idle) (refused_the_same 1 vs _ again);
+    }

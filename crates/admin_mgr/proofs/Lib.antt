@@ -2,12 +2,14 @@ pub mod AcceptLaws
 pub mod AcceptedLaws
 pub mod AdditionLaws
 pub mod AdditionPlans
+pub mod AskedLaws
 pub mod AssignPlans
 pub mod BreakLaws
 pub mod ChangeLaws
 pub mod CheckLaws
 pub mod CommitLaws
 pub mod EdgeTurns
+pub mod EffectLaws
 pub mod EmptyLaws
 pub mod EndLaws
 pub mod EndedRows
@@ -27,6 +29,8 @@ pub mod KeepLaws
 pub mod KeyLaws
 pub mod LimitLaws
 pub mod ListLaws
+pub mod MigratedLaws
+pub mod NamedLaws
 pub mod NewRoleLaws
 pub mod NewSessionLaws
 pub mod NewSessionPlans
@@ -35,9 +39,11 @@ pub mod PartLaws
 pub mod PlainPlans
 pub mod PlanLaws
 pub mod RecordLaws
+pub mod RefusingLaws
 pub mod RoomLaws
 pub mod RowLaws
 pub mod RowSteps
+pub mod RowsAfterLaws
 pub mod RunLaws
 pub mod SeparationLaws
 pub mod SeparationTurns

@@ -78,5 +78,5 @@ pub record IsIdleAgain (S T : RbacState) (pairs : Vec Pair Global) : Type 0 wher
 
 -- an import that is made again changes nothing
 abbrev pub ImportTwice : Type 0
-ImportTwice = (S : RbacState) (pairs : Vec Pair Global) → IsGood S → verdict S (ImportAssignments pairs) ≡ None →
+ImportTwice = (S : RbacState) (pairs : Vec Pair Global) → verdict S (ImportAssignments pairs) ≡ None →
     IsIdleAgain S (after S (ImportAssignments pairs)) pairs

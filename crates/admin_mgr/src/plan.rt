@@ -1,5 +1,6 @@
 //! What a command does to a state, as changes of rows.
-ghost use Rattle.std.specs.Prelude.{◌≡◌};
+ghost use Rattle.std.specs.Prelude.{◌≡◌, true};
+ghost use Rattle.rbac_sets.specs.Named.{are_named};
 
 use rbac_sets::Change;
 use role_order::OrderPlan;
@@ -34,6 +35,15 @@ impl Plan {
         ensures { result.now ≡ self.now.changes.items }
     {
         &self.changes
+    }
+
+    /// What holds of every plan: each name in its rows is a name. It takes no memory.
+    pub fn is_named(&self)
+        ensures { are_named self.now.changes.items ≡ true }
+    {
+        for change in self.changes() {
+            change.is_named();
+        }
     }
 
     /// What is told of an import; zero and empty for any other command. It takes no memory.

@@ -72,6 +72,14 @@ impl Relations {
         }
     }
 
+    // The same in version 2. It takes no memory.
+    pub(crate) fn into_version_2(mut self) -> Relations
+        ensures { result.facts ≡ record self.facts { version = 2 } }
+    {
+        self.version = 2;
+        self
+    }
+
     pub(crate) fn version(&self) -> u32
         ensures { result ≡ self.now.facts.version }
     {

@@ -4,6 +4,8 @@ ghost use Rattle.rbac_sets.specs.Sets.{name_cmp, pair_cmp, triple_cmp, cardinali
 ghost use Rattle.rbac_sets.specs.SortedSet.{set_of};
 ghost use Rattle.admin_mgr.specs.RbacState.{RbacState, empty_state, cardinality_of};
 ghost use Rattle.admin_mgr.specs.Good.{IsGood};
+ghost use Rattle.admin_mgr.specs.Named.{AreNamed};
+ghost use Rattle.admin_mgr.specs.Life.{taken_into_version_2};
 ghost use Rattle.admin_mgr.specs.Checked.{IsStateOf, RefusesRows};
 ghost use Rattle.admin_mgr.specs.Planned.{LeadsTo, HasRoomFor};
 
@@ -21,7 +23,7 @@ use std::marker::Model;
 ///
 /// What a relation speaks of is there, the role hierarchy has no cycle, no separation of duty set is
 /// violated, a session's user is authorized for each role that was activated in it and is not locked,
-/// and no limit of the state's version is passed. A contract sees the sets and relations as `facts`.
+/// and no limit of the state's version is passed; and each of its names is a name. A contract sees the sets and relations as `facts`.
 /// No reader takes memory.
 #[derive(Drop)]
 pub struct State {
@@ -31,6 +33,7 @@ pub struct State {
 impl Model for State {
     ghost use Rattle.admin_mgr.specs.Kept.{Kept, coded_kept};
     ghost use Rattle.admin_mgr.specs.Good.{IsGood};
+    ghost use Rattle.admin_mgr.specs.Named.{AreNamed};
 
     ghost Value = { Kept };
 
@@ -38,7 +41,7 @@ impl Model for State {
 
     ghost view = { λ state. state.relations };
 
-    ghost invariant = { λ state. IsGood state.relations.facts };
+    ghost invariant = { λ state. IsGood state.relations.facts × AreNamed state.relations.facts };
 }
 
 impl State {
@@ -88,6 +91,17 @@ impl State {
         Ok(State { relations })
     }
 
+    /// A state of version 1 taken into version 2, with the same sets and relations and no user locked.
+    /// It takes no memory, and isn't refused: no limit of version 2 is lower.
+    pub fn migrated(self) -> State
+        requires { self.facts.version ≡ 1 }
+        ensures { result.facts ≡ taken_into_version_2 self.facts }
+    {
+        let State { relations } = self;
+        let relations = relations.into_version_2();
+        State { relations }
+    }
+
     // The relations alone, for what asks no more of them.
     pub(crate) fn relations(&self) -> &Relations
         ensures { result.now ≡ self.now }
@@ -101,6 +115,13 @@ impl State {
     /// its proof needs that the state is good.
     pub fn is_good(&self)
         ensures { IsGood self.now.facts }
+    {
+        let _ = &self.relations;
+    }
+
+    /// What holds of the names of every state.
+    pub fn is_named(&self)
+        ensures { AreNamed self.now.facts }
     {
         let _ = &self.relations;
     }
@@ -265,6 +286,7 @@ impl State {
         ensures state { (T : RbacState) → LeadsTo self.old.facts plan T → self.new.facts ≡ T }
         ensures report { result ≡ plan.report }
     {
+        plan.is_named();
         let Plan {
             changes,
             report,

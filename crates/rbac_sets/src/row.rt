@@ -1,6 +1,7 @@
 //! Rows of an office's tables, and changes of them.
-ghost use Rattle.std.specs.Prelude.{◌≡◌};
+ghost use Rattle.std.specs.Prelude.{◌≡◌, true};
 ghost use Rattle.rbac_sets.specs.declared.row.Row.TheVariants.{NameRow, PairRow, GrantRow, SetRow, LockedRow};
+ghost use Rattle.rbac_sets.specs.Named.{is_named, row_of};
 ghost use Rattle.rbac_sets.specs.Table.{table_of};
 
 use crate::name::Name;
@@ -191,6 +192,26 @@ impl Row {
     {
         Row::LockedRow(user)
     }
+
+    /// What holds of every row: each of its names is a name.
+    pub fn is_named(&self)
+        ensures { is_named self.now ≡ true }
+    {
+        match self {
+            Row::NameRow(_, a) | Row::SetRow(_, a, _) | Row::LockedRow(a) => {
+                a.as_str();
+            }
+            Row::PairRow(_, a, b) => {
+                a.as_str();
+                b.as_str();
+            }
+            Row::GrantRow(a, b, c) => {
+                a.as_str();
+                b.as_str();
+                c.as_str();
+            }
+        }
+    }
 }
 
 /// The change of one row.
@@ -200,4 +221,15 @@ pub enum Change {
     Put(Row),
     /// A row that is there is taken.
     Take(Row),
+}
+
+impl Change {
+    /// What holds of every change: each name of its row is a name.
+    pub fn is_named(&self)
+        ensures { is_named (row_of self.now) ≡ true }
+    {
+        match self {
+            Change::Put(row) | Change::Take(row) => row.is_named(),
+        }
+    }
 }

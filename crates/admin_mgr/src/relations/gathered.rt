@@ -1,5 +1,7 @@
 //! The sets that stored rows make, before anything is known of them.
 ghost use Rattle.std.specs.Prelude.{[], ◌≡◌, ◌⊎◌, ◌&&◌, not, true, false, IfOk, IfErr, OnOk};
+ghost use Rattle.std.specs.List.{list_all};
+ghost use Rattle.rbac_sets.specs.Named.{is_named};
 ghost use Rattle.rbac_sets.specs.Sets.{contains, insert};
 ghost use Rattle.rbac_sets.specs.SortedSet.{set_of};
 ghost use Rattle.role_order.specs.Order.{IsAcyclic, IsClosure};
@@ -78,10 +80,12 @@ impl Gathered {
     // Refused by `Damaged(1)` where it isn't so.
     pub(crate) fn of_rows(alloc: Global, version: u32, rows: Vec<Row>) -> Result<Gathered, Refusal>
         ensures ok { IfOk result (λ made. (made ≡ gathered version rows.items) × AreReadable version rows.items) }
+        ensures named { IfOk result (λ made. list_all is_named rows.items ≡ true) }
         ensures err { IfErr result (λ refusal. (refusal ≡ Refusal.Memory) ⊎ ((refusal ≡ Refusal.Damaged 1) × (AreReadable version rows.items → ⊥))) }
     {
         let mut made = Gathered::new(alloc, version);
         for row in rows {
+            row.is_named();
             made.add(row)?;
         }
         Ok(made)

@@ -1,7 +1,10 @@
 use Rattle.std.proofs.Common.{◌≡◌, sym, subst, ◌∙◌}
+use Rattle.admin_mgr.specs.Kept.{Kept}
 use Rattle.admin_mgr.specs.Stepping.{after_changes}
 use Rattle.admin_mgr.specs.Good.{IsGood}
+use Rattle.admin_mgr.specs.Named.{AreNamed}
 use Rattle.admin_mgr.proofs.CommitLaws.{free, leads, leads_edges}
+use Rattle.admin_mgr.proofs.NamedLaws.{named_turns}
 use Rattle.admin_mgr.proofs.state.State.commit.Goals as goal
 
 pub change-requires-clause-free : goal.change-requires-clause-free
@@ -13,7 +16,11 @@ returns-in-Some-clause-state c T to =
     c.commit_order.ensures ∙ leads_edges c.args.self.now.facts T c.args.plan c.in-Some.order to c.in-Some.is c.change.new.self.facts made
 
 pub invariant_of-self : goal.invariant_of-self
-invariant_of-self c = subst IsGood (sym (returns-in-Some-clause-state c c.requires.planned.0 c.requires.planned.1)) c.requires.planned.1.good
+invariant_of-self c =
+    let to = c.requires.planned.1 in
+    let named : AreNamed c.args.self.now.facts = subst (λ (k : Kept). AreNamed k.facts) c.self.view_is c.self.invariant.1 in
+    subst (λ S. IsGood S × AreNamed S) (sym (returns-in-Some-clause-state c c.requires.planned.0 to))
+    (to.good, named_turns c.args.self.now.facts c.requires.planned.0 c.args.plan.changes.items to.rows named c.is_named.ensures)
 
 pub returns-in-None-clause-state : goal.returns-in-None-clause-state
 returns-in-None-clause-state c T to =
@@ -24,4 +31,6 @@ pub invariant_of-self-in-None : goal.invariant_of-self-in-None
 invariant_of-self-in-None c =
     let to = c.requires.planned.1 in
     let made : c.change.new.self.facts ≡ after_changes c.args.self.now.facts c.args.plan.changes.items = rw (← c.self.view_is) c.change.ensures.facts in
-    subst IsGood (sym (leads c.args.self.now.facts c.requires.planned.0 c.args.plan to c.in-None.is c.change.new.self.facts made)) to.good
+    let named : AreNamed c.args.self.now.facts = subst (λ (k : Kept). AreNamed k.facts) c.self.view_is c.self.invariant.1 in
+    subst (λ S. IsGood S × AreNamed S) (sym (leads c.args.self.now.facts c.requires.planned.0 c.args.plan to c.in-None.is c.change.new.self.facts made))
+    (to.good, named_turns c.args.self.now.facts c.requires.planned.0 c.args.plan.changes.items to.rows named c.is_named.ensures)

@@ -8,6 +8,7 @@ use Rattle.admin_mgr.specs.Gathered.{Gathered, gathered}
 use Rattle.admin_mgr.specs.Checked.{AreReadable, IsStateOf}
 use Rattle.admin_mgr.specs.Tested.{early_refusal, late_refusal}
 use Rattle.admin_mgr.proofs.TestLaws.{RefusesOrder}
+use Rattle.admin_mgr.proofs.NamedLaws.{named_rows}
 use Rattle.admin_mgr.proofs.RowSteps.{version-gathered}
 use Rattle.admin_mgr.proofs.CheckLaws.{PassBefore, early_told, early_passed, order_told, late_told, late_passed, before_next, is_state_of, refuses_rows}
 use Rattle.admin_mgr.proofs.state.State.of_rows.Goals as goal
@@ -66,5 +67,6 @@ returns-clause-ok c =
 
 pub invariant_of-result : goal.invariant_of-result
 invariant_of-result c =
-    (is_state c.args.version c.args.rows.items c.in_ok-made.made c.in_ok-relations.relations.facts c.requires c.in_ok-made.ensures.ok.0 c.in_ok-made.ensures.ok.1 (sym c.early_refusal.ensures ∙ none_unless_some _ c.in_default.not-Some)
-    c.in_ok-relations.ensures.order c.in_ok-relations.ensures.facts (sym c.late_refusal.ensures ∙ none_unless_some _ c.in_default-late_refusal.not-Some)).good
+    let is = is_state c.args.version c.args.rows.items c.in_ok-made.made c.in_ok-relations.relations.facts c.requires c.in_ok-made.ensures.ok.0 c.in_ok-made.ensures.ok.1 (sym c.early_refusal.ensures ∙ none_unless_some _ c.in_default.not-Some)
+    c.in_ok-relations.ensures.order c.in_ok-relations.ensures.facts (sym c.late_refusal.ensures ∙ none_unless_some _ c.in_default-late_refusal.not-Some) in
+    (is.good, named_rows _ c.args.rows.items is.stored c.in_ok-made.ensures.named)

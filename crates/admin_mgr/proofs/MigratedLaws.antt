@@ -1,0 +1,67 @@
+-- A good state of version 1 that is taken into version 2 is good, and its names stay names.
+use Rattle.std.proofs.Common.{◌≤◌, ℕ, refl, sym, ◌∙◌, subst, inr, arith}
+use Rattle.rbac_sets.specs.Sets.{name_cmp, len}
+use Rattle.rbac_sets.specs.Kind.{limit_of}
+use Rattle.rbac_sets.specs.declared.kind.Kind.TheVariants.{User, Role, Edge}
+use Rattle.rbac_sets.specs.declared.row.Row.TheVariants.{NameRow, PairRow, GrantRow, SetRow, LockedRow}
+use Rattle.rbac_sets.proofs.SetLaws.{contains-empty}
+use Rattle.std.proofs.lemmas.Bool.{true≢false}
+use Rattle.admin_mgr.specs.RbacState.{RbacState}
+use Rattle.admin_mgr.specs.Authorization.{authorized_users}
+use Rattle.admin_mgr.specs.Rows.{has_row}
+use Rattle.admin_mgr.specs.Named.{AreNamed}
+use Rattle.admin_mgr.specs.Life.{taken_into_version_2}
+use Rattle.admin_mgr.specs.StateLaws.{MigratedIsGood}
+
+-- each limit of version 2 is no lower, and nobody is locked
+pub migrated_good : MigratedIsGood
+unfolding authorized_users
+migrated_good S good first =
+    let formed = good.well_formed in
+    let limits = good.limits in
+    record {
+      well_formed = record {
+        permissions = formed.permissions;
+        assignments = formed.assignments;
+        grants = formed.grants;
+        edges = formed.edges;
+        sessions = formed.sessions;
+        one_owner = formed.one_owner;
+        active = formed.active;
+        owned = formed.owned;
+        locked = λ user h. absurd (true≢false (sym h ∙ contains-empty name_cmp user));
+        ssd = formed.ssd;
+        dsd = formed.dsd;
+      };
+      acyclic = good.acyclic;
+      static_separation = good.static_separation;
+      dynamic_separation = good.dynamic_separation;
+      authorized = good.authorized;
+      unlocked = λ session user h. contains-empty name_cmp user;
+      limits = record {
+        users = (let h : len S.users ≤ 5000 = subst (λ (v : ℕ). len S.users ≤ limit_of User v) first limits.users in omega (arith, h));
+        roles = (let h : len S.roles ≤ 256 = subst (λ (v : ℕ). len S.roles ≤ limit_of Role v) first limits.roles in omega (arith, h));
+        objects = limits.objects;
+        permissions = limits.permissions;
+        grants = limits.grants;
+        assignments = limits.assignments;
+        edges = (let h : len S.edges ≤ 1024 = subst (λ (v : ℕ). len S.edges ≤ limit_of Edge v) first limits.edges in omega (arith, h));
+        ssd_sets = limits.ssd_sets;
+        dsd_sets = limits.dsd_sets;
+        ssd_members = limits.ssd_members;
+        dsd_members = limits.dsd_members;
+        sessions = limits.sessions;
+        active_roles = limits.active_roles;
+      };
+      version = inr refl;
+      no_locks = λ h. cc;
+    }
+
+-- its rows are those of the state but for the locks
+pub migrated_named : (S : RbacState) → AreNamed S → AreNamed (taken_into_version_2 S)
+unfolding has_row
+migrated_named S named (NameRow k a) there = named (NameRow k a) there
+migrated_named S named (PairRow k a b) there = named (PairRow k a b) there
+migrated_named S named (GrantRow a b c) there = named (GrantRow a b c) there
+migrated_named S named (SetRow k a n) there = named (SetRow k a n) there
+migrated_named S named (LockedRow a) there = absurd (true≢false (sym there ∙ contains-empty name_cmp a))

@@ -1,0 +1,94 @@
+-- A verdict refuses a command: it is none of the refusals of memory, of the store or of a closed office.
+use Rattle.std.proofs.Common.{◌≡◌, Bool, true, false, List, [], ◌∷◌, Option, Some, None, refl, subst}
+use Rattle.std.specs.Option.{option_map}
+use Rattle.std.specs.List.{AllByRecursion}
+use Rattle.rbac_sets.specs.Sets.{Bytes}
+use Rattle.rbac_sets.specs.declared.command.Command.{Command}
+use Rattle.rbac_sets.specs.declared.command.Command.TheVariants.{AddUser, DeleteUser, AddRole, DeleteRole, AddPermObj, DeletePermObj, AddPermission, DeletePermission, GrantPermission, RevokePermission, AssignUser, DeassignUser, AddInheritance, DeleteInheritance, AddAscendant, AddDescendant, CreateSsdSet, AddSsdRoleMember, DeleteSsdRoleMember, SetSsdSetCardinality, DeleteSsdSet, CreateDsdSet, AddDsdRoleMember, DeleteDsdRoleMember, SetDsdSetCardinality, DeleteDsdSet, CreateSession, DeleteSession, AddActiveRole, DropActiveRole, ImportAssignments, LockUserAccount, UnlockUserAccount}
+use Rattle.rbac_sets.specs.declared.refusal.Refusal.{Refusal}
+use Rattle.rbac_sets.specs.declared.refusal.Refusal.TheVariants.{StaticSeparation, DynamicSeparation}
+use Rattle.admin_mgr.specs.RbacState.{RbacState}
+use Rattle.admin_mgr.specs.Refusing.{refuse_if, refuse_unless, first, breaks_static, breaks_dynamic}
+use Rattle.admin_mgr.specs.Separation.{static_violation, dynamic_violation}
+use Rattle.admin_mgr.specs.Assignment.{assignment_refusals}
+use Rattle.admin_mgr.specs.Verdict.{refusals, verdict}
+use Rattle.admin_mgr.specs.CommandLaws.{refuses_commands, VerdictsRefuseCommands}
+
+-- none, or one that a command may be refused by
+abbrev MayBeTold : Option Refusal → Type 0
+MayBeTold None = Unit {0}
+MayBeTold (Some refusal) = refuses_commands refusal ≡ true
+
+-- one where a test holds
+on : (b : Bool) (refusal : Refusal) → refuses_commands refusal ≡ true → MayBeTold (refuse_if b refusal)
+on true refusal told = told
+on false refusal told = tt
+
+-- one where a test does not hold
+off : (b : Bool) (refusal : Refusal) → refuses_commands refusal ≡ true → MayBeTold (refuse_unless b refusal)
+off true refusal told = tt
+off false refusal told = told
+
+-- a static set that is violated
+static : (S : RbacState) → MayBeTold (breaks_static S)
+static S = by (static_violation S)
+  where
+    by : (violated : Option Bytes) → MayBeTold (option_map StaticSeparation violated)
+    by None = tt
+    by (Some name) = refl
+
+-- a dynamic set that is violated
+dynamic : (S : RbacState) → MayBeTold (breaks_dynamic S)
+dynamic S = by (dynamic_violation S)
+  where
+    by : (violated : Option Bytes) → MayBeTold (option_map DynamicSeparation violated)
+    by None = tt
+    by (Some name) = refl
+
+-- the first of several
+first_told : (told : List (Option Refusal)) → AllByRecursion MayBeTold told → MayBeTold (first told)
+first_told [] all = tt
+first_told (None ∷ told) all = first_told told all.1
+first_told (Some refusal ∷ told) all = all.0
+
+-- each refusal of each command
+all_told : (S : RbacState) (command : Command) → AllByRecursion MayBeTold (refusals S command)
+unfolding refusals assignment_refusals
+all_told S (AddUser user) = (on _ _ refl, (on _ _ refl, tt))
+all_told S (DeleteUser user) = (off _ _ refl, tt)
+all_told S (AddRole role) = (on _ _ refl, (on _ _ refl, tt))
+all_told S (DeleteRole role) = (off _ _ refl, (on _ _ refl, tt))
+all_told S (AddPermObj object) = (on _ _ refl, (on _ _ refl, tt))
+all_told S (DeletePermObj object) = (off _ _ refl, (on _ _ refl, tt))
+all_told S (AddPermission object operation) = (off _ _ refl, (on _ _ refl, (on _ _ refl, tt)))
+all_told S (DeletePermission object operation) = (off _ _ refl, (off _ _ refl, tt))
+all_told S (GrantPermission object operation role) = (off _ _ refl, (off _ _ refl, (off _ _ refl, (on _ _ refl, (on _ _ refl, tt)))))
+all_told S (RevokePermission object operation role) = (off _ _ refl, (off _ _ refl, (off _ _ refl, (off _ _ refl, tt))))
+all_told S (AssignUser user role) = (off _ _ refl, (off _ _ refl, (on _ _ refl, (on _ _ refl, (static _, tt)))))
+all_told S (DeassignUser user role) = (off _ _ refl, (off _ _ refl, (off _ _ refl, tt)))
+all_told S (AddInheritance asc desc) = (off _ _ refl, (off _ _ refl, (on _ _ refl, (on _ _ refl, (on _ _ refl, (static _, (dynamic _, tt)))))))
+all_told S (DeleteInheritance asc desc) = (off _ _ refl, (off _ _ refl, (off _ _ refl, tt)))
+all_told S (AddAscendant asc desc) = (off _ _ refl, (on _ _ refl, (on _ _ refl, (on _ _ refl, tt))))
+all_told S (AddDescendant asc desc) = (off _ _ refl, (on _ _ refl, (on _ _ refl, (on _ _ refl, tt))))
+all_told S (CreateSsdSet name roles n) = (off _ _ refl, (on _ _ refl, (off _ _ refl, (on _ _ refl, (on _ _ refl, (static _, tt))))))
+all_told S (AddSsdRoleMember name role) = (off _ _ refl, (off _ _ refl, (on _ _ refl, (on _ _ refl, (static _, tt)))))
+all_told S (DeleteSsdRoleMember name role) = (off _ _ refl, (off _ _ refl, (off _ _ refl, (off _ _ refl, tt))))
+all_told S (SetSsdSetCardinality name n) = (off _ _ refl, (off _ _ refl, (static _, tt)))
+all_told S (DeleteSsdSet name) = (off _ _ refl, tt)
+all_told S (CreateDsdSet name roles n) = (off _ _ refl, (on _ _ refl, (off _ _ refl, (on _ _ refl, (on _ _ refl, (dynamic _, tt))))))
+all_told S (AddDsdRoleMember name role) = (off _ _ refl, (off _ _ refl, (on _ _ refl, (on _ _ refl, (dynamic _, tt)))))
+all_told S (DeleteDsdRoleMember name role) = (off _ _ refl, (off _ _ refl, (off _ _ refl, (off _ _ refl, tt))))
+all_told S (SetDsdSetCardinality name n) = (off _ _ refl, (off _ _ refl, (dynamic _, tt)))
+all_told S (DeleteDsdSet name) = (off _ _ refl, tt)
+all_told S (CreateSession user roles session) = (off _ _ refl, (off _ _ refl, (on _ _ refl, (off _ _ refl, (on _ _ refl, (on _ _ refl, (on _ _ refl, (dynamic _, tt))))))))
+all_told S (DeleteSession user session) = (off _ _ refl, (off _ _ refl, (off _ _ refl, tt)))
+all_told S (AddActiveRole user session role) = (off _ _ refl, (off _ _ refl, (off _ _ refl, (off _ _ refl, (on _ _ refl, (off _ _ refl, (on _ _ refl, (dynamic _, tt))))))))
+all_told S (DropActiveRole user session role) = (off _ _ refl, (off _ _ refl, (off _ _ refl, (off _ _ refl, (off _ _ refl, tt)))))
+all_told S (ImportAssignments pairs) = (on _ _ refl, tt)
+all_told S (LockUserAccount user) = (on _ _ refl, (off _ _ refl, tt))
+all_told S (UnlockUserAccount user) = (on _ _ refl, (off _ _ refl, tt))
+
+-- so a verdict is one of them
+pub verdicts_refuse_commands : VerdictsRefuseCommands
+unfolding verdict
+verdicts_refuse_commands S command refusal is = subst MayBeTold is (first_told (refusals S command) (all_told S command))

@@ -1,0 +1,5 @@
+use Rattle.admin_mgr.proofs.RowsAfterLaws.{rows_follow}
+use Rattle.admin_mgr.proofs.laws.rows_follow.Goals as goal
+
+pub returns : goal.returns
+returns c = rows_follow

@@ -1,0 +1,36 @@
+-- What becomes of a command, by what it asks for.
+use Rattle.std.specs.Prelude.{◌≡◌, [], ◌∷◌, length, Option}
+use Rattle.rbac_sets.specs.Asked.{Asked, Single, Import, asked_of}
+use Rattle.rbac_sets.specs.declared.command.Command.{Command}
+use Rattle.rbac_sets.specs.declared.kind.Kind.TheVariants.{Record}
+use Rattle.rbac_sets.specs.declared.refusal.Refusal.{Refusal}
+use Rattle.admin_mgr.specs.RbacState.{RbacState}
+use Rattle.admin_mgr.specs.Refusing.{first, too_many}
+use Rattle.admin_mgr.specs.Assignment.{Tally, tally_of, import_verdicts, after_import, end_sessions}
+use Rattle.admin_mgr.specs.After.{after}
+use Rattle.admin_mgr.specs.Verdict.{verdict}
+use Rattle.admin_mgr.specs.Run.{tally}
+
+-- the verdict on what is asked for
+unfoldable pub asked_verdict : RbacState → Asked → Option Refusal
+asked_verdict S (Single command) = verdict S command
+asked_verdict S (Import pairs) = first (too_many S Record (length pairs) ∷ [])
+
+-- the state after it, where it is accepted
+unfoldable pub asked_after : RbacState → Asked → RbacState
+asked_after S (Single command) = after S command
+asked_after S (Import pairs) = end_sessions (after_import S pairs)
+
+-- what is told besides, where it is accepted
+unfoldable pub asked_tally : RbacState → Asked → Tally
+asked_tally S (Single command) = tally S command
+asked_tally S (Import pairs) = tally_of (import_verdicts S pairs)
+
+-- what becomes of a command goes by what it asks for alone
+pub record GoesByAsked (S : RbacState) (command : Command) : Type 0 where
+  pub verdict_is : verdict S command ≡ asked_verdict S (asked_of command)
+  pub after_is : after S command ≡ asked_after S (asked_of command)
+  pub tally_is : tally S command ≡ asked_tally S (asked_of command)
+
+abbrev pub CommandsGoByAsked : Type 0
+CommandsGoByAsked = (S : RbacState) (command : Command) → GoesByAsked S command
