@@ -1,8 +1,8 @@
-//! The commands of a script, from their words. What is no command is refused by `BadRequest`.
+//! Commands from their words, here and in tests/office of the repository. What is no command is refused by
+//! `BadRequest`.
 //!
 //! A command is written as its function with its keys in the order of its arguments. A list of roles
-//! is written `a,b,c`, `-` is the empty list, and `r*32` stands for `r1,r2` and so on up to `r32`. The
-//! records of an import are words such as `ann/clerk`, and with `*` on either side all pairs of both.
+//! is written `a,b,c`, and `-` is the empty list. The records of an import are words such as `ann/clerk`.
 use rbac_sets::{Command, Name, NameSet, Refusal};
 use std::alloc::Global;
 
@@ -37,9 +37,7 @@ fn read_names(alloc: Global, text: &str) -> Result<NameSet, Refusal> {
         return Ok(set);
     }
     for part in text.split(',') {
-        for name in spread(alloc, part)? {
-            put_name(&mut set, name)?;
-        }
+        put_name(&mut set, Name::new(alloc, part)?)?;
     }
     Ok(set)
 }
@@ -52,31 +50,11 @@ fn put_name(set: &mut NameSet, name: Name) -> Result<(), Refusal> {
     Ok(())
 }
 
-// The names that a word stands for: `r*3` for `r1`, `r2`, `r3`, and another word for itself.
-fn spread(alloc: Global, word: &str) -> Result<Vec<Name>, Refusal> {
-    let mut names = Vec::new(alloc);
-    match word.split_once('*') {
-        None => names.push(Name::new(alloc, word)?)?,
-        Some((stem, count)) => {
-            for number in 1..=count.parse::<u32>().ok().ok_or(Refusal::BadRequest)? {
-                let text = format!(in alloc; "{stem}{number}")?;
-                names.push(Name::new(alloc, &text)?)?;
-            }
-        }
-    }
-    Ok(names)
-}
-
 fn read_import(alloc: Global, records: &[&str]) -> Result<Command, Refusal> {
     let mut pairs = Vec::new(alloc);
     for record in records {
-        let (users, roles) = record.split_once('/').ok_or(Refusal::BadRequest)?;
-        let roles = spread(alloc, roles)?;
-        for user in spread(alloc, users)? {
-            for role in &roles {
-                pairs.push((user.copy(alloc)?, role.copy(alloc)?))?;
-            }
-        }
+        let (user, role) = record.split_once('/').ok_or(Refusal::BadRequest)?;
+        pairs.push((Name::new(alloc, user)?, Name::new(alloc, role)?))?;
     }
     Ok(Command::ImportAssignments(pairs))
 }

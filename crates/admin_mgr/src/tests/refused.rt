@@ -2,103 +2,230 @@
 //!
 //! The test passes where memory is ample. `tests/refused.sh` runs it with each allocation refused in
 //! turn, one in a run.
-use super::beginnings::SMALL_OFFICE;
-use super::script::obey;
-use super::showing::show_state;
+use super::naming::read_command;
 use crate::State;
-use rbac_sets::Refusal;
-use std::alloc::Global;
+use rbac_sets::{Command, CountSet, GrantSet, Name, NameSet, PairSet, Refusal};
+use std::alloc::{AllocError, Global};
 use std::process::Abort;
 use std::test::Fail;
 
-// After the small office: with it each command at least once, all of them accepted; some end sessions.
-const COMMANDS: &str = "addActiveRole ann s1 clerk
-    dropActiveRole ann s1 clerk
-    createSession bob clerk s2
-    createSession bob - s3
-    addAscendant chief boss
-    addDescendant clerk aide
-    addRole spare
-    addSsdRoleMember pay spare
-    setSsdSetCardinality pay 3
-    setSsdSetCardinality pay 2
-    deleteSsdRoleMember pay spare
-    addDsdRoleMember till spare
-    setDsdSetCardinality till 3
-    setDsdSetCardinality till 2
-    deleteDsdRoleMember till spare
-    importAssignments bob/clerk bob/aide ann/temp bob/spare zed/aide
-    lockUserAccount bob
-    unlockUserAccount bob
-    createSession bob clerk,aide s2
-    createSession ann - s4
-    deleteSession ann s4
-    deassignUser bob clerk
-    createSession bob aide s2
-    deleteInheritance clerk aide
-    deleteInheritance boss clerk
-    revokePermission safe view boss
-    deletePermission safe open
-    deletePermission safe view
-    deletePermObj safe
-    deleteRole spare
-    deassignUser ann boss
-    deleteDsdSet till
-    deleteSsdSet pay
-    deleteRole temp
-    deleteRole aide
-    deleteUser bob";
+// Each command at least once, all of them accepted; some end sessions.
+const COMMANDS: &[&str] = &[
+    "addUser ann",
+    "addUser bob",
+    "addRole boss",
+    "addRole clerk",
+    "addRole temp",
+    "addInheritance boss clerk",
+    "assignUser ann boss",
+    "assignUser bob clerk",
+    "addPermObj safe",
+    "addPermission safe open",
+    "addPermission safe view",
+    "grantPermission safe open clerk",
+    "grantPermission safe view boss",
+    "createSsdSet pay clerk,temp 2",
+    "createDsdSet till boss,temp 2",
+    "createSession ann boss s1",
+    "addActiveRole ann s1 clerk",
+    "dropActiveRole ann s1 clerk",
+    "createSession bob clerk s2",
+    "createSession bob - s3",
+    "addAscendant chief boss",
+    "addDescendant clerk aide",
+    "addRole spare",
+    "addSsdRoleMember pay spare",
+    "setSsdSetCardinality pay 3",
+    "setSsdSetCardinality pay 2",
+    "deleteSsdRoleMember pay spare",
+    "addDsdRoleMember till spare",
+    "setDsdSetCardinality till 3",
+    "setDsdSetCardinality till 2",
+    "deleteDsdRoleMember till spare",
+    "importAssignments bob/clerk bob/aide ann/temp bob/spare zed/aide",
+    "lockUserAccount bob",
+    "unlockUserAccount bob",
+    "createSession bob clerk,aide s2",
+    "createSession ann - s4",
+    "deleteSession ann s4",
+    "deassignUser bob clerk",
+    "createSession bob aide s2",
+    "deleteInheritance clerk aide",
+    "deleteInheritance boss clerk",
+    "revokePermission safe view boss",
+    "deletePermission safe open",
+    "deletePermission safe view",
+    "deletePermObj safe",
+    "deleteRole spare",
+    "deassignUser ann boss",
+    "deleteDsdSet till",
+    "deleteSsdSet pay",
+    "deleteRole temp",
+    "deleteRole aide",
+    "deleteUser bob",
+];
 
 // What is left after them.
-const LEFT: &str = "users: ann
-locked: 
-roles: boss chief clerk
-objects: 
-permissions: 
-grants: 
-assignments: 
-edges: chief/boss
-closure: chief/boss
-ssdMembers: 
-ssdSets: 
-dsdMembers: 
-dsdSets: 
-sessions: 
-active: 
+const LEFT: &str = "users ann
+roles boss chief clerk
+edges chief/boss
+closure chief/boss
 ";
 
-// The sets and relations of the state, also where memory is refused once.
-fn show(alloc: Global, state: &State) -> Result<String, Fail> {
-    match show_state(alloc, state) {
+// A function, so that a proof needs not look at so many words.
+fn commands() -> &'static [&'static str] {
+    COMMANDS
+}
+
+fn left() -> &'static str {
+    LEFT
+}
+
+fn push_names(text: &mut String, about: &str, names: &NameSet) -> Result<(), AllocError> {
+    if names.is_empty() {
+        return Ok(());
+    }
+    text.push_str(about)?;
+    for name in names.iter() {
+        text.push(' ')?;
+        text.push_str(name.as_str())?;
+    }
+    text.push('\n')
+}
+
+fn push_pair(text: &mut String, first: &Name, second: &Name) -> Result<(), AllocError> {
+    text.push(' ')?;
+    text.push_str(first.as_str())?;
+    text.push('/')?;
+    text.push_str(second.as_str())
+}
+
+fn push_pairs(text: &mut String, about: &str, pairs: &PairSet) -> Result<(), AllocError> {
+    if pairs.is_empty() {
+        return Ok(());
+    }
+    text.push_str(about)?;
+    for (first, second) in pairs.iter() {
+        push_pair(text, first, second)?;
+    }
+    text.push('\n')
+}
+
+fn push_grants(text: &mut String, grants: &GrantSet) -> Result<(), AllocError> {
+    if grants.is_empty() {
+        return Ok(());
+    }
+    text.push_str("grants")?;
+    for (object, operation, role) in grants.iter() {
+        push_pair(text, object, operation)?;
+        text.push('/')?;
+        text.push_str(role.as_str())?;
+    }
+    text.push('\n')
+}
+
+fn push_counts(text: &mut String, about: &str, counts: &CountSet) -> Result<(), AllocError> {
+    if counts.is_empty() {
+        return Ok(());
+    }
+    text.push_str(about)?;
+    for (set, count) in counts.iter() {
+        text.push(' ')?;
+        text.push_str(set.as_str())?;
+        for _ in 0..*count {
+            text.push('+')?;
+        }
+    }
+    text.push('\n')
+}
+
+fn push_core(text: &mut String, state: &State) -> Result<(), AllocError> {
+    push_names(text, "users", state.users())?;
+    push_names(text, "locked", state.locked())?;
+    push_names(text, "roles", state.roles())?;
+    push_names(text, "objects", state.objects())?;
+    push_pairs(text, "permissions", state.permissions())?;
+    push_grants(text, state.grants())?;
+    push_pairs(text, "assignments", state.assignments())
+}
+
+fn push_others(text: &mut String, state: &State) -> Result<(), AllocError> {
+    push_pairs(text, "edges", state.order().edges())?;
+    push_pairs(text, "closure", state.order().pairs())?;
+    push_pairs(text, "ssd members", state.ssd_members())?;
+    push_counts(text, "ssd sets", state.ssd_cardinalities())?;
+    push_pairs(text, "dsd members", state.dsd_members())?;
+    push_counts(text, "dsd sets", state.dsd_cardinalities())?;
+    push_pairs(text, "sessions", state.sessions())?;
+    push_pairs(text, "active", state.active())
+}
+
+// Every set and relation of the state that has an entry.
+fn show(alloc: Global, state: &State) -> Result<String, AllocError> {
+    let mut text = String::new(alloc);
+    push_core(&mut text, state)?;
+    push_others(&mut text, state)?;
+    Ok(text)
+}
+
+// The same, also where memory is refused once.
+fn show_again(alloc: Global, state: &State) -> Result<String, AllocError> {
+    match show(alloc, state) {
         Ok(text) => Ok(text),
-        Err(_) => Ok(show_state(alloc, state)?),
+        Err(_) => show(alloc, state),
+    }
+}
+
+// Plans a command, makes room for the plan, and makes its changes.
+fn apply(alloc: Global, state: &mut State, command: &Command) -> Result<(), Refusal> {
+    let plan = state.plan(alloc, command)?;
+    state.make_room(&plan)?;
+    state.commit(plan);
+    Ok(())
+}
+
+// Reads a command, and has it done.
+pub(super) fn obey(alloc: Global, state: &mut State, text: &str) -> Result<(), Refusal> {
+    match read_command(alloc, text) {
+        Ok(command) => apply(alloc, state, &command),
+        Err(refusal) => Err(refusal),
     }
 }
 
 // Has a command done. Where memory is refused, nothing may have changed, other commands are done, and
 // then this one is.
 fn insist(rt: &impl Abort, alloc: Global, state: &mut State, text: &str) -> Result<(), Fail> {
-    let before = show(alloc, state)?;
+    let before = show_again(alloc, state)?;
     match obey(alloc, state, text) {
-        Ok(_) => return Ok(()),
+        Ok(()) => return Ok(()),
         Err(refusal) => assert!(rt; matches!(refusal, Refusal::Memory), "{text}"),
     }
-    assert_eq!(rt; show(alloc, state)?, before, "{text}");
+    assert_eq!(rt; show_again(alloc, state)?, before, "{text}");
     for other in ["addUser other", "deleteUser other", text] {
         assert!(rt; obey(alloc, state, other).is_ok(), "{other} before {text}");
     }
     Ok(())
 }
 
+// Has all commands done.
+fn insist_on_all(rt: &impl Abort, alloc: Global, state: &mut State) -> Result<(), Fail> {
+    for text in commands() {
+        insist(rt, alloc, state, text)?;
+    }
+    Ok(())
+}
+
+// Whether the state is what is left.
+fn is_left(alloc: Global, state: &State) -> Result<bool, Fail> {
+    let text = show_again(alloc, state)?;
+    Ok(text.as_str() == left())
+}
+
 #[test]
 fn refused_memory_changes_nothing(rt: HostRuntime) -> Result<(), Fail> {
     let alloc = rt.alloc();
     let mut state = State::empty(alloc);
-    for line in SMALL_OFFICE.lines().chain(COMMANDS.lines()) {
-        let line = line.trim();
-        let command = line.strip_suffix(" = 0").unwrap_or(line);
-        insist(&rt, alloc, &mut state, command)?;
-    }
-    assert_eq!(rt; show(alloc, &state)?.as_str(), LEFT);
+    insist_on_all(&rt, alloc, &mut state)?;
+    assert!(rt; is_left(alloc, &state)?);
     Ok(())
 }
