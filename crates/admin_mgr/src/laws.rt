@@ -14,7 +14,7 @@ pub fn subset_form()
 {}
 
 /// States of one version whose rows are the same are equal.
-#[tactic(auto, using(crate::proofs::RowLaws::rows_determine))]
+#[tactic(auto, using(crate::proofs::PlanRows::RowLaws::rows_determine))]
 pub fn rows_determine()
     ensures { RowsDetermine }
 {}
@@ -25,13 +25,13 @@ pub fn accepted_good()
 {}
 
 /// The test of a verdict names no static separation of duty set exactly where none is violated.
-#[tactic(auto, using(crate::proofs::SeparationLaws::static_test))]
+#[tactic(auto, using(crate::proofs::Verdicts::SeparationLaws::static_test))]
 pub fn static_test()
     ensures { StaticTest }
 {}
 
 /// The test of a verdict names no dynamic separation of duty set exactly where none is violated.
-#[tactic(auto, using(crate::proofs::SeparationLaws::dynamic_test))]
+#[tactic(auto, using(crate::proofs::Verdicts::SeparationLaws::dynamic_test))]
 pub fn dynamic_test()
     ensures { DynamicTest }
 {}
@@ -45,7 +45,7 @@ pub fn import_twice()
 
 /// The rows of a good state, each once and in any order, are refused by `State::of_rows` for want of
 /// memory alone.
-#[tactic(auto, using(crate::proofs::AcceptLaws::good_rows_are_read))]
+#[tactic(auto, using(crate::proofs::StoredRows::AcceptLaws::good_rows_are_read))]
 pub fn good_rows_are_read()
     ensures { GoodRowsAreRead }
 {}
@@ -62,7 +62,7 @@ pub fn empty_states()
 {}
 
 /// A good state of version 1 that is taken into version 2 is good.
-#[tactic(auto, using(crate::proofs::MigratedLaws::migrated_good))]
+#[tactic(auto, using(crate::proofs::StateAfter::MigratedLaws::migrated_good))]
 pub fn migrated_good()
     ensures { MigratedIsGood }
 {}
@@ -86,14 +86,14 @@ pub fn commands_go_by_asked()
 
 /// A verdict is a refusal by a number from 2 to 32, by 37, or by 51: it never says that memory or the
 /// store was refused, or that the office is closed.
-#[tactic(auto, using(crate::proofs::RefusingLaws::verdicts_refuse_commands))]
+#[tactic(auto, using(crate::proofs::Verdicts::RefusingLaws::verdicts_refuse_commands))]
 pub fn verdicts_refuse_commands()
     ensures { VerdictsRefuseCommands }
 {}
 
 /// Nothing but assignUser and an import adds to UA, nothing but grantPermission adds to PA, and no
 /// command changes the version.
-#[tactic(auto, using(crate::proofs::EffectLaws::assigned_by_command, crate::proofs::EffectLaws::granted_by_command, crate::proofs::EffectLaws::version_stays))]
+#[tactic(auto, using(crate::proofs::StateAfter::EffectLaws::assigned_by_command, crate::proofs::StateAfter::EffectLaws::granted_by_command, crate::proofs::StateAfter::EffectLaws::version_stays))]
 pub fn effects()
     ensures assignments { AssignedByCommand }
     ensures grants { GrantedByCommand }

@@ -13,7 +13,7 @@ use Rattle.admin_mgr.specs.RbacState.{RbacState, has_session}
 use Rattle.admin_mgr.specs.Authorization.{session_roles, is_session_role}
 use Rattle.admin_mgr.specs.Good.{IsGood}
 use Rattle.admin_mgr.specs.Held.{run_of, is_reached}
-use Rattle.admin_mgr.proofs.HeldLaws.{session_reached}
+use Rattle.admin_mgr.proofs.Verdicts.HeldLaws.{session_reached}
 use Rattle.review_mgr.specs.Questions.{has_operation}
 use Rattle.review_mgr.specs.Review.{has_access, permission_of, is_grant_of}
 

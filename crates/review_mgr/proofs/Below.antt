@@ -21,7 +21,7 @@ use Rattle.admin_mgr.specs.RbacState.{RbacState}
 use Rattle.admin_mgr.specs.Authorization.{authorized_roles, session_roles, is_authorized, is_session_role}
 use Rattle.admin_mgr.specs.Good.{IsGood, IsWellFormed}
 use Rattle.admin_mgr.specs.Held.{run_of, is_reached}
-use Rattle.admin_mgr.proofs.HeldLaws.{authorized_reached, session_reached}
+use Rattle.admin_mgr.proofs.Verdicts.HeldLaws.{authorized_reached, session_reached}
 
 -- ---- a loop over a list
 

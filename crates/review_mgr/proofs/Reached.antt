@@ -10,7 +10,7 @@ use Rattle.admin_mgr.specs.RbacState.{RbacState}
 use Rattle.admin_mgr.specs.Authorization.{session_roles, is_session_role}
 use Rattle.admin_mgr.specs.Good.{IsGood}
 use Rattle.admin_mgr.specs.Held.{run_of, is_reached}
-use Rattle.admin_mgr.proofs.HeldLaws.{session_reached}
+use Rattle.admin_mgr.proofs.Verdicts.HeldLaws.{session_reached}
 use Rattle.review_mgr.specs.Review.{permission_of, assigned_roles, user_permissions, session_permissions}
 
 -- what is granted to a role that is reached from these pairs

@@ -16,7 +16,7 @@ use rbac_sets::{Change, Name, Refusal, Row};
 use std::alloc::Global;
 
 // The plan of AddUser.
-#[tactic(auto, using(crate::proofs::AdditionPlans::done_add_user))]
+#[tactic(auto, using(crate::proofs::PlanRows::AdditionPlans::done_add_user))]
 pub(crate) fn plan_add_user(alloc: Global, state: &State, user: &Name) -> Result<Plan, Refusal>
     requires accepted { verdict state.now.facts (AddUser user.now) ≡ None }
     ensures planned { IfOk result (IsPlanOf state.now.facts (AddUser user.now)) }
@@ -47,7 +47,7 @@ pub(crate) fn plan_delete_user(alloc: Global, state: &State, user: &Name) -> Res
 }
 
 // The plan of AddRole.
-#[tactic(auto, using(crate::proofs::AdditionPlans::done_add_role))]
+#[tactic(auto, using(crate::proofs::PlanRows::AdditionPlans::done_add_role))]
 pub(crate) fn plan_add_role(alloc: Global, state: &State, role: &Name) -> Result<Plan, Refusal>
     requires accepted { verdict state.now.facts (AddRole role.now) ≡ None }
     ensures planned { IfOk result (IsPlanOf state.now.facts (AddRole role.now)) }
@@ -79,7 +79,7 @@ pub(crate) fn plan_delete_role(alloc: Global, state: &State, role: &Name) -> Res
 }
 
 // The plan for one more object.
-#[tactic(auto, using(crate::proofs::AdditionPlans::done_add_perm_obj))]
+#[tactic(auto, using(crate::proofs::PlanRows::AdditionPlans::done_add_perm_obj))]
 pub(crate) fn plan_add_perm_obj(
     alloc: Global,
     state: &State,
@@ -94,7 +94,7 @@ pub(crate) fn plan_add_perm_obj(
 }
 
 // The plan for one object less.
-#[tactic(auto, using(crate::proofs::TakePlans::done_delete_perm_obj))]
+#[tactic(auto, using(crate::proofs::PlanRows::TakePlans::done_delete_perm_obj))]
 pub(crate) fn plan_delete_perm_obj(
     alloc: Global,
     state: &State,
@@ -109,7 +109,7 @@ pub(crate) fn plan_delete_perm_obj(
 }
 
 // The plan for one more permission.
-#[tactic(auto, using(crate::proofs::AdditionPlans::done_add_permission))]
+#[tactic(auto, using(crate::proofs::PlanRows::AdditionPlans::done_add_permission))]
 pub(crate) fn plan_add_permission(
     alloc: Global,
     state: &State,
@@ -153,7 +153,7 @@ pub(crate) fn plan_delete_permission(
 }
 
 // The plan of GrantPermission.
-#[tactic(auto, using(crate::proofs::AdditionPlans::done_grant_permission))]
+#[tactic(auto, using(crate::proofs::PlanRows::AdditionPlans::done_grant_permission))]
 pub(crate) fn plan_grant_permission(
     alloc: Global,
     state: &State,
@@ -177,7 +177,7 @@ pub(crate) fn plan_grant_permission(
 }
 
 // The plan of RevokePermission.
-#[tactic(auto, using(crate::proofs::TakePlans::done_revoke_permission))]
+#[tactic(auto, using(crate::proofs::PlanRows::TakePlans::done_revoke_permission))]
 pub(crate) fn plan_revoke_permission(
     alloc: Global,
     state: &State,
@@ -201,7 +201,7 @@ pub(crate) fn plan_revoke_permission(
 }
 
 // The plan of AssignUser.
-#[tactic(auto, using(crate::proofs::AssignPlans::done_assign_user))]
+#[tactic(auto, using(crate::proofs::PlanRows::AssignPlans::done_assign_user))]
 pub(crate) fn plan_assign_user(
     alloc: Global,
     state: &State,

@@ -18,7 +18,7 @@ use role_order::OrderPlan;
 use std::alloc::Global;
 
 // The plan of AddInheritance.
-#[tactic(auto, using(crate::proofs::GoodInheritance::no_edge, crate::proofs::GoodInheritance::no_way_back))]
+#[tactic(auto, using(crate::proofs::StateAfter::GoodInheritance::no_edge, crate::proofs::StateAfter::GoodInheritance::no_way_back))]
 pub(crate) fn plan_add_inheritance(
     alloc: Global,
     state: &State,
@@ -37,7 +37,7 @@ pub(crate) fn plan_add_inheritance(
 }
 
 // The plan of DeleteInheritance: sessions may end.
-#[tactic(auto, using(crate::proofs::EdgeTurns::edge_there))]
+#[tactic(auto, using(crate::proofs::PlanRows::EdgeTurns::edge_there))]
 pub(crate) fn plan_delete_inheritance(
     alloc: Global,
     state: &State,
@@ -57,7 +57,7 @@ pub(crate) fn plan_delete_inheritance(
 }
 
 // The plan of AddAscendant: the role `asc` comes with its edge.
-#[tactic(auto, using(crate::proofs::NewRoleLaws::add_ascendant_no_edge, crate::proofs::EdgeTurns::ascendant_makes_no_cycle))]
+#[tactic(auto, using(crate::proofs::StateAfter::NewRoleLaws::add_ascendant_no_edge, crate::proofs::PlanRows::EdgeTurns::ascendant_makes_no_cycle))]
 pub(crate) fn plan_add_ascendant(
     alloc: Global,
     state: &State,
@@ -77,7 +77,7 @@ pub(crate) fn plan_add_ascendant(
 }
 
 // The plan of AddDescendant: the role `desc` comes with its edge.
-#[tactic(auto, using(crate::proofs::NewRoleLaws::add_descendant_no_edge, crate::proofs::EdgeTurns::descendant_makes_no_cycle))]
+#[tactic(auto, using(crate::proofs::StateAfter::NewRoleLaws::add_descendant_no_edge, crate::proofs::PlanRows::EdgeTurns::descendant_makes_no_cycle))]
 pub(crate) fn plan_add_descendant(
     alloc: Global,
     state: &State,

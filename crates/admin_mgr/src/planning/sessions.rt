@@ -58,7 +58,7 @@ pub(crate) fn plan_delete_session(
 }
 
 // The plan of AddActiveRole.
-#[tactic(auto, using(crate::proofs::AdditionPlans::done_add_active_role))]
+#[tactic(auto, using(crate::proofs::PlanRows::AdditionPlans::done_add_active_role))]
 pub(crate) fn plan_add_active_role(
     alloc: Global,
     state: &State,
@@ -78,7 +78,7 @@ pub(crate) fn plan_add_active_role(
 }
 
 // The plan of DropActiveRole.
-#[tactic(auto, using(crate::proofs::TakePlans::done_drop_active_role))]
+#[tactic(auto, using(crate::proofs::PlanRows::TakePlans::done_drop_active_role))]
 pub(crate) fn plan_drop_active_role(
     alloc: Global,
     state: &State,

@@ -115,7 +115,7 @@ impl Relations {
     }
 
     // Takes a row. A row of the role hierarchy is left to the hierarchy's plan.
-    #[tactic(auto, unfolding(crate::specs::Stepping::without_row), using(crate::proofs::RoomLaws::spends_none))]
+    #[tactic(auto, unfolding(crate::specs::Stepping::without_row), using(crate::proofs::PlanRows::RoomLaws::spends_none))]
     fn take(&mut self, row: &Row)
         ensures facts { self.new.facts ≡ without_row self.old.facts row.now }
         ensures room { Spends (Take row.now) self.old.room self.new.room }

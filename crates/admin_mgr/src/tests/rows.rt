@@ -96,7 +96,10 @@ fn rows_of_no_state_are_refused(rt: HostRuntime) -> Result<(), Fail> {
     let alloc = rt.alloc();
     let answer = State::of_rows(alloc, 1, rows_of(alloc, bank())?);
     assert!(rt; matches!(answer, Err(Refusal::Damaged(1))));
-    let unlocked = [('n', Row::USER, "ann", ""), ('p', Row::ASSIGNMENT, "ann", "clerk")];
+    let unlocked = [
+        ('n', Row::USER, "ann", ""),
+        ('p', Row::ASSIGNMENT, "ann", "clerk"),
+    ];
     let answer = State::of_rows(alloc, 2, rows_of(alloc, &unlocked)?);
     assert!(rt; matches!(answer, Err(Refusal::Damaged(3))));
     Ok(())

@@ -4,7 +4,7 @@ use Rattle.std.specs.List.{list_all}
 use Rattle.rbac_sets.specs.Sets.{Cardinality, Pair, pair_cmp}
 use Rattle.rbac_sets.specs.SortedSet.{set_of}
 use Rattle.admin_mgr.specs.Held.{find_broken, is_touched, reached_with, run_of}
-use Rattle.admin_mgr.proofs.ListLaws.{found_later, found_here}
+use Rattle.admin_mgr.proofs.PlanRows.ListLaws.{found_later, found_here}
 use Rattle.admin_mgr.proofs.inheriting.find_broken.Goals as goal
 
 pub returns-then-is_broken : goal.returns-then-is_broken

@@ -3,7 +3,7 @@ use Rattle.std.specs.List.{list_all, list_any}
 use Rattle.rbac_sets.specs.Sets.{Cardinality, Pair, members}
 use Rattle.admin_mgr.specs.Held.{find_broken, is_touched, reached_with, run_of}
 use Rattle.admin_mgr.specs.SeparationOfDuty.{sets_of}
-use Rattle.admin_mgr.proofs.TouchLaws.{none_broken}
+use Rattle.admin_mgr.proofs.Verdicts.TouchLaws.{none_broken}
 use Rattle.admin_mgr.proofs.inheriting.first_broken.Goals as goal
 
 pub returns-then-not-touches_some : goal.returns-then-not-touches_some

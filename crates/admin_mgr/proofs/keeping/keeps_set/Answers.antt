@@ -1,5 +1,5 @@
 use Rattle.std.proofs.Common.{sym}
-use Rattle.admin_mgr.proofs.KeepLaws.{larger}
+use Rattle.admin_mgr.proofs.Verdicts.KeepLaws.{larger}
 use Rattle.admin_mgr.proofs.keeping.keeps_set.Goals as goal
 
 pub returns-then-cardinality-before : goal.returns-then-cardinality-before

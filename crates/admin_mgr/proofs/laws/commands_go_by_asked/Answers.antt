@@ -1,4 +1,4 @@
-use Rattle.admin_mgr.proofs.AskedLaws.{commands_go_by_asked}
+use Rattle.admin_mgr.proofs.Verdicts.AskedLaws.{commands_go_by_asked}
 use Rattle.admin_mgr.proofs.laws.commands_go_by_asked.Goals as goal
 
 pub returns : goal.returns

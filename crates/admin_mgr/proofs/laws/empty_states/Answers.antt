@@ -1,4 +1,4 @@
-use Rattle.admin_mgr.proofs.EmptyLaws.{empty_is_good, empty_has_no_row}
+use Rattle.admin_mgr.proofs.StateAfter.EmptyLaws.{empty_is_good, empty_has_no_row}
 use Rattle.admin_mgr.proofs.laws.empty_states.Goals as goal
 
 pub returns-clause-good : goal.returns-clause-good

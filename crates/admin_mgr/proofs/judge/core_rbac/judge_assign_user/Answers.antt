@@ -4,11 +4,11 @@ use Rattle.rbac_sets.specs.Sets.{Cardinality, contains, members}
 use Rattle.rbac_sets.specs.declared.refusal.Refusal.TheVariants.{NoUser}
 use Rattle.admin_mgr.specs.Assignment.{assign_user_refusals, assignment_refusals, after_assignment}
 use Rattle.admin_mgr.specs.Held.{run_of, find_in}
-use Rattle.admin_mgr.proofs.TouchLaws.{assignment_breaks}
+use Rattle.admin_mgr.proofs.Verdicts.TouchLaws.{assignment_breaks}
 use Rattle.rbac_sets.specs.declared.refusal.Refusal.TheVariants.{StaticSeparation}
 use Rattle.admin_mgr.specs.Refusing.{breaks_static}
 use Rattle.admin_mgr.specs.Verdict.{verdict, refusals}
-use Rattle.admin_mgr.proofs.VerdictLaws.{passed, refuse_unless-None, stopped, last_decides, none_unless_some}
+use Rattle.admin_mgr.proofs.Verdicts.VerdictLaws.{passed, refuse_unless-None, stopped, last_decides, none_unless_some}
 use Rattle.admin_mgr.proofs.judge.core_rbac.judge_assign_user.Goals as goal
 
 pub returns-in-Some : goal.returns-in-Some

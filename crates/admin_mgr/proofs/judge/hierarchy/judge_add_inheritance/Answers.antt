@@ -3,7 +3,7 @@ use Rattle.rbac_sets.specs.declared.command.Command.TheVariants.{AddInheritance}
 use Rattle.admin_mgr.specs.Refusing.{breaks_static, breaks_dynamic}
 use Rattle.admin_mgr.specs.After.{after}
 use Rattle.admin_mgr.specs.Verdict.{verdict, refusals, add_inheritance_refusals}
-use Rattle.admin_mgr.proofs.VerdictLaws.{stopped_before}
+use Rattle.admin_mgr.proofs.Verdicts.VerdictLaws.{stopped_before}
 use Rattle.admin_mgr.proofs.judge.hierarchy.judge_add_inheritance.Goals as goal
 
 pub returns-in-Some : goal.returns-in-Some

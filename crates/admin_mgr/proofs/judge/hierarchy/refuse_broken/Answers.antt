@@ -2,7 +2,7 @@ use Rattle.std.proofs.Common.{sym, ◌∙◌, ap}
 use Rattle.std.specs.Option.{option_map}
 use Rattle.rbac_sets.specs.Sets.{Cardinality}
 use Rattle.admin_mgr.specs.SeparationOfDuty.{refusal_of}
-use Rattle.admin_mgr.proofs.InheritLaws.{inheritance_breaks}
+use Rattle.admin_mgr.proofs.Verdicts.InheritLaws.{inheritance_breaks}
 use Rattle.admin_mgr.proofs.judge.hierarchy.refuse_broken.Goals as goal
 
 pub returns : goal.returns

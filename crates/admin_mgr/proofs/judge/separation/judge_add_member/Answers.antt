@@ -5,13 +5,13 @@ use Rattle.admin_mgr.specs.RbacState.{has_set}
 use Rattle.admin_mgr.specs.Refusing.{first}
 use Rattle.admin_mgr.specs.After.{after}
 use Rattle.admin_mgr.specs.Verdict.{verdict, add_member_refusals}
-use Rattle.admin_mgr.proofs.VerdictLaws.{passed, refuse_unless-None, stopped, last_decides, none_unless_some}
-use Rattle.admin_mgr.proofs.BreakLaws.{add_member_breaks}
-use Rattle.admin_mgr.proofs.KeepLaws.{cardinality_there}
+use Rattle.admin_mgr.proofs.Verdicts.VerdictLaws.{passed, refuse_unless-None, stopped, last_decides, none_unless_some}
+use Rattle.admin_mgr.proofs.Verdicts.BreakLaws.{add_member_breaks}
+use Rattle.admin_mgr.proofs.Verdicts.KeepLaws.{cardinality_there}
 use Rattle.admin_mgr.specs.SeparationOfDuty.{sets_of, refusal_of, breaks, add_member}
-use Rattle.admin_mgr.proofs.SetCommandLaws.{refusals_add_member}
+use Rattle.admin_mgr.proofs.StateAfter.SetCommandLaws.{refusals_add_member}
 use Rattle.admin_mgr.proofs.judge.separation.judge_add_member.Goals as goal
-use Rattle.admin_mgr.proofs.HeldLaws.{is_some_cardinality}
+use Rattle.admin_mgr.proofs.Verdicts.HeldLaws.{is_some_cardinality}
 
 pub returns-in-Some : goal.returns-in-Some
 unfolding verdict

@@ -7,10 +7,10 @@ use Rattle.admin_mgr.specs.RbacState.{has_set}
 use Rattle.admin_mgr.specs.Refusing.{first}
 use Rattle.admin_mgr.specs.After.{after}
 use Rattle.admin_mgr.specs.Verdict.{verdict, create_set_refusals}
-use Rattle.admin_mgr.proofs.VerdictLaws.{passed, refuse_if-None, stopped, last_decides, none_unless_some}
-use Rattle.admin_mgr.proofs.BreakLaws.{create_set_breaks}
+use Rattle.admin_mgr.proofs.Verdicts.VerdictLaws.{passed, refuse_if-None, stopped, last_decides, none_unless_some}
+use Rattle.admin_mgr.proofs.Verdicts.BreakLaws.{create_set_breaks}
 use Rattle.admin_mgr.specs.SeparationOfDuty.{sets_of, kind_of, refusal_of, breaks, create_set}
-use Rattle.admin_mgr.proofs.SetCommandLaws.{refusals_create_set}
+use Rattle.admin_mgr.proofs.StateAfter.SetCommandLaws.{refusals_create_set}
 use Rattle.admin_mgr.proofs.judge.separation.judge_create_set.Goals as goal
 
 pub returns-in-Some : goal.returns-in-Some

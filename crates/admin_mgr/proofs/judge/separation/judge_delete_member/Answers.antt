@@ -1,7 +1,7 @@
 use Rattle.std.proofs.Common.{sym, ◌∙◌, ap}
 use Rattle.admin_mgr.specs.Refusing.{first}
 use Rattle.admin_mgr.specs.Verdict.{verdict, delete_member_refusals}
-use Rattle.admin_mgr.proofs.SetCommandLaws.{refusals_delete_member}
+use Rattle.admin_mgr.proofs.StateAfter.SetCommandLaws.{refusals_delete_member}
 use Rattle.admin_mgr.proofs.judge.separation.judge_delete_member.Goals as goal
 
 pub returns : goal.returns

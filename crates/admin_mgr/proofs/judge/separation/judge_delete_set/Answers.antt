@@ -5,7 +5,7 @@ use Rattle.admin_mgr.specs.RbacState.{has_set}
 use Rattle.admin_mgr.specs.Refusing.{first, refuse_unless}
 use Rattle.admin_mgr.specs.SeparationOfDuty.{sets_of}
 use Rattle.admin_mgr.specs.Verdict.{verdict}
-use Rattle.admin_mgr.proofs.SetCommandLaws.{refusals_delete_set}
+use Rattle.admin_mgr.proofs.StateAfter.SetCommandLaws.{refusals_delete_set}
 use Rattle.admin_mgr.proofs.judge.separation.judge_delete_set.Goals as goal
 
 pub returns-then-not-has_set : goal.returns-then-not-has_set

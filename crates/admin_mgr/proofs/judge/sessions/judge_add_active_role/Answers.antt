@@ -6,12 +6,12 @@ use Rattle.admin_mgr.specs.After.{after}
 use Rattle.admin_mgr.specs.Authorization.{is_authorized}
 use Rattle.admin_mgr.specs.Held.{run_of, find_in}
 use Rattle.admin_mgr.specs.Verdict.{add_active_role_refusals}
-use Rattle.admin_mgr.proofs.SessionCommandLaws.{activated_breaks}
+use Rattle.admin_mgr.proofs.Verdicts.SessionCommandLaws.{activated_breaks}
 use Rattle.rbac_sets.specs.declared.command.Command.TheVariants.{AddActiveRole}
 use Rattle.rbac_sets.specs.declared.refusal.Refusal.TheVariants.{DynamicSeparation}
 use Rattle.admin_mgr.specs.Refusing.{breaks_dynamic}
 use Rattle.admin_mgr.specs.Verdict.{verdict, refusals}
-use Rattle.admin_mgr.proofs.VerdictLaws.{passed, refuse_unless-None, stopped, last_decides, none_unless_some}
+use Rattle.admin_mgr.proofs.Verdicts.VerdictLaws.{passed, refuse_unless-None, stopped, last_decides, none_unless_some}
 use Rattle.admin_mgr.proofs.judge.sessions.judge_add_active_role.Goals as goal
 
 pub returns-in-Some : goal.returns-in-Some

@@ -8,12 +8,12 @@ use Rattle.admin_mgr.specs.After.{after}
 use Rattle.admin_mgr.specs.RbacState.{has_session}
 use Rattle.admin_mgr.specs.Authorization.{is_authorized}
 use Rattle.admin_mgr.specs.Verdict.{create_session_refusals}
-use Rattle.admin_mgr.proofs.SessionCommandLaws.{create_session}
+use Rattle.admin_mgr.proofs.Verdicts.SessionCommandLaws.{create_session}
 use Rattle.rbac_sets.specs.declared.command.Command.TheVariants.{CreateSession}
 use Rattle.rbac_sets.specs.declared.refusal.Refusal.TheVariants.{DynamicSeparation}
 use Rattle.admin_mgr.specs.Refusing.{breaks_dynamic}
 use Rattle.admin_mgr.specs.Verdict.{verdict, refusals}
-use Rattle.admin_mgr.proofs.VerdictLaws.{passed, refuse_if-None, refuse_unless-None, stopped, last_decides, none_unless_some}
+use Rattle.admin_mgr.proofs.Verdicts.VerdictLaws.{passed, refuse_if-None, refuse_unless-None, stopped, last_decides, none_unless_some}
 use Rattle.admin_mgr.proofs.judge.sessions.judge_create_session.Goals as goal
 
 pub returns-in-Some : goal.returns-in-Some

@@ -6,10 +6,10 @@ use Rattle.rbac_sets.specs.declared.row.Change.TheVariants.{Take}
 use Rattle.admin_mgr.specs.Assignment.{end_sessions}
 use Rattle.admin_mgr.specs.Run.{tally}
 use Rattle.admin_mgr.specs.After.{changed, after}
-use Rattle.admin_mgr.proofs.ListLaws.{listed_then}
-use Rattle.admin_mgr.proofs.PlanLaws.{plan_of}
-use Rattle.admin_mgr.proofs.TakeLaws.{good_after_deassign_user}
-use Rattle.admin_mgr.proofs.EndingTurns.{turns_deassign_user}
+use Rattle.admin_mgr.proofs.PlanRows.ListLaws.{listed_then}
+use Rattle.admin_mgr.proofs.PlanRows.PlanLaws.{plan_of}
+use Rattle.admin_mgr.proofs.StateAfter.TakeLaws.{good_after_deassign_user}
+use Rattle.admin_mgr.proofs.PlanRows.EndingTurns.{turns_deassign_user}
 use Rattle.admin_mgr.proofs.planning.core_rbac.plan_deassign_user.Goals as goal
 
 pub returns-clause-planned : goal.returns-clause-planned

@@ -5,7 +5,7 @@ use Rattle.rbac_sets.specs.declared.row.Row.TheVariants.{PairRow}
 use Rattle.rbac_sets.specs.declared.row.TheConstants.Row.{PERMISSION}
 use Rattle.rbac_sets.specs.declared.row.Change.TheVariants.{Take}
 use Rattle.admin_mgr.specs.Listing.{grant_row, take_all}
-use Rattle.admin_mgr.proofs.TakePlans.{is_grant_of, done_delete_permission}
+use Rattle.admin_mgr.proofs.PlanRows.TakePlans.{is_grant_of, done_delete_permission}
 use Rattle.admin_mgr.proofs.planning.core_rbac.plan_delete_permission.Goals as goal
 
 pub returns-clause-planned : goal.returns-clause-planned

@@ -8,10 +8,10 @@ use Rattle.admin_mgr.specs.Run.{tally}
 use Rattle.admin_mgr.specs.After.{changed, after}
 use Rattle.admin_mgr.specs.Held.{run_of}
 use Rattle.admin_mgr.specs.Listing.{pair_row, take_all}
-use Rattle.admin_mgr.proofs.ListLaws.{listed_then}
-use Rattle.admin_mgr.proofs.PlanLaws.{plan_of}
-use Rattle.admin_mgr.proofs.TakeLaws.{good_after_delete_user}
-use Rattle.admin_mgr.proofs.EndingTurns.{turns_delete_user}
+use Rattle.admin_mgr.proofs.PlanRows.ListLaws.{listed_then}
+use Rattle.admin_mgr.proofs.PlanRows.PlanLaws.{plan_of}
+use Rattle.admin_mgr.proofs.StateAfter.TakeLaws.{good_after_delete_user}
+use Rattle.admin_mgr.proofs.PlanRows.EndingTurns.{turns_delete_user}
 use Rattle.admin_mgr.proofs.planning.core_rbac.plan_delete_user.Goals as goal
 
 pub returns-clause-planned : goal.returns-clause-planned

@@ -1,6 +1,6 @@
 use Rattle.std.proofs.Common.{◌++◌, ◌∙◌, ap}
 use Rattle.admin_mgr.specs.Listing.{lock_rows}
-use Rattle.admin_mgr.proofs.TakePlans.{done_unlock_user_account}
+use Rattle.admin_mgr.proofs.PlanRows.TakePlans.{done_unlock_user_account}
 use Rattle.admin_mgr.proofs.planning.core_rbac.plan_unlock_user_account.Goals as goal
 
 pub returns-clause-planned : goal.returns-clause-planned

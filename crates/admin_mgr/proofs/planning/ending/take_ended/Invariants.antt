@@ -3,7 +3,7 @@ use Rattle.std.specs.List.{flat_map}
 use Rattle.rbac_sets.specs.Sets.{Pair}
 use Rattle.admin_mgr.specs.Ending.{stays}
 use Rattle.admin_mgr.specs.Listing.{session_rows}
-use Rattle.admin_mgr.proofs.ListLaws.{IsListed}
+use Rattle.admin_mgr.proofs.PlanRows.ListLaws.{IsListed}
 use Rattle.admin_mgr.proofs.planning.ending.take_ended.Given as goal
 
 abbrev pub invariant-loop-session : goal.invariant-loop-session

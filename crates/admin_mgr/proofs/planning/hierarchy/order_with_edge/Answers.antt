@@ -3,7 +3,7 @@ use Rattle.std.proofs.lemmas.Bool.{true≢false}
 use Rattle.rbac_sets.specs.Sets.{Pairs, contains}
 use Rattle.role_order.specs.Order.{geq}
 use Rattle.role_order.proofs.Deciding.{geq-Decides}
-use Rattle.admin_mgr.proofs.EdgeTurns.{put_refused}
+use Rattle.admin_mgr.proofs.PlanRows.EdgeTurns.{put_refused}
 use Rattle.admin_mgr.proofs.planning.hierarchy.order_with_edge.Goals as goal
 
 pub returns-clause-cause : goal.returns-clause-cause

@@ -1,6 +1,6 @@
 use Rattle.std.proofs.Common.{◌∙◌, ap}
 use Rattle.rbac_sets.specs.Sets.{Pairs, contains}
-use Rattle.admin_mgr.proofs.EdgeTurns.{take_refused}
+use Rattle.admin_mgr.proofs.PlanRows.EdgeTurns.{take_refused}
 use Rattle.admin_mgr.proofs.planning.hierarchy.order_without_edge.Goals as goal
 
 pub returns-clause-cause : goal.returns-clause-cause

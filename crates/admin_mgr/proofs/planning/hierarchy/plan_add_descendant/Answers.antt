@@ -4,10 +4,10 @@ use Rattle.rbac_sets.specs.declared.row.Row.TheVariants.{NameRow}
 use Rattle.rbac_sets.specs.declared.row.TheConstants.Row.{ROLE}
 use Rattle.rbac_sets.specs.declared.row.Change.TheVariants.{Put}
 use Rattle.admin_mgr.specs.Run.{tally}
-use Rattle.admin_mgr.proofs.ListLaws.{listed_then}
-use Rattle.admin_mgr.proofs.PlanLaws.{plan_with}
-use Rattle.admin_mgr.proofs.NewRoleLaws.{good_after_add_descendant}
-use Rattle.admin_mgr.proofs.EdgeTurns.{turns_add_descendant, edges_add_descendant}
+use Rattle.admin_mgr.proofs.PlanRows.ListLaws.{listed_then}
+use Rattle.admin_mgr.proofs.PlanRows.PlanLaws.{plan_with}
+use Rattle.admin_mgr.proofs.StateAfter.NewRoleLaws.{good_after_add_descendant}
+use Rattle.admin_mgr.proofs.PlanRows.EdgeTurns.{turns_add_descendant, edges_add_descendant}
 use Rattle.admin_mgr.proofs.planning.hierarchy.plan_add_descendant.Goals as goal
 
 pub returns-clause-planned : goal.returns-clause-planned

@@ -1,10 +1,10 @@
 use Rattle.std.proofs.Common.{◌∙◌, refl}
 use Rattle.rbac_sets.specs.declared.command.Command.TheVariants.{AddInheritance}
 use Rattle.admin_mgr.specs.Run.{tally}
-use Rattle.admin_mgr.proofs.ListLaws.{listed_then}
-use Rattle.admin_mgr.proofs.PlanLaws.{plan_with}
-use Rattle.admin_mgr.proofs.GoodInheritance.{good_after_add_inheritance}
-use Rattle.admin_mgr.proofs.EdgeTurns.{turns_add_inheritance, edges_add_inheritance}
+use Rattle.admin_mgr.proofs.PlanRows.ListLaws.{listed_then}
+use Rattle.admin_mgr.proofs.PlanRows.PlanLaws.{plan_with}
+use Rattle.admin_mgr.proofs.StateAfter.GoodInheritance.{good_after_add_inheritance}
+use Rattle.admin_mgr.proofs.PlanRows.EdgeTurns.{turns_add_inheritance, edges_add_inheritance}
 use Rattle.admin_mgr.proofs.planning.hierarchy.plan_add_inheritance.Goals as goal
 
 pub returns-clause-planned : goal.returns-clause-planned

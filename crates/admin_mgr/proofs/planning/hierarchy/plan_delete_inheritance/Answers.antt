@@ -3,10 +3,10 @@ use Rattle.rbac_sets.specs.declared.command.Command.TheVariants.{DeleteInheritan
 use Rattle.admin_mgr.specs.Run.{tally}
 use Rattle.admin_mgr.specs.Ending.{goes_on_without_pairs}
 use Rattle.admin_mgr.specs.Listing.{ended_rows}
-use Rattle.admin_mgr.proofs.ListLaws.{listed_then}
-use Rattle.admin_mgr.proofs.PlanLaws.{plan_with}
-use Rattle.admin_mgr.proofs.TakeLaws.{good_after_delete_inheritance}
-use Rattle.admin_mgr.proofs.EdgeTurns.{turns_delete_inheritance, edges_delete_inheritance}
+use Rattle.admin_mgr.proofs.PlanRows.ListLaws.{listed_then}
+use Rattle.admin_mgr.proofs.PlanRows.PlanLaws.{plan_with}
+use Rattle.admin_mgr.proofs.StateAfter.TakeLaws.{good_after_delete_inheritance}
+use Rattle.admin_mgr.proofs.PlanRows.EdgeTurns.{turns_delete_inheritance, edges_delete_inheritance}
 use Rattle.admin_mgr.proofs.planning.hierarchy.plan_delete_inheritance.Goals as goal
 
 pub returns-clause-planned : goal.returns-clause-planned

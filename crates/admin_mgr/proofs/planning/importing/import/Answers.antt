@@ -1,7 +1,7 @@
 use Rattle.std.proofs.Common.{◌≤◌, ◌∙◌, ap, arith, length, get_or}
 use Rattle.admin_mgr.specs.Run.{tally}
-use Rattle.admin_mgr.proofs.ImportLaws.{import_records}
-use Rattle.admin_mgr.proofs.ImportSteps.{begins, goes_on_at, none_left, ends_with_changes, ends_with_report}
+use Rattle.admin_mgr.proofs.Imports.ImportLaws.{import_records}
+use Rattle.admin_mgr.proofs.Imports.ImportSteps.{begins, goes_on_at, none_left, ends_with_changes, ends_with_report}
 use Rattle.admin_mgr.proofs.planning.importing.import.Goals as goal
 
 pub loop-i-init : goal.loop-i-init

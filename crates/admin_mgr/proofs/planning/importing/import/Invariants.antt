@@ -1,5 +1,5 @@
 use Rattle.std.proofs.Common.{drop}
-use Rattle.admin_mgr.proofs.ImportSteps.{Stands}
+use Rattle.admin_mgr.proofs.Imports.ImportSteps.{Stands}
 use Rattle.admin_mgr.proofs.planning.importing.import.Given as goal
 
 -- the records that are left come to the rest

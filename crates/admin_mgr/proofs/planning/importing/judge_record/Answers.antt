@@ -5,8 +5,8 @@ use Rattle.rbac_sets.specs.SortedSet.{set_of}
 use Rattle.rbac_sets.specs.declared.refusal.Refusal.TheVariants.{StaticSeparation}
 use Rattle.admin_mgr.specs.Importing.{record_refusals}
 use Rattle.admin_mgr.specs.Held.{run_of, find_in}
-use Rattle.admin_mgr.proofs.RecordLaws.{named_last, record_verdict}
-use Rattle.admin_mgr.proofs.VerdictLaws.{stopped, last_decides, none_unless_some}
+use Rattle.admin_mgr.proofs.Imports.RecordLaws.{named_last, record_verdict}
+use Rattle.admin_mgr.proofs.Verdicts.VerdictLaws.{stopped, last_decides, none_unless_some}
 use Rattle.admin_mgr.proofs.planning.importing.judge_record.Goals as goal
 
 pub returns-in-Some : goal.returns-in-Some

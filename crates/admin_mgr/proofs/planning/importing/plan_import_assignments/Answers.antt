@@ -2,8 +2,8 @@ use Rattle.std.proofs.Common.{sym, ap, subst}
 use Rattle.admin_mgr.specs.Changes.{Turns}
 use Rattle.admin_mgr.specs.After.{after}
 use Rattle.rbac_sets.specs.declared.command.Command.TheVariants.{ImportAssignments}
-use Rattle.admin_mgr.proofs.ImportLaws.{after_import_puts, good_after_import}
-use Rattle.admin_mgr.proofs.ImportTurns.{turns_import}
+use Rattle.admin_mgr.proofs.Imports.ImportLaws.{after_import_puts, good_after_import}
+use Rattle.admin_mgr.proofs.Imports.ImportTurns.{turns_import}
 use Rattle.admin_mgr.proofs.planning.importing.plan_import_assignments.Goals as goal
 
 pub returns-clause-planned : goal.returns-clause-planned

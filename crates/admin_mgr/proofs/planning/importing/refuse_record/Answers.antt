@@ -1,7 +1,7 @@
 use Rattle.std.proofs.Common.{◌≡◌, arith, ◌∙◌, ap}
 use Rattle.rbac_sets.specs.Sets.{pair_cmp, len}
 use Rattle.rbac_sets.specs.SortedSet.{set_of}
-use Rattle.admin_mgr.proofs.RecordLaws.{added_len}
+use Rattle.admin_mgr.proofs.Imports.RecordLaws.{added_len}
 use Rattle.admin_mgr.proofs.planning.importing.refuse_record.Goals as goal
 
 pub overflow_add-len : goal.overflow_add-len

@@ -2,7 +2,7 @@ use Rattle.std.proofs.Common.{◌++◌, ◌∷◌, [], ap, refl, ◌∙◌}
 use Rattle.rbac_sets.specs.Sets.{Bytes}
 use Rattle.rbac_sets.specs.declared.row.Row.TheVariants.{PairRow}
 use Rattle.rbac_sets.specs.declared.row.Change.TheVariants.{Put}
-use Rattle.admin_mgr.proofs.ListLaws.{each_map, listed_more, listed_all}
+use Rattle.admin_mgr.proofs.PlanRows.ListLaws.{each_map, listed_more, listed_all}
 use Rattle.admin_mgr.proofs.planning.rows.put_paired.Goals as goal
 
 pub loop-other-init : goal.loop-other-init

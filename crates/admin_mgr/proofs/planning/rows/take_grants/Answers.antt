@@ -2,7 +2,7 @@ use Rattle.std.proofs.Common.{◌++◌, ◌∷◌, [], ap, refl, ◌∙◌}
 use Rattle.rbac_sets.specs.Sets.{Triple}
 use Rattle.rbac_sets.specs.declared.row.Row.TheVariants.{GrantRow}
 use Rattle.rbac_sets.specs.declared.row.Change.TheVariants.{Take}
-use Rattle.admin_mgr.proofs.ListLaws.{each_map, listed_more, listed_all}
+use Rattle.admin_mgr.proofs.PlanRows.ListLaws.{each_map, listed_more, listed_all}
 use Rattle.admin_mgr.proofs.planning.rows.take_grants.Goals as goal
 
 pub loop-grant-init : goal.loop-grant-init

@@ -2,7 +2,7 @@ use Rattle.std.proofs.Common.{map}
 use Rattle.rbac_sets.specs.Sets.{Triple}
 use Rattle.rbac_sets.specs.declared.row.Row.TheVariants.{GrantRow}
 use Rattle.rbac_sets.specs.declared.row.Change.TheVariants.{Take}
-use Rattle.admin_mgr.proofs.ListLaws.{IsListed}
+use Rattle.admin_mgr.proofs.PlanRows.ListLaws.{IsListed}
 use Rattle.admin_mgr.proofs.planning.rows.take_grants.Given as goal
 
 abbrev pub invariant-loop-grant : goal.invariant-loop-grant

@@ -2,7 +2,7 @@ use Rattle.std.proofs.Common.{◌++◌, ◌∷◌, [], ap, refl, sym, ◌∙◌,
 use Rattle.rbac_sets.specs.Sets.{Triple, same_name}
 use Rattle.rbac_sets.specs.declared.row.Row.TheVariants.{GrantRow}
 use Rattle.rbac_sets.specs.declared.row.Change.TheVariants.{Take}
-use Rattle.admin_mgr.proofs.ListLaws.{each_filter, listed_more, listed_all}
+use Rattle.admin_mgr.proofs.PlanRows.ListLaws.{each_filter, listed_more, listed_all}
 use Rattle.admin_mgr.proofs.planning.rows.take_grants_of_role.Goals as goal
 use Rattle.admin_mgr.proofs.planning.rows.take_grants_of_role.Goals.{then-is_same+in_ok-grant_row+in_ok-take, else-is_same}
 use Rattle.std.proofs.lemmas.List.{append-nil}

@@ -2,7 +2,7 @@ use Rattle.std.proofs.Common.{◌++◌, ◌∷◌, [], ap, refl, ◌∙◌}
 use Rattle.rbac_sets.specs.Sets.{Pair}
 use Rattle.rbac_sets.specs.declared.row.Row.TheVariants.{PairRow}
 use Rattle.rbac_sets.specs.declared.row.Change.TheVariants.{Take}
-use Rattle.admin_mgr.proofs.ListLaws.{each_map, listed_more, listed_all}
+use Rattle.admin_mgr.proofs.PlanRows.ListLaws.{each_map, listed_more, listed_all}
 use Rattle.admin_mgr.proofs.planning.rows.take_pairs.Goals as goal
 
 pub loop-pair-init : goal.loop-pair-init

@@ -2,7 +2,7 @@ use Rattle.std.proofs.Common.{◌++◌, ◌∷◌, [], ap, refl, sym, ◌∙◌,
 use Rattle.rbac_sets.specs.Sets.{Pair, same_name}
 use Rattle.rbac_sets.specs.declared.row.Row.TheVariants.{PairRow}
 use Rattle.rbac_sets.specs.declared.row.Change.TheVariants.{Take}
-use Rattle.admin_mgr.proofs.ListLaws.{each_filter, listed_more, listed_all}
+use Rattle.admin_mgr.proofs.PlanRows.ListLaws.{each_filter, listed_more, listed_all}
 use Rattle.admin_mgr.proofs.planning.rows.take_pairs_with_second.Goals as goal
 use Rattle.admin_mgr.proofs.planning.rows.take_pairs_with_second.Goals.{then-is_same+in_ok-pair_row+in_ok-take, else-is_same}
 use Rattle.std.proofs.lemmas.List.{append-nil}

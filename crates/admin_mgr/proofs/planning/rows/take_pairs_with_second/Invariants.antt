@@ -2,7 +2,7 @@ use Rattle.std.proofs.Common.{map, filter}
 use Rattle.rbac_sets.specs.Sets.{Pair, same_name}
 use Rattle.rbac_sets.specs.declared.row.Row.TheVariants.{PairRow}
 use Rattle.rbac_sets.specs.declared.row.Change.TheVariants.{Take}
-use Rattle.admin_mgr.proofs.ListLaws.{IsListed}
+use Rattle.admin_mgr.proofs.PlanRows.ListLaws.{IsListed}
 use Rattle.admin_mgr.proofs.planning.rows.take_pairs_with_second.Given as goal
 
 abbrev pub invariant-loop-pair : goal.invariant-loop-pair

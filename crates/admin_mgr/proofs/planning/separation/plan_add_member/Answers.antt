@@ -1,7 +1,7 @@
 use Rattle.std.proofs.Common.{◌++◌, ◌∷◌, [], ◌∙◌}
 use Rattle.rbac_sets.specs.declared.row.Row.TheVariants.{PairRow}
 use Rattle.rbac_sets.specs.declared.row.Change.TheVariants.{Put}
-use Rattle.admin_mgr.proofs.SetCommandTurns.{plan_of_add_member}
+use Rattle.admin_mgr.proofs.PlanRows.SetCommandTurns.{plan_of_add_member}
 use Rattle.admin_mgr.proofs.planning.separation.plan_add_member.Goals as goal
 
 pub returns-clause-planned : goal.returns-clause-planned

@@ -2,7 +2,7 @@ use Rattle.std.proofs.Common.{◌++◌, ◌∷◌, [], ◌∙◌}
 use Rattle.rbac_sets.specs.declared.row.Row.TheVariants.{PairRow, SetRow}
 use Rattle.rbac_sets.specs.declared.row.Change.TheVariants.{Put}
 use Rattle.admin_mgr.specs.Listing.{put_all}
-use Rattle.admin_mgr.proofs.SetCommandTurns.{plan_of_create_set}
+use Rattle.admin_mgr.proofs.PlanRows.SetCommandTurns.{plan_of_create_set}
 use Rattle.admin_mgr.proofs.planning.separation.plan_create_set.Goals as goal
 
 pub returns-clause-planned : goal.returns-clause-planned

@@ -3,10 +3,10 @@ use Rattle.rbac_sets.specs.declared.row.Row.TheVariants.{SetRow}
 use Rattle.rbac_sets.specs.declared.row.Change.TheVariants.{Take}
 use Rattle.admin_mgr.specs.Held.{run_of}
 use Rattle.admin_mgr.specs.Listing.{pair_row, take_all}
-use Rattle.admin_mgr.proofs.SetCommandTurns.{plan_of_delete_set, none_deleted}
+use Rattle.admin_mgr.proofs.PlanRows.SetCommandTurns.{plan_of_delete_set, none_deleted}
 use Rattle.admin_mgr.proofs.planning.separation.plan_delete_set.Goals as goal
 use Rattle.admin_mgr.proofs.planning.separation.plan_delete_set.Goals.{in-Some+in_ok-set_row+in_ok-take, in_default}
-use Rattle.admin_mgr.proofs.VerdictLaws.{none_unless_some}
+use Rattle.admin_mgr.proofs.Verdicts.VerdictLaws.{none_unless_some}
 
 pub returns-clause-planned : goal.returns-clause-planned
 returns-clause-planned c = elim c.match-cardinality.branch [

@@ -1,10 +1,10 @@
 use Rattle.std.proofs.Common.{◌++◌, ◌∷◌, [], sym, ◌∙◌, ap, Some}
 use Rattle.rbac_sets.specs.declared.row.Row.TheVariants.{SetRow}
 use Rattle.rbac_sets.specs.declared.row.Change.TheVariants.{Put, Take}
-use Rattle.admin_mgr.proofs.SetCommandTurns.{plan_of_set_cardinality, plan_of_same_cardinality, none_set}
+use Rattle.admin_mgr.proofs.PlanRows.SetCommandTurns.{plan_of_set_cardinality, plan_of_same_cardinality, none_set}
 use Rattle.admin_mgr.proofs.planning.separation.plan_set_cardinality.Goals as goal
 use Rattle.admin_mgr.proofs.planning.separation.plan_set_cardinality.Goals.{in-Some+then-before-cardinality+in_ok-set_row+in_ok-take+in_ok-set_row-2+in_ok-put, in-Some+else-before-cardinality, in_default}
-use Rattle.admin_mgr.proofs.VerdictLaws.{none_unless_some}
+use Rattle.admin_mgr.proofs.Verdicts.VerdictLaws.{none_unless_some}
 
 pub returns-clause-planned : goal.returns-clause-planned
 returns-clause-planned c = elim c.match-cardinality.branch [

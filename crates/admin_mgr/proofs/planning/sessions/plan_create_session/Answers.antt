@@ -4,7 +4,7 @@ use Rattle.rbac_sets.specs.declared.row.Row.TheVariants.{PairRow}
 use Rattle.rbac_sets.specs.declared.row.TheConstants.Row.{SESSION, ACTIVATED_ROLE}
 use Rattle.rbac_sets.specs.declared.row.Change.TheVariants.{Put}
 use Rattle.admin_mgr.specs.Listing.{put_all}
-use Rattle.admin_mgr.proofs.NewSessionPlans.{done_create_session}
+use Rattle.admin_mgr.proofs.PlanRows.NewSessionPlans.{done_create_session}
 use Rattle.admin_mgr.proofs.planning.sessions.plan_create_session.Goals as goal
 
 pub returns-clause-planned : goal.returns-clause-planned

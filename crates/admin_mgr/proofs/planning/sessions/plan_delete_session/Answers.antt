@@ -1,6 +1,6 @@
 use Rattle.std.proofs.Common.{◌++◌, ◌∙◌, ap}
 use Rattle.admin_mgr.specs.Listing.{session_rows}
-use Rattle.admin_mgr.proofs.TakePlans.{done_delete_session}
+use Rattle.admin_mgr.proofs.PlanRows.TakePlans.{done_delete_session}
 use Rattle.admin_mgr.proofs.planning.sessions.plan_delete_session.Goals as goal
 
 pub returns-clause-planned : goal.returns-clause-planned

@@ -1,7 +1,7 @@
 use Rattle.std.proofs.Common.{◌≡◌, length, rules, sym, ap, subst, ◌∙◌}
 use Rattle.admin_mgr.specs.Stepping.{after_changes, AreFree, HasRoom}
 use Rattle.std.proofs.lemmas.List.{nil_from_length}
-use Rattle.admin_mgr.proofs.RoomLaws.{room_first, room_left}
+use Rattle.admin_mgr.proofs.PlanRows.RoomLaws.{room_first, room_left}
 use Rattle.admin_mgr.proofs.relations.Relations.change.Goals as goal
 
 pub apply-requires-clause-room : goal.apply-requires-clause-room

@@ -1,5 +1,5 @@
 use Rattle.std.proofs.Common.{drop}
-use Rattle.admin_mgr.proofs.RoomLaws.{AreCounted}
+use Rattle.admin_mgr.proofs.PlanRows.RoomLaws.{AreCounted}
 use Rattle.admin_mgr.proofs.relations.changing.count_puts.Given as goal
 
 abbrev pub invariant-loop-change : goal.invariant-loop-change

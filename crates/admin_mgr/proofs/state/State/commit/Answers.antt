@@ -3,8 +3,8 @@ use Rattle.admin_mgr.specs.Kept.{Kept}
 use Rattle.admin_mgr.specs.Stepping.{after_changes}
 use Rattle.admin_mgr.specs.Good.{IsGood}
 use Rattle.admin_mgr.specs.Named.{AreNamed}
-use Rattle.admin_mgr.proofs.CommitLaws.{free, leads, leads_edges}
-use Rattle.admin_mgr.proofs.NamedLaws.{named_turns}
+use Rattle.admin_mgr.proofs.PlanRows.CommitLaws.{free, leads, leads_edges}
+use Rattle.admin_mgr.proofs.StateAfter.NamedLaws.{named_turns}
 use Rattle.admin_mgr.proofs.state.State.commit.Goals as goal
 
 pub change-requires-clause-free : goal.change-requires-clause-free

@@ -1,8 +1,8 @@
 use Rattle.std.proofs.Common.{subst, sym, refl, inr}
 use Rattle.admin_mgr.specs.Good.{IsGood}
 use Rattle.admin_mgr.specs.Named.{AreNamed}
-use Rattle.admin_mgr.proofs.EmptyLaws.{empty_is_good}
-use Rattle.admin_mgr.proofs.NamedLaws.{empty_named}
+use Rattle.admin_mgr.proofs.StateAfter.EmptyLaws.{empty_is_good}
+use Rattle.admin_mgr.proofs.StateAfter.NamedLaws.{empty_named}
 use Rattle.admin_mgr.proofs.state.State.empty.Goals as goal
 
 pub invariant_of-result : goal.invariant_of-result

@@ -5,7 +5,7 @@ use Rattle.admin_mgr.specs.Kept.{Kept}
 use Rattle.admin_mgr.specs.Good.{IsGood}
 use Rattle.admin_mgr.specs.Named.{AreNamed}
 use Rattle.admin_mgr.specs.Life.{taken_into_version_2}
-use Rattle.admin_mgr.proofs.MigratedLaws.{migrated_good, migrated_named}
+use Rattle.admin_mgr.proofs.StateAfter.MigratedLaws.{migrated_good, migrated_named}
 use Rattle.admin_mgr.proofs.state.State.migrated.Goals as goal
 
 -- with nobody locked, the same in version 2 is the state taken into it

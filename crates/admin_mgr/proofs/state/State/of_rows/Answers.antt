@@ -7,12 +7,12 @@ use Rattle.admin_mgr.specs.RbacState.{RbacState}
 use Rattle.admin_mgr.specs.Gathered.{Gathered, gathered}
 use Rattle.admin_mgr.specs.Checked.{AreReadable, IsStateOf}
 use Rattle.admin_mgr.specs.Tested.{early_refusal, late_refusal}
-use Rattle.admin_mgr.proofs.TestLaws.{RefusesOrder}
-use Rattle.admin_mgr.proofs.NamedLaws.{named_rows}
-use Rattle.admin_mgr.proofs.RowSteps.{version-gathered}
-use Rattle.admin_mgr.proofs.CheckLaws.{PassBefore, early_told, early_passed, order_told, late_told, late_passed, before_next, is_state_of, refuses_rows}
+use Rattle.admin_mgr.proofs.StoredRows.TestLaws.{RefusesOrder}
+use Rattle.admin_mgr.proofs.StateAfter.NamedLaws.{named_rows}
+use Rattle.admin_mgr.proofs.StoredRows.RowSteps.{version-gathered}
+use Rattle.admin_mgr.proofs.StoredRows.CheckLaws.{PassBefore, early_told, early_passed, order_told, late_told, late_passed, before_next, is_state_of, refuses_rows}
 use Rattle.admin_mgr.proofs.state.State.of_rows.Goals as goal
-use Rattle.admin_mgr.proofs.VerdictLaws.{none_unless_some}
+use Rattle.admin_mgr.proofs.Verdicts.VerdictLaws.{none_unless_some}
 
 pub early_refusal-requires : goal.early_refusal-requires
 early_refusal-requires c =

@@ -1,7 +1,7 @@
 use Rattle.std.proofs.Common.{sym, ◌∙◌}
 use Rattle.rbac_sets.specs.Sets.{pair_cmp}
 use Rattle.rbac_sets.specs.SortedSet.{set_of}
-use Rattle.admin_mgr.proofs.RecordLaws.{new_to_added}
+use Rattle.admin_mgr.proofs.Imports.RecordLaws.{new_to_added}
 use Rattle.admin_mgr.proofs.planning.importing.Imported.take.Goals as goal
 
 pub assign-requires-clause-absent : goal.assign-requires-clause-absent

@@ -2,7 +2,7 @@ use Rattle.std.proofs.Common.{subst}
 use Rattle.std.proofs.lemmas.Result.{err_from_is_err_and}
 use Rattle.admin_mgr.specs.Gathered.{Gathered}
 use Rattle.admin_mgr.specs.GatheredView.{gathered_of}
-use Rattle.admin_mgr.proofs.TestLaws.{RefusesOrder, order_refused}
+use Rattle.admin_mgr.proofs.StoredRows.TestLaws.{RefusesOrder, order_refused}
 use Rattle.admin_mgr.proofs.relations.gathered.Gathered.into_relations.Goals as goal
 
 pub returns-in_err-order-clause-err : goal.returns-in_err-order-clause-err

@@ -9,7 +9,7 @@ use Rattle.rbac_sets.specs.declared.row.Row.{Row}
 use Rattle.rbac_sets.proofs.SetLaws.{no_items}
 use Rattle.admin_mgr.specs.Gathered.{gathered}
 use Rattle.admin_mgr.specs.Checked.{AreReadable}
-use Rattle.admin_mgr.proofs.RowSteps.{SoFar, none_so_far, one_so_far, stopped}
+use Rattle.admin_mgr.proofs.StoredRows.RowSteps.{SoFar, none_so_far, one_so_far, stopped}
 use Rattle.admin_mgr.proofs.relations.gathered.Gathered.of_rows.Goals as goal
 
 pub loop-row-init : goal.loop-row-init

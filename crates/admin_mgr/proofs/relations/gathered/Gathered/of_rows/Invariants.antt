@@ -1,7 +1,7 @@
 use Rattle.std.specs.Prelude.{IsTrue}
 use Rattle.std.specs.List.{list_all}
 use Rattle.rbac_sets.specs.Named.{is_named}
-use Rattle.admin_mgr.proofs.RowSteps.{SoFar}
+use Rattle.admin_mgr.proofs.StoredRows.RowSteps.{SoFar}
 use Rattle.admin_mgr.proofs.relations.gathered.Gathered.of_rows.Given as goal
 
 abbrev pub invariant-loop-row : goal.invariant-loop-row

@@ -3,7 +3,7 @@ use Rattle.rbac_sets.specs.declared.row.Row.TheVariants.{SetRow}
 use Rattle.rbac_sets.specs.declared.row.TheConstants.Row.{STATIC_CARDINALITY, DYNAMIC_CARDINALITY}
 use Rattle.admin_mgr.specs.Gathered.{has_key}
 use Rattle.admin_mgr.specs.GatheredView.{gathered_of}
-use Rattle.admin_mgr.proofs.KeyLaws.{no_static_key, no_dynamic_key}
+use Rattle.admin_mgr.proofs.StoredRows.KeyLaws.{no_static_key, no_dynamic_key}
 use Rattle.admin_mgr.proofs.relations.gathered.Gathered.put.Goals as goal
 
 pub put-requires-in-SetRow-eq1-default-default : goal.put-requires-in-SetRow-eq1-default-default

@@ -1,0 +1,308 @@
+-- Goodness of a state of which one group of relations is another: what has to hold of that group alone.
+use Rattle.std.proofs.Common.{◌≡◌, ◌<◌, ◌≤◌, Bool, false, sym, ◌∙◌, ap, subst}
+use Rattle.std.specs.Prelude.{IsTrue}
+use Rattle.std.specs.declared.cmp.Ordering.{Ordering}
+use Rattle.std.specs.Cmp.{IsTotalOrder, both_ways}
+use Rattle.std.specs.FinMap.{IsAntisymmetric}
+use Rattle.std.specs.FinSet.{FinSet}
+use Rattle.std.proofs.lemmas.Bool.{and_parts, and_from, not-true}
+use Rattle.rbac_sets.specs.Sets.{Bytes, Pair, Names, Pairs, Triples, name_cmp, contains, retain, image, any, count, len}
+use Rattle.rbac_sets.specs.Kind.{limit_of}
+use Rattle.rbac_sets.specs.NameOrder.{name_total, name_exact, pair_total, pair_exact}
+use Rattle.rbac_sets.specs.declared.command.Command.{Command}
+use Rattle.rbac_sets.specs.declared.kind.Kind.TheVariants.{User, Role, Object, Permission, Grant, Edge, Session, ActiveRole}
+use Rattle.rbac_sets.proofs.SetLaws.{contains-retain, any-Decides, all-Decides, seconds-Decides, same_members}
+use Rattle.rbac_sets.proofs.Members.{count-len}
+use Rattle.role_order.specs.Order.{geq, IsAcyclic}
+use Rattle.admin_mgr.specs.RbacState.{RbacState, Separation, members_of, active_roles}
+use Rattle.admin_mgr.specs.Authorization.{authorized_users, is_authorized, is_session_role}
+use Rattle.admin_mgr.specs.Assignment.{may_go_on}
+use Rattle.admin_mgr.specs.After.{changed, after}
+use Rattle.admin_mgr.specs.Good.{IsGood, IsSeparation, IsDynamicallySeparated}
+use Rattle.admin_mgr.proofs.StateAfter.SessionLaws.{none_ends}
+use Rattle.admin_mgr.proofs.Verdicts.TouchLaws.{with_sessions}
+
+-- ---- the state after a command that changes a state into a good one
+
+-- no session ends
+pub after_is_changed : (S : RbacState) (command : Command) → IsGood (changed S command) → after S command ≡ changed S command
+unfolding after
+after_is_changed S command good = none_ends (changed S command) good
+
+-- and that state is good
+pub good_after : (S : RbacState) (command : Command) → IsGood (changed S command) → IsGood (after S command)
+good_after S command good = subst IsGood (sym (after_is_changed S command good)) good
+
+-- ---- tests that agree on the entries of a set
+
+module _ {K : Type 0} {R : K → K → Ordering} (total : IsTotalOrder R) (exact : IsAntisymmetric R) (p q : K → Bool) (s : FinSet R) (same : (x : K) → IsTrue (contains s x) → p x ≡ q x) where
+  -- retain the same
+  pub retain_same : retain s p ≡ retain s q
+  retain_same = same_members total exact (retain s p) (retain s q) (λ x. (
+    λ h. (let parts = and_parts _ _ (sym (contains-retain total exact s p x) ∙ h) in contains-retain total exact s q x ∙ and_from _ _ parts.0 (sym (same x parts.0) ∙ parts.1)),
+    λ h. (let parts = and_parts _ _ (sym (contains-retain total exact s q x) ∙ h) in contains-retain total exact s p x ∙ and_from _ _ parts.0 (same x parts.0 ∙ parts.1)),
+  ))
+
+  -- count as many
+  pub count_same : count p s ≡ count q s
+  count_same = count-len total exact p s ∙ ap len retain_same ∙ sym (count-len total exact q s)
+
+  -- and one finds an entry exactly if the other does
+  pub any_same : any p s ≡ any q s
+  any_same = both_ways (any p s) (any q s)
+      (λ h. (let one = (any-Decides total exact p s).0 h in (any-Decides total exact q s).1 (one.0, one.1, sym (same one.0 one.1) ∙ one.2)))
+      (λ h. (let one = (any-Decides total exact q s).0 h in (any-Decides total exact p s).1 (one.0, one.1, same one.0 one.1 ∙ one.2)))
+
+-- ---- other users
+
+-- more users, within the limit
+pub good_with_users : (S : RbacState) → IsGood S → (users : Names) → ((x : Bytes) → IsTrue (contains S.users x) → IsTrue (contains users x)) →
+    len users ≤ limit_of User S.version → IsGood (record S { users = users })
+unfolding authorized_users
+good_with_users S good users more room =
+    let formed = good.well_formed in
+    let limits = good.limits in
+    record {
+      well_formed = record {
+        permissions = formed.permissions;
+        assignments = λ user role h. (more user (formed.assignments user role h).0, (formed.assignments user role h).1);
+        grants = formed.grants;
+        edges = formed.edges;
+        sessions = λ session user h. more user (formed.sessions session user h);
+        one_owner = formed.one_owner;
+        active = formed.active;
+        owned = formed.owned;
+        locked = λ user h. more user (formed.locked user h);
+        ssd = formed.ssd;
+        dsd = formed.dsd;
+      };
+      acyclic = good.acyclic;
+      static_separation = good.static_separation;
+      dynamic_separation = good.dynamic_separation;
+      authorized = good.authorized;
+      unlocked = good.unlocked;
+      limits = record {
+        users = room;
+        roles = limits.roles;
+        objects = limits.objects;
+        permissions = limits.permissions;
+        grants = limits.grants;
+        assignments = limits.assignments;
+        edges = limits.edges;
+        ssd_sets = limits.ssd_sets;
+        dsd_sets = limits.dsd_sets;
+        ssd_members = limits.ssd_members;
+        dsd_members = limits.dsd_members;
+        sessions = limits.sessions;
+        active_roles = limits.active_roles;
+      };
+      version = good.version;
+      no_locks = good.no_locks;
+    }
+
+-- ---- other objects, permissions and grants
+
+-- what has to hold of them
+pub record ArePermissions (S : RbacState) (objects : Names) (permissions : Pairs) (grants : Triples) : Type 0 where
+  pub permissions_formed : (object operation : Bytes) → IsTrue (contains permissions (object, operation)) → IsTrue (contains objects object)
+  pub grants_formed : (object operation role : Bytes) → IsTrue (contains grants (object, operation, role)) → IsTrue (contains permissions (object, operation)) × IsTrue (contains S.roles role)
+  pub objects_room : len objects ≤ limit_of Object S.version
+  pub permissions_room : len permissions ≤ limit_of Permission S.version
+  pub grants_room : len grants ≤ limit_of Grant S.version
+
+-- so the state with them is good
+pub good_with_permissions : (S : RbacState) → IsGood S → (objects : Names) (permissions : Pairs) (grants : Triples) → ArePermissions S objects permissions grants →
+    IsGood (record S { objects = objects; permissions = permissions; grants = grants })
+unfolding authorized_users
+good_with_permissions S good objects permissions grants are =
+    let formed = good.well_formed in
+    let limits = good.limits in
+    record {
+      well_formed = record {
+        permissions = are.permissions_formed;
+        assignments = formed.assignments;
+        grants = are.grants_formed;
+        edges = formed.edges;
+        sessions = formed.sessions;
+        one_owner = formed.one_owner;
+        active = formed.active;
+        owned = formed.owned;
+        locked = formed.locked;
+        ssd = formed.ssd;
+        dsd = formed.dsd;
+      };
+      acyclic = good.acyclic;
+      static_separation = good.static_separation;
+      dynamic_separation = good.dynamic_separation;
+      authorized = good.authorized;
+      unlocked = good.unlocked;
+      limits = record {
+        users = limits.users;
+        roles = limits.roles;
+        objects = are.objects_room;
+        permissions = are.permissions_room;
+        grants = are.grants_room;
+        assignments = limits.assignments;
+        edges = limits.edges;
+        ssd_sets = limits.ssd_sets;
+        dsd_sets = limits.dsd_sets;
+        ssd_members = limits.ssd_members;
+        dsd_members = limits.dsd_members;
+        sessions = limits.sessions;
+        active_roles = limits.active_roles;
+      };
+      version = good.version;
+      no_locks = good.no_locks;
+    }
+
+-- ---- more roles, and other edges
+
+-- what has to hold of them: the old roles stand to each other as before
+pub record AreMoreRoles (S : RbacState) (roles : Names) (edges : Pairs) : Type 0 where
+  pub more : (x : Bytes) → IsTrue (contains S.roles x) → IsTrue (contains roles x)
+  pub edges_formed : (asc desc : Bytes) → IsTrue (contains edges (asc, desc)) → IsTrue (contains roles asc) × IsTrue (contains roles desc)
+  pub acyclic : IsAcyclic edges
+  pub as_before : (r q : Bytes) → IsTrue (contains S.roles r) → IsTrue (contains S.roles q) → geq edges r q ≡ geq S.edges r q
+  pub roles_room : len roles ≤ limit_of Role S.version
+  pub edges_room : len edges ≤ limit_of Edge S.version
+
+module _ (S : RbacState) (good : IsGood S) (roles : Names) (edges : Pairs) (are : AreMoreRoles S roles edges) where
+  -- the state with them
+  abbrev with_roles : RbacState
+  with_roles = record S { roles = roles; edges = edges }
+
+  -- users are authorized for the old roles for which they were
+  same_authorized : (user q : Bytes) → IsTrue (contains S.roles q) → is_authorized with_roles user q ≡ is_authorized S user q
+  unfolding authorized_users
+  same_authorized user q is_role = ap (λ (s : Pairs). contains (image {Q = name_cmp} (λ (a : Pair). a.0) s) user)
+      (retain_same pair_total pair_exact (λ (a : Pair). geq edges a.1 q) (λ (a : Pair). geq S.edges a.1 q) S.assignments
+      (λ a there. are.as_before a.1 q (good.well_formed.assignments a.0 a.1 there).1 is_role))
+
+  -- and sessions have the old roles that they had
+  same_session_role : (session q : Bytes) → IsTrue (contains S.roles q) → is_session_role with_roles session q ≡ is_session_role S session q
+  same_session_role session q is_role =
+      any_same name_total name_exact (λ a. geq edges a q) (λ a. geq S.edges a q) (active_roles S session)
+      (λ a there. are.as_before a q (good.well_formed.active session a ((seconds-Decides S.active session a).0 there)) is_role)
+
+  -- sets of old roles are sets of these
+  separation_with : (separation : Separation) → IsSeparation S.roles separation → IsSeparation roles separation
+  separation_with separation formed = record {
+    members = λ name role h. ((formed.members name role h).0, are.more role (formed.members name role h).1);
+    cardinality = formed.cardinality;
+    one_cardinality = formed.one_cardinality;
+  }
+
+  -- so the state with them is good
+  pub good_with_roles : IsGood with_roles
+  good_with_roles =
+      let formed = good.well_formed in
+      let limits = good.limits in
+      record {
+        well_formed = record {
+          permissions = formed.permissions;
+          assignments = λ user role h. ((formed.assignments user role h).0, are.more role (formed.assignments user role h).1);
+          grants = λ object operation role h. ((formed.grants object operation role h).0, are.more role (formed.grants object operation role h).1);
+          edges = are.edges_formed;
+          sessions = formed.sessions;
+          one_owner = formed.one_owner;
+          active = λ session role h. are.more role (formed.active session role h);
+          owned = formed.owned;
+          locked = formed.locked;
+          ssd = separation_with S.ssd formed.ssd;
+          dsd = separation_with S.dsd formed.dsd;
+        };
+        acyclic = are.acyclic;
+        static_separation = λ name user n there. subst (λ k. k < n)
+            (sym (count_same name_total name_exact (is_authorized with_roles user) (is_authorized S user) (members_of S.ssd name)
+            (λ q member. same_authorized user q (formed.ssd.members name q ((seconds-Decides S.ssd.members name q).0 member)).1)))
+            (good.static_separation name user n there);
+        dynamic_separation = λ name session user n there owner. subst (λ k. k < n)
+            (sym (count_same name_total name_exact (is_session_role with_roles session) (is_session_role S session) (members_of S.dsd name)
+            (λ q member. same_session_role session q (formed.dsd.members name q ((seconds-Decides S.dsd.members name q).0 member)).1)))
+            (good.dynamic_separation name session user n there owner);
+        authorized = λ session user role owner active. same_authorized user role (formed.active session role active) ∙ good.authorized session user role owner active;
+        unlocked = good.unlocked;
+        limits = record {
+          users = limits.users;
+          roles = are.roles_room;
+          objects = limits.objects;
+          permissions = limits.permissions;
+          grants = limits.grants;
+          assignments = limits.assignments;
+          edges = are.edges_room;
+          ssd_sets = limits.ssd_sets;
+          dsd_sets = limits.dsd_sets;
+          ssd_members = limits.ssd_members;
+          dsd_members = limits.dsd_members;
+          sessions = limits.sessions;
+          active_roles = limits.active_roles;
+        };
+        version = good.version;
+        no_locks = good.no_locks;
+      }
+
+-- ---- other sessions and activated roles
+
+-- what has to hold of them
+pub record AreSessions (S : RbacState) (sessions active : Pairs) : Type 0 where
+  pub going : (p : Pair) → IsTrue (contains sessions p) → IsTrue (may_go_on (with_sessions S sessions active) p)
+  pub one_owner : (session user other : Bytes) → IsTrue (contains sessions (session, user)) → IsTrue (contains sessions (session, other)) → user ≡ other
+  pub roles : (session role : Bytes) → IsTrue (contains active (session, role)) → IsTrue (contains S.roles role)
+  pub owned : (session role : Bytes) → IsTrue (contains active (session, role)) → (user : Bytes) × IsTrue (contains sessions (session, user))
+  pub separated : IsDynamicallySeparated (with_sessions S sessions active)
+  pub sessions_room : len sessions ≤ limit_of Session S.version
+  pub active_room : (session : Bytes) → len (active_roles (with_sessions S sessions active) session) ≤ limit_of ActiveRole S.version
+
+-- a session that may go on has a user who is there, is not locked, and is authorized for what was activated in it
+goes_on_parts : (S : RbacState) (p : Pair) → IsTrue (may_go_on S p) →
+    IsTrue (contains S.users p.1) × (contains S.locked p.1 ≡ false) × ((role : Bytes) → IsTrue (contains S.active (p.0, role)) → IsTrue (is_authorized S p.1 role))
+unfolding may_go_on
+goes_on_parts S p h =
+    let parts = and_parts _ _ h in
+    let first = and_parts _ _ parts.0 in
+    (first.0, not-true _ first.1, λ role active. (all-Decides name_total name_exact (is_authorized S p.1) (active_roles S p.0)).0 parts.1 role ((seconds-Decides S.active p.0 role).1 active))
+
+-- so the state with them is good
+pub good_with_sessions : (S : RbacState) → IsGood S → (sessions active : Pairs) → AreSessions S sessions active → IsGood (with_sessions S sessions active)
+unfolding authorized_users with_sessions
+good_with_sessions S good sessions active are =
+    let formed = good.well_formed in
+    let limits = good.limits in
+    let T = with_sessions S sessions active in
+    record {
+      well_formed = record {
+        permissions = formed.permissions;
+        assignments = formed.assignments;
+        grants = formed.grants;
+        edges = formed.edges;
+        sessions = λ session user h. (goes_on_parts T (session, user) (are.going (session, user) h)).0;
+        one_owner = are.one_owner;
+        active = are.roles;
+        owned = are.owned;
+        locked = formed.locked;
+        ssd = formed.ssd;
+        dsd = formed.dsd;
+      };
+      acyclic = good.acyclic;
+      static_separation = good.static_separation;
+      dynamic_separation = are.separated;
+      authorized = λ session user role owner has. (goes_on_parts T (session, user) (are.going (session, user) owner)).2 role has;
+      unlocked = λ session user h. (goes_on_parts T (session, user) (are.going (session, user) h)).1;
+      limits = record {
+        users = limits.users;
+        roles = limits.roles;
+        objects = limits.objects;
+        permissions = limits.permissions;
+        grants = limits.grants;
+        assignments = limits.assignments;
+        edges = limits.edges;
+        ssd_sets = limits.ssd_sets;
+        dsd_sets = limits.dsd_sets;
+        ssd_members = limits.ssd_members;
+        dsd_members = limits.dsd_members;
+        sessions = are.sessions_room;
+        active_roles = are.active_room;
+      };
+      version = good.version;
+      no_locks = good.no_locks;
+    }

@@ -1,0 +1,22 @@
+-- What the limits give: an accepted command stays within them, and so does a set with one more entry.
+use Rattle.std.proofs.Common.{◌≡◌, ℕ, ◌+◌, ◌≤◌, arith}
+use Rattle.std.specs.Prelude.{None}
+use Rattle.std.specs.declared.cmp.Ordering.{Ordering}
+use Rattle.std.specs.Cmp.{IsTotalOrder}
+use Rattle.std.specs.FinSet.{FinSet}
+use Rattle.std.proofs.lemmas.Bool.{ltb-false}
+use Rattle.rbac_sets.specs.Sets.{insert, len}
+use Rattle.rbac_sets.specs.Kind.{limit_of}
+use Rattle.rbac_sets.specs.declared.kind.Kind.{Kind}
+use Rattle.rbac_sets.proofs.Members.{len-insert-le}
+use Rattle.admin_mgr.specs.RbacState.{RbacState}
+use Rattle.admin_mgr.specs.Refusing.{is_too_many, too_many}
+use Rattle.admin_mgr.proofs.Verdicts.VerdictLaws.{refuse_if-None}
+
+-- where so many are not too many, they are within the limit
+pub too_many-None : (S : RbacState) (kind : Kind) (number : ℕ) → too_many S kind number ≡ None → number ≤ limit_of kind S.version
+too_many-None S kind number h = ltb-false (limit_of kind S.version) number (refuse_if-None (is_too_many S kind number) _ h)
+
+-- where there is room for one more, a set with one more entry is within the limit
+pub one_more_within : {K : Type 0} {R : K → K → Ordering} (total : IsTotalOrder R) (s : FinSet R) (x : K) (limit : ℕ) → len s + 1 ≤ limit → len (insert s x) ≤ limit
+one_more_within total s x limit room = let more = len-insert-le total s x in omega (arith, more, room)

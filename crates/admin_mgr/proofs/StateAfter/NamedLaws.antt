@@ -1,0 +1,53 @@
+-- Names stay names.
+use Rattle.std.proofs.Common.{List, [], ◌∷◌, sym, ◌∙◌, inl, inr, subst}
+use Rattle.std.specs.Prelude.{IsTrue}
+use Rattle.std.specs.List.{list_all}
+use Rattle.std.proofs.lemmas.Bool.{and_parts, or_cases, true≢false}
+use Rattle.rbac_sets.specs.Named.{is_named, are_named}
+use Rattle.rbac_sets.specs.declared.row.Row.{Row}
+use Rattle.rbac_sets.specs.declared.row.Change.{Change}
+use Rattle.rbac_sets.specs.declared.row.Change.TheVariants.{Put, Take}
+use Rattle.admin_mgr.specs.RbacState.{RbacState, empty_state}
+use Rattle.admin_mgr.specs.Changes.{is_put}
+use Rattle.admin_mgr.specs.Checked.{AreRowsOf}
+use Rattle.admin_mgr.specs.Gathered.{is_among}
+use Rattle.admin_mgr.specs.Named.{AreNamed, NamedTurns}
+use Rattle.admin_mgr.proofs.PlanRows.CommitLaws.{same_row-is}
+use Rattle.admin_mgr.proofs.StateAfter.EmptyLaws.{empty_has_no_row}
+
+-- a row that is put by changes of names is one of names
+put_named : (changes : List Change) → IsTrue (are_named changes) → (row : Row) → IsTrue (is_put changes row) → IsTrue (is_named row)
+unfolding is_put
+put_named [] named row put = absurd (true≢false (sym put))
+put_named (Take first ∷ changes) named row put = put_named changes (and_parts (is_named first) _ named).1 row put
+put_named (Put first ∷ changes) named row put =
+    let parts = and_parts (is_named first) _ named in
+    elim (or_cases _ _ put) [
+      | inl same ↦ subst (λ r. IsTrue (is_named r)) (sym (same_row-is first row same)) parts.0
+      | inr later ↦ put_named changes parts.1 row later
+    ]
+
+-- the state that changes lead to is one of names
+pub named_turns : NamedTurns
+named_turns S T changes turns named changes_named row there = elim (or_cases _ _ (sym (turns.rows row) ∙ there)) [
+  | inl old ↦ named row (and_parts _ _ old).0
+  | inr new ↦ put_named changes changes_named row new
+]
+
+-- a row that is among rows of names is one of names
+among_named : (rows : List Row) → IsTrue (list_all is_named rows) → (row : Row) → IsTrue (is_among rows row) → IsTrue (is_named row)
+among_named [] named row among = absurd (true≢false (sym among))
+among_named (first ∷ rows) named row among =
+    let parts = and_parts (is_named first) _ named in
+    elim (or_cases _ _ among) [
+      | inl same ↦ subst (λ r. IsTrue (is_named r)) (sym (same_row-is first row same)) parts.0
+      | inr later ↦ among_named rows parts.1 row later
+    ]
+
+-- the state of rows of names is one of names
+pub named_rows : (S : RbacState) (rows : List Row) → AreRowsOf S rows → IsTrue (list_all is_named rows) → AreNamed S
+named_rows S rows are named row there = among_named rows named row (sym (are.rows_are row) ∙ there)
+
+-- an empty state has no name
+pub empty_named : (version : _) → AreNamed (empty_state version)
+empty_named version row there = absurd (true≢false (sym there ∙ empty_has_no_row version row))

@@ -1,0 +1,11 @@
+pub mod AskedLaws
+pub mod BreakLaws
+pub mod HeldLaws
+pub mod InheritLaws
+pub mod KeepLaws
+pub mod RefusingLaws
+pub mod SeparationLaws
+pub mod SessionCommandLaws
+pub mod TouchLaws
+pub mod VerdictLaws
+pub mod ViolationLaws
