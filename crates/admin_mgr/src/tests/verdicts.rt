@@ -1,9 +1,9 @@
 //! Verdicts that name a set, and what is told of an import.
 use super::naming::read_command;
 use super::refused::obey;
-use crate::State;
 use crate::judge::judge;
-use rbac_sets::Refusal;
+use crate::{Report, State};
+use rbac_sets::{Command, Refusal};
 use std::alloc::Global;
 use std::test::Fail;
 
@@ -36,30 +36,60 @@ fn named_set(refusal: &Refusal) -> &str {
     }
 }
 
+// Whether the verdict on the command names the set pay.
+fn is_judged(alloc: Global, state: &State, command: &Command) -> Result<bool, Refusal> {
+    let verdict = judge(alloc, state, command)?;
+    match &verdict {
+        Some(refusal) => Ok(named_set(refusal) == "pay"),
+        None => Ok(false),
+    }
+}
+
+// Whether its plan is refused with the set pay.
+fn is_refused(alloc: Global, state: &State, command: &Command) -> bool {
+    match state.plan(alloc, command) {
+        Ok(_) => false,
+        Err(refusal) => named_set(&refusal) == "pay",
+    }
+}
+
+// Whether Ann may not become an approver for the set pay.
+fn is_kept_out(alloc: Global, state: &State) -> Result<bool, Refusal> {
+    let command = read_command(alloc, "assignUser ann approver")?;
+    Ok(is_judged(alloc, state, &command)? && is_refused(alloc, state, &command))
+}
+
 #[test]
 fn a_violated_set_is_named(rt: HostRuntime) -> Result<(), Fail> {
     let alloc = rt.alloc();
     let state = clerks(alloc)?;
-    let command = read_command(alloc, "assignUser ann approver")?;
-    let verdict = judge(alloc, &state, &command)?.ok_or("accepted")?;
-    assert_eq!(rt; named_set(&verdict), "pay");
-    let refusal = state.plan(alloc, &command).err().ok_or("planned")?;
-    assert_eq!(rt; named_set(&refusal), "pay");
+    assert!(rt; is_kept_out(alloc, &state)?);
     Ok(())
+}
+
+// Whether one record was assigned, one had been before, and the third was refused by static separation.
+fn tells_of_records(report: &Report) -> bool {
+    report.assigned == 1
+        && report.already == 1
+        && report.refused.len() == 1
+        && report
+            .refused
+            .iter()
+            .all(|told| told.0 == 3 && told.1 == 24)
+}
+
+// Whether the plan of the import tells so, and has one change.
+fn is_planned(alloc: Global, state: &State) -> Result<bool, Refusal> {
+    let text = "importAssignments bob/approver ann/clerk ann/approver";
+    let command = read_command(alloc, text)?;
+    let plan = state.plan(alloc, &command)?;
+    Ok(tells_of_records(plan.report()) && plan.changes().len() == 1)
 }
 
 #[test]
 fn an_import_tells_of_its_records(rt: HostRuntime) -> Result<(), Fail> {
     let alloc = rt.alloc();
     let state = clerks(alloc)?;
-    let text = "importAssignments bob/approver ann/clerk ann/approver";
-    let plan = state.plan(alloc, &read_command(alloc, text)?)?;
-    let report = plan.report();
-    assert!(rt; report.assigned == 1 && report.already == 1);
-    for (record, code) in &report.refused {
-        assert!(rt; *record == 3 && *code == 24);
-    }
-    assert_eq!(rt; report.refused.len(), 1);
-    assert_eq!(rt; plan.changes().len(), 1);
+    assert!(rt; is_planned(alloc, &state)?);
     Ok(())
 }

@@ -2,86 +2,131 @@
 use super::small_office::{are, are_pairs, small_office};
 use crate::check_access;
 use crate::review::*;
-use rbac_sets::Name;
+use admin_mgr::State;
+use rbac_sets::{Name, Refusal};
+use std::alloc::Global;
 use std::test::Fail;
 
+fn users_of_clerk(alloc: Global, state: &State) -> Result<bool, Refusal> {
+    let clerk = Name::new(alloc, "clerk")?;
+    let assigned = assigned_users(alloc, state, &clerk)?;
+    let authorized = authorized_users(alloc, state, &clerk)?;
+    Ok(are(&assigned, &["bob"]) && are(&authorized, &["ann", "bob"]))
+}
+
+fn roles_of_ann(alloc: Global, state: &State) -> Result<bool, Refusal> {
+    let ann = Name::new(alloc, "ann")?;
+    let assigned = assigned_roles(alloc, state, &ann)?;
+    let authorized = authorized_roles(alloc, state, &ann)?;
+    Ok(are(&assigned, &["boss"]) && are(&authorized, &["boss", "clerk"]))
+}
+
 #[test]
-fn of_roles(rt: HostRuntime) -> Result<(), Fail> {
+fn of_users_and_roles(rt: HostRuntime) -> Result<(), Fail> {
     let alloc = rt.alloc();
     let state = small_office(alloc)?;
-    let ann = Name::new(alloc, "ann")?;
-    let clerk = Name::new(alloc, "clerk")?;
-    assert!(rt; are(&assigned_users(alloc, &state, &clerk)?, &["bob"]));
-    assert!(rt; are(&assigned_roles(alloc, &state, &ann)?, &["boss"]));
-    assert!(rt; are(&authorized_users(alloc, &state, &clerk)?, &["ann", "bob"]));
-    assert!(rt; are(&authorized_roles(alloc, &state, &ann)?, &["boss", "clerk"]));
+    assert!(rt; users_of_clerk(alloc, &state)? && roles_of_ann(alloc, &state)?);
     Ok(())
+}
+
+fn permissions_of_boss(alloc: Global, state: &State) -> Result<bool, Refusal> {
+    let boss = Name::new(alloc, "boss")?;
+    let pairs = role_permissions(alloc, state, &boss)?;
+    Ok(are_pairs(&pairs, &[("safe", "open"), ("safe", "view")]))
+}
+
+fn permissions_of_bob(alloc: Global, state: &State) -> Result<bool, Refusal> {
+    let bob = Name::new(alloc, "bob")?;
+    let pairs = user_permissions(alloc, state, &bob)?;
+    Ok(are_pairs(&pairs, &[("safe", "open")]))
+}
+
+fn roles_of_opening(alloc: Global, state: &State) -> Result<bool, Refusal> {
+    let safe = Name::new(alloc, "safe")?;
+    let open = Name::new(alloc, "open")?;
+    let roles = permission_roles(alloc, state, &safe, &open)?;
+    Ok(are(&roles, &["clerk"]))
 }
 
 #[test]
 fn of_permissions(rt: HostRuntime) -> Result<(), Fail> {
     let alloc = rt.alloc();
     let state = small_office(alloc)?;
-    let bob = Name::new(alloc, "bob")?;
-    let boss = Name::new(alloc, "boss")?;
-    let both = [("safe", "open"), ("safe", "view")];
-    assert!(rt; are_pairs(&role_permissions(alloc, &state, &boss)?, &both));
-    assert!(rt; are_pairs(&user_permissions(alloc, &state, &bob)?, &[("safe", "open")]));
-    let safe = Name::new(alloc, "safe")?;
-    let open = Name::new(alloc, "open")?;
-    assert!(rt; are(&permission_roles(alloc, &state, &safe, &open)?, &["clerk"]));
+    assert!(rt; permissions_of_boss(alloc, &state)? && permissions_of_bob(alloc, &state)?);
+    assert!(rt; roles_of_opening(alloc, &state)?);
     Ok(())
+}
+
+fn operations_of_clerk(alloc: Global, state: &State) -> Result<bool, Refusal> {
+    let clerk = Name::new(alloc, "clerk")?;
+    let safe = Name::new(alloc, "safe")?;
+    let operations = role_operations_on_object(alloc, state, &clerk, &safe)?;
+    Ok(are(&operations, &["open"]))
+}
+
+fn operations_of_ann(alloc: Global, state: &State) -> Result<bool, Refusal> {
+    let ann = Name::new(alloc, "ann")?;
+    let safe = Name::new(alloc, "safe")?;
+    let operations = user_operations_on_object(alloc, state, &ann, &safe)?;
+    Ok(are(&operations, &["open", "view"]))
 }
 
 #[test]
 fn of_operations(rt: HostRuntime) -> Result<(), Fail> {
     let alloc = rt.alloc();
     let state = small_office(alloc)?;
-    let ann = Name::new(alloc, "ann")?;
-    let clerk = Name::new(alloc, "clerk")?;
-    let safe = Name::new(alloc, "safe")?;
-    let names = role_operations_on_object(alloc, &state, &clerk, &safe)?;
-    assert!(rt; are(&names, &["open"]));
-    let names = user_operations_on_object(alloc, &state, &ann, &safe)?;
-    assert!(rt; are(&names, &["open", "view"]));
+    assert!(rt; operations_of_clerk(alloc, &state)? && operations_of_ann(alloc, &state)?);
     Ok(())
+}
+
+fn static_sets(alloc: Global, state: &State) -> Result<bool, Refusal> {
+    let pay = Name::new(alloc, "pay")?;
+    let sets = ssd_role_sets(alloc, state)?;
+    let roles = ssd_role_set_roles(alloc, state, &pay)?;
+    let cardinality = ssd_role_set_cardinality(state, &pay)?;
+    Ok(are(&sets, &["pay"]) && are(&roles, &["clerk", "temp"]) && cardinality == 2)
+}
+
+fn dynamic_sets(alloc: Global, state: &State) -> Result<bool, Refusal> {
+    let till = Name::new(alloc, "till")?;
+    let sets = dsd_role_sets(alloc, state)?;
+    let roles = dsd_role_set_roles(alloc, state, &till)?;
+    let cardinality = dsd_role_set_cardinality(state, &till)?;
+    Ok(are(&sets, &["till"]) && are(&roles, &["boss", "temp"]) && cardinality == 2)
 }
 
 #[test]
 fn of_separation(rt: HostRuntime) -> Result<(), Fail> {
     let alloc = rt.alloc();
     let state = small_office(alloc)?;
-    let pay = Name::new(alloc, "pay")?;
-    let till = Name::new(alloc, "till")?;
-    assert!(rt; are(&ssd_role_sets(alloc, &state)?, &["pay"]));
-    assert!(rt;
-        are(
-            &ssd_role_set_roles(alloc, &state, &pay)?,
-            &["clerk", "temp"]
-        )
-    );
-    assert_eq!(rt; ssd_role_set_cardinality(&state, &pay)?, 2);
-    assert!(rt; are(&dsd_role_sets(alloc, &state)?, &["till"]));
-    assert!(rt;
-        are(
-            &dsd_role_set_roles(alloc, &state, &till)?,
-            &["boss", "temp"]
-        )
-    );
-    assert_eq!(rt; dsd_role_set_cardinality(&state, &till)?, 2);
+    assert!(rt; static_sets(alloc, &state)? && dynamic_sets(alloc, &state)?);
     Ok(())
+}
+
+fn roles_of_session(alloc: Global, state: &State) -> Result<bool, Refusal> {
+    let session = Name::new(alloc, "s1")?;
+    let roles = session_roles(alloc, state, &session)?;
+    Ok(are(&roles, &["boss", "clerk"]))
+}
+
+fn permissions_of_session(alloc: Global, state: &State) -> Result<bool, Refusal> {
+    let session = Name::new(alloc, "s1")?;
+    let pairs = session_permissions(alloc, state, &session)?;
+    Ok(are_pairs(&pairs, &[("safe", "open"), ("safe", "view")]))
+}
+
+fn may_open(alloc: Global, state: &State) -> Result<bool, Refusal> {
+    let session = Name::new(alloc, "s1")?;
+    let open = Name::new(alloc, "open")?;
+    let safe = Name::new(alloc, "safe")?;
+    check_access(state, &session, &open, &safe)
 }
 
 #[test]
 fn of_sessions(rt: HostRuntime) -> Result<(), Fail> {
     let alloc = rt.alloc();
     let state = small_office(alloc)?;
-    let session = Name::new(alloc, "s1")?;
-    let both = [("safe", "open"), ("safe", "view")];
-    assert!(rt; are(&session_roles(alloc, &state, &session)?, &["boss", "clerk"]));
-    assert!(rt; are_pairs(&session_permissions(alloc, &state, &session)?, &both));
-    let safe = Name::new(alloc, "safe")?;
-    let open = Name::new(alloc, "open")?;
-    assert!(rt; check_access(&state, &session, &open, &safe)?);
+    assert!(rt; roles_of_session(alloc, &state)? && permissions_of_session(alloc, &state)?);
+    assert!(rt; may_open(alloc, &state)?);
     Ok(())
 }

@@ -7,28 +7,28 @@ use std::alloc::Global;
 type Line = (char, u8, &'static str, &'static str, &'static str);
 
 const LINES: &[Line] = &[
-    ('n', 1, "ann", "", ""),
-    ('n', 1, "bob", "", ""),
-    ('n', 2, "boss", "", ""),
-    ('n', 2, "clerk", "", ""),
-    ('n', 2, "temp", "", ""),
-    ('n', 3, "safe", "", ""),
-    ('p', 3, "boss", "clerk", ""),
-    ('p', 4, "boss", "clerk", ""),
-    ('p', 2, "ann", "boss", ""),
-    ('p', 2, "bob", "clerk", ""),
-    ('p', 1, "safe", "open", ""),
-    ('p', 1, "safe", "view", ""),
+    ('n', Row::USER, "ann", "", ""),
+    ('n', Row::USER, "bob", "", ""),
+    ('n', Row::ROLE, "boss", "", ""),
+    ('n', Row::ROLE, "clerk", "", ""),
+    ('n', Row::ROLE, "temp", "", ""),
+    ('n', Row::OBJECT, "safe", "", ""),
+    ('p', Row::INHERITANCE, "boss", "clerk", ""),
+    ('p', Row::CLOSURE_PAIR, "boss", "clerk", ""),
+    ('p', Row::ASSIGNMENT, "ann", "boss", ""),
+    ('p', Row::ASSIGNMENT, "bob", "clerk", ""),
+    ('p', Row::PERMISSION, "safe", "open", ""),
+    ('p', Row::PERMISSION, "safe", "view", ""),
     ('g', 0, "safe", "open", "clerk"),
     ('g', 0, "safe", "view", "boss"),
-    ('s', 1, "pay", "", ""),
-    ('p', 5, "pay", "clerk", ""),
-    ('p', 5, "pay", "temp", ""),
-    ('s', 2, "till", "", ""),
-    ('p', 6, "till", "boss", ""),
-    ('p', 6, "till", "temp", ""),
-    ('p', 7, "s1", "ann", ""),
-    ('p', 8, "s1", "boss", ""),
+    ('s', Row::STATIC_CARDINALITY, "pay", "", ""),
+    ('p', Row::STATIC_MEMBER, "pay", "clerk", ""),
+    ('p', Row::STATIC_MEMBER, "pay", "temp", ""),
+    ('s', Row::DYNAMIC_CARDINALITY, "till", "", ""),
+    ('p', Row::DYNAMIC_MEMBER, "till", "boss", ""),
+    ('p', Row::DYNAMIC_MEMBER, "till", "temp", ""),
+    ('p', Row::SESSION, "s1", "ann", ""),
+    ('p', Row::ACTIVATED_ROLE, "s1", "boss", ""),
 ];
 
 // A function, so that a proof needs not look at all lines.
@@ -47,13 +47,18 @@ fn row_of(alloc: Global, line: &Line) -> Result<Row, Refusal> {
     }
 }
 
-// The state of the small office.
-pub(super) fn small_office(alloc: Global) -> Result<State, Refusal> {
+// The rows of these lines.
+fn rows_of(alloc: Global, lines: &[Line]) -> Result<Vec<Row>, Refusal> {
     let mut rows = Vec::new(alloc);
-    for line in lines() {
+    for line in lines {
         rows.push(row_of(alloc, line)?)?;
     }
-    State::of_rows(alloc, 2, rows)
+    Ok(rows)
+}
+
+// The state of the small office.
+pub(super) fn small_office(alloc: Global) -> Result<State, Refusal> {
+    State::of_rows(alloc, 2, rows_of(alloc, lines())?)
 }
 
 // Whether the names are these, in this order.
