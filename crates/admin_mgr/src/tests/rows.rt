@@ -49,11 +49,17 @@ fn bank() -> &'static [Line] {
     BANK
 }
 
+fn push_row(alloc: Global, rows: &mut Vec<Row>, line: &Line) -> Result<(), Refusal> {
+    let row = row_of(alloc, line)?;
+    rows.push(row)?;
+    Ok(())
+}
+
 // The rows of these lines.
 fn rows_of(alloc: Global, lines: &[Line]) -> Result<Vec<Row>, Refusal> {
     let mut rows = Vec::new(alloc);
     for line in lines {
-        rows.push(row_of(alloc, line)?)?;
+        push_row(alloc, &mut rows, line)?;
     }
     Ok(rows)
 }

@@ -21,11 +21,15 @@ fn roles_of_ann(alloc: Global, state: &State) -> Result<bool, Refusal> {
     Ok(are(&assigned, &["boss"]) && are(&authorized, &["boss", "clerk"]))
 }
 
+fn tells_of_users_and_roles(alloc: Global, state: &State) -> Result<bool, Refusal> {
+    Ok(users_of_clerk(alloc, state)? && roles_of_ann(alloc, state)?)
+}
+
 #[test]
 fn of_users_and_roles(rt: HostRuntime) -> Result<(), Fail> {
     let alloc = rt.alloc();
     let state = small_office(alloc)?;
-    assert!(rt; users_of_clerk(alloc, &state)? && roles_of_ann(alloc, &state)?);
+    assert!(rt; tells_of_users_and_roles(alloc, &state)?);
     Ok(())
 }
 
@@ -48,12 +52,19 @@ fn roles_of_opening(alloc: Global, state: &State) -> Result<bool, Refusal> {
     Ok(are(&roles, &["clerk"]))
 }
 
+fn tells_of_permissions(alloc: Global, state: &State) -> Result<bool, Refusal> {
+    Ok(
+        permissions_of_boss(alloc, state)?
+            && permissions_of_bob(alloc, state)?
+            && roles_of_opening(alloc, state)?,
+    )
+}
+
 #[test]
 fn of_permissions(rt: HostRuntime) -> Result<(), Fail> {
     let alloc = rt.alloc();
     let state = small_office(alloc)?;
-    assert!(rt; permissions_of_boss(alloc, &state)? && permissions_of_bob(alloc, &state)?);
-    assert!(rt; roles_of_opening(alloc, &state)?);
+    assert!(rt; tells_of_permissions(alloc, &state)?);
     Ok(())
 }
 
@@ -71,11 +82,15 @@ fn operations_of_ann(alloc: Global, state: &State) -> Result<bool, Refusal> {
     Ok(are(&operations, &["open", "view"]))
 }
 
+fn tells_of_operations(alloc: Global, state: &State) -> Result<bool, Refusal> {
+    Ok(operations_of_clerk(alloc, state)? && operations_of_ann(alloc, state)?)
+}
+
 #[test]
 fn of_operations(rt: HostRuntime) -> Result<(), Fail> {
     let alloc = rt.alloc();
     let state = small_office(alloc)?;
-    assert!(rt; operations_of_clerk(alloc, &state)? && operations_of_ann(alloc, &state)?);
+    assert!(rt; tells_of_operations(alloc, &state)?);
     Ok(())
 }
 
@@ -95,11 +110,15 @@ fn dynamic_sets(alloc: Global, state: &State) -> Result<bool, Refusal> {
     Ok(are(&sets, &["till"]) && are(&roles, &["boss", "temp"]) && cardinality == 2)
 }
 
+fn tells_of_separation(alloc: Global, state: &State) -> Result<bool, Refusal> {
+    Ok(static_sets(alloc, state)? && dynamic_sets(alloc, state)?)
+}
+
 #[test]
 fn of_separation(rt: HostRuntime) -> Result<(), Fail> {
     let alloc = rt.alloc();
     let state = small_office(alloc)?;
-    assert!(rt; static_sets(alloc, &state)? && dynamic_sets(alloc, &state)?);
+    assert!(rt; tells_of_separation(alloc, &state)?);
     Ok(())
 }
 
@@ -122,11 +141,18 @@ fn may_open(alloc: Global, state: &State) -> Result<bool, Refusal> {
     check_access(state, &session, &open, &safe)
 }
 
+fn tells_of_sessions(alloc: Global, state: &State) -> Result<bool, Refusal> {
+    Ok(
+        roles_of_session(alloc, state)?
+            && permissions_of_session(alloc, state)?
+            && may_open(alloc, state)?,
+    )
+}
+
 #[test]
 fn of_sessions(rt: HostRuntime) -> Result<(), Fail> {
     let alloc = rt.alloc();
     let state = small_office(alloc)?;
-    assert!(rt; roles_of_session(alloc, &state)? && permissions_of_session(alloc, &state)?);
-    assert!(rt; may_open(alloc, &state)?);
+    assert!(rt; tells_of_sessions(alloc, &state)?);
     Ok(())
 }

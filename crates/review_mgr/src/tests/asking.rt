@@ -59,12 +59,20 @@ fn asks_for_access(alloc: Global, state: &State) -> Result<bool, Refusal> {
     Ok(is_granted(&answer))
 }
 
+fn asks(alloc: Global, state: &State) -> Result<bool, Refusal> {
+    Ok(
+        asks_for_sets(alloc, state)?
+            && asks_for_permissions(alloc, state)?
+            && asks_for_a_number(alloc, state)?
+            && asks_for_access(alloc, state)?,
+    )
+}
+
 #[test]
 fn a_question_is_answered(rt: HostRuntime) -> Result<(), Fail> {
     let alloc = rt.alloc();
     let state = small_office(alloc)?;
-    assert!(rt; asks_for_sets(alloc, &state)? && asks_for_permissions(alloc, &state)?);
-    assert!(rt; asks_for_a_number(alloc, &state)? && asks_for_access(alloc, &state)?);
+    assert!(rt; asks(alloc, &state)?);
     Ok(())
 }
 
