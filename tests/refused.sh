@@ -7,8 +7,10 @@
 RBAC_PROGRAM=$(dirname "$0")/../crates/admin_mgr/out/admin_mgr_tests
 . "$(dirname "$0")/common"
 
-# More allocations than the test makes.
+# More allocations than the test makes, and fewer: some 800 are made by its 52 commands, and what is
+# shown of the state between them.
 most=100000
+least=700
 
 test=tests::refused::refused_memory_changes_nothing
 
@@ -24,7 +26,7 @@ while [ "$number" -lt "$most" ]; do
 done
 if [ "$number" -eq "$most" ]; then
     fail "the test asks for more than $most allocations"
-elif [ "$number" -lt 1000 ]; then
+elif [ "$number" -lt "$least" ]; then
     fail "the test asked for $((number - 1)) allocations alone"
 else
     echo "$((number - 1)) allocations refused in turn"
