@@ -16,8 +16,6 @@ pub mod laws;
 mod naming;
 pub mod order;
 pub mod plan;
-#[cfg(test)]
-mod random_tests;
 mod removal;
 #[cfg(test)]
 mod tests;

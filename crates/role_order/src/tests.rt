@@ -45,7 +45,7 @@ fn has_names(set: &NameSet, names: &[&str]) -> bool {
 }
 
 // Makes the change of a plan, and gives how many pairs it puts and takes, and how many were judged.
-pub fn make(order: &mut RoleOrder, plan: OrderPlan) -> Result<(usize, usize, u64), Refusal>
+fn make(order: &mut RoleOrder, plan: OrderPlan) -> Result<(usize, usize, u64), Refusal>
     requires { Fits order.old.edges plan }
 {
     let counts = (plan.puts().len(), plan.takes().len(), plan.judged());
