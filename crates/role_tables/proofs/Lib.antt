@@ -1,0 +1,5 @@
+mod Events
+mod Meanings
+mod OfficeTables
+mod Reading
+mod StoredRows

@@ -1,0 +1,16 @@
+pub mod ParsedTexts
+pub mod Columns
+pub mod Inserts
+pub mod Selects
+pub mod Deletes
+pub mod Understood
+pub mod SelectedRows
+pub mod InsertedRows
+pub mod DeletedRows
+pub mod ChangedRows
+pub mod RowsInOrder
+pub mod Parts
+pub mod Creates
+pub mod CreatedTables
+pub mod ForeignKeys
+pub mod Surviving

@@ -1,0 +1,9 @@
+pub mod Finding
+pub mod Held
+pub mod Gathering
+pub mod MetaRows
+pub mod Parts
+pub mod Judging
+pub mod ReadState
+pub mod GoodState
+pub mod Standing

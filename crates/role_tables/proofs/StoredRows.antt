@@ -1,0 +1,5 @@
+pub mod Changes
+pub mod Texts
+pub mod Transactions
+pub mod Migration
+pub mod Once

@@ -1,0 +1,44 @@
+use Rattle.std.proofs.Common.{IsTrue, ◌≡◌, ◌∙◌, rules, true, false, refl, sym, ap, subst}
+use Rattle.sqlite.specs.State.{HasCleanDisk}
+use Rattle.sqlite.specs.Held.{state}
+use Rattle.admin_mgr.specs.RbacState.{empty_state}
+use Rattle.role_tables.specs.Creating.{IsStage, MayCreate, no_table, no_rows}
+use Rattle.role_tables.specs.InSchema.{may_create}
+use Rattle.role_tables.specs.Standing.{LeavesBeforeOr, Stands}
+use Rattle.role_tables.specs.StoredState.{HoldsState}
+use Rattle.role_tables.proofs.OfficeTables.Looking.{first_stage}
+use Rattle.role_tables.proofs.creating.create_with.Goals as goal
+
+pub returns-in-Ok-clause-ok : goal.returns-in-Ok-clause-ok
+returns-in-Ok-clause-ok g c =
+    let version : c.version-version.result ≡ c.args.first.facts.version = c.version-version.ensures.version in
+    let autocommit : (state g.S.Store c.args.conn).in_transaction ≡ false = search rules in
+    let may : may_create c.args.first.facts.version (state g.S.Store c.args.conn).now.schema ≡ true = search rules in
+    let stage : IsTrue (state g.S.Store c.args.conn).is_open → IsStage c.version-version.result no_table (state g.S.Store c.args.conn).now no_rows = λ is_open.
+    first_stage c.version-version.result (state g.S.Store c.args.conn).now c.version-version.ensures.known (rw (← version) at may) (c.schema.ensures.live is_open).0 in
+    let empty : empty_state c.version-version.result ≡ c.args.first.facts = ap empty_state version ∙ sym c.requires.empty in
+    let facts : c.new.result.facts ≡ c.args.first.facts = search rules in
+    let same : c.create_office.new.conn ≡ c.new.result.conn = search rules in (
+      facts,
+      c.new.ensures.2,
+      (autocommit, may),
+      subst (λ h. HasCleanDisk (state g.S.Store h) → Stands (state g.S.Store h) c.args.first.facts) same
+          (λ clean. subst (Stands (state g.S.Store c.create_office.new.conn)) empty (c.in-Ok.ensures.made clean stage).done),
+    )
+
+pub returns-in-Err-clause-undone : goal.returns-in-Err-clause-undone
+returns-in-Err-clause-undone g c clean =
+    let version : c.version-version.result ≡ c.args.first.facts.version = c.version-version.ensures.version in
+    let may : may_create c.args.first.facts.version (state g.S.Store c.args.conn).now.schema ≡ true = search rules in
+    let stage : IsTrue (state g.S.Store c.args.conn).is_open → IsStage c.version-version.result no_table (state g.S.Store c.args.conn).now no_rows = λ is_open.
+    first_stage c.version-version.result (state g.S.Store c.args.conn).now c.version-version.ensures.known (rw (← version) at may) (c.schema.ensures.live is_open).0 in
+    (c.in-Err.ensures.made clean stage).undone
+
+pub returns-in-Err-clause-stop : goal.returns-in-Err-clause-stop
+returns-in-Err-clause-stop g c clean =
+    let version : c.version-version.result ≡ c.args.first.facts.version = c.version-version.ensures.version in
+    let may : may_create c.args.first.facts.version (state g.S.Store c.args.conn).now.schema ≡ true = search rules in
+    let stage : IsTrue (state g.S.Store c.args.conn).is_open → IsStage c.version-version.result no_table (state g.S.Store c.args.conn).now no_rows = λ is_open.
+    first_stage c.version-version.result (state g.S.Store c.args.conn).now c.version-version.ensures.known (rw (← version) at may) (c.schema.ensures.live is_open).0 in
+    let empty : empty_state c.version-version.result ≡ c.args.first.facts = ap empty_state version ∙ sym c.requires.empty in
+    subst (LeavesBeforeOr (state g.S.Store c.args.conn) (state g.S.Store c.create_office.new.conn)) empty (c.in-Err.ensures.made clean stage).left

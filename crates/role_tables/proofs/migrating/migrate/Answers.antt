@@ -1,0 +1,30 @@
+use Rattle.std.proofs.Common.{rules, ◌≡◌, sym, subst, ◌∙◌}
+use Rattle.sqlite.specs.State.{HasCleanDisk}
+use Rattle.sqlite.specs.Held.{state}
+use Rattle.admin_mgr.specs.Good.{IsGood}
+use Rattle.admin_mgr.specs.Named.{AreNamed}
+use Rattle.admin_mgr.specs.RbacState.{RbacState}
+use Rattle.admin_mgr.specs.Life.{taken_into_version_2}
+use Rattle.role_tables.specs.Found.{held_in}
+use Rattle.role_tables.specs.Opening.{IsStateFound}
+use Rattle.role_tables.specs.Standing.{Stands}
+use Rattle.role_tables.proofs.migrating.migrate.Goals as goal
+
+pub returns-in-Ok-clause-ok : goal.returns-in-Ok-clause-ok
+returns-in-Ok-clause-ok g c =
+    let facts : c.new.result.facts ≡ c.in-Ok.state.facts = search rules in
+    let same : c.migrate_state.new.conn ≡ c.new.result.conn = search rules in
+    let old = state g.S.Store c.args.conn in (
+      c.new.ensures.2,
+      search rules,
+      subst (λ h. HasCleanDisk (state g.S.Store h) → (first : RbacState) × IsStateFound (held_in old.now) first × (first.version ≡ 1) × (c.new.result.facts ≡ taken_into_version_2 first)) same
+          (λ clean. let got = c.in-Ok.ensures.found clean in (got.0, got.1, got.2, facts ∙ got.3)),
+    )
+
+pub returns-in-Ok-clause-moved : goal.returns-in-Ok-clause-moved
+returns-in-Ok-clause-moved g c =
+    let facts : c.new.result.facts ≡ c.in-Ok.state.facts = search rules in
+    let same : c.migrate_state.new.conn ≡ c.new.result.conn = search rules in
+    let old = state g.S.Store c.args.conn in
+    subst (λ h. HasCleanDisk (state g.S.Store h) → (before : RbacState) → IsGood before → AreNamed before → Stands old before → (before.version ≡ 1) × (c.new.result.facts ≡ taken_into_version_2 before) × Stands (state g.S.Store h) (taken_into_version_2 before)) same
+    (λ clean before good named stands. let got = c.in-Ok.ensures.moved clean before good named stands in (got.0, facts ∙ got.1, got.2))

@@ -1,0 +1,75 @@
+use Rattle.std.proofs.Common.{rules, ◌≡◌, ◌⊎◌, ◌∷◌, [], inl, None, Some, sym, ap, subst, refl, ◌∙◌, Ok, Err}
+use Rattle.sqlite.specs.Held.{state}
+use Rattle.admin_mgr.specs.After.{after}
+use Rattle.admin_mgr.specs.Good.{IsGood}
+use Rattle.admin_mgr.specs.Planned.{LeadsTo, IsPlanOf, tally_of_report}
+use Rattle.admin_mgr.specs.Verdict.{verdict}
+use Rattle.rbac_sets.specs.declared.refusal.Refusal.TheVariants.{Memory, Store}
+use Rattle.role_tables.specs.Office.{Answers, event_of}
+use Rattle.role_tables.specs.Standing.{Stands, Transacts, HoldsAsBefore, LeavesAsIn}
+use Rattle.role_tables.specs.StoredState.{HoldsState}
+use Rattle.role_tables.proofs.Reading.Standing.{leaves_either}
+use Rattle.role_tables.proofs.Events.{plan_refused, leaves_unchanged, leaves_done, leaves_stopped}
+use Rattle.role_tables.proofs.office.Office.apply.Goals as goal
+
+pub returns-in_err-plan-clause-answers : goal.returns-in_err-plan-clause-answers
+returns-in_err-plan-clause-answers g c working =
+    let is : c.from_residual.result ≡ Err c.in_err-plan.field-0.0 = search rules in
+    let facts : c.self.inside.state.facts ≡ c.args.self.now.facts = search rules in
+    subst (λ r. Answers c.args.self.now c.args.command.now r c.args.self.now) (sym is)
+    (plan_refused c.args.self.now c.args.command.now c.in_err-plan.field-0.0
+    (subst (λ S. (c.in_err-plan.field-0.0 ≡ Memory) ⊎ (verdict S c.args.command.now ≡ Some c.in_err-plan.field-0.0)) facts c.in_err-plan.ensures.refused))
+
+pub returns-in_err-plan-clause-stop : goal.returns-in_err-plan-clause-stop
+returns-in_err-plan-clause-stop g c working clean stands =
+    let is : c.from_residual.result ≡ Err c.in_err-plan.field-0.0 = search rules in
+    let facts : c.self.inside.state.facts ≡ c.args.self.now.facts = search rules in
+    subst (λ r. LeavesAsIn (state g.S.Store c.args.self.now.conn) c.args.self.now.facts (event_of c.args.command.now r ∷ [])) (sym is)
+    (leaves_unchanged g.S.Store c.args.self.now c.args.command.now c.in_err-plan.field-0.0
+    (subst (λ S. (c.in_err-plan.field-0.0 ≡ Memory) ⊎ (verdict S c.args.command.now ≡ Some c.in_err-plan.field-0.0)) facts c.in_err-plan.ensures.refused) stands)
+
+pub commit-report-requires-clause-planned : goal.commit-report-requires-clause-planned
+commit-report-requires-clause-planned g c =
+    (after c.self.inside.state.facts c.args.command.now, subst (λ S. LeadsTo S c.in_ok-plan.plan (after c.self.inside.state.facts c.args.command.now)) (sym c.make_room.ensures.keeps) c.in_ok-plan.ensures.planned.leads)
+
+pub returns-in-Ok-clause-done : goal.returns-in-Ok-clause-done
+returns-in-Ok-clause-done g c working clean stands =
+    let S = c.args.self.now.facts in
+    let facts : c.self.inside.state.facts ≡ S = search rules in
+    let planned : IsPlanOf S c.args.command.now c.in_ok-plan.plan = subst (λ S. IsPlanOf S c.args.command.now c.in_ok-plan.plan) facts c.in_ok-plan.ensures.planned in
+    let leads = planned.leads in
+    let conn_is : c.args.self.now.conn ≡ c.self.inside.conn = search rules in
+    (c.in-Ok.ensures.written clean S (after S c.args.command.now) (rw c.changes.ensures leads.rows) (subst (λ S. IsGood S) facts c.self.invariant.1) leads.good (subst (λ h. Stands (state g.S.Store h) S) conn_is stands)).done
+
+pub returns-in-Ok-clause-stop : goal.returns-in-Ok-clause-stop
+returns-in-Ok-clause-stop g c working clean stands =
+    let S = c.args.self.now.facts in
+    let facts : c.self.inside.state.facts ≡ S = search rules in
+    let planned : IsPlanOf S c.args.command.now c.in_ok-plan.plan = subst (λ S. IsPlanOf S c.args.command.now c.in_ok-plan.plan) facts c.in_ok-plan.ensures.planned in
+    let accepted : verdict S c.args.command.now ≡ None = subst (λ S. verdict S c.args.command.now ≡ None) facts c.in_ok-plan.ensures.accepted in
+    let leads = planned.leads in
+    let conn_is : c.args.self.now.conn ≡ c.self.inside.conn = search rules in
+    leaves_done (state g.S.Store c.write_changes.new.conn) S c.args.command.now c.commit-report.result accepted (ap tally_of_report c.commit-report.ensures.report ∙ planned.report)
+    (c.in-Ok.ensures.written clean S (after S c.args.command.now) (rw c.changes.ensures leads.rows) (subst (λ S. IsGood S) facts c.self.invariant.1) leads.good (subst (λ h. Stands (state g.S.Store h) S) conn_is stands)).done
+
+pub returns-in-Err-clause-stop : goal.returns-in-Err-clause-stop
+returns-in-Err-clause-stop g c working clean stands =
+    let S = c.args.self.now.facts in
+    let T = after S c.args.command.now in
+    let facts : c.self.inside.state.facts ≡ S = search rules in
+    let planned : IsPlanOf S c.args.command.now c.in_ok-plan.plan = subst (λ S. IsPlanOf S c.args.command.now c.in_ok-plan.plan) facts c.in_ok-plan.ensures.planned in
+    let accepted : verdict S c.args.command.now ≡ None = subst (λ S. verdict S c.args.command.now ≡ None) facts c.in_ok-plan.ensures.accepted in
+    let leads = planned.leads in
+    let conn_is : c.args.self.now.conn ≡ c.self.inside.conn = search rules in
+    let same : c.match-plan-2.self.conn ≡ c.write_changes.new.conn = search rules in
+    let here = subst (λ h. Stands (state g.S.Store h) S) conn_is stands in
+    subst (λ h. LeavesAsIn (state g.S.Store h) S (event_of c.args.command.now (Err Store) ∷ [])) (sym same)
+    (leaves_stopped (state g.S.Store c.write_changes.new.conn) S c.args.command.now accepted
+    (leaves_either (state g.S.Store c.self.inside.conn) (state g.S.Store c.write_changes.new.conn) S T here
+    (c.in-Err.ensures.written (rw same at clean) S T (rw c.changes.ensures leads.rows) (subst (λ S. IsGood S) facts c.self.invariant.1) leads.good here).left))
+
+pub returns-in_err-make_room-clause-stop : goal.returns-in_err-make_room-clause-stop
+returns-in_err-make_room-clause-stop g c working clean stands =
+    let is : c.from_residual-in_err-make_room.result ≡ Err Memory = search rules in
+    subst (λ r. LeavesAsIn (state g.S.Store c.args.self.now.conn) c.args.self.now.facts (event_of c.args.command.now r ∷ [])) (sym is)
+    (leaves_unchanged g.S.Store c.args.self.now c.args.command.now Memory (inl refl) stands)

@@ -1,0 +1,38 @@
+use Rattle.std.proofs.Common.{rules, ◌≡◌, sym, subst, ◌∙◌}
+use Rattle.sqlite.specs.State.{HasCleanDisk, IsUnchanged}
+use Rattle.sqlite.specs.Held.{state}
+use Rattle.admin_mgr.specs.Good.{IsGood}
+use Rattle.admin_mgr.specs.Named.{AreNamed}
+use Rattle.admin_mgr.specs.RbacState.{RbacState}
+use Rattle.role_tables.specs.Found.{held_in}
+use Rattle.role_tables.specs.Opening.{IsStateFound}
+use Rattle.role_tables.specs.Standing.{Stands}
+use Rattle.role_tables.proofs.Reading.Standing.{leaves_still, stands_still, opens_the_state, refuses_no_more}
+use Rattle.role_tables.proofs.opening.open.Goals as goal
+
+pub returns-in-Ok-clause-ok : goal.returns-in-Ok-clause-ok
+returns-in-Ok-clause-ok g c =
+    let facts : c.new.result.facts ≡ c.in-Ok.state.facts = search rules in
+    let same : c.read_state.new.conn ≡ c.new.result.conn = search rules in
+    let old = state g.S.Store c.args.conn in (
+      c.new.ensures.2,
+      search rules,
+      subst (λ h. HasCleanDisk (state g.S.Store h) → IsStateFound (held_in old.now) c.new.result.facts × IsUnchanged old (state g.S.Store h)) same
+          (λ clean. let got = c.in-Ok.ensures.ok clean in (subst (λ (S : RbacState). IsStateFound (held_in old.now) S) (sym facts) got.0, got.1)),
+    )
+
+pub returns-in-Ok-clause-again : goal.returns-in-Ok-clause-again
+returns-in-Ok-clause-again g c =
+    let facts : c.new.result.facts ≡ c.in-Ok.state.facts = search rules in
+    let same : c.read_state.new.conn ≡ c.new.result.conn = search rules in
+    let old = state g.S.Store c.args.conn in
+    let new = state g.S.Store c.read_state.new.conn in
+    subst (λ h. HasCleanDisk (state g.S.Store h) → (before : RbacState) → IsGood before → AreNamed before → Stands old before → (c.new.result.facts ≡ before) × Stands (state g.S.Store h) before) same (λ clean before good named stands.
+    let got = c.in-Ok.ensures.ok clean in
+    (facts ∙ opens_the_state old before c.in-Ok.state.facts good named stands got.0, stands_still old new before clean c.read_state.ensures.survives got.1 stands))
+
+pub returns-in-Err-clause-refused : goal.returns-in-Err-clause-refused
+returns-in-Err-clause-refused g c clean before good named stands =
+    let old = state g.S.Store c.args.conn in
+    let new = state g.S.Store c.read_state.new.conn in
+    (refuses_no_more old before c.in-Err.refusal good named stands (c.in-Err.ensures.err clean), leaves_still old new before clean c.read_state.ensures.survives stands)

@@ -1,0 +1,15 @@
+pub mod StrictTable
+pub mod TableByName
+pub mod OfficeTables
+pub mod Texts
+pub mod StoredState
+pub mod Standing
+pub mod Writing
+pub mod Office
+pub mod Creating
+pub mod InSchema
+pub mod Found
+pub mod Opening
+pub mod Gathering
+pub mod MetaRows
+pub mod Migrating

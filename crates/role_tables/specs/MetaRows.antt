@@ -1,0 +1,38 @@
+-- What is seen of the rows of meta_row as they are read.
+use Rattle.std.specs.Prelude.{ℕ, ◌≡◌, ◌||◌, ◌&&◌, ℤ, Bool, true, false, List, [], ◌∷◌, length, Option, Some, None, IsTrue, nat_eq, if◌then◌else◌}
+use Rattle.std.specs.List.{list_any, list_all}
+use Rattle.std.specs.Int.Signed.{lt_z}
+use Rattle.sqlite.specs.Order as sql
+use Rattle.role_tables.specs.OfficeTables.{Meta}
+use Rattle.role_tables.specs.Found.{is_whole}
+use Rattle.role_tables.specs.Opening.{is_tagged, version_at, listed, versions, is_number, is_known_version, IsLeastUnknown, is_single}
+use Rattle.role_tables.specs.declared.meta_rows.Metas.{Metas}
+
+-- the least number so far that is no version, if there is one
+abbrev pub IsUnknownOf : List ℤ → Option ℤ → Type 0
+IsUnknownOf numbers None = IsTrue (list_all is_known_version numbers)
+IsUnknownOf numbers (Some n) = IsLeastUnknown numbers n
+
+-- with one number more
+abbrev pub lesser : Option ℤ → Option ℤ → Option ℤ
+lesser least None = least
+lesser None (Some n) = if is_known_version n then None else Some n
+lesser (Some m) (Some n) = if is_known_version n then Some m else if lt_z n m then Some n else Some m
+
+-- with one row more
+pub record SeesMore (row : sql.Row) (old new : Metas) : Type 0 where
+  pub tagged : new.is_tagged ≡ (old.is_tagged || is_tagged row)
+  pub unknown : new.unknown ≡ lesser old.unknown (version_at row)
+  pub second : new.is_second ≡ (old.is_second || list_any (is_number 2) (listed (version_at row)))
+  pub whole : new.is_whole ≡ (old.is_whole && is_whole Meta row)
+  pub one : new.is_one ≡ old.is_empty
+  pub empty : new.is_empty ≡ false
+
+-- what was seen of these rows
+pub record Sees (shown : List sql.Row) (metas : Metas) : Type 0 where
+  pub tagged : metas.is_tagged ≡ list_any is_tagged shown
+  pub unknown : IsUnknownOf (versions shown) metas.unknown
+  pub second : metas.is_second ≡ list_any (is_number 2) (versions shown)
+  pub whole : metas.is_whole ≡ list_all (is_whole Meta) shown
+  pub one : metas.is_one ≡ is_single shown
+  pub empty : metas.is_empty ≡ nat_eq (length shown) 0

@@ -1,0 +1,37 @@
+-- What an office is, and what it answers.
+use Rattle.std.specs.Prelude.{◌≡◌, Bool, true, false, refl, ◌∷◌, Some, None, Result, Ok, Err}
+use Rattle.std.specs.Coded.{Coded, code_by, coded×, coded_bool}
+use Rattle.rbac_sets.specs.declared.command.Command.{Command}
+use Rattle.rbac_sets.specs.declared.refusal.Refusal.{Refusal}
+use Rattle.rbac_sets.specs.declared.refusal.Refusal.TheVariants.{Memory, Store, Closed}
+use Rattle.sqlite.specs.Held.{Held, held_code}
+use Rattle.admin_mgr.specs.declared.plan.Report.{Report}
+use Rattle.admin_mgr.specs.RbacState.{RbacState, coded_state}
+use Rattle.admin_mgr.specs.Run.{tally}
+use Rattle.admin_mgr.specs.After.{after}
+use Rattle.admin_mgr.specs.Verdict.{verdict}
+use Rattle.admin_mgr.specs.Life.{Event}
+use Rattle.admin_mgr.specs.Planned.{tally_of_report}
+
+-- a connection with the state that stands in it, and whether the store has refused a call
+pub record Opened (S : Type 0) : Type 0 where
+  pub conn : Held S
+  pub facts : RbacState
+  pub is_closed : Bool
+
+abbrev pub coded_opened : {S : Type 0} → Coded S → Coded (Opened S)
+coded_opened {S} store =
+    code_by (Held S × (RbacState × Bool)) (coded× (held_code store) (coded× coded_state coded_bool)) (λ o. (o.conn, (o.facts, o.is_closed))) (λ p. record { conn = p.0; facts = p.1.0; is_closed = p.1.1 }) (λ _. refl)
+
+-- what an open office answers to a command, and what becomes of it
+abbrev pub Answers : {S : Type 0} → Opened S → Command → Result Report Refusal → Opened S → Type 0
+Answers old command (Ok report) new = (verdict old.facts command ≡ None) × (tally_of_report report ≡ tally old.facts command) × (new.facts ≡ after old.facts command) × (new.is_closed ≡ false)
+Answers old command (Err Memory) new = new ≡ old
+Answers old command (Err Store) new = (verdict old.facts command ≡ None) × (new.is_closed ≡ true) × (new.facts ≡ old.facts)
+Answers old command (Err Closed) new = ⊥
+Answers old command (Err refusal) new = (verdict old.facts command ≡ Some refusal) × (new ≡ old)
+
+-- the command and its answer as an event of the office's life
+abbrev pub event_of : Command → Result Report Refusal → Event
+event_of command (Ok report) = record { command = command; reply = Ok (tally_of_report report) }
+event_of command (Err refusal) = record { command = command; reply = Err refusal }

@@ -1,0 +1,124 @@
+-- What `open` answers on what is found in a database, in the order in which it is judged: that an office is there (50), its
+-- version (51), the table of locks (50), check 1 but for keys, check 2, and then the rows as `State::of_rows` judges them.
+use Rattle.std.specs.Prelude.{ℕ, ◌≡◌, ◌⊎◌, ◌==◌, ◌||◌, ◌&&◌, ◌≤ℤ◌, ℤ, pos, Bool, true, false, if◌then◌else◌, List, [], ◌∷◌, ◌++◌, length, map, Option, Some, None, codes, IsTrue, IsSome, IsPermutation, bytes_eq, All, nat_eq}
+use Rattle.std.specs.List.{list_any, list_all, flat_map, Contains}
+use Rattle.std.specs.Ordering.{int_eq}
+use Rattle.rbac_sets.specs.declared.row.Row.{Row}
+use Rattle.rbac_sets.specs.declared.refusal.Refusal.{Refusal}
+use Rattle.rbac_sets.specs.declared.refusal.Refusal.TheVariants.{Memory, NotAnOffice, Version, Damaged, TooMany}
+use Rattle.sqlite.specs.declared.types.Value.{Value}
+use Rattle.sqlite.specs.declared.types.Value.TheVariants.{Int}
+use Rattle.sqlite.specs.Order as sql
+use Rattle.sqlite.specs.Order.{column}
+use Rattle.admin_mgr.specs.RbacState.{RbacState}
+use Rattle.admin_mgr.specs.Checked.{RefusesRows, IsStateOf}
+use Rattle.role_tables.specs.OfficeTables.{StoredTable, Meta, Locks, is_wanted, row_tables}
+use Rattle.role_tables.specs.Found.{Found, is_text, text_of, is_whole, has_names, row_in}
+
+-- the values that were found, none where the table or a column isn't there
+abbrev pub values : Found → StoredTable → List sql.Row
+values found kind = elim (found kind) [ Some rows ↦ rows | None ↦ [] ]
+
+-- the row of meta_row has the tag of an office
+abbrev pub is_tagged : sql.Row → Bool
+is_tagged row = is_text (column row 0) && bytes_eq (text_of (column row 0)) (codes "rbac")
+
+abbrev pub whole_number : Value → Option ℤ
+whole_number (Int n) = Some n
+whole_number _ = None
+
+-- the whole number that the row has as its version, if it has the tag
+abbrev pub version_at : sql.Row → Option ℤ
+version_at row = if is_tagged row then whole_number (column row 1) else None
+
+abbrev pub listed : Option ℤ → List ℤ
+listed (Some n) = n ∷ []
+listed None = []
+
+-- the whole numbers that rows with the tag have as their version
+abbrev pub versions : List sql.Row → List ℤ
+versions metas = flat_map (λ row. listed (version_at row)) metas
+
+abbrev pub is_number : ℕ → ℤ → Bool
+is_number n m = int_eq m (pos n)
+
+abbrev pub is_known_version : ℤ → Bool
+is_known_version n = is_number 1 n || is_number 2 n
+
+-- the five tables of either version are there with their columns
+abbrev pub HasFive : Found → Type 0
+HasFive found = (kind : StoredTable) → IsTrue (is_wanted 1 kind) → IsSome (found kind)
+
+-- an office is there: its tables, and a row with the tag
+pub record IsOffice (found : Found) : Type 0 where
+  pub tables : HasFive found
+  pub tagged : IsTrue (list_any is_tagged (values found Meta))
+
+-- the number is the least of those that are no version
+pub record IsLeastUnknown (numbers : List ℤ) (n : ℤ) : Type 0 where
+  pub there : Contains numbers n
+  pub unknown : is_known_version n ≡ false
+  pub least : All (λ m. is_known_version m ≡ false → n ≤ℤ m) numbers
+
+abbrev pub HasKnownVersions : Found → Type 0
+HasKnownVersions found = IsTrue (list_all is_known_version (versions (values found Meta)))
+
+-- the version whose tables are read
+abbrev pub version_in : Found → ℕ
+version_in found = if list_any (is_number 2) (versions (values found Meta)) then 2 else 1
+
+abbrev pub HasLocks : Found → Type 0
+HasLocks found = (version_in found ≡ 1) ⊎ IsSome (found Locks)
+
+-- an office of a known version is there
+abbrev pub IsReached : Found → Type 0
+IsReached found = IsOffice found × HasKnownVersions found × HasLocks found
+
+abbrev pub is_single : List sql.Row → Bool
+is_single rows = nat_eq (length rows) 1
+
+-- check 1, but for keys: the values are of their columns' types, and meta_row has one row
+pub record AreWhole (found : Found) : Type 0 where
+  pub rows : (kind : StoredTable) → IsTrue (is_wanted (version_in found) kind) → IsTrue (list_all (is_whole kind) (values found kind))
+  pub one : IsTrue (is_single (values found Meta))
+
+-- check 2
+abbrev pub AreNamed : Found → Type 0
+AreNamed found = (kind : StoredTable) → IsTrue (is_wanted (version_in found) kind) → IsTrue (list_all (has_names kind) (values found kind))
+
+-- the rows of a table
+abbrev pub rows_at : StoredTable → Found → List Row
+rows_at table found = map (row_in table) (values found table)
+
+-- the rows of these tables, table by table
+abbrev pub rows_in_all : Found → List StoredTable → List Row
+rows_in_all found tables = flat_map (λ table. rows_at table found) tables
+
+-- the rows of an office of the version that was found; the table of locks is not read in version 1
+abbrev pub rows_found : Found → List Row
+rows_found found = rows_in_all found (row_tables (version_in found))
+
+-- the rows are refused in some order of them
+abbrev pub RefusesRead : Found → Refusal → Type 0
+RefusesRead found refusal = (rows : List Row) × IsPermutation (rows_found found) rows × RefusesRows (version_in found) rows refusal
+
+-- what may be refused on what was found; memory may be wanting at any time
+abbrev pub RefusesFound : Found → Refusal → Type 0
+RefusesFound found Memory = Unit {0}
+RefusesFound found NotAnOffice = (IsOffice found → ⊥) ⊎ (IsOffice found × HasKnownVersions found × (HasLocks found → ⊥))
+RefusesFound found (Version n) = IsOffice found × IsLeastUnknown (versions (values found Meta)) n
+RefusesFound found (TooMany kind) = IsReached found × AreWhole found × AreNamed found × RefusesRead found (TooMany kind)
+RefusesFound found (Damaged check) = IsReached found × (
+    ((check ≡ 1) × (AreWhole found → ⊥))
+    ⊎ (((check ≡ 2) × AreWhole found × (AreNamed found → ⊥))
+    ⊎ (AreWhole found × AreNamed found × RefusesRead found (Damaged check))))
+RefusesFound found _ = ⊥
+
+-- the state is the good one whose rows were found, each once, under the one row of its version
+pub record IsStateFound (found : Found) (S : RbacState) : Type 0 where
+  pub reached : IsReached found
+  pub whole : AreWhole found
+  pub named : AreNamed found
+  pub rows : List Row
+  pub same : IsPermutation (rows_found found) rows
+  pub state : IsStateOf (version_in found) rows S

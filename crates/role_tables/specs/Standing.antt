@@ -1,0 +1,55 @@
+-- What a connection holds of a state, and what a stop leaves.
+use Rattle.std.specs.Prelude.{◌≡◌, ◌⊎◌, false, IsTrue, List, Result, OnOk, OnErr}
+use Rattle.sqlite.specs.Tree.{Trees}
+use Rattle.sqlite.specs.Effect.{Database}
+use Rattle.sqlite.specs.State.{State}
+use Rattle.sqlite.specs.declared.error.Error.{Error}
+use Rattle.admin_mgr.specs.RbacState.{RbacState}
+use Rattle.admin_mgr.specs.Life.{Event, Leaves}
+use Rattle.role_tables.specs.StoredState.{HoldsState}
+
+-- what a stop leaves is a database of which this is true
+abbrev pub LeavesSuch : (Database → Type 0) → Trees → Type 0
+LeavesSuch Is trees = (db : Database) × (trees ≡ db.trees) × Is db
+
+-- it is a database that holds the state
+abbrev pub LeavesState : RbacState → Trees → Type 0
+LeavesState S trees = LeavesSuch (λ db. HoldsState db S) trees
+
+-- the connection is open outside a transaction, this is true of its database, and a stop would leave such a database
+pub record Rests (s : State) (Is : Database → Type 0) : Type 0 where
+  pub is_open : IsTrue s.is_open
+  pub autocommit : s.in_transaction ≡ false
+  pub held : Is s.now
+  pub left : (trees : Trees) → s.may_leave trees → LeavesSuch Is trees
+
+-- the state stands in the tables, and a stop would leave it there
+abbrev pub Stands : State → RbacState → Type 0
+Stands s S = Rests s (λ db. HoldsState db S)
+
+-- while the connection is open, it holds what it held before
+abbrev pub HoldsAsBefore : State → State → Type 0
+HoldsAsBefore old new = IsTrue new.is_open → new.now ≡ old.now
+
+-- a stop leaves the state
+abbrev pub LeavesOnly : State → RbacState → Type 0
+LeavesOnly s S = (trees : Trees) → s.may_leave trees → LeavesState S trees
+
+-- it leaves the one state or the other
+abbrev pub LeavesEither : State → RbacState → RbacState → Type 0
+LeavesEither s S T = (trees : Trees) → s.may_leave trees → LeavesState S trees ⊎ LeavesState T trees
+
+-- a stop leaves what it could leave before, or the state
+abbrev pub LeavesBeforeOr : State → State → RbacState → Type 0
+LeavesBeforeOr old new S = (trees : Trees) → new.may_leave trees → old.may_leave trees ⊎ LeavesState S trees
+
+-- a stop leaves a state that it may leave by this event from S on
+abbrev pub LeavesAsIn : State → RbacState → List Event → Type 0
+LeavesAsIn s S events = (trees : Trees) → s.may_leave trees → (T : RbacState) × Leaves S events T × LeavesState T trees
+
+-- Of a transaction that was to lead to such a database: where it was committed, the connection rests on one; else it holds what
+-- it held before. A stop leaves what it could leave before, or such a database.
+pub record Transacts (old new : State) (Is : Database → Type 0) (result : Result (Unit {0}) Error) : Type 0 where
+  pub done : OnOk result (Rests new Is)
+  pub undone : OnErr result (HoldsAsBefore old new)
+  pub left : (trees : Trees) → new.may_leave trees → old.may_leave trees ⊎ LeavesSuch Is trees

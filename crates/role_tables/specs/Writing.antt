@@ -1,0 +1,27 @@
+-- What changes of rows, inside a transaction, make of the tables.
+use Rattle.std.specs.Prelude.{ℕ, ◌≡◌, IsTrue, List}
+use Rattle.std.specs.List.{AllByRecursion}
+use Rattle.rbac_sets.specs.Named.{row_of}
+use Rattle.rbac_sets.specs.declared.row.Row.{Row}
+use Rattle.rbac_sets.specs.declared.row.Change.{Change}
+use Rattle.admin_mgr.specs.RowsAfter.{rows_by}
+use Rattle.sqlite.specs.State.{State}
+use Rattle.role_tables.specs.OfficeTables.{table_of, is_wanted, HoldsTables}
+use Rattle.role_tables.specs.StoredState.{stored, stored_rows}
+
+-- an office of this version has the table of the changed row
+abbrev pub IsKept : ℕ → Change → Type 0
+IsKept version change = IsTrue (is_wanted version (table_of (stored (row_of change))))
+
+-- it has the tables of all changed rows
+abbrev pub AreKept : List Change → ℕ → Type 0
+AreKept changes version = AllByRecursion (IsKept version) changes
+
+-- in a transaction, the tables of an office that has those of the changed rows come to hold these rows
+pub record TablesAfter (old new : State) (Kept : ℕ → Type 0) (after : List Row → List Row) : Type 0 where
+  pub rows : (version : ℕ) (rows : List Row) → Kept version → HoldsTables (is_wanted version) old.now (stored_rows version rows) → HoldsTables (is_wanted version) new.now (stored_rows version (after rows))
+  pub mode : new.in_transaction ≡ old.in_transaction
+
+-- they come to hold the rows as one change makes them
+abbrev pub ChangesTables : State → State → Change → Type 0
+ChangesTables old new change = TablesAfter old new (λ version. IsKept version change) (λ rows. rows_by rows change)

@@ -1,0 +1,110 @@
+//! Making an office.
+ghost use Rattle.std.specs.Prelude.{◌≡◌, ◌⊎◌, ◌&&◌, false, true, not, IsTrue, IfErr, IfOk, OnOk};
+ghost use Rattle.admin_mgr.specs.RbacState.{empty_state};
+ghost use Rattle.sqlite.specs.State.{HasCleanDisk, KeepsCommit, Survives};
+ghost use Rattle.sqlite.specs.Held.{state};
+ghost use Rattle.role_tables.specs.Creating.{IsStage, MayCreate, StageAfter, no_table, no_rows};
+ghost use Rattle.role_tables.specs.Standing.{HoldsAsBefore, LeavesBeforeOr, Stands, Transacts};
+ghost use Rattle.role_tables.specs.StoredState.{HoldsState};
+
+use crate::office::Office;
+use crate::opening::Unopened;
+use crate::schema::may_create;
+use crate::statements::{create_table, is_settled, put_version};
+use crate::stored_table::StoredTable;
+use admin_mgr::State;
+use rbac_sets::Refusal;
+use sqlite::{Alter, Connection, Error, Transaction};
+use std::alloc::Global;
+
+// Makes the tables, one after the other.
+fn create_tables<S: Alter>(
+    tx: &mut Transaction<'_, S>,
+    tables: &[StoredTable],
+) -> Result<(), Error>
+    ensures same_reference { tx.new.conn.ghost_name ≡ tx.old.conn.ghost_name }
+    ensures made { HasCleanDisk (state S.Store tx.new.conn.now) → OnOk result (StageAfter (state S.Store tx.old.conn.now) (state S.Store tx.new.conn.now) tables.now) }
+    ensures kept { HasCleanDisk (state S.Store tx.new.conn.now) → KeepsCommit (state S.Store tx.old.conn.now) (state S.Store tx.new.conn.now) }
+    ensures survives { Survives (state S.Store tx.old.conn.now) (state S.Store tx.new.conn.now) (λ _. ⊥) }
+{
+    'tables: for table in tables {
+        create_table(tx, *table)?;
+    }
+    Ok(())
+}
+
+// Makes the tables of an empty office of this version, in one transaction.
+fn create_office<S: Alter>(conn: &mut Connection<S>, version: u32) -> Result<(), Error>
+    requires known { (version ≡ 1) ⊎ (version ≡ 2) }
+    requires autocommit { conn.old.in_transaction ≡ false }
+    ensures ended { conn.new.in_transaction ≡ false }
+    ensures made { HasCleanDisk (state S.Store conn.new) → (IsTrue (state S.Store conn.old).is_open → IsStage version no_table (state S.Store conn.old).now no_rows) → Transacts (state S.Store conn.old) (state S.Store conn.new) (λ db. HoldsState db (empty_state version)) result }
+{
+    is_settled(conn);
+    let mut tx = conn.transaction();
+    create_tables(&mut tx, StoredTable::of_version(version))?;
+    put_version(&mut tx, version)?;
+    tx.commit()
+}
+
+// Makes an empty office, whose state is this one.
+fn create_with<S: Alter>(conn: Connection<S>, first: State) -> Result<Office<S>, Unopened<S>>
+    requires empty { first.facts ≡ empty_state first.facts.version }
+    ensures ok { IfOk result (λ o. (o.facts ≡ first.facts) × (o.is_closed ≡ false) × MayCreate first.facts.version (state S.Store conn) × (HasCleanDisk (state S.Store o.conn) → Stands (state S.Store o.conn) first.facts)) }
+    ensures err { IfErr result (λ u. u.refusal ≡ Refusal.Store) }
+    ensures untouched { IfErr result (λ u. (MayCreate first.facts.version (state S.Store conn) → ⊥) → u.conn ≡ conn) }
+    ensures undone { IfErr result (λ u. HasCleanDisk (state S.Store u.conn) → HoldsAsBefore (state S.Store conn) (state S.Store u.conn)) }
+    ensures stop { IfErr result (λ u. HasCleanDisk (state S.Store u.conn) → LeavesBeforeOr (state S.Store conn) (state S.Store u.conn) first.facts) }
+{
+    let mut conn = conn;
+    let version = first.version();
+    if !conn.is_autocommit() || !may_create(conn.schema(), version) {
+        return Err(Unopened {
+            refusal: Refusal::Store,
+            conn,
+        });
+    }
+    match create_office(&mut conn, version) {
+        Ok(()) => Ok(Office::new(conn, first)),
+        Err(_) => Err(Unopened {
+            refusal: Refusal::Store,
+            conn,
+        }),
+    }
+}
+
+/// Makes an empty office of version 2 on a connection outside a transaction. Whatever else the
+/// database has stays as it is.
+///
+/// It is a function of this office and none of the standard.
+///
+/// # Errors
+///
+/// `Store` where the connection is inside a transaction, where the database has a table of an office
+/// or a foreign key that names one, or counts rowids without the table for it, and where the store
+/// refuses a call. The connection is handed back with what it held before; a stop then leaves what it
+/// could leave before, or the new office.
+pub fn create<S: Alter>(alloc: Global, conn: Connection<S>) -> Result<Office<S>, Unopened<S>>
+    ensures ok { IfOk result (λ o. (o.facts ≡ empty_state 2) × (o.is_closed ≡ false) × MayCreate 2 (state S.Store conn) × (HasCleanDisk (state S.Store o.conn) → Stands (state S.Store o.conn) (empty_state 2))) }
+    ensures err { IfErr result (λ u. u.refusal ≡ Refusal.Store) }
+    ensures untouched { IfErr result (λ u. (MayCreate 2 (state S.Store conn) → ⊥) → u.conn ≡ conn) }
+    ensures undone { IfErr result (λ u. HasCleanDisk (state S.Store u.conn) → HoldsAsBefore (state S.Store conn) (state S.Store u.conn)) }
+    ensures stop { IfErr result (λ u. HasCleanDisk (state S.Store u.conn) → LeavesBeforeOr (state S.Store conn) (state S.Store u.conn) (empty_state 2)) }
+{
+    create_with(conn, State::empty(alloc))
+}
+
+/// Makes an empty office of version 1, as `create` does one of version 2.
+///
+/// # Errors
+///
+/// As `create`, but that a table of locks may be there: an office of version 1 has none.
+pub fn create_v1<S: Alter>(alloc: Global, conn: Connection<S>) -> Result<Office<S>, Unopened<S>>
+    ensures ok { IfOk result (λ o. (o.facts ≡ empty_state 1) × (o.is_closed ≡ false) × MayCreate 1 (state S.Store conn) × (HasCleanDisk (state S.Store o.conn) → Stands (state S.Store o.conn) (empty_state 1))) }
+    ensures err { IfErr result (λ u. u.refusal ≡ Refusal.Store) }
+    ensures untouched { IfErr result (λ u. (MayCreate 1 (state S.Store conn) → ⊥) → u.conn ≡ conn) }
+    ensures undone { IfErr result (λ u. HasCleanDisk (state S.Store u.conn) → HoldsAsBefore (state S.Store conn) (state S.Store u.conn)) }
+    ensures stop { IfErr result (λ u. HasCleanDisk (state S.Store u.conn) → LeavesBeforeOr (state S.Store conn) (state S.Store u.conn) (empty_state 1)) }
+{
+    create_with(conn, State::empty_v1(alloc))
+}

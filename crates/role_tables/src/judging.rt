@@ -1,0 +1,140 @@
+//! The state that stands in a database, however its tables were made.
+ghost use Rattle.std.specs.Prelude.{◌≡◌, ◌⊎◌, ◌&&◌, [], false, true, IsTrue, IfOk, IfErr, OnOk};
+ghost use Rattle.sqlite.specs.State.{HasCleanDisk, IsUnchanged, KeepsCommit, Survives};
+ghost use Rattle.sqlite.specs.Held.{state};
+ghost use Rattle.admin_mgr.specs.Checked.{IsStateOf};
+ghost use Rattle.role_tables.specs.OfficeTables.{Meta};
+ghost use Rattle.role_tables.specs.Found.{held_in};
+ghost use Rattle.role_tables.specs.Opening.{values, HasFive, IsStateFound, RefusesFound};
+ghost use Rattle.role_tables.specs.MetaRows.{Sees};
+ghost use Rattle.role_tables.specs.Standing.{HoldsAsBefore};
+ghost use Rattle.role_tables.specs.Gathering.{AreOfRows, GathersTables, HasTables, IsVersionSeen, RefusesVersion, RefusesGathering};
+
+use crate::gathering::{Gathering, read_table};
+use crate::schema::{are_there, is_there};
+use crate::statements::is_settled;
+use crate::stored_table::StoredTable;
+use crate::meta_rows::{Metas, read_metas};
+use admin_mgr::State;
+use rbac_sets::Refusal;
+use sqlite::{Alter, Connection};
+use sqlite_schema::schema::Schema;
+use std::alloc::Global;
+
+// What stands in `meta_row`, where the five tables are there.
+fn find_metas<S: Alter>(conn: &mut Connection<S>) -> Result<Metas, Refusal>
+    ensures five { IfOk result (λ _. HasFive (held_in (state S.Store conn.old).now)) }
+    ensures seen { HasCleanDisk (state S.Store conn.new) → IfOk result (λ metas. Sees (values (held_in (state S.Store conn.old).now) Meta) metas × IsUnchanged (state S.Store conn.old) (state S.Store conn.new)) }
+    ensures refused { IfErr result (λ refusal. (refusal ≡ Refusal.Memory) ⊎ ((refusal ≡ Refusal.Store) ⊎ ((refusal ≡ Refusal.NotAnOffice) × (HasFive (held_in (state S.Store conn.old).now) → ⊥)))) }
+    ensures mode { conn.old.in_transaction ≡ false → conn.new.in_transaction ≡ false }
+    ensures kept { HasCleanDisk (state S.Store conn.new) → KeepsCommit (state S.Store conn.old) (state S.Store conn.new) }
+    ensures survives { Survives (state S.Store conn.old) (state S.Store conn.new) (λ _. ⊥) }
+{
+    if !are_there(conn.schema(), StoredTable::of_version(1)) {
+        return Err(Refusal::NotAnOffice);
+    }
+    read_metas(conn)
+}
+
+// The version whose tables are to be read.
+fn judge_version(metas: &Metas, schema: &Schema) -> Result<u32, Refusal>
+    ensures ok { IfOk result (IsVersionSeen metas.now schema.now) }
+    ensures err { IfErr result (RefusesVersion metas.now schema.now) }
+{
+    if !metas.is_tagged {
+        return Err(Refusal::NotAnOffice);
+    }
+    if let Some(version) = metas.unknown {
+        return Err(Refusal::Version(version));
+    }
+    if !metas.is_second {
+        return Ok(1);
+    }
+    if !is_there(schema, StoredTable::Locks) {
+        return Err(Refusal::NotAnOffice);
+    }
+    Ok(2)
+}
+
+// No row yet; the rows of `meta_row` count to the first check.
+fn first_gathering(alloc: Global, metas: &Metas) -> Gathering
+    ensures whole { result.is_whole ≡ (metas.now.is_whole && metas.now.is_one) }
+    ensures named { result.is_named ≡ true }
+    ensures empty { result.rows.items ≡ [] }
+{
+    Gathering {
+        rows: Vec::new(alloc),
+        is_whole: metas.is_whole && metas.is_one,
+        is_named: true,
+    }
+}
+
+// Reads these tables to their ends, and gathers their rows.
+fn read_tables<S: Alter>(
+    alloc: Global,
+    conn: &mut Connection<S>,
+    tables: &[StoredTable],
+    into: &mut Gathering,
+) -> Result<(), Refusal>
+    requires { AreOfRows tables.now }
+    ensures gathered { HasCleanDisk (state S.Store conn.new) → HasTables (state S.Store conn.old) tables.now → OnOk result (GathersTables (held_in (state S.Store conn.old).now) tables.now into.old into.new × IsUnchanged (state S.Store conn.old) (state S.Store conn.new)) }
+    ensures refused { IfErr result (λ refusal. (refusal ≡ Refusal.Memory) ⊎ (refusal ≡ Refusal.Store)) }
+    ensures mode { conn.old.in_transaction ≡ false → conn.new.in_transaction ≡ false }
+    ensures kept { HasCleanDisk (state S.Store conn.new) → HasTables (state S.Store conn.old) tables.now → KeepsCommit (state S.Store conn.old) (state S.Store conn.new) }
+    ensures survives { Survives (state S.Store conn.old) (state S.Store conn.new) (λ _. HasTables (state S.Store conn.old) tables.now → ⊥) }
+{
+    'tables: for table in tables {
+        read_table(alloc, conn, *table, into)?;
+    }
+    Ok(())
+}
+
+// The state of the rows that were gathered.
+fn judge_rows(alloc: Global, version: u32, all: Gathering) -> Result<State, Refusal>
+    requires { (version ≡ 1) ⊎ (version ≡ 2) }
+    ensures ok { IfOk result (λ made. IsTrue all.is_whole × IsTrue all.is_named × IsStateOf version all.rows.items made.facts) }
+    ensures err { IfErr result (RefusesGathering version all) }
+{
+    if !all.is_whole {
+        return Err(Refusal::Damaged(1));
+    }
+    if !all.is_named {
+        return Err(Refusal::Damaged(2));
+    }
+    State::of_rows(alloc, version, all.rows)
+}
+
+// The state that is found in the database.
+fn find_state<S: Alter>(
+    alloc: Global,
+    conn: &mut Connection<S>,
+) -> Result<State, Refusal>
+    ensures ok { HasCleanDisk (state S.Store conn.new) → IfOk result (λ made. IsStateFound (held_in (state S.Store conn.old).now) made.facts × IsUnchanged (state S.Store conn.old) (state S.Store conn.new)) }
+    ensures err { HasCleanDisk (state S.Store conn.new) → IfErr result (λ refusal. (refusal ≡ Refusal.Store) ⊎ RefusesFound (held_in (state S.Store conn.old).now) refusal) }
+    ensures mode { conn.old.in_transaction ≡ false → conn.new.in_transaction ≡ false }
+    ensures kept { HasCleanDisk (state S.Store conn.new) → KeepsCommit (state S.Store conn.old) (state S.Store conn.new) }
+    ensures survives { Survives (state S.Store conn.old) (state S.Store conn.new) (λ _. ⊥) }
+{
+    let metas = find_metas(conn)?;
+    let version = judge_version(&metas, conn.schema())?;
+    let mut all = first_gathering(alloc, &metas);
+    read_tables(alloc, conn, StoredTable::of_rows(version), &mut all)?;
+    judge_rows(alloc, version, all)
+}
+
+/// The state that stands in the database.
+pub(crate) fn read_state<S: Alter>(
+    alloc: Global,
+    conn: &mut Connection<S>,
+) -> Result<State, Refusal>
+    ensures ok { HasCleanDisk (state S.Store conn.new) → IfOk result (λ made. IsStateFound (held_in (state S.Store conn.old).now) made.facts × IsUnchanged (state S.Store conn.old) (state S.Store conn.new)) }
+    ensures err { HasCleanDisk (state S.Store conn.new) → IfErr result (λ refusal. (refusal ≡ Refusal.Store) ⊎ RefusesFound (held_in (state S.Store conn.old).now) refusal) }
+    ensures mode { conn.old.in_transaction ≡ false → conn.new.in_transaction ≡ false }
+    ensures undone { conn.old.in_transaction ≡ false → HasCleanDisk (state S.Store conn.new) → HoldsAsBefore (state S.Store conn.old) (state S.Store conn.new) }
+    ensures survives { Survives (state S.Store conn.old) (state S.Store conn.new) (λ _. ⊥) }
+{
+    is_settled(conn);
+    let found = find_state(alloc, conn);
+    is_settled(conn);
+    found
+}

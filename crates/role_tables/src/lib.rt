@@ -1,0 +1,28 @@
+//! An office in one SQLite file: its tables, opening it, and doing commands.
+//!
+//! `create` makes the tables of an empty office, `open` reads the state that stands in them, and
+//! `Office::apply` does a command: it is judged and planned on the state in memory, its changes of
+//! rows go into one transaction, and then into the state. However it is stopped, the tables hold the
+//! state before the command or the state after it. Everything is over any store of `sqlite`, a file
+//! or memory.
+#![tactic(auto)]
+
+pub use creating::{create, create_v1};
+pub use migrating::migrate;
+pub use office::Office;
+pub use opening::{Unopened, open};
+
+pub mod creating;
+mod gathering;
+mod judging;
+mod meta_rows;
+pub mod migrating;
+pub mod office;
+pub mod opening;
+mod schema;
+mod statements;
+mod stored_table;
+#[cfg(test)]
+mod tests;
+mod values;
+mod writing;

@@ -1,0 +1,97 @@
+//! Taking an office of version 1 into version 2.
+ghost use Rattle.std.specs.Prelude.{◌≡◌, ◌≢◌, ◌⊎◌, false, true, IfErr, IfOk, OnOk};
+ghost use Rattle.sqlite.specs.State.{HasCleanDisk, KeepsCommit, Survives};
+ghost use Rattle.sqlite.specs.Held.{state};
+ghost use Rattle.admin_mgr.specs.Good.{IsGood};
+ghost use Rattle.admin_mgr.specs.Life.{taken_into_version_2};
+ghost use Rattle.admin_mgr.specs.Named.{AreNamed};
+ghost use Rattle.admin_mgr.specs.RbacState.{RbacState};
+ghost use Rattle.role_tables.specs.Found.{held_in};
+ghost use Rattle.role_tables.specs.Migrating.{may_lock, RefusesMigration};
+ghost use Rattle.role_tables.specs.Opening.{IsStateFound};
+ghost use Rattle.role_tables.specs.Standing.{HoldsAsBefore, LeavesEither, LeavesOnly, Stands, Transacts};
+ghost use Rattle.role_tables.specs.StoredState.{HoldsState};
+
+use crate::judging::read_state;
+use crate::office::Office;
+use crate::opening::Unopened;
+use crate::schema::may_lock;
+use crate::statements::{create_table, is_settled, put_version, take_version};
+use crate::stored_table::StoredTable;
+use admin_mgr::State;
+use rbac_sets::Refusal;
+use sqlite::{Alter, Connection, Error};
+use std::alloc::Global;
+
+// Makes the table of locks and changes the version, in one transaction.
+fn migrate_tables<S: Alter>(conn: &mut Connection<S>) -> Result<(), Error>
+    requires { conn.old.in_transaction ≡ false }
+    ensures ended { conn.new.in_transaction ≡ false }
+    ensures clean { HasCleanDisk (state S.Store conn.new) → HasCleanDisk (state S.Store conn.old) }
+    ensures written { HasCleanDisk (state S.Store conn.new) → (from : RbacState) → from.version ≡ 1 → IsGood from → may_lock (state S.Store conn.old).now.schema ≡ true → Stands (state S.Store conn.old) from → Transacts (state S.Store conn.old) (state S.Store conn.new) (λ db. HoldsState db (taken_into_version_2 from)) result }
+{
+    is_settled(conn);
+    let mut tx = conn.transaction();
+    create_table(&mut tx, StoredTable::Locks)?;
+    take_version(&mut tx, 1)?;
+    put_version(&mut tx, 2)?;
+    tx.commit()
+}
+
+// Reads an office of version 1, and takes it into version 2.
+fn migrate_state<S: Alter>(alloc: Global, conn: &mut Connection<S>) -> Result<State, Refusal>
+    requires { conn.old.in_transaction ≡ false }
+    ensures ended { conn.new.in_transaction ≡ false }
+    ensures found { HasCleanDisk (state S.Store conn.new) → IfOk result (λ made. (first : RbacState) × IsStateFound (held_in (state S.Store conn.old).now) first × (first.version ≡ 1) × (made.facts ≡ taken_into_version_2 first)) }
+    ensures err { HasCleanDisk (state S.Store conn.new) → IfErr result (RefusesMigration (held_in (state S.Store conn.old).now)) }
+    ensures undone { HasCleanDisk (state S.Store conn.new) → IfErr result (λ refusal. refusal ≢ Refusal.Store → HoldsAsBefore (state S.Store conn.old) (state S.Store conn.new)) }
+    ensures moved { HasCleanDisk (state S.Store conn.new) → IfOk result (λ made. (before : RbacState) → IsGood before → AreNamed before → Stands (state S.Store conn.old) before → (before.version ≡ 1) × (made.facts ≡ taken_into_version_2 before) × Stands (state S.Store conn.new) (taken_into_version_2 before)) }
+    ensures unmoved { HasCleanDisk (state S.Store conn.new) → IfErr result (λ refusal. (before : RbacState) → IsGood before → AreNamed before → Stands (state S.Store conn.old) before → HoldsAsBefore (state S.Store conn.old) (state S.Store conn.new) × (refusal ≢ Refusal.Store → LeavesOnly (state S.Store conn.new) before)) }
+    ensures stop { HasCleanDisk (state S.Store conn.new) → (before : RbacState) → IsGood before → AreNamed before → Stands (state S.Store conn.old) before → LeavesEither (state S.Store conn.new) before (taken_into_version_2 before) }
+{
+    let first = read_state(alloc, conn)?;
+    if first.version() != 1 {
+        return Err(Refusal::Version(2));
+    }
+    if !may_lock(conn.schema()) {
+        return Err(Refusal::Store);
+    }
+    match migrate_tables(conn) {
+        Ok(()) => Ok(first.migrated()),
+        Err(_) => Err(Refusal::Store),
+    }
+}
+
+/// Takes the office of version 1 that stands in the tables of a connection outside a transaction into
+/// version 2, in which users can be locked and more users, roles and immediate inheritances have
+/// room, and opens it. Nobody is locked; all else is as it was.
+///
+/// It is a function of this office and none of the standard.
+///
+/// # Errors
+///
+/// What `open` refuses; then `Version(2)` where the office is of version 2 already; then `Store` where
+/// the table of locks, or a foreign key that names it, is there, or where the store refuses a call.
+/// After any refusal but `Store` nothing is changed; after `Store` a stop leaves the office in version 1
+/// or in version 2.
+pub fn migrate<S: Alter>(alloc: Global, conn: Connection<S>) -> Result<Office<S>, Unopened<S>>
+    ensures ok { IfOk result (λ o. (o.is_closed ≡ false) × ((state S.Store conn).in_transaction ≡ false) × (HasCleanDisk (state S.Store o.conn) → (first : RbacState) × IsStateFound (held_in (state S.Store conn).now) first × (first.version ≡ 1) × (o.facts ≡ taken_into_version_2 first))) }
+    ensures err { IfErr result (λ u. HasCleanDisk (state S.Store u.conn) → RefusesMigration (held_in (state S.Store conn).now) u.refusal) }
+    ensures inside { IfErr result (λ u. (state S.Store conn).in_transaction ≡ true → (u.refusal ≡ Refusal.Store) × (u.conn ≡ conn)) }
+    ensures undone { IfErr result (λ u. HasCleanDisk (state S.Store u.conn) → u.refusal ≢ Refusal.Store → HoldsAsBefore (state S.Store conn) (state S.Store u.conn)) }
+    ensures moved { IfOk result (λ o. HasCleanDisk (state S.Store o.conn) → (before : RbacState) → IsGood before → AreNamed before → Stands (state S.Store conn) before → (before.version ≡ 1) × (o.facts ≡ taken_into_version_2 before) × Stands (state S.Store o.conn) (taken_into_version_2 before)) }
+    ensures unmoved { IfErr result (λ u. HasCleanDisk (state S.Store u.conn) → (before : RbacState) → IsGood before → AreNamed before → Stands (state S.Store conn) before → HoldsAsBefore (state S.Store conn) (state S.Store u.conn) × (u.refusal ≢ Refusal.Store → LeavesOnly (state S.Store u.conn) before)) }
+    ensures stop { IfErr result (λ u. HasCleanDisk (state S.Store u.conn) → (before : RbacState) → IsGood before → AreNamed before → Stands (state S.Store conn) before → LeavesEither (state S.Store u.conn) before (taken_into_version_2 before)) }
+{
+    let mut conn = conn;
+    if !conn.is_autocommit() {
+        return Err(Unopened {
+            refusal: Refusal::Store,
+            conn,
+        });
+    }
+    match migrate_state(alloc, &mut conn) {
+        Ok(state) => Ok(Office::new(conn, state)),
+        Err(refusal) => Err(Unopened { refusal, conn }),
+    }
+}

@@ -1,0 +1,132 @@
+//! An office over its tables.
+ghost use Rattle.std.specs.Prelude.{◌≡◌, ◌∷◌, [], false, IsTrue, is_err, Err, OnOk, IfOk, IfErr};
+ghost use Rattle.sqlite.specs.State.{HasCleanDisk};
+ghost use Rattle.sqlite.specs.Held.{state};
+ghost use Rattle.admin_mgr.specs.After.{after};
+ghost use Rattle.admin_mgr.specs.Good.{IsGood};
+ghost use Rattle.admin_mgr.specs.Named.{AreNamed};
+ghost use Rattle.role_tables.specs.Office.{Answers, event_of};
+ghost use Rattle.role_tables.specs.Standing.{HoldsAsBefore, LeavesAsIn, Stands};
+
+use crate::writing::write_changes;
+use admin_mgr::{Report, State};
+use rbac_sets::{Command, Refusal};
+use sqlite::{Alter, Connection};
+use std::alloc::Global;
+use std::marker::Model;
+
+/// An office: the state of an organisation's users, roles, permissions and sessions, in memory and in
+/// the tables of a store.
+///
+/// It is closed once the store has refused a call: what the tables hold then is the state before the
+/// command or the state after it, and an opening tells which.
+#[derive(Drop)]
+pub struct Office<S: Alter> {
+    conn: Connection<S>,
+    state: State,
+    is_closed: bool,
+}
+
+impl<S: Alter> Model for Office<S> {
+    ghost use Rattle.std.specs.Prelude.{◌≡◌, false};
+    ghost use Rattle.admin_mgr.specs.Good.{IsGood};
+    ghost use Rattle.admin_mgr.specs.Named.{AreNamed};
+    ghost use Rattle.role_tables.specs.Office.{Opened, coded_opened};
+
+    ghost Value = { Opened S };
+
+    ghost coded = { coded_opened S.code };
+
+    ghost view = { λ o. record { conn = o.conn; facts = o.state.facts; is_closed = o.is_closed } };
+
+    ghost invariant = { λ o. (o.conn.in_transaction ≡ false) × IsGood o.state.facts × AreNamed o.state.facts };
+}
+
+impl<S: Alter> Office<S> {
+    // The office over a connection in whose tables the state stands.
+    pub(crate) fn new(conn: Connection<S>, state: State) -> Office<S>
+        requires { conn.in_transaction ≡ false }
+        ensures { (result.conn ≡ conn) × (result.facts ≡ state.facts) × (result.is_closed ≡ false) }
+    {
+        state.is_good();
+        state.is_named();
+        Office {
+            conn,
+            state,
+            is_closed: false,
+        }
+    }
+
+    /// Does a command: any administrative command of the standard, or function of its system on
+    /// sessions. Its changes go into the tables in one transaction, and then into the state in memory.
+    ///
+    /// The report is that of an import; it is zero and empty for any other command.
+    ///
+    /// # Errors
+    ///
+    /// `Closed` where the office is closed. Then the first refusal of the command that holds, or
+    /// `Memory` where memory was refused: state and tables are as before. `Store` where the store
+    /// refused a call, and the office is closed: the open tables hold what they held before, and a stop
+    /// leaves the state before the command or the state after it.
+    pub fn apply(&mut self, alloc: Global, command: &Command) -> Result<Report, Refusal>
+        ensures closed { IsTrue self.old.is_closed → (result ≡ Err Refusal.Closed) × (self.new ≡ self.old) }
+        ensures answers { self.old.is_closed ≡ false → Answers self.old command.now result self.new }
+        ensures done { self.old.is_closed ≡ false → HasCleanDisk (state S.Store self.new.conn) → Stands (state S.Store self.old.conn) self.old.facts → OnOk result (Stands (state S.Store self.new.conn) (after self.old.facts command.now)) }
+        ensures undone { self.old.is_closed ≡ false → HasCleanDisk (state S.Store self.new.conn) → Stands (state S.Store self.old.conn) self.old.facts → IfErr result (λ _. HoldsAsBefore (state S.Store self.old.conn) (state S.Store self.new.conn)) }
+        ensures stop { self.old.is_closed ≡ false → HasCleanDisk (state S.Store self.new.conn) → Stands (state S.Store self.old.conn) self.old.facts → LeavesAsIn (state S.Store self.new.conn) self.old.facts (event_of command.now result ∷ []) }
+    {
+        if self.is_closed {
+            return Err(Refusal::Closed);
+        }
+        let plan = self.state.plan(alloc, command)?;
+        self.state.make_room(&plan)?;
+        match write_changes(&mut self.conn, plan.changes()) {
+            Ok(()) => {
+                let report = self.state.commit(plan);
+                self.state.is_good();
+                self.state.is_named();
+                Ok(report)
+            }
+            Err(_) => {
+                self.is_closed = true;
+                Err(Refusal::Store)
+            }
+        }
+    }
+
+    /// The state. It takes no memory.
+    ///
+    /// # Errors
+    ///
+    /// `Closed` where the office is closed.
+    pub fn state(&self) -> Result<&State, Refusal>
+        ensures open { self.now.is_closed ≡ false → IfOk result (λ s. s.now.facts ≡ self.now.facts) }
+        ensures told { is_err result ≡ self.now.is_closed }
+        ensures cause { IfErr result (λ refusal. refusal ≡ Refusal.Closed) }
+    {
+        if self.is_closed {
+            return Err(Refusal::Closed);
+        }
+        Ok(&self.state)
+    }
+
+    /// Whether the store has refused a call. It takes no memory.
+    pub fn is_closed(&self) -> bool
+        ensures { result ≡ self.now.is_closed }
+    {
+        self.state().is_err()
+    }
+
+    /// The connection, as it is: of a closed office too. It takes no memory.
+    pub fn into_connection(self) -> Connection<S>
+        ensures same { result ≡ self.conn }
+        ensures autocommit { result.in_transaction ≡ false }
+    {
+        let Office {
+            conn,
+            state: _,
+            is_closed: _,
+        } = self;
+        conn
+    }
+}
