@@ -71,5 +71,7 @@ returns-in-Err-clause-stop g c working clean stands =
 pub returns-in_err-make_room-clause-stop : goal.returns-in_err-make_room-clause-stop
 returns-in_err-make_room-clause-stop g c working clean stands =
     let is : c.from_residual-in_err-make_room.result ≡ Err Memory = search rules in
-    subst (λ r. LeavesAsIn (state g.S.Store c.args.self.now.conn) c.args.self.now.facts (event_of c.args.command.now r ∷ [])) (sym is)
-    (leaves_unchanged g.S.Store c.args.self.now c.args.command.now Memory (inl refl) stands)
+    let conn_is : c.args.self.now.conn ≡ c.self.inside.conn = search rules in
+    subst (λ h. LeavesAsIn (state g.S.Store h) c.args.self.now.facts (event_of c.args.command.now c.from_residual-in_err-make_room.result ∷ [])) conn_is
+    (subst (λ r. LeavesAsIn (state g.S.Store c.args.self.now.conn) c.args.self.now.facts (event_of c.args.command.now r ∷ [])) (sym is)
+    (leaves_unchanged g.S.Store c.args.self.now c.args.command.now Memory (inl refl) stands))
