@@ -1,5 +1,6 @@
 pub mod Known
-pub mod Events
+pub mod Lists
+pub mod Induction
 pub mod Openings
 pub mod InForce
 pub mod Taken

@@ -23,8 +23,8 @@ commands_where test events = map (λ (event : Event). event.command) (filter tes
 abbrev pub acknowledged : List Event → List Command
 acknowledged events = commands_where (λ (event : Event). is_ok event.reply) events
 
--- The commands that were accepted, and not refused for want of memory: those answered Ok, and one where the store was
--- refused.
+-- The commands that were accepted, and not refused for want of memory: those answered Ok, and the one, if any, where the
+-- store was refused.
 abbrev pub accepted : List Event → List Command
 accepted events = commands_where took_effect events
 
@@ -128,6 +128,10 @@ OneCall = (S : RbacState) (event : Event) (T : RbacState) → Leaves S (event �
 -- the events are possible from S on
 abbrev pub ArePossible : RbacState → List Event → Type 0
 ArePossible S events = (T : RbacState) × Leaves S events T
+
+-- what is possible is possible up to each event
+abbrev pub EarlierArePossible : Type 0
+EarlierArePossible = (S : RbacState) (earlier later : List Event) → ArePossible S (earlier ++ later) → ArePossible S earlier
 
 -- the store was refused
 abbrev pub closes : Event → Bool

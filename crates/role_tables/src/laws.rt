@@ -1,6 +1,6 @@
 //! What holds of an office over every list of its lives, however often it was stopped.
 ghost use Rattle.role_tables.specs.Lives.{OpeningsAreGood, OpeningsFollow, LastIsSound, DeassignedStays, RevokedStays};
-ghost use Rattle.role_tables.specs.Lives.{OneCall, SoFarIsLeft, OpenLeavesSoFar, OpenGoesOn, ClosedStays, SoFarGoesOn};
+ghost use Rattle.role_tables.specs.Lives.{OneCall, EarlierArePossible, SoFarIsLeft, OpenLeavesSoFar, OpenGoesOn, ClosedStays, SoFarGoesOn};
 
 use admin_mgr::laws::{accepted_good, effects, empty_states, migrated_good};
 
@@ -27,6 +27,7 @@ pub fn lives()
 /// it is.
 pub fn calls()
     ensures one { OneCall }
+    ensures earlier { EarlierArePossible }
     ensures left { SoFarIsLeft }
     ensures open { OpenLeavesSoFar }
     ensures goes_on { OpenGoesOn }

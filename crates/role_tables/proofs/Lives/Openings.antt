@@ -1,24 +1,25 @@
 -- What an opening finds: a good state, and one after a prefix of the accepted commands of the life before.
-use Rattle.std.proofs.Common.{◌≡◌, Bool, true, false, cond, List, [], ◌∷◌, ◌++◌, map, refl, sym, ◌∙◌, ap, subst, inl, inr, arith}
-use Rattle.std.specs.Prelude.{◌⊎◌, filter, Contains, Option, Some, None, is_none, is_ok, Result, Ok, Err, All}
+use Rattle.std.proofs.Common.{◌≡◌, Bool, cond, List, [], ◌∷◌, ◌++◌, map, refl, sym, ◌∙◌, ap, subst, inl, inr, arith}
+use Rattle.std.specs.Prelude.{◌⊎◌, filter, Option, None, is_none, Result, Ok, Err, All}
 use Rattle.std.proofs.lemmas.List.Elements.{All-head, All-tail, Contains-append_right}
 use Rattle.rbac_sets.specs.Sets.{Names}
 use Rattle.rbac_sets.specs.declared.command.Command.{Command}
 use Rattle.rbac_sets.specs.declared.refusal.Refusal.{Refusal}
-use Rattle.rbac_sets.specs.declared.refusal.Refusal.TheVariants.{Store, Closed}
+use Rattle.rbac_sets.specs.declared.refusal.Refusal.TheVariants.{Store}
 use Rattle.admin_mgr.specs.RbacState.{RbacState, empty_state}
 use Rattle.admin_mgr.specs.Assignment.{Tally}
 use Rattle.admin_mgr.specs.After.{after}
 use Rattle.admin_mgr.specs.Verdict.{verdict}
 use Rattle.admin_mgr.specs.Run.{run, next}
 use Rattle.admin_mgr.specs.Good.{IsGood}
-use Rattle.admin_mgr.specs.Life.{Event, IsClosedReply, Leaves, Life, OpensAfter, FollowOn, AreLives, IsSameButVersion, taken_into_version_2, took_effect}
-use Rattle.role_tables.specs.Lives.{acknowledged, accepted, so_far, MayLose, IsAfterPrefix, OpeningsAreGood, OpeningsFollow, IsReached, LastIsSound}
+use Rattle.admin_mgr.specs.Life.{Event, IsClosedReply, Leaves, Life, OpensAfter, FollowOn, took_effect}
+use Rattle.role_tables.specs.Lives.{acknowledged, accepted, MayLose, IsAfterPrefix, OpeningsAreGood, OpeningsFollow, IsReached, LastIsSound}
 use Rattle.role_tables.proofs.Lives.Known.{GoodnessLaws}
-use Rattle.role_tables.proofs.Lives.Events.{event_of, by_events}
+use Rattle.role_tables.proofs.Lives.Induction.{event_with, by_events}
 use Rattle.role_tables.proofs.Lives.Calls.{so_far_left}
 
-abbrev pub life_of : RbacState → List Event → Life
+-- the life of these events from S on
+abbrev life_of : RbacState → List Event → Life
 life_of S events = record { start = S; events = events }
 
 -- ---- the state after a prefix
@@ -29,8 +30,8 @@ closed_does_nothing [] closed = (refl, refl)
 closed_does_nothing (event ∷ events) closed =
     let is = All-head IsClosedReply event events closed in
     let rest = closed_does_nothing events (All-tail IsClosedReply event events closed) in (
-      ap (λ (reply : Result Tally Refusal). acknowledged (event_of event.command reply ∷ events)) is ∙ rest.0,
-      ap (λ (reply : Result Tally Refusal). accepted (event_of event.command reply ∷ events)) is ∙ rest.1,
+      ap (λ (reply : Result Tally Refusal). acknowledged (event_with event.command reply ∷ events)) is ∙ rest.0,
+      ap (λ (reply : Result Tally Refusal). accepted (event_with event.command reply ∷ events)) is ∙ rest.1,
     )
 
 -- an accepted command is the next of a run
@@ -52,20 +53,20 @@ prefix_left = by_events (λ S events T. IsAfterPrefix (life_of S events) T)
       lost = rest.lost;
       is_prefix = ap (λ (commands : List Command). command ∷ commands) rest.is_prefix;
       has_acknowledged = (rest.has_acknowledged.0, ap (λ (commands : List Command). command ∷ commands) rest.has_acknowledged.1);
-      loses_one = lost_of_more (event_of command (Ok told)) events rest.lost rest.loses_one;
+      loses_one = lost_of_more (event_with command (Ok told)) events rest.lost rest.loses_one;
       state = ap (λ (M : RbacState). record M { version = T.version }) (run_accepted S command rest.done none) ∙ rest.state;
     })
     (λ S T command refusal events nothing rest. record {
       done = rest.done;
       lost = rest.lost;
-      is_prefix = ap (λ (b : Bool). map (λ (event : Event). event.command) (cond b (event_of command (Err refusal) ∷ filter took_effect events) (filter took_effect events))) nothing ∙ rest.is_prefix;
+      is_prefix = ap (λ (b : Bool). map (λ (event : Event). event.command) (cond b (event_with command (Err refusal) ∷ filter took_effect events) (filter took_effect events))) nothing ∙ rest.is_prefix;
       has_acknowledged = rest.has_acknowledged;
-      loses_one = lost_of_more (event_of command (Err refusal)) events rest.lost rest.loses_one;
+      loses_one = lost_of_more (event_with command (Err refusal)) events rest.lost rest.loses_one;
       state = rest.state;
     })
     (λ S command events none closed.
     (let nothing = closed_does_nothing events closed in
-    let all : accepted (event_of command (Err Store) ∷ events) ≡ command ∷ [] = ap (λ (commands : List Command). command ∷ commands) nothing.1 in (
+    let all : accepted (event_with command (Err Store) ∷ events) ≡ command ∷ [] = ap (λ (commands : List Command). command ∷ commands) nothing.1 in (
       record {
         done = [];
         lost = command ∷ [];

@@ -1,11 +1,10 @@
 -- What a deassignment and a revocation in force leave.
-use Rattle.std.proofs.Common.{◌≡◌, ◌≢◌, Bool, true, false, refl, sym, ◌∙◌, ap, subst, inl, inr}
+use Rattle.std.proofs.Common.{◌≡◌, Bool, false, refl, sym, ◌∙◌, ap, subst, inl, inr}
 use Rattle.std.specs.Prelude.{◌⊎◌, ◌&&◌, IsTrue, not}
 use Rattle.std.proofs.lemmas.Bool.{true≢false, and_parts, false_from_ne_true}
 use Rattle.rbac_sets.specs.Sets.{Bytes, Pair, contains, retain}
 use Rattle.rbac_sets.specs.NameOrder.{name_total, name_exact, pair_total, pair_exact, triple_total, triple_exact}
 use Rattle.rbac_sets.proofs.SetLaws.{contains-remove, contains-retain, any-Decides, image-Decides, tie_Decides}
-use Rattle.rbac_sets.specs.declared.command.Command.{Command}
 use Rattle.rbac_sets.specs.declared.command.Command.TheVariants.{DeassignUser, RevokePermission}
 use Rattle.role_order.specs.Order.{geq}
 use Rattle.admin_mgr.specs.RbacState.{RbacState}
@@ -13,7 +12,7 @@ use Rattle.admin_mgr.specs.Assignment.{end_sessions}
 use Rattle.admin_mgr.specs.Authorization.{authorized_users, is_authorized, session_roles}
 use Rattle.admin_mgr.specs.After.{changed, after}
 use Rattle.admin_mgr.specs.Life.{assigns, grants_to}
-use Rattle.role_tables.specs.Lives.{has_access, DeassignedStays, RevokedStays}
+use Rattle.role_tables.specs.Lives.{DeassignedStays, RevokedStays}
 use Rattle.role_tables.proofs.Lives.Known.{GoodnessLaws, EffectLaws}
 use Rattle.role_tables.proofs.Lives.InForce.{away_in_force}
 use Rattle.role_tables.proofs.Lives.Openings.{reached_opens, last_is_sound}

@@ -1,8 +1,11 @@
-use Rattle.role_tables.proofs.Lives.Calls.{one_call, so_far_left, open_leaves, open_goes_on, closed_stays, so_far_goes_on}
+use Rattle.role_tables.proofs.Lives.Calls.{one_call, earlier_are_possible, so_far_left, open_leaves, open_goes_on, closed_stays, so_far_goes_on}
 use Rattle.role_tables.proofs.laws.calls.Goals as goal
 
 pub returns-clause-one : goal.returns-clause-one
 returns-clause-one c = one_call
+
+pub returns-clause-earlier : goal.returns-clause-earlier
+returns-clause-earlier c = earlier_are_possible
 
 pub returns-clause-left : goal.returns-clause-left
 returns-clause-left c = so_far_left

@@ -1,4 +1,3 @@
-use Rattle.role_tables.proofs.Lives.Known.{GoodnessLaws, EffectLaws}
 use Rattle.role_tables.proofs.Lives.Openings.{openings_are_good, openings_follow, last_is_sound}
 use Rattle.role_tables.proofs.Lives.Taken.{deassigned_stays, revoked_stays}
 use Rattle.role_tables.proofs.laws.lives.Goals as goal
