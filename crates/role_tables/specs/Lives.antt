@@ -46,6 +46,7 @@ MayLose events (command ∷ commands) = Contains events (record { command = comm
 
 -- but for the version, T is the state after a prefix of the accepted commands of the life that holds every acknowledged one
 pub record IsAfterPrefix (life : Life) (T : RbacState) : Type 0 where
+  -- the prefix, and what it lacks
   pub done : List Command
   pub lost : List Command
   pub is_prefix : accepted life.events ≡ done ++ lost
@@ -66,7 +67,7 @@ pub record IsReached (before : List Life) (last : Life) (T : RbacState) : Type 0
   pub are_lives : AreLives (before ++ last ∷ [])
   pub is_found : (T ≡ so_far last.start last.events) ⊎ OpensAfter last T
 
--- the same holds of the last life, of its state so far and of each state that a next opening may find
+-- the same holds of the last life's state so far, and of each state that a next opening may find
 abbrev pub LastIsSound : Type 0
 LastIsSound = (before : List Life) (last : Life) (T : RbacState) → IsReached before last T → IsGood T × IsAfterPrefix last T
 
@@ -79,7 +80,7 @@ pub record IsWithoutAssignment (T : RbacState) (user role : Bytes) : Type 0 wher
   pub sessions : (session active : Bytes) → IsTrue (contains T.sessions (session, user)) → IsTrue (contains T.active (session, active)) →
       (other : Bytes) × (other ≢ role) × IsTrue (contains T.assignments (user, other)) × IsTrue (geq T.edges other active)
 
--- CheckAccess: a role of the session is granted the permission
+-- CheckAccess of a session, an operation and an object that are there: a role of the session is granted the permission
 abbrev pub has_access : RbacState → Bytes → Bytes → Bytes → Bool
 has_access S session operation object = any (λ role. contains S.grants (object, operation, role)) (session_roles S session)
 
@@ -89,12 +90,12 @@ pub record IsWithoutGrant (T : RbacState) (object operation role : Bytes) : Type
   pub access : (session : Bytes) → IsTrue (has_access T session operation object) →
       (other : Bytes) × (other ≢ role) × IsTrue (contains (session_roles T session) other) × IsTrue (contains T.grants (object, operation, other))
 
--- what was deassigned in force stays away
+-- what is deassigned in force over all these lives is away from that state
 abbrev pub DeassignedStays : Type 0
 DeassignedStays = (before : List Life) (last : Life) (T : RbacState) → IsReached before last T →
     (user role : Bytes) → IsDeassignedInForce (events_of (before ++ last ∷ [])) user role → IsWithoutAssignment T user role
 
--- what was revoked in force stays away
+-- and so is what is revoked in force
 abbrev pub RevokedStays : Type 0
 RevokedStays = (before : List Life) (last : Life) (T : RbacState) → IsReached before last T →
     (object operation role : Bytes) → IsRevokedInForce (events_of (before ++ last ∷ [])) object operation role → IsWithoutGrant T object operation role
