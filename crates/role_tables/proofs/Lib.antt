@@ -3,3 +3,4 @@ mod Meanings
 mod OfficeTables
 mod Reading
 mod StoredRows
+pub mod Lives

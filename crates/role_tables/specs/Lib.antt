@@ -13,3 +13,4 @@ pub mod Opening
 pub mod Gathering
 pub mod MetaRows
 pub mod Migrating
+pub mod Lives

@@ -15,6 +15,7 @@ pub use opening::{Unopened, open};
 pub mod creating;
 mod gathering;
 mod judging;
+pub mod laws;
 mod meta_rows;
 pub mod migrating;
 pub mod office;

@@ -1,0 +1,15 @@
+-- What is known of commands and states: the laws of admin_mgr on which those of lives rest.
+use Rattle.admin_mgr.specs.Laws.{AcceptedIsGood}
+use Rattle.admin_mgr.specs.CommandLaws.{AssignedByCommand, GrantedByCommand}
+use Rattle.admin_mgr.specs.StateLaws.{EmptyIsGood, MigratedIsGood}
+
+-- the laws that goodness rests on
+pub record GoodnessLaws : Type 0 where
+  pub accepted : AcceptedIsGood
+  pub empty : EmptyIsGood
+  pub migrated : MigratedIsGood
+
+-- the laws that what was taken rests on besides
+pub record EffectLaws : Type 0 where
+  pub assigned : AssignedByCommand
+  pub granted : GrantedByCommand
