@@ -1,13 +1,12 @@
 -- What is reached from the roles that a user is assigned or a session has activated.
-use Rattle.std.specs.Prelude.{ℕ, Bool, not, ◌||◌, ◌&&◌, nat_lt, List, Option, count_by, filter, find}
+use Rattle.std.specs.Prelude.{ℕ, Bool, not, ◌||◌, ◌&&◌, nat_lt, List, Option, count_by, find}
 use Rattle.std.specs.List.{list_any, list_all}
-use Rattle.rbac_sets.specs.Sets.{Bytes, Pair, Pairs, Cardinality, members, same_name}
+use Rattle.std.specs.Option.{option_map}
+use Rattle.rbac_sets.specs.Sets.{Bytes, Pair, Pairs, Cardinality, members}
+use Rattle.rbac_sets.specs.declared.refusal.Refusal.{Refusal}
 use Rattle.role_order.specs.Order.{geq}
+pub use Rattle.role_order.specs.Runs.{run_of}
 use Rattle.admin_mgr.specs.RbacState.{Separation}
-
--- the pairs that begin with a name, in byte order
-abbrev pub run_of : Pairs → Bytes → List Pair
-run_of pairs first = filter (λ (pair : Pair). same_name pair.0 first) (members pairs)
 
 -- whether a role is the second part of one of the pairs, or below it
 abbrev pub is_reached : Pairs → List Pair → Bytes → Bool
@@ -37,24 +36,36 @@ reached_from edges roles members = count_by (λ (member : Pair). is_reached_from
 abbrev pub is_touched : Pairs → Bytes → List Pair → Bool
 is_touched edges role members = list_any (λ (member : Pair). geq edges role member.1) members
 
--- the first of the sets, pairs (set, cardinality), from which these roles reach as many members as its cardinality
+-- whether these roles reach so many of the members
+abbrev pub has_all : Pairs → List Bytes → List Pair → ℕ → Bool
+has_all edges roles members cardinality = not (nat_lt (reached_from edges roles members) cardinality)
+
+-- whether one more role reaches one of the members, and with what is held so many of them
+abbrev pub has_with : Pairs → List Pair → Bytes → List Pair → ℕ → Bool
+has_with edges held more members cardinality = is_touched edges more members && not (nat_lt (reached_with edges held more members) cardinality)
+
+-- whether one more role reaches one of the members, and with one of these runs so many of them
+abbrev pub is_broken : Pairs → List (List Pair) → Bytes → List Pair → ℕ → Bool
+is_broken edges runs more members cardinality = is_touched edges more members && not (list_all (λ held. nat_lt (reached_with edges held more members) cardinality) runs)
+
+-- the first of the sets, pairs (set, cardinality), of which the test holds: of its members, and its cardinality
+abbrev pub find_set : (List Pair → ℕ → Bool) → Pairs → List Cardinality → Option Cardinality
+find_set test pairs sets = find (λ (entry : Cardinality). test (run_of pairs entry.0) entry.1) sets
+
+-- the first of the sets from which these roles reach as many members as its cardinality
 abbrev pub find_from : Pairs → List Bytes → Pairs → List Cardinality → Option Cardinality
-find_from edges roles pairs sets = find (λ (entry : Cardinality). not (nat_lt (reached_from edges roles (run_of pairs entry.0)) entry.1)) sets
+find_from edges roles pairs sets = find_set (has_all edges roles) pairs sets
 
 -- the first of the sets from which what is held and one more role reach as many members as its cardinality; only a set with
 -- a member that the role reaches is asked
 abbrev pub find_in : Pairs → List Pair → Bytes → Pairs → List Cardinality → Option Cardinality
-find_in edges held more pairs sets =
-    find (λ (entry : Cardinality). is_touched edges more (run_of pairs entry.0) && not (nat_lt (reached_with edges held more (run_of pairs entry.0)) entry.1)) sets
-
-abbrev pub first_with_all : Pairs → List Bytes → Separation → Option Cardinality
-first_with_all edges roles separation = find_from edges roles separation.members (members separation.cardinalities)
-
-abbrev pub first_with_one : Pairs → List Pair → Bytes → Separation → Option Cardinality
-first_with_one edges held more separation = find_in edges held more separation.members (members separation.cardinalities)
+find_in edges held more pairs sets = find_set (has_with edges held more) pairs sets
 
 -- the first of the sets from which one of these runs and one more role reach as many members as its cardinality; only a set
 -- with a member that the role reaches is asked
 abbrev pub find_broken : Pairs → List (List Pair) → Bytes → Pairs → List Cardinality → Option Cardinality
-find_broken edges runs more pairs sets =
-    find (λ (entry : Cardinality). is_touched edges more (run_of pairs entry.0) && not (list_all (λ held. nat_lt (reached_with edges held more (run_of pairs entry.0)) entry.1) runs)) sets
+find_broken edges runs more pairs sets = find_set (is_broken edges runs more) pairs sets
+
+-- the refusal that names the first of the sets of which the test holds
+abbrev pub naming_first : (Bytes → Refusal) → (List Pair → ℕ → Bool) → Separation → Option Refusal
+naming_first refusal test separation = option_map refusal (option_map (λ (entry : Cardinality). entry.0) (find_set test separation.members (members separation.cardinalities)))

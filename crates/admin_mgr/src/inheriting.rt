@@ -28,7 +28,9 @@ pub(crate) fn first_broken<'a>(
     asc: &Name,
     desc: &Name,
 ) -> Result<Option<&'a (Name, u32)>, AllocError>
-    ensures { IfOk result (λ found. option_copied found ≡ find_broken state.now.facts.edges (filter (λ held. is_reached state.now.facts.edges held asc.now) (runs_of duty state.now.facts)) desc.now (sets_of duty state.now.facts).members (members (sets_of duty state.now.facts).cardinalities)) }
+    ensures { IfOk result (λ found. option_copied found ≡ find_broken state.now.facts.edges
+        (filter (λ held. is_reached state.now.facts.edges held asc.now) (runs_of duty state.now.facts)) desc.now
+        (sets_of duty state.now.facts).members (members (sets_of duty state.now.facts).cardinalities)) }
 {
     let members = duty.members(state);
     let sets = duty.cardinalities(state).as_slice();
@@ -88,7 +90,8 @@ fn is_broken(
     members: &[(Name, Name)],
     cardinality: u32,
 ) -> bool
-    ensures { result ≡ (is_touched order.now.edges more.now members.now && not (list_all (λ held. nat_lt (reached_with order.now.edges held more.now members.now) cardinality) (list_map (λ run. run.now) runs.entry.now))) }
+    ensures { result ≡ (is_touched order.now.edges more.now members.now
+        && not (list_all (λ held. nat_lt (reached_with order.now.edges held more.now members.now) cardinality) (list_map (λ run. run.now) runs.entry.now))) }
 {
     is_touched(order, more, members) && !keep_below(order, runs, more, members, cardinality)
 }

@@ -293,9 +293,8 @@ impl State {
             order,
         } = plan;
         self.relations.change(changes);
-        match order {
-            Some(order) => self.relations.commit_order(order),
-            None => {}
+        if let Some(order) = order {
+            self.relations.commit_order(order);
         }
         report
     }

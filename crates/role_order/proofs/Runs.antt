@@ -2,7 +2,7 @@
 use Rattle.std.proofs.Common.{◌≡◌, ◌≢◌, ◌↔◌, ◌⊎◌, inl, inr, ℕ, zero, suc, ◌+◌, ◌<◌, ◌≤◌, Bool, true, false, cond, List, [], ◌∷◌, length, get_or, drop, map, refl, sym, ◌∙◌, ap, subst, arith}
 use Rattle.std.specs.Prelude.{IsTrue, Contains, count_by}
 use Rattle.std.specs.Bool.{Decides}
-use Rattle.std.specs.List.{filter, list_any, list_all, AllByRecursion}
+use Rattle.std.specs.List.{list_any, list_all, AllByRecursion}
 use Rattle.std.specs.List.Sorted.{IsStrictlySortedBy}
 use Rattle.std.specs.declared.cmp.Ordering.{Ordering}
 use Rattle.std.specs.declared.cmp.Ordering.TheVariants.{Less, Equal}
@@ -20,6 +20,7 @@ use Rattle.rbac_sets.proofs.InOrder.{members-sorted}
 use Rattle.rbac_sets.proofs.Lists.{any_map, count_map}
 use Rattle.role_order.specs.Checked.{second_cmp, is_next, HasSecondsOf}
 use Rattle.role_order.specs.Removal.{junior_count}
+use Rattle.role_order.specs.Runs.{run_of}
 use Rattle.role_order.proofs.Members.{Contains-members}
 
 -- ---- lists by their first element
@@ -42,9 +43,6 @@ all_at {X} P (x ∷ xs) all y h = elim (contains_cases x xs y h) [ inl e ↦ sub
 
 abbrev begins : Bytes → Pair → Bool
 begins a p = same_name p.0 a
-
-abbrev pub run_of : Pairs → Bytes → List Pair
-run_of pairs a = filter (λ (p : Pair). same_name p.0 a) (members pairs)
 
 run-kept : (pairs : Pairs) (a : Bytes) → run_of pairs a ≡ members (retain pairs (begins a))
 run-kept pairs a = sym (members-retain pair_total pair_exact pairs (begins a))

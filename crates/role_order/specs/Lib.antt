@@ -3,3 +3,4 @@ pub mod Laws
 pub mod Order
 pub mod Planned
 pub mod Removal
+pub mod Runs

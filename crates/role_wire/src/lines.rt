@@ -287,7 +287,8 @@ fn read_line<A: AnswerLines, W: Sink>(
     requires open_line { IsOpenLine progress.old.line.items }
     requires plain { HasNoLineFeed bytes.now }
     ensures ok { OnOk result (IsRead A.answers (place_of office.old progress.old (W.written sink.old)) (place_of office.new progress.new (W.written sink.new)) (bytes.now ++ line_feed ∷ [])) }
-    ensures err { IfErr result (λ cause. (after : List ℕ) → Halts A.answers A.fails (place_of office.old progress.old (W.written sink.old)) (bytes.now ++ line_feed ∷ after) ⊥ cause office.new (W.written sink.new) progress.new.answered) }
+    ensures err { IfErr result (λ cause. (after : List ℕ) → Halts A.answers A.fails (place_of office.old progress.old (W.written sink.old))
+        (bytes.now ++ line_feed ∷ after) ⊥ cause office.new (W.written sink.new) progress.new.answered) }
     ensures number { progress.new.number ≤ progress.old.number + 1 }
     ensures answered { progress.new.answered ≤ progress.old.answered + 1 }
     ensures failures { W.failed sink.old ≤ W.failed sink.new }

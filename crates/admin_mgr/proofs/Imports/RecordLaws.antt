@@ -18,7 +18,7 @@ use Rattle.admin_mgr.specs.Refusing.{refuse_if, refuse_unless, first, too_many, 
 use Rattle.admin_mgr.specs.Assignment.{assign_user_refusals, assignment_refusals, assignment_verdict, after_assignment}
 use Rattle.admin_mgr.specs.Importing.{with_assignments, record_refusals}
 use Rattle.admin_mgr.specs.Good.{IsGood}
-use Rattle.admin_mgr.specs.Held.{run_of, is_reached, is_touched, find_in, first_with_one}
+use Rattle.admin_mgr.specs.Held.{run_of, is_reached, is_touched, has_with, find_in, naming_first}
 use Rattle.admin_mgr.proofs.Verdicts.TouchLaws.{assignment_breaks}
 use Rattle.admin_mgr.proofs.StateAfter.GoodAssignment.{not_assigned}
 use Rattle.admin_mgr.proofs.Imports.UnionLaws.{len-union}
@@ -71,7 +71,7 @@ found_union edges s t x role pairs sets = λ i. find (λ (entry : Cardinality). 
 
 -- the static set that would be violated, which is named last
 abbrev pub named_last : RbacState → Pairs → Bytes → Bytes → Option Refusal
-named_last S added user role = option_map StaticSeparation (option_map (λ (x : Cardinality). x.0) (first_with_one S.edges (run_of S.assignments user ++ run_of added user) role S.ssd))
+named_last S added user role = naming_first StaticSeparation (has_with S.edges (run_of S.assignments user ++ run_of added user) role) S.ssd
 
 module _ (S : RbacState) (added : Pairs) (good : IsGood (with_assignments S added)) (apart : IsDisjoint S.assignments added) (user role : Bytes) where
   -- but for static separation the record is judged so

@@ -1,12 +1,12 @@
 -- What the gathered sets have is what is among the rows.
-use Rattle.std.proofs.Common.{◌≡◌, ℕ, Bool, true, false, cond, ◌&&◌, is_some, Option, Some, ◌||◌, List, [], ◌∷◌, refl, sym, ◌∙◌, ap, subst, inl, inr}
-use Rattle.std.specs.Prelude.{IsTrue, nat_eq, if◌then◌else◌}
+use Rattle.std.proofs.Common.{◌≡◌, ℕ, Bool, true, false, cond, ◌&&◌, is_some, Option, Some, ◌||◌, List, [], ◌∷◌, refl, sym, ◌∙◌, ap, subst}
+use Rattle.std.specs.Prelude.{nat_eq, if◌then◌else◌}
 use Rattle.std.specs.List.{list_any}
 use Rattle.std.specs.declared.cmp.Ordering.{Ordering}
 use Rattle.std.specs.Ordering.{eq_by_cmp}
 use Rattle.std.specs.Cmp.{IsTotalOrder, both_ways}
 use Rattle.std.specs.FinMap.{IsAntisymmetric}
-use Rattle.std.proofs.lemmas.Bool.{or_cases, or_left, or_right, and_parts, eqb-true, true≢false, false_from_ne_true}
+use Rattle.std.proofs.lemmas.Bool.{eqb-true, true≢false, false_from_ne_true}
 use Rattle.rbac_sets.specs.Sets.{Bytes, Cardinality, Cardinalities, cardinality_cmp, any, contains, from_list, same_name, name_cmp, pair_cmp, triple_cmp}
 use Rattle.rbac_sets.specs.NameOrder.{name_total, name_exact, pair_total, triple_total, cardinality_total, cardinality_exact}
 use Rattle.rbac_sets.proofs.SetLaws.{any-Decides, contains-from_list, tie_Decides, list_any-found, list_any-here}

@@ -8,10 +8,10 @@ use Rattle.rbac_sets.specs.NameOrder.{name_total, name_exact, pair_total, pair_e
 use Rattle.rbac_sets.proofs.SetLaws.{image-Decides, any-Decides, contains-retain, seconds-Decides}
 use Rattle.rbac_sets.proofs.Lists.{is_some_found}
 use Rattle.role_order.specs.Order.{geq}
-use Rattle.role_order.proofs.Runs.{run_of, any_seconds, count_seconds}
+use Rattle.role_order.proofs.Runs.{any_seconds, count_seconds}
 use Rattle.admin_mgr.specs.RbacState.{RbacState, Separation, cardinality_of, has_set}
 use Rattle.admin_mgr.specs.Authorization.{authorized_users, is_authorized, is_session_role}
-use Rattle.admin_mgr.specs.Held.{is_reached, reached_roles, reached_members}
+use Rattle.admin_mgr.specs.Held.{run_of, is_reached, reached_roles, reached_members}
 
 -- a user is authorized for the roles that are reached from its assignments
 pub authorized_reached : (S : RbacState) (user role : Bytes) → is_authorized S user role ≡ is_reached S.edges (run_of S.assignments user) role

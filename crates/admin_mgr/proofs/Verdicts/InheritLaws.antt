@@ -22,7 +22,7 @@ use Rattle.admin_mgr.specs.SeparationOfDuty.{sets_of, is_kept, refusal_of, break
 use Rattle.admin_mgr.specs.Assignment.{may_go_on}
 use Rattle.admin_mgr.specs.After.{changed, after}
 use Rattle.admin_mgr.specs.Good.{IsGood}
-use Rattle.admin_mgr.specs.Held.{run_of, is_reached, reached_members, reached_with, is_touched, find_broken}
+use Rattle.admin_mgr.specs.Held.{run_of, is_reached, reached_members, reached_with, is_touched, is_broken, naming_first}
 use Rattle.admin_mgr.specs.Holders.{runs_of}
 use Rattle.admin_mgr.proofs.Verdicts.HeldLaws.{authorized_reached}
 use Rattle.admin_mgr.proofs.Verdicts.KeepLaws.{same_where, kept_members, kept_before}
@@ -123,8 +123,8 @@ module _ (S : RbacState) (good : IsGood S) (asc desc : Bytes) (no_back : geq S.e
       let kept = kept_before duty S good x there in
       same_where _ _ _ (runs_of duty S) kept (λ held fewer. untouched_keeps held (run_of (sets_of duty S).members x.0) x.1 (ltb-true _ _ fewer) none ∙ sym fewer) ∙ kept
 
-  pub inheritance_breaks : (duty : SeparationOfDuty) → breaks duty (after S (AddInheritance asc desc)) ≡ option_map (refusal_of duty) (option_map (λ (x : Cardinality). x.0)
-      (find_broken S.edges (filter (λ held. is_reached S.edges held asc) (runs_of duty S)) desc (sets_of duty S).members (members (sets_of duty S).cardinalities)))
+  pub inheritance_breaks : (duty : SeparationOfDuty) → breaks duty (after S (AddInheritance asc desc)) ≡ naming_first (refusal_of duty)
+      (is_broken S.edges (filter (λ held. is_reached S.edges held asc) (runs_of duty S)) desc) (sets_of duty S)
   unfolding after changed with_edge
   inheritance_breaks duty =
       ap (breaks duty) (none_ends_where (with_edge S asc desc) goes_on_below good.well_formed.owned)

@@ -5,10 +5,9 @@ use Rattle.std.specs.Option.{option_map}
 use Rattle.std.specs.List.{list_any, list_all}
 use Rattle.std.specs.FinMap as finmap
 use Rattle.std.specs.Ordering.{eq_by_cmp}
-use Rattle.std.specs.Cmp.{both_ways}
 use Rattle.std.proofs.lemmas.Bool.{and_parts, or_left, or_right, ltb-true, lt-ltb, true≢false, false_from_ne_true}
 use Rattle.std.proofs.lemmas.List.Folds.{list_all-map}
-use Rattle.rbac_sets.specs.Sets.{Bytes, Pair, Pairs, Names, Cardinality, cardinality_cmp, same_name, contains, members, insert, retain, seconds, len, count, any, all}
+use Rattle.rbac_sets.specs.Sets.{Bytes, Pair, Pairs, Names, Cardinality, cardinality_cmp, same_name, contains, members, insert, retain, seconds, len, count, all}
 use Rattle.rbac_sets.specs.NameOrder.{name_total, name_exact, cardinality_total, cardinality_exact}
 use Rattle.rbac_sets.proofs.SetLaws.{tie_Decides, contains-members, contains-insert, contains-retain, seconds-Decides, same_set}
 use Rattle.rbac_sets.proofs.Members.{count-len}

@@ -3,7 +3,7 @@ use Rattle.std.proofs.Common.{◌≡◌, ◌≢◌, ◌<◌, false, not, ◌||�
 use Rattle.std.specs.Prelude.{IsTrue, count_by}
 use Rattle.std.specs.Option.{option_map}
 use Rattle.std.proofs.lemmas.Bool.{and_from, or_cases, true≢false}
-use Rattle.rbac_sets.specs.Sets.{Bytes, Pair, Pairs, Names, Cardinality, name_cmp, same_name, contains, members, insert, union, seconds, any, all}
+use Rattle.rbac_sets.specs.Sets.{Bytes, Pair, Pairs, Names, name_cmp, same_name, contains, members, insert, union, seconds, any, all}
 use Rattle.rbac_sets.specs.SortedSet.{Stored, set_of}
 use Rattle.rbac_sets.specs.NameOrder.{name_total, name_exact, pair_total, pair_exact}
 use Rattle.rbac_sets.specs.declared.command.Command.TheVariants.{CreateSession, AddActiveRole}
@@ -18,7 +18,7 @@ use Rattle.admin_mgr.specs.Refusing.{breaks_dynamic}
 use Rattle.admin_mgr.specs.Assignment.{may_go_on, end_sessions}
 use Rattle.admin_mgr.specs.After.{paired, changed, after}
 use Rattle.admin_mgr.specs.Good.{IsGood}
-use Rattle.admin_mgr.specs.Held.{run_of, is_reached, is_reached_from, first_with_all, first_with_one}
+use Rattle.admin_mgr.specs.Held.{run_of, is_reached, is_reached_from, has_all, has_with, naming_first}
 use Rattle.admin_mgr.proofs.Verdicts.HeldLaws.{session_reached, session_members_count}
 use Rattle.admin_mgr.proofs.StateAfter.SessionLaws.{none_ends_where}
 use Rattle.admin_mgr.proofs.Verdicts.TouchLaws.{any_insert, one_more, violated_by, with_sessions, OthersStay, session_breaks}
@@ -77,7 +77,7 @@ module _ (S : RbacState) (good : IsGood S) (user : Bytes) (roles : Names) (sessi
   created_roles q = ap (any (λ a. geq S.edges a q)) (with_paired-own S.active session roles none_active)
 
   created_breaks : IsTrue (contains S.users user) → contains S.locked user ≡ false → IsTrue (all (is_authorized S user) roles) →
-      breaks_dynamic (end_sessions (with_sessions S created_sessions created_active)) ≡ option_map DynamicSeparation (option_map (λ (x : Cardinality). x.0) (first_with_all S.edges (members roles) S.dsd))
+      breaks_dynamic (end_sessions (with_sessions S created_sessions created_active)) ≡ naming_first DynamicSeparation (has_all S.edges (members roles)) S.dsd
   unfolding created_sessions created_active with_sessions
   created_breaks is_user unlocked authorized =
       ap breaks_dynamic (none_ends_where (with_sessions S created_sessions created_active) (created_goes_on is_user unlocked authorized) created_owned)
@@ -87,7 +87,7 @@ module _ (S : RbacState) (good : IsGood S) (user : Bytes) (roles : Names) (sessi
 
 pub create_session : (S : RbacState) → IsGood S → (user : Bytes) (roles : Stored Bytes) (session : Bytes) → has_session S session ≡ false →
     IsTrue (contains S.users user) → contains S.locked user ≡ false → IsTrue (all (is_authorized S user) (set_of name_cmp roles)) →
-    breaks_dynamic (after S (CreateSession user roles session)) ≡ option_map DynamicSeparation (option_map (λ (x : Cardinality). x.0) (first_with_all S.edges (members (set_of name_cmp roles)) S.dsd))
+    breaks_dynamic (after S (CreateSession user roles session)) ≡ naming_first DynamicSeparation (has_all S.edges (members (set_of name_cmp roles))) S.dsd
 unfolding after changed created_sessions created_active with_sessions
 create_session S good user roles session new is_user unlocked authorized = created_breaks S good user (set_of name_cmp roles) session new is_user unlocked authorized
 
@@ -130,7 +130,7 @@ module _ (S : RbacState) (good : IsGood S) (user session role : Bytes) (owner : 
       ∙ ap (λ b. b || geq S.edges role q) (session_reached S session q)
 
   pub activated_breaks :
-      breaks_dynamic (after S (AddActiveRole user session role)) ≡ option_map DynamicSeparation (option_map (λ (x : Cardinality). x.0) (first_with_one S.edges (run_of S.active session) role S.dsd))
+      breaks_dynamic (after S (AddActiveRole user session role)) ≡ naming_first DynamicSeparation (has_with S.edges (run_of S.active session) role) S.dsd
   unfolding after changed more_active with_sessions
   activated_breaks =
       ap breaks_dynamic (none_ends_where (with_sessions S S.sessions more_active) activated_goes_on activated_owned)

@@ -21,7 +21,7 @@ use Rattle.admin_mgr.specs.Separation.{is_kept_statically, is_kept_dynamically, 
 use Rattle.admin_mgr.specs.Refusing.{breaks_static}
 use Rattle.admin_mgr.specs.Assignment.{end_sessions, after_assignment}
 use Rattle.admin_mgr.specs.Good.{IsGood}
-use Rattle.admin_mgr.specs.Held.{run_of, is_reached, first_with_one}
+use Rattle.admin_mgr.specs.Held.{run_of, is_reached, has_with, naming_first}
 use Rattle.admin_mgr.proofs.Verdicts.HeldLaws.{authorized_reached, authorized_members_count}
 use Rattle.admin_mgr.proofs.Verdicts.SeparationLaws.{kept_statically, kept_dynamically}
 
@@ -136,7 +136,7 @@ module _ (S : RbacState) (good : IsGood S) (user role : Bytes) (is_user : IsTrue
         | inr apart ↦ subst (λ k. k < x.1) (λ i. count (λ q. sym (others_as_before S user role other apart q) i) (members_of S.ssd x.0)) (good.static_separation x.0 other x.1 there)
       ]))
 
-  pub assignment_breaks : breaks_static (after_assignment S (user, role)) ≡ option_map StaticSeparation (option_map (λ (x : Cardinality). x.0) (first_with_one S.edges (run_of S.assignments user) role S.ssd))
+  pub assignment_breaks : breaks_static (after_assignment S (user, role)) ≡ naming_first StaticSeparation (has_with S.edges (run_of S.assignments user) role) S.ssd
   unfolding after_assignment end_sessions is_kept_statically authorized_users with_assignment
   assignment_breaks = ap (option_map StaticSeparation) (violated_by (is_kept_statically (with_assignment S (user, role))) S.ssd _ (λ x there.
       let before : count_by (λ (m : Pair). is_reached S.edges (run_of S.assignments user) m.1) (run_of S.ssd.members x.0) < x.1 =

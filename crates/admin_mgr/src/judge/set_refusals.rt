@@ -42,7 +42,8 @@ pub(crate) fn refuse_set(
     roles: &NameSet,
     cardinality: u32,
 ) -> Option<Refusal>
-    ensures { (members : Pairs) → result ≡ first (create_set_refusals state.now.facts (record { members = members; cardinalities = set_of cardinality_cmp cardinalities.now }) kind set.now (set_of name_cmp roles.now) cardinality) }
+    ensures { (members : Pairs) → result ≡ first (create_set_refusals state.now.facts
+        (record { members = members; cardinalities = set_of cardinality_cmp cardinalities.now }) kind set.now (set_of name_cmp roles.now) cardinality) }
 {
     if !are_in(roles.as_slice(), state.roles()) {
         return Some(Refusal::NoRole);

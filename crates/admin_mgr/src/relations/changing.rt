@@ -172,9 +172,8 @@ fn count_puts(changes: &[Change]) -> [usize; Table::COUNT]
 {
     let mut counts = [0; Table::COUNT];
     for change in changes {
-        match table_put(change) {
-            Some(table) => counts[table.number()] += 1,
-            None => {}
+        if let Some(table) = table_put(change) {
+            counts[table.number()] += 1;
         }
     }
     counts

@@ -2,8 +2,9 @@ use Rattle.std.proofs.Common.{◌≡◌, ◌∷◌, ◌+◌, ◌∙◌, rules, a
 use Rattle.std.proofs.lemmas.List.{drop_more, drop_all}
 use Rattle.admin_mgr.specs.Stepping.{puts_of}
 use Rattle.admin_mgr.proofs.PlanRows.RoomLaws.{AreCounted, counted_none, counted_some}
+use Rattle.admin_mgr.proofs.Verdicts.VerdictLaws.{none_unless_some}
 use Rattle.admin_mgr.proofs.relations.changing.count_puts.Goals as goal
-use Rattle.admin_mgr.proofs.relations.changing.count_puts.Goals.{in-Some, in-None}
+use Rattle.admin_mgr.proofs.relations.changing.count_puts.Goals.{in-Some, in_default}
 
 pub loop-change-init : goal.loop-change-init
 loop-change-init c = record { size = refl; counted = search rules; bounded = search rules }
@@ -22,8 +23,8 @@ loop-change-preserved c =
     elim c.match-table_put.branch [
       | in-Some w ↦ rw w.counts-is
           (counted_some c.loop-change.counts i change (drop (i + 1) changes) changes before w.number.result w.in-Some.table (sym c.table_put.ensures ∙ w.in-Some.is) w.number.ensures.number w.number.ensures.below)
-      | in-None w ↦ rw w.counts-is
-          (counted_none c.loop-change.counts i change (drop (i + 1) changes) changes before (sym c.table_put.ensures ∙ w.in-None.is))
+      | in_default w ↦ rw w.counts-is
+          (counted_none c.loop-change.counts i change (drop (i + 1) changes) changes before (sym c.table_put.ensures ∙ none_unless_some _ w.in_default.not-Some))
     ]
 
 pub returns : goal.returns

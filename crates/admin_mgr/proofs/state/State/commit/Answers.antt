@@ -5,6 +5,7 @@ use Rattle.admin_mgr.specs.Good.{IsGood}
 use Rattle.admin_mgr.specs.Named.{AreNamed}
 use Rattle.admin_mgr.proofs.PlanRows.CommitLaws.{free, leads, leads_edges}
 use Rattle.admin_mgr.proofs.StateAfter.NamedLaws.{named_turns}
+use Rattle.admin_mgr.proofs.Verdicts.VerdictLaws.{none_unless_some}
 use Rattle.admin_mgr.proofs.state.State.commit.Goals as goal
 
 pub change-requires-clause-free : goal.change-requires-clause-free
@@ -22,15 +23,15 @@ invariant_of-self c =
     subst (λ S. IsGood S × AreNamed S) (sym (returns-in-Some-clause-state c c.requires.planned.0 to))
     (to.good, named_turns c.args.self.now.facts c.requires.planned.0 c.args.plan.changes.items to.rows named c.is_named.ensures)
 
-pub returns-in-None-clause-state : goal.returns-in-None-clause-state
-returns-in-None-clause-state c T to =
+pub returns-in_default-clause-state : goal.returns-in_default-clause-state
+returns-in_default-clause-state c T to =
     let made : c.change.new.self.facts ≡ after_changes c.args.self.now.facts c.args.plan.changes.items = rw (← c.self.view_is) c.change.ensures.facts in
-    leads c.args.self.now.facts T c.args.plan to c.in-None.is c.change.new.self.facts made
+    leads c.args.self.now.facts T c.args.plan to (none_unless_some _ c.in_default.not-Some) c.change.new.self.facts made
 
-pub invariant_of-self-in-None : goal.invariant_of-self-in-None
-invariant_of-self-in-None c =
+pub invariant_of-self-in_default : goal.invariant_of-self-in_default
+invariant_of-self-in_default c =
     let to = c.requires.planned.1 in
     let made : c.change.new.self.facts ≡ after_changes c.args.self.now.facts c.args.plan.changes.items = rw (← c.self.view_is) c.change.ensures.facts in
     let named : AreNamed c.args.self.now.facts = subst (λ (k : Kept). AreNamed k.facts) c.self.view_is c.self.invariant.1 in
-    subst (λ S. IsGood S × AreNamed S) (sym (leads c.args.self.now.facts c.requires.planned.0 c.args.plan to c.in-None.is c.change.new.self.facts made))
+    subst (λ S. IsGood S × AreNamed S) (sym (leads c.args.self.now.facts c.requires.planned.0 c.args.plan to (none_unless_some _ c.in_default.not-Some) c.change.new.self.facts made))
     (to.good, named_turns c.args.self.now.facts c.requires.planned.0 c.args.plan.changes.items to.rows named c.is_named.ensures)
