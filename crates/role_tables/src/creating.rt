@@ -18,10 +18,7 @@ use sqlite::{Alter, Connection, Error, Transaction};
 use std::alloc::Global;
 
 // Makes the tables, one after the other.
-fn create_tables<S: Alter>(
-    tx: &mut Transaction<'_, S>,
-    tables: &[StoredTable],
-) -> Result<(), Error>
+fn create_tables<S: Alter>(tx: &mut Transaction<'_, S>, tables: &[StoredTable]) -> Result<(), Error>
     ensures same_reference { tx.new.conn.ghost_name ≡ tx.old.conn.ghost_name }
     ensures made { HasCleanDisk (state S.Store tx.new.conn.now) → OnOk result (StageAfter (state S.Store tx.old.conn.now) (state S.Store tx.new.conn.now) tables.now) }
     ensures kept { HasCleanDisk (state S.Store tx.new.conn.now) → KeepsCommit (state S.Store tx.old.conn.now) (state S.Store tx.new.conn.now) }

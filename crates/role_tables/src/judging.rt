@@ -11,10 +11,10 @@ ghost use Rattle.role_tables.specs.Standing.{HoldsAsBefore};
 ghost use Rattle.role_tables.specs.Gathering.{AreOfRows, GathersTables, HasTables, IsVersionSeen, RefusesVersion, RefusesGathering};
 
 use crate::gathering::{Gathering, read_table};
+use crate::meta_rows::{Metas, read_metas};
 use crate::schema::{are_there, is_there};
 use crate::statements::is_settled;
 use crate::stored_table::StoredTable;
-use crate::meta_rows::{Metas, read_metas};
 use admin_mgr::State;
 use rbac_sets::Refusal;
 use sqlite::{Alter, Connection};
@@ -105,10 +105,7 @@ fn judge_rows(alloc: Global, version: u32, all: Gathering) -> Result<State, Refu
 }
 
 // The state that is found in the database.
-fn find_state<S: Alter>(
-    alloc: Global,
-    conn: &mut Connection<S>,
-) -> Result<State, Refusal>
+fn find_state<S: Alter>(alloc: Global, conn: &mut Connection<S>) -> Result<State, Refusal>
     ensures ok { HasCleanDisk (state S.Store conn.new) → IfOk result (λ made. IsStateFound (held_in (state S.Store conn.old).now) made.facts × IsUnchanged (state S.Store conn.old) (state S.Store conn.new)) }
     ensures err { HasCleanDisk (state S.Store conn.new) → IfErr result (λ refusal. (refusal ≡ Refusal.Store) ⊎ RefusesFound (held_in (state S.Store conn.old).now) refusal) }
     ensures mode { conn.old.in_transaction ≡ false → conn.new.in_transaction ≡ false }

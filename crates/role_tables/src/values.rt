@@ -53,7 +53,9 @@ fn count_at(row: &sqlite::Row, at: usize) -> Option<u32>
     ensures none { IfNone result (is_count (column row.now at) ≡ false) }
 {
     match row.get_ref(at) {
-        Ok(ValueRef::Int(number)) if 0 <= number && number <= u32::MAX as i64 => Some(number as u32),
+        Ok(ValueRef::Int(number)) if 0 <= number && number <= u32::MAX as i64 => Some(
+            number as u32,
+        ),
         _ => None,
     }
 }

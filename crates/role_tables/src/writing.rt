@@ -15,10 +15,7 @@ use rbac_sets::Change;
 use sqlite::{Alter, Connection, Error, Transaction};
 
 // Makes the changes, one after the other.
-fn make_changes<S: Alter>(
-    tx: &mut Transaction<'_, S>,
-    changes: &[Change],
-) -> Result<(), Error>
+fn make_changes<S: Alter>(tx: &mut Transaction<'_, S>, changes: &[Change]) -> Result<(), Error>
     ensures same_reference { tx.new.conn.ghost_name ≡ tx.old.conn.ghost_name }
     ensures changed { HasCleanDisk (state S.Store tx.new.conn.now) → OnOk result (TablesAfter (state S.Store tx.old.conn.now) (state S.Store tx.new.conn.now) (AreKept changes.now) (λ rows. rows_after rows changes.now)) }
     ensures kept { HasCleanDisk (state S.Store tx.new.conn.now) → KeepsCommit (state S.Store tx.old.conn.now) (state S.Store tx.new.conn.now) }

@@ -88,26 +88,65 @@ hit : (most k m : ℕ) → nat_eq k m ≡ true → in_range most m ≡ true → 
 hit most k m same within = subst (λ kind. in_range most kind ≡ true) (sym (eqb-true k m same)) within
 
 name_kind : (k : ℕ) (a : List ℕ) → is_some (relation_of (NameRow k a)) ≡ true → in_range 3 k ≡ true
-name_kind k a h = elim (cases_Bool (nat_eq k 1)) [ inl e ↦ hit 3 k 1 e refl | inr n1 ↦
-    elim (cases_Bool (nat_eq k 2)) [ inl e ↦ hit 3 k 2 e refl | inr n2 ↦
-    elim (cases_Bool (nat_eq k 3)) [ inl e ↦ hit 3 k 3 e refl | inr n3 ↦
-    absurd (let none = rw (n1, n2, n3) at h in cc) ] ] ]
+name_kind k a h = elim (cases_Bool (nat_eq k 1)) [
+  | inl e ↦ hit 3 k 1 e refl
+  | inr n1 ↦
+      elim (cases_Bool (nat_eq k 2)) [
+        | inl e ↦ hit 3 k 2 e refl
+        | inr n2 ↦
+            elim (cases_Bool (nat_eq k 3)) [
+              | inl e ↦ hit 3 k 3 e refl
+              | inr n3 ↦
+                  absurd (let none = rw (n1, n2, n3) at h in cc)
+            ]
+      ]
+]
 
 pair_kind : (k : ℕ) (a b : List ℕ) → is_some (relation_of (PairRow k a b)) ≡ true → in_range 8 k ≡ true
-pair_kind k a b h = elim (cases_Bool (nat_eq k 1)) [ inl e ↦ hit 8 k 1 e refl | inr n1 ↦
-    elim (cases_Bool (nat_eq k 2)) [ inl e ↦ hit 8 k 2 e refl | inr n2 ↦
-    elim (cases_Bool (nat_eq k 3)) [ inl e ↦ hit 8 k 3 e refl | inr n3 ↦
-    elim (cases_Bool (nat_eq k 4)) [ inl e ↦ hit 8 k 4 e refl | inr n4 ↦
-    elim (cases_Bool (nat_eq k 5)) [ inl e ↦ hit 8 k 5 e refl | inr n5 ↦
-    elim (cases_Bool (nat_eq k 6)) [ inl e ↦ hit 8 k 6 e refl | inr n6 ↦
-    elim (cases_Bool (nat_eq k 7)) [ inl e ↦ hit 8 k 7 e refl | inr n7 ↦
-    elim (cases_Bool (nat_eq k 8)) [ inl e ↦ hit 8 k 8 e refl | inr n8 ↦
-    absurd (let none = rw (n1, n2, n3, n4, n5, n6, n7, n8) at h in cc) ] ] ] ] ] ] ] ]
+pair_kind k a b h = elim (cases_Bool (nat_eq k 1)) [
+  | inl e ↦ hit 8 k 1 e refl
+  | inr n1 ↦
+      elim (cases_Bool (nat_eq k 2)) [
+        | inl e ↦ hit 8 k 2 e refl
+        | inr n2 ↦
+            elim (cases_Bool (nat_eq k 3)) [
+              | inl e ↦ hit 8 k 3 e refl
+              | inr n3 ↦
+                  elim (cases_Bool (nat_eq k 4)) [
+                    | inl e ↦ hit 8 k 4 e refl
+                    | inr n4 ↦
+                        elim (cases_Bool (nat_eq k 5)) [
+                          | inl e ↦ hit 8 k 5 e refl
+                          | inr n5 ↦
+                              elim (cases_Bool (nat_eq k 6)) [
+                                | inl e ↦ hit 8 k 6 e refl
+                                | inr n6 ↦
+                                    elim (cases_Bool (nat_eq k 7)) [
+                                      | inl e ↦ hit 8 k 7 e refl
+                                      | inr n7 ↦
+                                          elim (cases_Bool (nat_eq k 8)) [
+                                            | inl e ↦ hit 8 k 8 e refl
+                                            | inr n8 ↦
+                                                absurd (let none = rw (n1, n2, n3, n4, n5, n6, n7, n8) at h in cc)
+                                          ]
+                                    ]
+                              ]
+                        ]
+                  ]
+            ]
+      ]
+]
 
 set_kind : (k : ℕ) (a : List ℕ) (n : ℕ) → is_some (relation_of (SetRow k a n)) ≡ true → in_range 2 k ≡ true
-set_kind k a n h = elim (cases_Bool (nat_eq k 1)) [ inl e ↦ hit 2 k 1 e refl | inr n1 ↦
-    elim (cases_Bool (nat_eq k 2)) [ inl e ↦ hit 2 k 2 e refl | inr n2 ↦
-    absurd (let none = rw (n1, n2) at h in cc) ] ]
+set_kind k a n h = elim (cases_Bool (nat_eq k 1)) [
+  | inl e ↦ hit 2 k 1 e refl
+  | inr n1 ↦
+      elim (cases_Bool (nat_eq k 2)) [
+        | inl e ↦ hit 2 k 2 e refl
+        | inr n2 ↦
+            absurd (let none = rw (n1, n2) at h in cc)
+      ]
+]
 
 whole_own : (version : ℕ) (row : Row) → is_known version row ≡ true → IsProper row → is_whole (table_of (stored row)) (cells_of row) ≡ true
 whole_own version (NameRow k a) known proper = rw (name_kind k a known) refl
@@ -151,11 +190,11 @@ all_of_kind version kind (row ∷ rows) known proper =
     let more = all_of_kind version kind rows both.1 proper.1 in
     elim (cases_Bool (is_of kind row)) [
       | inl here ↦ (
-        let same = of_kind kind row here in
-        let whole : is_whole kind (cells_of row) ≡ true = ap (λ k. is_whole k (cells_of row)) same ∙ whole_own version row both.0 proper.0 in
-        let names : has_names kind (cells_of row) ≡ true = ap (λ k. has_names k (cells_of row)) same ∙ named_own row proper.0 in
-        let read : row_in kind (cells_of row) ≡ row = ap (λ k. row_in k (cells_of row)) same ∙ read_own row in
-        rw here (rw whole more.0, rw names more.1, rw read (ap (λ l. row ∷ l) more.2)))
+          let same = of_kind kind row here in
+          let whole : is_whole kind (cells_of row) ≡ true = ap (λ k. is_whole k (cells_of row)) same ∙ whole_own version row both.0 proper.0 in
+          let names : has_names kind (cells_of row) ≡ true = ap (λ k. has_names k (cells_of row)) same ∙ named_own row proper.0 in
+          let read : row_in kind (cells_of row) ≡ row = ap (λ k. row_in k (cells_of row)) same ∙ read_own row in
+          rw here (rw whole more.0, rw names more.1, rw read (ap (λ l. row ∷ l) more.2)))
       | inr there ↦ rw there more
     ]
 
@@ -183,12 +222,16 @@ split_all version (row ∷ rows) known = IsPermutation-trans (split version (row
 
     N : List Row
     N = by_table Names rows
+
     P : List Row
     P = by_table Pairs rows
+
     G : List Row
     G = by_table Grants rows
+
     T : List Row
     T = by_table Sets rows
+
     L : List Row
     L = lock_rows version rows
 

@@ -95,7 +95,7 @@ module _ (found : Found) (metas : Metas) (so : Sees (values found Meta) metas) (
   whole_only : AreWhole found → all.is_whole ≡ true
   whole_only it =
       gathered.whole ∙ both_true start.is_whole (list_all (λ table. whole_at table found) (row_tables version)) (begins ∙ both_true metas.is_whole metas.is_one (so.whole ∙ it.rows Meta refl) (so.one ∙ it.one))
-          (all_row_tables (λ table. whole_at table found) version known (λ kind w. it.rows kind (subst (λ v. IsTrue (is_wanted v kind)) (sym is) w)))
+      (all_row_tables (λ table. whole_at table found) version known (λ kind w. it.rows kind (subst (λ v. IsTrue (is_wanted v kind)) (sym is) w)))
 
   named_if : IsTrue all.is_whole → IsTrue all.is_named → AreNamed found
   named_if whole names kind w =

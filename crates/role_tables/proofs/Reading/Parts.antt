@@ -51,12 +51,12 @@ parts_both w v n m r q a b c one two = record {
   whole = two.whole ∙ ap (λ o. o && v) one.whole ∙ and_assoc a.is_whole w v;
   named = λ whole. two.named whole ∙ ap (λ o. o && m) (one.named (was_whole whole)) ∙ and_assoc a.is_named n m;
   kept = λ whole named.
-  let first = one.kept (was_whole whole) (was_named whole named) in
-  let second = two.kept whole named in (
-    first.0 ++ second.0,
-    IsPermutation-append r first.0 q second.0 first.1 second.1,
-    second.2 ∙ ap (λ l. l ++ second.0) first.2 ∙ append_assoc a.rows.items first.0 second.0,
-  );
+      let first = one.kept (was_whole whole) (was_named whole named) in
+      let second = two.kept whole named in (
+        first.0 ++ second.0,
+        IsPermutation-append r first.0 q second.0 first.1 second.1,
+        second.2 ∙ ap (λ l. l ++ second.0) first.2 ∙ append_assoc a.rows.items first.0 second.0,
+      );
 }
   where
     was_whole : IsTrue c.is_whole → IsTrue b.is_whole

@@ -29,9 +29,9 @@ once_few : (rows : List Row) → OccurOnce rows → (row : Row) → length (alik
 once_few [] once row = omega arith
 once_few (x ∷ xs) once row = elim (cases_Bool (same_row row x)) [
   | inl here ↦ (
-    let is : row ≡ x = sym (same_row-is row x here) in
-    let none : length (alike row xs) ≡ 0 = ap (λ r. length (alike r xs)) is ∙ ap length (none_alike x xs once.0) in
-    rw here (omega (arith, none)))
+      let is : row ≡ x = sym (same_row-is row x here) in
+      let none : length (alike row xs) ≡ 0 = ap (λ r. length (alike r xs)) is ∙ ap length (none_alike x xs once.0) in
+      rw here (omega (arith, none)))
   | inr there ↦ rw there (once_few xs once.1 row)
 ]
 
@@ -49,7 +49,7 @@ pub rows_of_same : (S : RbacState) (rows others : List Row) → IsPermutation ro
 rows_of_same S rows others same are = record {
   rows_are = λ row. are.rows_are row ∙ list_any-IsPermutation (λ (other : Row). same_row other row) rows others same;
   once = few_once others (λ row.
-  let long : length (alike row others) ≡ length (alike row rows) = length_permutation _ _ (IsPermutation-filter (λ other. same_row row other) rows others same) in
-  let few = once_few rows are.once row in
-  omega (arith, long, few));
+      let long : length (alike row others) ≡ length (alike row rows) = length_permutation _ _ (IsPermutation-filter (λ other. same_row row other) rows others same) in
+      let few = once_few rows are.once row in
+      omega (arith, long, few));
 }

@@ -80,10 +80,10 @@ rows-preserved g c =
         shown ++ row ∷ [],
         gathers_more kind shown row _ _ _ c.rows.invariant.3.1 c.in_ok-gather_row-in-Ok-Some.ensures.gathered,
         λ late there.
-        let was = c.rows.invariant.3.2 (omega (arith, late, moved.survives.clean)) there in
-        let next = (rw (c.in-Ok-Some.is, c.in-Ok-Some.field-0-is) at (moved.ok late)) (read_text kind) [] shown was.0 in
-        let same = (rw c.in-Ok-Some.is at (moved.same late)) in
-        (next, unchanged_then (state g.S.Store c.args.conn.now) (state g.S.Store old) (state g.S.Store now) was.1 same),
+            let was = c.rows.invariant.3.2 (omega (arith, late, moved.survives.clean)) there in
+            let next = (rw (c.in-Ok-Some.is, c.in-Ok-Some.field-0-is) at (moved.ok late)) (read_text kind) [] shown was.0 in
+            let same = (rw c.in-Ok-Some.is at (moved.same late)) in
+            (next, unchanged_then (state g.S.Store c.args.conn.now) (state g.S.Store old) (state g.S.Store now) was.1 same),
       ),
     )
 

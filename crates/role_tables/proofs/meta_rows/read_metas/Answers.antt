@@ -70,10 +70,10 @@ rows-preserved g c =
         shown ++ row ∷ [],
         sees_more shown row _ _ c.rows.invariant.3.1 c.see.ensures,
         λ late there.
-        let was = c.rows.invariant.3.2 (omega (arith, late, moved.survives.clean)) there in
-        let next = (rw (c.in-Ok-Some.is, c.in-Ok-Some.field-0-is) at (moved.ok late)) (read_text Meta) [] shown was.0 in
-        let same = (rw c.in-Ok-Some.is at (moved.same late)) in
-        (next, unchanged_then (state g.S.Store c.args.conn.now) (state g.S.Store old) (state g.S.Store now) was.1 same),
+            let was = c.rows.invariant.3.2 (omega (arith, late, moved.survives.clean)) there in
+            let next = (rw (c.in-Ok-Some.is, c.in-Ok-Some.field-0-is) at (moved.ok late)) (read_text Meta) [] shown was.0 in
+            let same = (rw c.in-Ok-Some.is at (moved.same late)) in
+            (next, unchanged_then (state g.S.Store c.args.conn.now) (state g.S.Store old) (state g.S.Store now) was.1 same),
       ),
     )
 
