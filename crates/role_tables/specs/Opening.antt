@@ -67,6 +67,10 @@ HasKnownVersions found = IsTrue (list_all is_known_version (versions (values fou
 abbrev pub version_in : Found → ℕ
 version_in found = if list_any (is_number 2) (versions (values found Meta)) then 2 else 1
 
+-- an office of version 2 is there
+abbrev pub IsSecond : Found → Type 0
+IsSecond found = IsOffice found × HasKnownVersions found × (version_in found ≡ 2)
+
 abbrev pub HasLocks : Found → Type 0
 HasLocks found = (version_in found ≡ 1) ⊎ IsSome (found Locks)
 

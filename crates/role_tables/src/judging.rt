@@ -5,7 +5,8 @@ ghost use Rattle.sqlite.specs.Held.{state};
 ghost use Rattle.admin_mgr.specs.Checked.{IsStateOf};
 ghost use Rattle.role_tables.specs.OfficeTables.{Meta};
 ghost use Rattle.role_tables.specs.Found.{held_in};
-ghost use Rattle.role_tables.specs.Opening.{values, HasFive, IsStateFound, RefusesFound};
+ghost use Rattle.role_tables.specs.Migrating.{RefusesMigration};
+ghost use Rattle.role_tables.specs.Opening.{values, HasFive, IsStateFound, RefusesFound, IsSecond};
 ghost use Rattle.role_tables.specs.MetaRows.{Sees};
 ghost use Rattle.role_tables.specs.Standing.{HoldsAsBefore};
 ghost use Rattle.role_tables.specs.Gathering.{AreOfRows, GathersTables, HasTables, IsVersionSeen, RefusesVersion, RefusesGathering};
@@ -54,6 +55,24 @@ fn judge_version(metas: &Metas, schema: &Schema) -> Result<u32, Refusal>
         return Err(Refusal::NotAnOffice);
     }
     Ok(2)
+}
+
+/// Refuses an office of version 2.
+pub(crate) fn refuse_second<S: Alter>(conn: &mut Connection<S>) -> Result<(), Refusal>
+    ensures passed { HasCleanDisk (state S.Store conn.new) → OnOk result ((IsSecond (held_in (state S.Store conn.old).now) → ⊥) × IsUnchanged (state S.Store conn.old) (state S.Store conn.new)) }
+    ensures err { HasCleanDisk (state S.Store conn.new) → IfErr result (RefusesMigration (held_in (state S.Store conn.old).now)) }
+    ensures mode { conn.old.in_transaction ≡ false → conn.new.in_transaction ≡ false }
+    ensures undone { conn.old.in_transaction ≡ false → HasCleanDisk (state S.Store conn.new) → HoldsAsBefore (state S.Store conn.old) (state S.Store conn.new) }
+    ensures survives { Survives (state S.Store conn.old) (state S.Store conn.new) (λ _. ⊥) }
+{
+    is_settled(conn);
+    let found = find_metas(conn);
+    is_settled(conn);
+    let metas = found?;
+    if metas.names_second() {
+        return Err(Refusal::Version(2));
+    }
+    Ok(())
 }
 
 // No row yet; the rows of `meta_row` count to the first check.

@@ -1,5 +1,5 @@
 //! Reading the rows of `meta_row`, one at a time, however it was made.
-ghost use Rattle.std.specs.Prelude.{◌≡◌, ◌⊎◌, ◌||◌, ◌&&◌, false, true, [], IsSome, IsTrue, IfOk, IfErr};
+ghost use Rattle.std.specs.Prelude.{◌≡◌, ◌⊎◌, ◌||◌, ◌&&◌, false, true, [], IsSome, IsTrue, IfOk, IfErr, is_none};
 ghost use Rattle.sqlite_value.specs.Order.{column};
 ghost use Rattle.sqlite.specs.State.{HasCleanDisk, IsUnchanged, KeepsCommit, Survives};
 ghost use Rattle.sqlite.specs.Held.{state};
@@ -22,6 +22,15 @@ pub(crate) struct Metas {
     pub(crate) is_whole: bool,
     pub(crate) is_one: bool,
     is_empty: bool,
+}
+
+impl Metas {
+    /// Whether they are those of an office of version 2.
+    pub(crate) fn names_second(&self) -> bool
+        ensures { result ≡ (self.now.is_tagged && (is_none self.now.unknown && self.now.is_second)) }
+    {
+        self.is_tagged && self.unknown.is_none() && self.is_second
+    }
 }
 
 // Whether the row has the tag of an office.

@@ -8,11 +8,11 @@ ghost use Rattle.admin_mgr.specs.Named.{AreNamed};
 ghost use Rattle.admin_mgr.specs.RbacState.{RbacState};
 ghost use Rattle.role_tables.specs.Found.{held_in};
 ghost use Rattle.role_tables.specs.Migrating.{may_lock, RefusesMigration};
-ghost use Rattle.role_tables.specs.Opening.{IsStateFound};
+ghost use Rattle.role_tables.specs.Opening.{IsSecond, IsStateFound};
 ghost use Rattle.role_tables.specs.Standing.{HoldsAsBefore, LeavesEither, LeavesOnly, Stands, Transacts};
 ghost use Rattle.role_tables.specs.StoredState.{HoldsState};
 
-use crate::judging::read_state;
+use crate::judging::{read_state, refuse_second};
 use crate::office::Office;
 use crate::opening::Unopened;
 use crate::schema::may_lock;
@@ -38,12 +38,13 @@ fn migrate_tables<S: Alter>(conn: &mut Connection<S>) -> Result<(), Error>
     tx.commit()
 }
 
-// Reads an office of version 1, and takes it into version 2.
-fn migrate_state<S: Alter>(alloc: Global, conn: &mut Connection<S>) -> Result<State, Refusal>
+// Reads an office that is not of version 2, and takes it there.
+fn migrate_first<S: Alter>(alloc: Global, conn: &mut Connection<S>) -> Result<State, Refusal>
     requires { conn.old.in_transaction ≡ false }
     ensures ended { conn.new.in_transaction ≡ false }
+    ensures clean { HasCleanDisk (state S.Store conn.new) → HasCleanDisk (state S.Store conn.old) }
     ensures found { HasCleanDisk (state S.Store conn.new) → IfOk result (λ made. (first : RbacState) × IsStateFound (held_in (state S.Store conn.old).now) first × (first.version ≡ 1) × (made.facts ≡ taken_into_version_2 first)) }
-    ensures err { HasCleanDisk (state S.Store conn.new) → IfErr result (RefusesMigration (held_in (state S.Store conn.old).now)) }
+    ensures err { HasCleanDisk (state S.Store conn.new) → (IsSecond (held_in (state S.Store conn.old).now) → ⊥) → IfErr result (RefusesMigration (held_in (state S.Store conn.old).now)) }
     ensures undone { HasCleanDisk (state S.Store conn.new) → IfErr result (λ refusal. refusal ≢ Refusal.Store → HoldsAsBefore (state S.Store conn.old) (state S.Store conn.new)) }
     ensures moved { HasCleanDisk (state S.Store conn.new) → IfOk result (λ made. (before : RbacState) → IsGood before → AreNamed before → Stands (state S.Store conn.old) before → (before.version ≡ 1) × (made.facts ≡ taken_into_version_2 before) × Stands (state S.Store conn.new) (taken_into_version_2 before)) }
     ensures unmoved { HasCleanDisk (state S.Store conn.new) → IfErr result (λ refusal. (before : RbacState) → IsGood before → AreNamed before → Stands (state S.Store conn.old) before → HoldsAsBefore (state S.Store conn.old) (state S.Store conn.new) × (refusal ≢ Refusal.Store → LeavesOnly (state S.Store conn.new) before)) }
@@ -62,6 +63,21 @@ fn migrate_state<S: Alter>(alloc: Global, conn: &mut Connection<S>) -> Result<St
     }
 }
 
+// Reads an office of version 1, and takes it into version 2.
+fn migrate_state<S: Alter>(alloc: Global, conn: &mut Connection<S>) -> Result<State, Refusal>
+    requires { conn.old.in_transaction ≡ false }
+    ensures ended { conn.new.in_transaction ≡ false }
+    ensures found { HasCleanDisk (state S.Store conn.new) → IfOk result (λ made. (first : RbacState) × IsStateFound (held_in (state S.Store conn.old).now) first × (first.version ≡ 1) × (made.facts ≡ taken_into_version_2 first)) }
+    ensures err { HasCleanDisk (state S.Store conn.new) → IfErr result (RefusesMigration (held_in (state S.Store conn.old).now)) }
+    ensures undone { HasCleanDisk (state S.Store conn.new) → IfErr result (λ refusal. refusal ≢ Refusal.Store → HoldsAsBefore (state S.Store conn.old) (state S.Store conn.new)) }
+    ensures moved { HasCleanDisk (state S.Store conn.new) → IfOk result (λ made. (before : RbacState) → IsGood before → AreNamed before → Stands (state S.Store conn.old) before → (before.version ≡ 1) × (made.facts ≡ taken_into_version_2 before) × Stands (state S.Store conn.new) (taken_into_version_2 before)) }
+    ensures unmoved { HasCleanDisk (state S.Store conn.new) → IfErr result (λ refusal. (before : RbacState) → IsGood before → AreNamed before → Stands (state S.Store conn.old) before → HoldsAsBefore (state S.Store conn.old) (state S.Store conn.new) × (refusal ≢ Refusal.Store → LeavesOnly (state S.Store conn.new) before)) }
+    ensures stop { HasCleanDisk (state S.Store conn.new) → (before : RbacState) → IsGood before → AreNamed before → Stands (state S.Store conn.old) before → LeavesEither (state S.Store conn.new) before (taken_into_version_2 before) }
+{
+    refuse_second(conn)?;
+    migrate_first(alloc, conn)
+}
+
 /// Takes the office of version 1 that stands in the tables of a connection outside a transaction into
 /// version 2, in which users can be locked and more users, roles and immediate inheritances have
 /// room, and opens it. Nobody is locked; all else is as it was.
@@ -70,8 +86,9 @@ fn migrate_state<S: Alter>(alloc: Global, conn: &mut Connection<S>) -> Result<St
 ///
 /// # Errors
 ///
-/// What `open` refuses; then `Version(2)` where the office is of version 2 already; then `Store` where
-/// the table of locks, or a foreign key that names it, is there, or where the store refuses a call.
+/// What `open` refuses, but `Version(2)` where the office is of version 2 already, whatever its rows are;
+/// then `Store` where the table of locks, or a foreign key that names it, is there, or where the store
+/// refuses a call.
 /// After any refusal but `Store` nothing is changed; after `Store` a stop leaves the office in version 1
 /// or in version 2.
 pub fn migrate<S: Alter>(alloc: Global, conn: Connection<S>) -> Result<Office<S>, Unopened<S>>

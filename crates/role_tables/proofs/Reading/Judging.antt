@@ -1,6 +1,6 @@
 -- What was found is judged in its order.
-use Rattle.std.proofs.Common.{◌≡◌, ◌⊎◌, inl, inr, ℕ, ℤ, List, [], ◌∷◌, ◌++◌, map, Bool, true, false, ◌&&◌, if◌then◌else◌, Option, Some, None, IsSome, IsTrue, refl, sym, ap, subst, ◌∙◌, arith}
-use Rattle.std.specs.List.{list_all, list_any}
+use Rattle.std.proofs.Common.{◌≡◌, ◌⊎◌, inl, inr, ℕ, zero, suc, ℤ, List, [], ◌∷◌, ◌++◌, map, Bool, true, false, ◌&&◌, if◌then◌else◌, Option, Some, None, is_none, IsSome, IsTrue, refl, sym, ap, subst, ◌∙◌, arith}
+use Rattle.std.specs.List.{Contains, list_all, list_any}
 use Rattle.std.specs.List.Sorted.{IsPermutation}
 use Rattle.std.proofs.lemmas.Bool.{cases_Bool, and_parts}
 use Rattle.rbac_sets.specs.declared.row.Row as stored
@@ -13,7 +13,8 @@ use Rattle.admin_mgr.specs.Checked.{RefusesRows, IsStateOf}
 use Rattle.role_tables.specs.OfficeTables.{StoredTable, Meta, Names, Pairs, Grants, Sets, Locks, is_wanted, row_tables}
 use Rattle.role_tables.specs.Found.{Found, is_whole, has_names, held_in}
 use Rattle.role_tables.specs.InSchema.{is_there}
-use Rattle.role_tables.specs.Opening.{values, versions, is_tagged, is_number, is_known_version, is_single, HasFive, IsOffice, IsLeastUnknown, HasKnownVersions, version_in, HasLocks, IsReached, AreWhole, AreNamed, rows_in_all, rows_found, RefusesFound, IsStateFound}
+use Rattle.role_tables.specs.Opening.{IsSecond, values, versions, is_tagged, is_number, is_known_version, is_single, HasFive, IsOffice, IsLeastUnknown, HasKnownVersions, version_in, HasLocks, IsReached, AreWhole, AreNamed, rows_in_all, rows_found, RefusesFound, IsStateFound}
+use Rattle.role_tables.specs.Migrating.{RefusesMigration}
 use Rattle.role_tables.specs.MetaRows.{IsUnknownOf, Sees}
 use Rattle.role_tables.specs.declared.meta_rows.Metas.{Metas}
 use Rattle.role_tables.specs.declared.gathering.Gathering.{Gathering}
@@ -23,6 +24,22 @@ use Rattle.role_tables.proofs.OfficeTables.There.{some_there, there_some}
 
 clash : {A : Type 0} (b : Bool) → b ≡ true → b ≡ false → A
 clash b yes_it no_it = absurd (let e = sym yes_it ∙ no_it in cc)
+
+-- a test that all elements pass is passed by each
+passes_each : {A : Type 0} (p : A → Bool) (xs : List A) (x : A) → list_all p xs ≡ true → Contains xs x → p x ≡ true
+passes_each p [] x all (k, low, is) = absurd (omega (arith, low))
+passes_each p (y ∷ ys) x all (zero, low, is) = subst (λ z. p z ≡ true) is (and_parts (p y) (list_all p ys) all).0
+passes_each p (y ∷ ys) x all (suc k, low, is) = passes_each p ys x (and_parts (p y) (list_all p ys) all).1 (k, omega (arith, low), is)
+
+no_some : {A : Type 0} (o : Option A) → is_none o ≡ true → o ≡ None
+no_some None h = refl
+no_some (Some x) h = absurd (cc)
+
+-- what is refused before the version is known is refused of a migration too
+pub refused_early : (found : Found) (refusal : Refusal) → (refusal ≡ Memory) ⊎ ((refusal ≡ Store) ⊎ ((refusal ≡ NotAnOffice) × (HasFive found → ⊥))) → RefusesMigration found refusal
+refused_early found refusal (inl memory) = inr (inl memory)
+refused_early found refusal (inr (inl store)) = inl store
+refused_early found refusal (inr (inr none)) = inr (inr (inr (subst (RefusesFound found) (sym none.0) (inl (λ it. none.1 it.tables)), λ second. none.1 second.0.tables)))
 
 -- ---- the version
 
@@ -62,6 +79,26 @@ module _ (db : Database) (metas : Metas) (five : HasFive (held_in db)) (so : See
     | inl first ↦ rw first.0 (five Names refl, (five Pairs refl, (five Grants refl, (five Sets refl, tt))))
     | inr second ↦ rw second.0 (five Names refl, (five Pairs refl, (five Grants refl, (five Sets refl, (some_there db Locks second.2, tt)))))
   ]
+
+  -- an office of version 2 is seen, and no other is
+  pub second_seen : (metas.is_tagged && (is_none metas.unknown && metas.is_second)) ≡ true → IsSecond found
+  second_seen all =
+      let one = and_parts metas.is_tagged _ all in
+      let two = and_parts (is_none metas.unknown) metas.is_second one.1 in
+      (office one.0, known (no_some metas.unknown two.0), second_in two.1)
+
+  pub second_missed : (metas.is_tagged && (is_none metas.unknown && metas.is_second)) ≡ false → IsSecond found → ⊥
+  second_missed none (it, versions_known, two) =
+      let tagged : metas.is_tagged ≡ true = so.tagged ∙ it.tagged in
+      let second : metas.is_second ≡ true = so.second ∙ is_second two in
+      clash (metas.is_tagged && (is_none metas.unknown && metas.is_second)) (rw (tagged, no_unknown metas.unknown so.unknown versions_known, second) refl) none
+    where
+      is_second : version_in found ≡ 2 → list_any (is_number 2) (versions (values found Meta)) ≡ true
+      is_second two = elim (cases_Bool (list_any (is_number 2) (versions (values found Meta)))) [ inl there ↦ there | inr away ↦ absurd (let one : version_in found ≡ 1 = rw away refl in omega (arith, one, two)) ]
+
+      no_unknown : (o : Option ℤ) → IsUnknownOf (versions (values found Meta)) o → HasKnownVersions found → o ≡ None
+      no_unknown None h all = refl
+      no_unknown (Some n) h all = clash (is_known_version n) (passes_each is_known_version (versions (values found Meta)) n all h.there) h.unknown
 
 pub seen_known : (metas : Metas) (version : ℕ) (schema : _) → IsVersionSeen metas schema version → (version ≡ 1) ⊎ (version ≡ 2)
 seen_known metas version schema seen = elim seen.2 [ inl first ↦ inl first.0 | inr second ↦ inr second.0 ]

@@ -8,9 +8,10 @@ use Rattle.rbac_sets.specs.declared.refusal.Refusal.TheVariants.{Memory, Store}
 use Rattle.admin_mgr.specs.RbacState.{RbacState}
 use Rattle.admin_mgr.specs.Good.{IsGood}
 use Rattle.admin_mgr.specs.Named.{AreNamed}
-use Rattle.role_tables.specs.Found.{held_in}
+use Rattle.role_tables.specs.Found.{Found, held_in}
 use Rattle.role_tables.specs.StoredState.{HoldsState}
-use Rattle.role_tables.specs.Opening.{RefusesFound, IsStateFound}
+use Rattle.role_tables.specs.Opening.{IsSecond, RefusesFound, IsStateFound}
+use Rattle.role_tables.specs.Migrating.{RefusesMigration}
 use Rattle.role_tables.specs.Standing.{Stands, LeavesState, LeavesEither, HoldsAsBefore}
 use Rattle.role_tables.proofs.Reading.GoodState.{memory_alone, same_state}
 
@@ -39,3 +40,12 @@ kept_as_before old new settled_old settled_new kept is_open = settled_new is_ope
 -- a stop leaves the state that stood, or the one that the call was to lead to
 pub leaves_either : (old new : State) (S T : RbacState) → Stands old S → ((trees : Trees) → new.may_leave trees → old.may_leave trees ⊎ LeavesState T trees) → LeavesEither new S T
 leaves_either old new S T stands left trees may = elim (left trees may) [ inl before ↦ inl (stands.left trees before) | inr after ↦ inr after ]
+
+-- a state of version 2 that is found is an office of version 2
+pub second_found : (found : Found) (S : RbacState) → IsStateFound found S → S.version ≡ 2 → IsSecond found
+second_found found S it two = (it.reached.0, it.reached.1, sym it.state.version_is ∙ two)
+
+-- what an opening refuses is refused where no office of version 2 is there
+pub refused_first : (found : Found) (refusal : Refusal) → (IsSecond found → ⊥) → (refusal ≡ Store) ⊎ RefusesFound found refusal → RefusesMigration found refusal
+refused_first found refusal none (inl store) = inl store
+refused_first found refusal none (inr bad) = inr (inr (inr (bad, none)))

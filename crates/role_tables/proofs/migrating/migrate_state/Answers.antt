@@ -1,68 +1,70 @@
-use Rattle.std.proofs.Common.{rules, ◌≡◌, ◌≢◌, ◌⊎◌, inl, inr, true, false, refl, sym, ap, subst, ◌∙◌}
-use Rattle.sqlite.specs.State.{HasCleanDisk}
+use Rattle.std.proofs.Common.{◌≡◌, ◌≢◌, ◌⊎◌, rules, inl, Err, IfOk, IfErr, ◌∙◌, sym, subst}
+use Rattle.sqlite.specs.Effect.{Database}
 use Rattle.sqlite.specs.Held.{state}
-use Rattle.admin_mgr.specs.RbacState.{RbacState}
+use Rattle.rbac_sets.specs.declared.refusal.Refusal.TheVariants.{Store}
+use Rattle.admin_mgr.specs.Good.{IsGood}
 use Rattle.admin_mgr.specs.Life.{taken_into_version_2}
-use Rattle.role_tables.specs.Migrating.{may_lock}
-use Rattle.role_tables.specs.Standing.{HoldsAsBefore}
-use Rattle.role_tables.proofs.Reading.Standing.{leaves_still, stands_still, opens_the_state, leaves_either}
+use Rattle.admin_mgr.specs.Named.{AreNamed}
+use Rattle.admin_mgr.specs.RbacState.{RbacState}
+use Rattle.role_tables.specs.Found.{held_in}
+use Rattle.role_tables.specs.Migrating.{RefusesMigration}
+use Rattle.role_tables.specs.Opening.{IsSecond, IsStateFound}
+use Rattle.role_tables.specs.Standing.{HoldsAsBefore, LeavesOnly, Stands}
+use Rattle.role_tables.proofs.Reading.ReadState.{if_ok, if_err}
+use Rattle.role_tables.proofs.Reading.Standing.{leaves_still, stands_still}
 use Rattle.role_tables.proofs.migrating.migrate_state.Goals as goal
 
-pub returns-then-version-ne1-clause-err : goal.returns-then-version-ne1-clause-err
-returns-then-version-ne1-clause-err g c clean =
-    let got = c.in_ok-first.ensures.ok clean in
-    let two : c.in_ok-first.first.facts.version ≡ 2 = elim c.version.ensures.known [ inl one ↦ absurd (c.if-version-ne1.true one) | inr two ↦ sym c.version.ensures.version ∙ two ] in
-    inr (inr (refl, (c.in_ok-first.first.facts, got.0, two)))
+-- ---- an office of version 2
 
-pub returns-in-Ok-clause-found : goal.returns-in-Ok-clause-found
-returns-in-Ok-clause-found g c clean =
-    let got = c.in_ok-first.ensures.ok (c.migrate_tables.ensures.clean clean) in
-    (c.in_ok-first.first.facts, got.0, sym c.version.ensures.version ∙ c.if-version-ne1.false, c.migrated.ensures)
-
-pub returns-in-Ok-clause-moved : goal.returns-in-Ok-clause-moved
-returns-in-Ok-clause-moved g c clean before good named stands =
+pub returns-in_err-refuse_second-clause-unmoved : goal.returns-in_err-refuse_second-clause-unmoved
+returns-in_err-refuse_second-clause-unmoved g c clean =
     let old = state g.S.Store c.args.conn.now in
-    let mid = state g.S.Store c.read_state.new.conn in
-    let was = c.migrate_tables.ensures.clean clean in
-    let got = c.in_ok-first.ensures.ok was in
-    let same = opens_the_state old before c.in_ok-first.first.facts good named stands got.0 in
-    let one : before.version ≡ 1 = ap (λ (S : RbacState). S.version) (sym same) ∙ sym c.version.ensures.version ∙ c.if-version-ne1.false in
-    let may : may_lock mid.now.schema ≡ true = search rules in
-    (one, c.migrated.ensures ∙ ap taken_into_version_2 same, (c.in-Ok.ensures.written clean before one good may (stands_still old mid before was c.read_state.ensures.survives got.1 stands)).done)
+    let new = state g.S.Store c.refuse_second.new.conn in
+    let is : c.from_residual.result ≡ Err c.in_err-refuse_second.field-0.0 = search rules in
+    subst (λ r. IfErr r (λ refusal. (before : RbacState) → IsGood before → AreNamed before → Stands old before → HoldsAsBefore old new × (refusal ≢ Store → LeavesOnly new before))) (sym is)
+    (λ before good named stands. (c.refuse_second.ensures.undone c.requires clean, λ _. leaves_still old new before clean c.refuse_second.ensures.survives stands))
 
-pub returns-in-Ok-clause-stop : goal.returns-in-Ok-clause-stop
-returns-in-Ok-clause-stop g c clean before good named stands =
-    let old = state g.S.Store c.args.conn.now in
-    let mid = state g.S.Store c.read_state.new.conn in
-    let was = c.migrate_tables.ensures.clean clean in
-    let got = c.in_ok-first.ensures.ok was in
-    let same = opens_the_state old before c.in_ok-first.first.facts good named stands got.0 in
-    let one : before.version ≡ 1 = ap (λ (S : RbacState). S.version) (sym same) ∙ sym c.version.ensures.version ∙ c.if-version-ne1.false in
-    let may : may_lock mid.now.schema ≡ true = search rules in
-    let here = stands_still old mid before was c.read_state.ensures.survives got.1 stands in
-    leaves_either mid (state g.S.Store c.migrate_tables.new.conn) before (taken_into_version_2 before) here (c.in-Ok.ensures.written clean before one good may here).left
+pub returns-in_err-refuse_second-clause-stop : goal.returns-in_err-refuse_second-clause-stop
+returns-in_err-refuse_second-clause-stop g c clean before good named stands trees may =
+    inl (leaves_still (state g.S.Store c.args.conn.now) (state g.S.Store c.refuse_second.new.conn) before clean c.refuse_second.ensures.survives stands trees may)
 
-pub returns-in-Err-clause-stop : goal.returns-in-Err-clause-stop
-returns-in-Err-clause-stop g c clean before good named stands =
-    let old = state g.S.Store c.args.conn.now in
-    let mid = state g.S.Store c.read_state.new.conn in
-    let was = c.migrate_tables.ensures.clean clean in
-    let got = c.in_ok-first.ensures.ok was in
-    let same = opens_the_state old before c.in_ok-first.first.facts good named stands got.0 in
-    let one : before.version ≡ 1 = ap (λ (S : RbacState). S.version) (sym same) ∙ sym c.version.ensures.version ∙ c.if-version-ne1.false in
-    let may : may_lock mid.now.schema ≡ true = search rules in
-    let here = stands_still old mid before was c.read_state.ensures.survives got.1 stands in
-    leaves_either mid (state g.S.Store c.migrate_tables.new.conn) before (taken_into_version_2 before) here (c.in-Err.ensures.written clean before one good may here).left
+-- ---- no office of version 2
 
-pub returns-in-Err-clause-unmoved : goal.returns-in-Err-clause-unmoved
-returns-in-Err-clause-unmoved g c clean before good named stands =
-    let old = state g.S.Store c.args.conn.now in
-    let mid = state g.S.Store c.read_state.new.conn in
-    let was = c.migrate_tables.ensures.clean clean in
-    let got = c.in_ok-first.ensures.ok was in
-    let same = opens_the_state old before c.in_ok-first.first.facts good named stands got.0 in
-    let one : before.version ≡ 1 = ap (λ (S : RbacState). S.version) (sym same) ∙ sym c.version.ensures.version ∙ c.if-version-ne1.false in
-    let may : may_lock mid.now.schema ≡ true = search rules in
-    let here = stands_still old mid before was c.read_state.ensures.survives got.1 stands in
-    let undone = (c.in-Err.ensures.written clean before one good may here).undone in
-    ((λ is_open. undone is_open ∙ got.1.0.now_is), (λ other. absurd (other refl)))
+pub returns-clause-found : goal.returns-clause-found
+returns-clause-found g c clean =
+    let same = (c.in_ok-refuse_second.ensures.passed (c.migrate_first.ensures.clean clean)).1 in
+    subst (λ (db : Database). IfOk c.migrate_first.result (λ made. (first : RbacState) × IsStateFound (held_in db) first × (first.version ≡ 1) × (made.facts ≡ taken_into_version_2 first))) same.0.now_is (c.migrate_first.ensures.found clean)
+
+pub returns-clause-err : goal.returns-clause-err
+returns-clause-err g c clean =
+    let passed = c.in_ok-refuse_second.ensures.passed (c.migrate_first.ensures.clean clean) in
+    subst (λ (db : Database). (IsSecond (held_in db) → ⊥) → IfErr c.migrate_first.result (RefusesMigration (held_in db))) passed.1.0.now_is (c.migrate_first.ensures.err clean) passed.0
+
+pub returns-clause-undone : goal.returns-clause-undone
+returns-clause-undone g c clean =
+    let same = (c.in_ok-refuse_second.ensures.passed (c.migrate_first.ensures.clean clean)).1 in
+    if_err c.migrate_first.result _ _ (λ refusal still other is_open. still other is_open ∙ same.0.now_is) (c.migrate_first.ensures.undone clean)
+
+pub returns-clause-moved : goal.returns-clause-moved
+returns-clause-moved g c clean =
+    let was = c.migrate_first.ensures.clean clean in
+    let same = (c.in_ok-refuse_second.ensures.passed was).1 in
+    if_ok c.migrate_first.result _ _
+    (λ made moves before good named stands. moves before good named (stands_still (state g.S.Store c.args.conn.now) (state g.S.Store c.refuse_second.new.conn) before was c.refuse_second.ensures.survives same stands))
+    (c.migrate_first.ensures.moved clean)
+
+pub returns-clause-unmoved : goal.returns-clause-unmoved
+returns-clause-unmoved g c clean =
+    let was = c.migrate_first.ensures.clean clean in
+    let same = (c.in_ok-refuse_second.ensures.passed was).1 in
+    if_err c.migrate_first.result _ _
+    (λ refusal leaves before good named stands.
+    let it = leaves before good named (stands_still (state g.S.Store c.args.conn.now) (state g.S.Store c.refuse_second.new.conn) before was c.refuse_second.ensures.survives same stands) in
+    ((λ is_open. it.0 is_open ∙ same.0.now_is), it.1))
+    (c.migrate_first.ensures.unmoved clean)
+
+pub returns-clause-stop : goal.returns-clause-stop
+returns-clause-stop g c clean before good named stands =
+    let was = c.migrate_first.ensures.clean clean in
+    let same = (c.in_ok-refuse_second.ensures.passed was).1 in
+    c.migrate_first.ensures.stop clean before good named (stands_still (state g.S.Store c.args.conn.now) (state g.S.Store c.refuse_second.new.conn) before was c.refuse_second.ensures.survives same stands)
