@@ -1,13 +1,12 @@
 -- What a call of an office answers, and what a stop then leaves, as an event of its life.
-use Rattle.std.proofs.Common.{◌≡◌, ◌⊎◌, ◌∷◌, [], inl, inr, true, Some, None, Result, Ok, Err, refl, sym, ap, subst, ◌∙◌}
+use Rattle.std.proofs.Common.{◌≡◌, ◌⊎◌, ◌∷◌, [], inl, inr, true, Some, None, Ok, Err, refl, sym, subst}
 use Rattle.std.specs.Prelude.{All}
 use Rattle.std.proofs.lemmas.List.Elements.{All-nil}
 use Rattle.rbac_sets.specs.declared.command.Command.{Command}
 use Rattle.rbac_sets.specs.declared.refusal.Refusal.{Refusal}
 use Rattle.rbac_sets.specs.declared.refusal.Refusal.TheVariants.{Memory, Store, Closed}
 use Rattle.sqlite.specs.State.{State}
-use Rattle.sqlite.specs.Tree.{Trees}
-use Rattle.sqlite.specs.Held.{Held, state}
+use Rattle.sqlite.specs.Held.{state}
 use Rattle.sqlite_trees.specs.declared.store.Store.{Ghosts}
 use Rattle.admin_mgr.specs.declared.plan.Report.{Report}
 use Rattle.admin_mgr.specs.RbacState.{RbacState}
@@ -19,8 +18,7 @@ use Rattle.admin_mgr.specs.Life.{IsClosedReply, Leaves}
 use Rattle.admin_mgr.specs.Planned.{tally_of_report}
 use Rattle.admin_mgr.proofs.Verdicts.RefusingLaws.{verdicts_refuse_commands}
 use Rattle.role_tables.specs.Office.{Opened, Answers, event_of}
-use Rattle.role_tables.specs.StoredState.{HoldsState}
-use Rattle.role_tables.specs.Standing.{Stands, LeavesState, LeavesEither, LeavesAsIn}
+use Rattle.role_tables.specs.Standing.{Stands, LeavesEither, LeavesAsIn}
 
 -- a refusal of the plan is an answer that changes nothing
 pub plan_refused : {S : Type 0} (old : Opened S) (command : Command) (refusal : Refusal) → (refusal ≡ Memory) ⊎ (verdict old.facts command ≡ Some refusal) → Answers old command (Err refusal) old

@@ -1,24 +1,22 @@
 -- What is found of an office in a database, by the names of tables and columns, however the tables were made; and the
 -- first two of the checks that it has to pass.
-use Rattle.std.specs.Prelude.{ℕ, ◌≡◌, ◌≢◌, ◌⊎◌, ◌&&◌, not, ◌^◌, ℤ, pos, negsuc, nat_le, nat_lt, Bool, true, false, List, [], ◌∷◌, map, filter, slice_get, Option, Some, None, codes, IsTrue, IsSome, int_le}
+use Rattle.std.specs.Prelude.{ℕ, ◌≡◌, ◌⊎◌, ◌&&◌, ◌^◌, pos, nat_le, nat_lt, Bool, true, false, List, [], ◌∷◌, map, slice_get, Option, Some, IsTrue}
 use Rattle.std.specs.Option.{option_and_then, option_map}
-use Rattle.std.specs.List.{list_any, list_all}
 use Rattle.rbac_sets.specs.Name.{is_name}
 use Rattle.rbac_sets.specs.declared.row.Row.{Row}
 use Rattle.rbac_sets.specs.declared.row.Row.TheVariants.{NameRow, PairRow, GrantRow, SetRow, LockedRow}
 use Rattle.rbac_sets.specs.declared.refusal.Refusal.{Refusal}
-use Rattle.rbac_sets.specs.declared.refusal.Refusal.TheVariants.{Memory, Store, NotAnOffice, Version, Damaged}
+use Rattle.rbac_sets.specs.declared.refusal.Refusal.TheVariants.{Memory, Damaged}
 use Rattle.sqlite.specs.declared.types.Value.{Value}
-use Rattle.sqlite.specs.declared.types.Value.TheVariants.{Null, Int, Real, Text, Blob}
+use Rattle.sqlite.specs.declared.types.Value.TheVariants.{Int, Text}
 use Rattle.sqlite.specs.Order as sql
 use Rattle.sqlite.specs.Order.{column}
 use Rattle.sqlite.specs.Schema.{Schema}
 use Rattle.sqlite.specs.Table.{Table}
 use Rattle.sqlite.specs.Effect.{Database}
 use Rattle.sqlite_schema.specs.Names.{table_named, column_named}
-use Rattle.admin_mgr.specs.Checked.{RefusesRows}
 use Rattle.role_tables.specs.TableByName.{Place, names_of, cells_at}
-use Rattle.role_tables.specs.OfficeTables.{StoredTable, Meta, Names, Pairs, Grants, Sets, Locks, making, places, is_wanted}
+use Rattle.role_tables.specs.OfficeTables.{StoredTable, Meta, Names, Pairs, Grants, Sets, Locks, making, places}
 
 -- ---- what is found
 

@@ -1,5 +1,5 @@
 -- What is gathered of the rows of tables as they are read.
-use Rattle.std.specs.Prelude.{ℕ, ℤ, if◌then◌else◌, IsSome, Result, Ok, Err, ◌≡◌, ◌≢◌, ◌⊎◌, ◌&&◌, Bool, true, false, List, [], ◌∷◌, ◌++◌, map, Option, Some, None, IsTrue, IsPermutation}
+use Rattle.std.specs.Prelude.{ℕ, ℤ, IsSome, ◌≡◌, ◌≢◌, ◌⊎◌, ◌&&◌, Bool, false, List, ◌++◌, map, Option, Some, None, IsTrue, IsPermutation}
 use Rattle.std.specs.List.{list_all, AllByRecursion}
 use Rattle.sqlite.specs.Order as sql
 use Rattle.sqlite.specs.State.{State}
@@ -10,9 +10,8 @@ use Rattle.role_tables.specs.InSchema.{is_there}
 use Rattle.role_tables.specs.declared.meta_rows.Metas.{Metas}
 use Rattle.rbac_sets.specs.declared.row.Row.{Row}
 use Rattle.rbac_sets.specs.declared.refusal.Refusal.{Refusal}
-use Rattle.rbac_sets.specs.declared.refusal.Refusal.TheVariants.{Store, NotAnOffice, Version, Damaged}
+use Rattle.rbac_sets.specs.declared.refusal.Refusal.TheVariants.{NotAnOffice, Version, Damaged}
 use Rattle.admin_mgr.specs.Checked.{RefusesRows}
-use Rattle.admin_mgr.specs.RbacState.{RbacState}
 use Rattle.sqlite.specs.Schema.{Schema}
 use Rattle.role_tables.specs.declared.gathering.Gathering.{Gathering}
 

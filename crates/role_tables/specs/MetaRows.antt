@@ -1,5 +1,5 @@
 -- What is seen of the rows of meta_row as they are read.
-use Rattle.std.specs.Prelude.{ℕ, ◌≡◌, ◌||◌, ◌&&◌, ℤ, Bool, true, false, List, [], ◌∷◌, length, Option, Some, None, IsTrue, nat_eq, if◌then◌else◌}
+use Rattle.std.specs.Prelude.{◌≡◌, ◌||◌, ◌&&◌, ℤ, false, List, length, Option, Some, None, IsTrue, nat_eq, if◌then◌else◌}
 use Rattle.std.specs.List.{list_any, list_all}
 use Rattle.std.specs.Int.Signed.{lt_z}
 use Rattle.sqlite.specs.Order as sql

@@ -1,5 +1,5 @@
 -- What an office is, and what it answers.
-use Rattle.std.specs.Prelude.{◌≡◌, Bool, true, false, refl, ◌∷◌, Some, None, Result, Ok, Err}
+use Rattle.std.specs.Prelude.{◌≡◌, Bool, true, false, refl, Some, None, Result, Ok, Err}
 use Rattle.std.specs.Coded.{Coded, code_by, coded×, coded_bool}
 use Rattle.rbac_sets.specs.declared.command.Command.{Command}
 use Rattle.rbac_sets.specs.declared.refusal.Refusal.{Refusal}

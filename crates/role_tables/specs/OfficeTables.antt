@@ -1,5 +1,5 @@
 -- The six tables of the office, found by their names.
-use Rattle.std.specs.Prelude.{true, not, nat_eq, IsTrue, ℕ, ◌+◌, ◌≡◌, ◌≢◌, ◌==◌, if◌then◌else◌, Bool, List, [], ◌∷◌, codes, pos, map, IsPermutation}
+use Rattle.std.specs.Prelude.{true, not, nat_eq, IsTrue, ℕ, ◌+◌, ◌==◌, if◌then◌else◌, Bool, List, [], ◌∷◌, codes, pos}
 use Rattle.sqlite.specs.declared.types.Value.TheVariants.{Int, Text as Words}
 use Rattle.sqlite.specs.Collation.TheVariants.{Binary}
 use Rattle.sqlite.specs.Order.{Row}

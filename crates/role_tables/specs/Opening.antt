@@ -1,6 +1,6 @@
 -- What `open` answers on what is found in a database, in the order in which it is judged: that an office is there (50), its
 -- version (51), the table of locks (50), check 1 but for keys, check 2, and then the rows as `State::of_rows` judges them.
-use Rattle.std.specs.Prelude.{ℕ, ◌≡◌, ◌⊎◌, ◌==◌, ◌||◌, ◌&&◌, ◌≤ℤ◌, ℤ, pos, Bool, true, false, if◌then◌else◌, List, [], ◌∷◌, ◌++◌, length, map, Option, Some, None, codes, IsTrue, IsSome, IsPermutation, bytes_eq, All, nat_eq}
+use Rattle.std.specs.Prelude.{ℕ, ◌≡◌, ◌⊎◌, ◌||◌, ◌&&◌, ◌≤ℤ◌, ℤ, pos, Bool, false, if◌then◌else◌, List, [], ◌∷◌, length, map, Option, Some, None, codes, IsTrue, IsSome, IsPermutation, bytes_eq, All, nat_eq}
 use Rattle.std.specs.List.{list_any, list_all, flat_map, Contains}
 use Rattle.std.specs.Ordering.{int_eq}
 use Rattle.rbac_sets.specs.declared.row.Row.{Row}

@@ -1,5 +1,5 @@
 -- The rows of a state as the tables hold them.
-use Rattle.std.specs.Prelude.{◌==◌, ◌≡◌, ℕ, Bool, List, [], ◌∷◌, ◌++◌, codes, map, filter}
+use Rattle.std.specs.Prelude.{◌==◌, ℕ, Bool, List, [], ◌∷◌, ◌++◌, codes, map, filter}
 use Rattle.rbac_sets.specs.declared.row.Row.{Row}
 use Rattle.rbac_sets.specs.declared.row.Row.TheVariants.{NameRow, PairRow, GrantRow, SetRow, LockedRow}
 use Rattle.sqlite.specs.Order as sql

@@ -1,20 +1,17 @@
 -- What INSERT and DELETE make of the rows that a table holds.
-use Rattle.std.proofs.Common.{◌≡◌, ◌≢◌, ◌⊎◌, arith, inl, inr, ℕ, suc, zero, ◌+◌, ℤ, pos, List, [], ◌∷◌, ◌++◌, map, drop, filter, slice_get, length, Bool, true, false, not, ◌&&◌, None, Some, Ok, Err, Result, refl, sym, ap, subst, ◌∙◌}
+use Rattle.std.proofs.Common.{◌≡◌, ◌≢◌, ℕ, List, [], ◌∷◌, map, filter, length, Bool, false, not, None, Some, Ok, refl, sym, ap, subst, ◌∙◌}
 use Rattle.std.specs.List.{AllByRecursion}
 use Rattle.std.specs.List.Sorted.{IsPermutation}
-use Rattle.std.proofs.lemmas.List.Sorted.{IsPermutation-map, IsPermutation-cons, IsPermutation-trans, IsPermutation-sym}
-use Rattle.sqlite.specs.declared.types.Value.TheVariants.{Null, Int}
+use Rattle.sqlite.specs.declared.types.Value.TheVariants.{Null}
 use Rattle.sqlite.specs.Order.{Row, column}
-use Rattle.sqlite.specs.Schema.{Schema}
 use Rattle.sqlite.specs.Table.{Table}
-use Rattle.sqlite.specs.Term.{Term}
 use Rattle.sqlite.specs.Command.{Command}
-use Rattle.sqlite.specs.Command.TheVariants.{Insert, Delete}
-use Rattle.sqlite.specs.Edit.{Edit, edit_of, edited, is_taken, without_all}
-use Rattle.sqlite.specs.Rowids.TheVariants.{Given, Chosen}
-use Rattle.sqlite.specs.Does.{Tally, Does}
+use Rattle.sqlite.specs.Command.TheVariants.{Delete}
+use Rattle.sqlite.specs.Edit.{edit_of}
+use Rattle.sqlite.specs.Rowids.TheVariants.{Given}
+use Rattle.sqlite.specs.Does.{Tally}
 use Rattle.sqlite.specs.Rows.{Written}
-use Rattle.sqlite.specs.Tree.{Trees, IsTable, rowid, put_row}
+use Rattle.sqlite.specs.Tree.{Trees, IsTable}
 use Rattle.sqlite.specs.Listing.{understood}
 use Rattle.sqlite.specs.Effect.{Database, IsDatabase}
 use Rattle.sqlite.specs.State.{State, mode_of, Executes, Runs}
@@ -24,10 +21,10 @@ use Rattle.sqlite_ast.specs.declared.Statement.TheVariants as written
 use Rattle.sqlite_resolve.specs.Compile.{first}
 use Rattle.sqlite_rules.specs.Calls.{ids_of}
 use Rattle.sqlite_rules.specs.Edit.{taken_by}
-use Rattle.sqlite_trees.proofs.ListLemmas.{all_weaker, all-filter, all-map, all_from_map, all-permutation, ascending-filter, filter_same, filter-map, IsPermutation-filter}
+use Rattle.sqlite_trees.proofs.ListLemmas.{all_weaker, all-filter, all_from_map, ascending-filter, filter_same, filter-map, IsPermutation-filter}
 use Rattle.sqlite_schema.specs.Names.{place_of}
 use Rattle.sqlite_schema.specs.declared.program.Program.{Program}
-use Rattle.role_tables.specs.TableByName.{Place, AreIn, names_of, cells_at, IsNamed, HaveIntIds, HasNoNull, IsUnreferenced, is_referred, IsAlone, HoldsRows, same_row, without_row}
+use Rattle.role_tables.specs.TableByName.{Place, cells_at, IsNamed, HaveIntIds, HasNoNull, IsUnreferenced, is_referred, IsAlone, HoldsRows, same_row, without_row}
 use Rattle.role_tables.proofs.Meanings.Understood.{in_ok, in_ok_then, Plans, runs_so}
 use Rattle.role_tables.proofs.Meanings.Deletes.{tests_from, taking_query, Tests, deletes}
 use Rattle.role_tables.proofs.Meanings.DeletedRows.{is_at, answer_ids, taken_rows, tests_are, values_at, AreParams}

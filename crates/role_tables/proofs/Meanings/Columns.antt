@@ -1,23 +1,20 @@
 -- What a text means under any schema that has the table, by the parts of the resolver.
-use Rattle.std.proofs.Common.{◌≡◌, ℕ, zero, suc, ◌+◌, ◌-◌, ◌++◌, List, [], ◌∷◌, map, length, slice_get, nat_lt, Bool, true, false, Option, Some, None, Result, Ok, Err, refl, sym, ap, subst, ◌∙◌}
+use Rattle.std.proofs.Common.{◌≡◌, ℕ, zero, suc, ◌-◌, List, [], ◌∷◌, slice_get, nat_lt, Bool, true, false, Some, None, Ok, refl}
 use Rattle.sqlite.specs.Schema.{Schema}
 use Rattle.sqlite.specs.Table.{Table}
 use Rattle.sqlite_schema.specs.declared.schema.Column.{Column}
 use Rattle.sqlite_schema.specs.Names.{table_named, column_named, place_of}
-use Rattle.sqlite_sql.specs.Term.{Term, col}
-use Rattle.sqlite_ast.specs.declared.Expr.{Expr}
+use Rattle.sqlite_sql.specs.Term.{col}
 use Rattle.sqlite_resolve.specs.declared.scope.Bound.{Bound}
 use Rattle.sqlite_resolve.specs.declared.scope.Output.{Output}
-use Rattle.sqlite_resolve.specs.declared.scope.Level.{Level}
 use Rattle.sqlite_resolve.specs.declared.scope.Found.TheVariants as found
 use Rattle.sqlite_resolve.specs.declared.state.State.{State}
-use Rattle.sqlite_resolve.specs.Lowering.{and_then, fresh, max_budget, take_slot, begin, finish, spend}
+use Rattle.sqlite_resolve.specs.Lowering.{fresh, max_budget, take_slot, begin, finish, spend}
 use Rattle.sqlite_resolve.specs.Scope.{Context, column_in, is_among, hit, only, in_level, find, column_at, term_of, column, declared}
-use Rattle.sqlite_resolve.specs.Body.{table_in, bound, bounds, shown, outputs_from, outputs, heading, is_column, result, joins, join, inner_join, shared, matching, body, within}
-use Rattle.sqlite_resolve.specs.Expr.{lower, lower_to, node, opened, passes}
-use Rattle.sqlite_resolve.specs.Select.{outermost}
+use Rattle.sqlite_resolve.specs.Body.{table_in, bound, bounds, shown}
+use Rattle.sqlite_resolve.specs.Expr.{lower_to, node, opened, passes}
 pub use Rattle.role_tables.specs.TableByName.{Place, AreIn}
-use Rattle.role_tables.proofs.Meanings.ParsedTexts.{levels, column_expr, shown_column, source_of, core_of, select_from}
+use Rattle.role_tables.proofs.Meanings.ParsedTexts.{levels, column_expr, source_of}
 
 -- so many nodes can be read
 abbrev pub Enough : ℕ → ℕ → Type 0

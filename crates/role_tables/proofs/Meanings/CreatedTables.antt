@@ -1,10 +1,9 @@
 -- What a CREATE TABLE makes, whatever other tables there are.
-use Rattle.std.proofs.Common.{◌≡◌, ◌⊎◌, inl, inr, ℕ, ◌==◌, ◌&&◌, not, List, [], ◌∷◌, slice_range, length, Bool, true, false, Option, Some, None, is_some, Result, Ok, Err, refl, sym, ap, subst, ◌∙◌}
+use Rattle.std.proofs.Common.{◌≡◌, ◌⊎◌, inl, inr, ℕ, ◌==◌, ◌&&◌, not, List, [], slice_range, length, Bool, true, false, Option, None, is_some, Result, Ok, Err, refl, sym}
 use Rattle.std.proofs.lemmas.Bool.{cases_Bool}
 use Rattle.std.specs.Option.{option_or}
 use Rattle.sqlite.specs.Schema.{Schema}
 use Rattle.sqlite.specs.Table.{Table}
-use Rattle.sqlite.specs.Command.{Command}
 use Rattle.sqlite.specs.Command.TheVariants.{CreateTable}
 use Rattle.sqlite.specs.Listing.{understood, misses_table}
 use Rattle.sqlite.specs.Change.{created}
@@ -23,7 +22,7 @@ use Rattle.sqlite_resolve.specs.declared.compiled.Compiled.{Compiled}
 use Rattle.sqlite_resolve.specs.Lowering.{Checked}
 use Rattle.sqlite_resolve.specs.Scope.{Name}
 use Rattle.sqlite_resolve.specs.Define as define
-use Rattle.sqlite_resolve.specs.Compile.{compiled, first, planned, with_command, timed, meaning, returning, command, create_table, creates, is_attached, is_reserved}
+use Rattle.sqlite_resolve.specs.Compile.{compiled, first, planned, timed, meaning, returning, command, create_table, creates, is_attached, is_reserved}
 use Rattle.role_tables.specs.StrictTable.{Creates}
 use Rattle.role_tables.proofs.Meanings.Understood.{in_ok}
 use Rattle.role_tables.proofs.Meanings.Creates as of

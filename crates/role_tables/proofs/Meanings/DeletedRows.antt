@@ -1,19 +1,17 @@
 -- The rows that a DELETE by equal columns takes.
-use Rattle.std.proofs.Common.{◌≡◌, ◌≢◌, ◌⊎◌, arith, inl, inr, ℕ, suc, ◌+◌, ℤ, pos, List, [], ◌∷◌, ◌++◌, map, filter, flat_map, fold, slice_get, length, Bool, true, false, not, ◌&&◌, ◌||◌, cond, None, Some, Ok, Err, Result, refl, sym, ap, subst, ◌∙◌}
+use Rattle.std.proofs.Common.{◌≡◌, arith, ℕ, ◌+◌, ℤ, List, [], ◌∷◌, ◌++◌, map, filter, flat_map, length, Bool, true, false, not, ◌&&◌, ◌||◌, cond, Some, refl, sym, ap, subst, ◌∙◌}
 use Rattle.std.specs.List.{list_all, list_any, AllByRecursion}
 use Rattle.std.specs.List.Sorted.{IsPermutation}
 use Rattle.std.specs.declared.cmp.Ordering.{Ordering}
 use Rattle.std.specs.declared.cmp.Ordering.TheVariants.{Less, Equal, Greater}
 use Rattle.std.specs.Ordering.{is_eq, ordering_then, ordering_reverse}
-use Rattle.std.proofs.lemmas.Bool.{cases_Bool}
-use Rattle.std.proofs.lemmas.List.Sorted.{IsPermutation-map, IsPermutation-trans, IsPermutation-sym, list_any-IsPermutation}
+use Rattle.std.proofs.lemmas.List.Sorted.{IsPermutation-map, list_any-IsPermutation}
 use Rattle.sqlite.specs.declared.types.Value.{Value}
-use Rattle.sqlite.specs.declared.types.Value.TheVariants.{Null}
 use Rattle.sqlite.specs.Order.{Row, column, value_cmp, row_cmp}
 use Rattle.sqlite.specs.Term.{Term, Env, holds}
 use Rattle.sqlite.specs.Ops.{is_null, is_true, from_truth, binary}
 use Rattle.sqlite.specs.Table.{Table}
-use Rattle.sqlite.specs.Query.{Query, IsAnswer, Output, output}
+use Rattle.sqlite.specs.Query.{IsAnswer, Output, output}
 use Rattle.sqlite.specs.Program.{overlay}
 use Rattle.sqlite.specs.Edit.{without_all}
 use Rattle.sqlite.specs.Tree.{Trees, IsTable, rowid, has_rowid, without_rowid}

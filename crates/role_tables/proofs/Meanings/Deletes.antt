@@ -1,7 +1,7 @@
 -- DELETE by equal columns means those rows, under any schema that has the table.
-use Rattle.std.proofs.Common.{◌≡◌, ◌⊎◌, inl, inr, ℕ, zero, suc, ℤ, pos, negsuc, ◌+◌, ◌-◌, ◌++◌, ◌==◌, arith, List, [], ◌∷◌, map, length, slice_get, nat_lt, Bool, true, false, Option, Some, None, Result, Ok, Err, refl, sym, ap, subst, ◌∙◌}
+use Rattle.std.proofs.Common.{◌≡◌, ◌⊎◌, inl, inr, ℕ, suc, pos, negsuc, ◌+◌, ◌-◌, ◌==◌, arith, List, [], ◌∷◌, slice_get, nat_lt, Bool, true, false, Some, None, Ok, Err, refl, ◌∙◌}
 use Rattle.std.proofs.lemmas.Bool.{cases_Bool}
-use Rattle.sqlite.specs.declared.types.Value.TheVariants.{Null, Int}
+use Rattle.sqlite.specs.declared.types.Value.TheVariants.{Int}
 use Rattle.sqlite.specs.Collation.TheVariants.{Binary}
 use Rattle.sqlite.specs.Schema.{Schema}
 use Rattle.sqlite.specs.Table.{Table}
@@ -20,7 +20,7 @@ use Rattle.sqlite_resolve.specs.declared.error.CompileError.TheVariants.{Mismatc
 use Rattle.sqlite_resolve.specs.declared.compare.Affinity.TheVariants as affinity
 use Rattle.sqlite_resolve.specs.declared.scope.Output.{Output}
 use Rattle.sqlite_resolve.specs.declared.state.State.{State}
-use Rattle.sqlite_resolve.specs.Lowering.{Lowering, and_then, fresh, max_budget, begin, finish, spend, chosen, first_found, alone, nothing}
+use Rattle.sqlite_resolve.specs.Lowering.{Lowering, fresh, max_budget, begin, finish, spend, chosen, first_found, nothing}
 use Rattle.sqlite_resolve.specs.Scope.{Context, declared}
 use Rattle.sqlite_resolve.specs.Compare.{of_kind, is_filler, of_column, affinity_of, may_be_text, spelled, is_parameter, converted, compared}
 use Rattle.sqlite_resolve.specs.Expr.{lower, lower_to, node, opened, passes, operation, both, wanted_truth, tests_truth, tests_alias, combine}

@@ -1,5 +1,5 @@
 -- No action is set off where no foreign key of the schema names the table.
-use Rattle.std.proofs.Common.{◌≡◌, ◌⊎◌, ◌||◌, inl, inr, ℕ, ◌==◌, ◌&&◌, List, [], ◌∷◌, length, flat_map, filter_map, slice_get, Bool, true, false, Option, Some, None, refl, sym, ap, subst, ◌∙◌, eqb}
+use Rattle.std.proofs.Common.{◌≡◌, ◌||◌, inl, inr, ◌==◌, List, [], ◌∷◌, length, flat_map, filter_map, Bool, true, false, Option, Some, None, refl, ◌∙◌}
 use Rattle.std.proofs.lemmas.Bool.{cases_Bool, eqb-true}
 use Rattle.std.specs.List.{list_any}
 use Rattle.sqlite.specs.Order.{Row}
@@ -10,12 +10,10 @@ use Rattle.sqlite_schema.specs.Rules.{ParentKey, parent_key}
 use Rattle.sqlite_schema.specs.declared.schema.Keys.{Keys}
 use Rattle.sqlite_schema.specs.declared.schema.Reference.{Reference}
 use Rattle.sqlite_rules.specs.Lists.{Has}
-use Rattle.sqlite_rules.specs.Action.{works, work_by, work_for, deed_for, pairs}
+use Rattle.sqlite_rules.specs.Action.{work_by, work_for, deed_for, pairs}
 use Rattle.sqlite_rules.specs.declared.action.Deed.{Deed}
-use Rattle.sqlite_rules.proofs.ListLemmas.{has_got}
-use Rattle.sqlite_rules.proofs.RuleLemmas.{same_table}
 use Rattle.sqlite_rules.proofs.PlaceLemmas.{named_parent}
-use Rattle.role_tables.specs.TableByName.{IsNamed, IsUnreferenced, IsAlone, is_referred, refers_to}
+use Rattle.role_tables.specs.TableByName.{IsUnreferenced, IsAlone, is_referred, refers_to}
 
 or_none : (a b : Bool) → (a || b) ≡ false → (a ≡ false) × (b ≡ false)
 or_none true b h = absurd (cc)

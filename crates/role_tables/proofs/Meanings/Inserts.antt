@@ -1,27 +1,16 @@
 -- What the statements mean under any schema that has the table.
-use Rattle.std.proofs.Common.{◌≡◌, ℕ, pos, negsuc, List, [], ◌∷◌, codes, slice_get, Bool, true, false, length, ◌+◌, ◌%◌, Option, Some, None, Result, Ok, Err, refl, sym, ap, subst, ◌∙◌}
-use Rattle.sqlite.specs.declared.types.Value.TheVariants.{Null, Int, Text}
-use Rattle.sqlite.specs.Term.{Term, lit, col, op2}
+use Rattle.std.proofs.Common.{◌≡◌, ℕ, List, [], slice_get, length, ◌+◌, ◌%◌, Some, None, Ok, refl, ap, ◌∙◌}
 use Rattle.sqlite.specs.Schema.{Schema}
 use Rattle.sqlite.specs.Table.{Table}
 use Rattle.sqlite.specs.Source.{Source}
-use Rattle.sqlite.specs.Source.TheVariants.{Values}
-use Rattle.sqlite.specs.Command.{Command}
-use Rattle.sqlite.specs.Command.TheVariants.{Insert, Select, Delete, CreateTable}
+use Rattle.sqlite.specs.Command.TheVariants.{Insert}
 use Rattle.sqlite_schema.specs.Names.{table_named}
 use Rattle.sqlite_ast.specs.declared.Rows.{Rows}
 use Rattle.sqlite_ast.specs.declared.Statement.{Statement}
 use Rattle.sqlite_ast.specs.declared.Statement.TheVariants as written
 use Rattle.sqlite_ast.specs.declared.Conflict.TheVariants as conflict
-use Rattle.sqlite_tied.specs.Compute.{everything}
 use Rattle.sqlite_syntax.specs.declared.statement.Parsed.{Parsed}
-use Rattle.sqlite_resolve.specs.declared.error.CompileError.{CompileError}
-use Rattle.sqlite_resolve.specs.declared.error.CompileError.TheVariants.{NoSuchTable}
-use Rattle.sqlite_resolve.specs.declared.compiled.Compiled.{Compiled}
-use Rattle.sqlite_resolve.specs.Lowering.{and_then}
-use Rattle.sqlite_resolve.specs.Compile.{compiled, first, planned, with_command, command, insert_or_abort, insert, new_rows, timed, returning, shows, meaning}
-use Rattle.sqlite.specs.Listing.{understood}
-use Rattle.role_tables.proofs.Meanings.Understood.{in_ok}
+use Rattle.sqlite_resolve.specs.Compile.{planned, command, insert_or_abort, insert, new_rows, timed, returning, shows, meaning}
 
 -- an INSERT into a table that is found, whatever else the schema has
 module _ (schema : Schema) (at : ℕ) (table : Table) (name : List ℕ) (named : table_named schema name ≡ Some at) (got : slice_get schema.tables at ≡ Some table) where

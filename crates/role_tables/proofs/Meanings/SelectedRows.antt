@@ -1,14 +1,13 @@
 -- The rows that a SELECT of named columns answers.
-use Rattle.std.proofs.Common.{◌≡◌, ◌⊎◌, inl, inr, ℕ, ◌+◌, ◌^◌, List, [], ◌∷◌, map, flat_map, nat_le, slice_get, length, Bool, true, false, Option, Some, None, Result, Ok, Err, IfOk, refl, sym, ap, subst, ◌∙◌}
+use Rattle.std.proofs.Common.{◌≡◌, inl, inr, ℕ, ◌^◌, List, [], ◌∷◌, map, flat_map, nat_le, slice_get, length, Some, refl, sym, ap, subst, ◌∙◌}
 use Rattle.std.specs.List.Sorted.{IsPermutation}
 use Rattle.std.proofs.lemmas.Bool.{cases_Bool}
 use Rattle.std.proofs.lemmas.List.Sorted.{IsPermutation-map}
 use Rattle.sqlite.specs.declared.types.Value.TheVariants.{Null}
-use Rattle.sqlite.specs.Schema.{Schema}
 use Rattle.sqlite.specs.Table.{Table}
 use Rattle.sqlite.specs.Order.{Row, column}
 use Rattle.sqlite.specs.Term.{Env, eval_all}
-use Rattle.sqlite.specs.Query.{Query, IsAnswer, Output, output}
+use Rattle.sqlite.specs.Query.{IsAnswer, Output, output}
 use Rattle.sqlite.specs.Program.{overlay}
 use Rattle.sqlite.specs.Command.{Command}
 use Rattle.sqlite.specs.Command.TheVariants.{Select}
@@ -16,8 +15,7 @@ use Rattle.sqlite.specs.Tree.{Trees}
 use Rattle.sqlite.specs.Effect.{Reads}
 use Rattle.sqlite.specs.State.{State, Shown}
 use Rattle.sqlite_ast.specs.declared.Statement.TheVariants as written
-use Rattle.sqlite_schema.specs.Names.{table_named, column_named, place_of}
-use Rattle.sqlite_syntax.specs.declared.statement.Parsed.{Parsed}
+use Rattle.sqlite_schema.specs.Names.{table_named, place_of}
 use Rattle.sqlite_resolve.specs.Scope.{Name}
 use Rattle.sqlite_resolve.specs.Lowering.{max_budget}
 use Rattle.sqlite_resolve.specs.Compile.{first}
@@ -25,7 +23,7 @@ use Rattle.role_tables.specs.TableByName.{cells_at}
 use Rattle.sqlite_resolve.specs.declared.error.CompileError.TheVariants.{Mismatch}
 use Rattle.role_tables.proofs.Meanings.ParsedTexts.{select_from}
 use Rattle.role_tables.proofs.Meanings.Columns.{Place, AreIn, Enough}
-use Rattle.role_tables.proofs.Meanings.Selects.{reading_query, names_of, Selects, selects}
+use Rattle.role_tables.proofs.Meanings.Selects.{reading_query, names_of, selects}
 use Rattle.role_tables.proofs.Meanings.Understood.{in_ok, in_ok_then, Plans, reads_so}
 
 -- the text is this SELECT

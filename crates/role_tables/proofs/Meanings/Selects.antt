@@ -1,16 +1,13 @@
 -- SELECT of named columns means the rows of the table, under any schema that has it.
-use Rattle.std.proofs.Common.{◌≡◌, ◌⊎◌, inl, inr, ℕ, zero, suc, ℤ, pos, negsuc, ◌+◌, ◌-◌, ◌++◌, List, [], ◌∷◌, map, length, slice_get, nat_lt, Bool, true, false, Option, Some, None, Result, Ok, Err, refl, sym, ap, subst, ◌∙◌}
+use Rattle.std.proofs.Common.{◌≡◌, ◌⊎◌, inl, inr, ℕ, pos, negsuc, ◌-◌, ◌++◌, List, [], ◌∷◌, map, length, slice_get, nat_lt, true, false, Some, None, Ok, Err, refl, sym, ap, ◌∙◌}
 use Rattle.std.proofs.lemmas.Bool.{cases_Bool}
-use Rattle.sqlite.specs.declared.types.Value.TheVariants.{Null, Int}
+use Rattle.sqlite.specs.declared.types.Value.TheVariants.{Int}
 use Rattle.sqlite.specs.Schema.{Schema}
 use Rattle.sqlite.specs.Table.{Table}
 use Rattle.sqlite.specs.Query.{Query, inner, end}
-use Rattle.sqlite.specs.Command.{Command}
 use Rattle.sqlite.specs.Command.TheVariants.{Select}
-use Rattle.sqlite_schema.specs.declared.schema.Column.{Column}
 use Rattle.sqlite_schema.specs.Names.{table_named, column_named, place_of}
 use Rattle.sqlite_sql.specs.Term.{Term, col, lit}
-use Rattle.sqlite_value.specs.declared.keys.Collation.{Collation}
 use Rattle.sqlite_ast.specs.declared.Statement.TheVariants as written
 use Rattle.sqlite_ast.specs.declared.Select as written_select
 use Rattle.sqlite_draft.specs.declared.query.Draft.{Draft}
@@ -18,21 +15,20 @@ use Rattle.sqlite_draft.specs.declared.join.Step.TheVariants.{Inner}
 use Rattle.sqlite_draft.specs.Query.{query_of}
 use Rattle.sqlite_typing.specs.Types.{accepts_program}
 use Rattle.sqlite_syntax.specs.declared.statement.Parsed.{Parsed}
-use Rattle.sqlite_resolve.specs.declared.error.CompileError.{CompileError}
 use Rattle.sqlite_resolve.specs.declared.error.CompileError.TheVariants.{Mismatch}
 use Rattle.sqlite_resolve.specs.declared.scope.Output.{Output}
 use Rattle.sqlite_resolve.specs.declared.state.State.{State}
 use Rattle.sqlite_resolve.specs.declared.body.Body.{Body}
 use Rattle.sqlite_resolve.specs.declared.select.Clauses.{Clauses}
-use Rattle.sqlite_resolve.specs.Lowering.{and_then, fresh, max_budget}
-use Rattle.sqlite_resolve.specs.Scope.{Name, Context, declared}
-use Rattle.sqlite_resolve.specs.Body.{bounds, shown, outputs_from, outputs, heading, is_column, result, joins, join, inner_join, shared, matching, body, tests}
+use Rattle.sqlite_resolve.specs.Lowering.{fresh, max_budget}
+use Rattle.sqlite_resolve.specs.Scope.{Name, declared}
+use Rattle.sqlite_resolve.specs.Body.{shown, outputs_from, outputs, heading, is_column, result, joins, join, inner_join, shared, matching, body, tests}
 use Rattle.sqlite_resolve.specs.Order.{keys, sorts}
 use Rattle.sqlite_resolve.specs.Expr.{lower}
 use Rattle.sqlite_resolve.specs.Select.{outermost, parts, having, named, ungrouped, assembled, paging, constant_or}
 use Rattle.sqlite_resolve.specs.Program.{Building, Shown, query_to, query, level, with, whole, alone, single, sources, source, viewing, program}
 use Rattle.sqlite_resolve.specs.Compile.{planned, timed, meaning, returning, command, read}
-use Rattle.role_tables.proofs.Meanings.ParsedTexts.{levels, column_expr, shown_column, source_of, core_level, core_of, core_opens, select_from, select_opens}
+use Rattle.role_tables.proofs.Meanings.ParsedTexts.{levels, column_expr, shown_column, core_level, core_of, core_opens, select_from, select_opens}
 pub use Rattle.role_tables.specs.TableByName.{names_of}
 use Rattle.role_tables.proofs.Meanings.Columns.{Place, AreIn, Enough, bound_as, over, bounds_are, lower_column}
 

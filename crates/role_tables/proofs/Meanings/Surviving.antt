@@ -1,5 +1,5 @@
 -- Calls that commit nothing, one after the other.
-use Rattle.std.proofs.Common.{◌≡◌, IsTrue, inl, refl, arith}
+use Rattle.std.proofs.Common.{IsTrue, inl, refl, arith}
 use Rattle.sqlite.specs.State.{State, HasCleanDisk, IsUnchanged, KeepsCommit, Survives}
 use Rattle.sqlite.specs.Tree.{Trees}
 use Rattle.sqlite.proofs.InsideLemmas.{keeps_then}

@@ -1,21 +1,19 @@
 -- What the statements make of the office's tables: one lemma each, whatever the table and whatever other tables there are.
-use Rattle.std.proofs.Common.{IsTrue, slice_index, ◌*◌, ◌≡◌, ◌≢◌, ◌⊎◌, inl, inr, ℕ, ◌+◌, ◌==◌, ◌/◌, if◌then◌else◌, ℤ, pos, List, [], ◌∷◌, length, map, filter, not, slice_get, Bool, true, false, Some, None, Ok, Err, Result, refl, sym, ap, subst, ◌∙◌}
+use Rattle.std.proofs.Common.{IsTrue, slice_index, ◌*◌, ◌≡◌, ◌≢◌, ℕ, ◌+◌, ◌==◌, ◌/◌, if◌then◌else◌, ℤ, List, [], ◌∷◌, length, map, not, slice_get, Bool, true, false, Some, None, Ok, refl, sym, ap, subst, ◌∙◌}
 use Rattle.std.specs.List.{AllByRecursion}
 use Rattle.std.specs.List.Sorted.{IsPermutation}
 use Rattle.std.proofs.lemmas.Bool.{eqb-true, eq-eqb}
-use Rattle.std.proofs.lemmas.List.Sorted.{IsPermutation-trans, IsPermutation-sym}
-use Rattle.sqlite.specs.declared.types.Value.TheVariants.{Null, Int, Text}
-use Rattle.sqlite.specs.Order.{Row, column}
+use Rattle.std.proofs.lemmas.List.Sorted.{IsPermutation-trans}
+use Rattle.sqlite.specs.declared.types.Value.TheVariants.{Null, Int}
+use Rattle.sqlite.specs.Order.{Row}
 use Rattle.sqlite.specs.Schema.{Schema}
-use Rattle.sqlite.specs.Term.{Term}
 use Rattle.sqlite.specs.Rows.{stamped}
 use Rattle.sqlite.specs.Effect.{Database, IsDatabase, value_rows}
 use Rattle.sqlite.specs.State.{State, Executes, Shown}
-use Rattle.sqlite.specs.Query.{Query}
 use Rattle.sqlite_rules.specs.Cast.{cast_all}
 use Rattle.sqlite_trees.proofs.ListLemmas.{all-slice_get, all-permutation, all-filter}
 use Rattle.role_tables.specs.TableByName.{Place, AreIn, cells_at, HasNoNull, HoldsRows, without_row, same_row}
-use Rattle.role_tables.specs.OfficeTables.{StoredTable, Meta, Names, Pairs, Grants, Sets, Locks, making, made, places, Rows, code, changed_at, OfficeRow, meta_row, name_row, pair_row, grant_row, set_row, locked_row, table_of, cells, is_wanted, HoldsTables}
+use Rattle.role_tables.specs.OfficeTables.{StoredTable, Meta, Names, Pairs, Grants, Sets, Locks, making, made, places, Rows, code, changed_at, OfficeRow, meta_row, name_row, pair_row, grant_row, set_row, locked_row, table_of, cells, HoldsTables}
 use Rattle.role_tables.specs.Texts.{put_text, take_text, read_text}
 use Rattle.role_tables.proofs.OfficeTables.Texts.{are_in, are_few, all_is, take_is, where_of, are_ours, put_terms, put_is}
 use Rattle.role_tables.proofs.Meanings.SelectedRows.{reads_rows}

@@ -1,22 +1,11 @@
 -- From the tables that were made to an empty office.
-use Rattle.std.proofs.Common.{if◌then◌else◌, ◌≡◌, ◌⊎◌, inl, inr, ℕ, ◌==◌, ◌++◌, List, [], ◌∷◌, map, filter, not, ◌&&◌, ◌||◌, Bool, true, false, IsTrue, Ok, Err, Result, OnOk, refl, sym, ap, ap₂, subst, ◌∙◌, codes}
-use Rattle.std.specs.Prelude.{nat_eq}
-use Rattle.std.proofs.lemmas.Bool.{cases_Bool}
-use Rattle.rbac_sets.specs.Sets.{contains, empty, name_cmp, pair_cmp, triple_cmp, cardinality_cmp, same_name}
-use Rattle.rbac_sets.proofs.SetLaws.{contains-empty, members-empty}
-use Rattle.rbac_sets.specs.declared.row.Row.{Row}
-use Rattle.rbac_sets.specs.declared.row.Row.TheVariants.{NameRow, PairRow, GrantRow, SetRow, LockedRow}
-use Rattle.admin_mgr.specs.RbacState.{RbacState, empty_state}
-use Rattle.admin_mgr.specs.Rows.{has_row}
+use Rattle.std.proofs.Common.{◌≡◌, ◌⊎◌, inl, inr, ℕ, [], ◌∷◌, Bool, IsTrue, Ok, refl, ◌∙◌, codes}
+use Rattle.admin_mgr.specs.RbacState.{empty_state}
 use Rattle.admin_mgr.specs.Checked.{AreRowsOf}
 use Rattle.admin_mgr.proofs.StateAfter.EmptyLaws.{empty_has_no_row}
-use Rattle.sqlite.specs.declared.error.Error.{Error}
-use Rattle.sqlite.specs.declared.error.Error.TheVariants.{SqliteFailure}
-use Rattle.sqlite.specs.declared.error.ErrorCode.TheVariants.{TransactionState}
 use Rattle.sqlite.specs.Effect.{Database}
-use Rattle.sqlite.specs.State.{State, Executes, ExecutesInside}
-use Rattle.role_tables.specs.TableByName.{HoldsRows}
-use Rattle.role_tables.specs.OfficeTables.{StoredTable, Meta, Names, Pairs, Grants, Sets, Locks, making, made, places, Rows, code, changed_at, meta_row, cells, is_wanted, tables_of, HoldsTables}
+use Rattle.sqlite.specs.State.{State, Executes}
+use Rattle.role_tables.specs.OfficeTables.{StoredTable, Meta, Names, Pairs, Grants, Sets, Locks, made, Rows, changed_at, meta_row, cells, is_wanted, tables_of, HoldsTables}
 use Rattle.role_tables.specs.Texts.{put_text}
 use Rattle.role_tables.specs.StoredState.{stored_rows, HoldsState}
 use Rattle.role_tables.specs.Creating.{with_tables, no_table, no_rows, IsStage, AreNew, StageAfter, PutsVersion}

@@ -1,5 +1,5 @@
 -- Lists to which one element is added at the end.
-use Rattle.std.proofs.Common.{◌<◌, get_or, ◌≡◌, ℕ, zero, suc, ◌+◌, ◌++◌, ◌||◌, inl, inr, List, [], ◌∷◌, length, slice_get, Bool, true, false, Option, Some, None, refl, ap, ◌∙◌, arith}
+use Rattle.std.proofs.Common.{◌<◌, get_or, ◌≡◌, ℕ, zero, suc, ◌+◌, ◌++◌, ◌||◌, inl, inr, List, [], ◌∷◌, length, slice_get, Bool, true, false, Some, None, refl, ap, ◌∙◌, arith}
 use Rattle.std.specs.List.{AllByRecursion, list_any, position_from}
 use Rattle.std.proofs.lemmas.Bool.{cases_Bool, or_parts}
 

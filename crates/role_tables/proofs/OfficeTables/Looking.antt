@@ -1,9 +1,9 @@
 -- A schema in which the tables can be made is the first stage of it.
-use Rattle.std.proofs.Common.{◌≢◌, ◌≡◌, ◌⊎◌, inl, inr, ℕ, zero, suc, ◌+◌, ◌==◌, ◌≤◌, List, [], ◌∷◌, not, ◌&&◌, ◌||◌, slice_get, Bool, true, false, Option, Some, None, is_some, IsTrue, refl, sym, ap, subst, ◌∙◌, arith, codes}
+use Rattle.std.proofs.Common.{◌≢◌, ◌≡◌, ◌⊎◌, inl, inr, ℕ, suc, ◌+◌, List, [], ◌∷◌, not, ◌&&◌, slice_get, Bool, true, false, Some, None, is_some, IsTrue, refl, ap, ◌∙◌, arith, codes}
 use Rattle.std.specs.Prelude.{nat_eq}
 use Rattle.std.specs.List.{AllByRecursion, list_any, list_all, position_from}
 use Rattle.std.specs.Option.{option_and_then}
-use Rattle.std.proofs.lemmas.Bool.{cases_Bool, or_parts, and_parts, not-true, not-false}
+use Rattle.std.proofs.lemmas.Bool.{cases_Bool, or_parts, and_parts, not-true}
 use Rattle.sqlite.specs.Schema.{Schema}
 use Rattle.sqlite.specs.Table.{Table}
 use Rattle.sqlite.specs.Does.{lacks_sequence}

@@ -1,19 +1,14 @@
 -- The texts that make the office's tables.
-use Rattle.std.proofs.Common.{◌≡◌, ℕ, ◌+◌, List, [], ◌∷◌, codes, length, map, flat_map, filter_map, slice_get, true, false, Some, None, refl, sym, ap, subst, ◌∙◌, arith}
-use Rattle.std.specs.List.{AllByRecursion}
+use Rattle.std.proofs.Common.{◌≡◌, [], length, map, true, false, Some, None, refl, sym, ap, subst, ◌∙◌, arith}
 use Rattle.std.specs.List.Sorted.{IsPermutation}
 use Rattle.std.proofs.lemmas.List.Sorted.{IsPermutation-refl}
-use Rattle.sqlite.specs.Schema.{Schema}
-use Rattle.sqlite.specs.Table.{Table}
 use Rattle.sqlite.specs.Tree.{IsTable}
 use Rattle.sqlite.specs.Change.{created, next_tree}
 use Rattle.sqlite.specs.State.{State}
 use Rattle.sqlite_schema.specs.Names.{same_name, table_named}
-use Rattle.sqlite_rules.specs.Action.{work_for}
 use Rattle.role_tables.specs.StrictTable.{Creates}
 use Rattle.role_tables.specs.TableByName.{cells_at, IsNamed, HaveIntIds, is_referred, IsAlone, HoldsRows}
 use Rattle.role_tables.proofs.OfficeTables.Lists.{found_last, got_last}
-use Rattle.std.specs.Fmt.{digits}
 use Rattle.sqlite_tied.specs.Compute.{everything}
 use Rattle.sqlite_resolve.specs.Compile.{first}
 use Rattle.sqlite.specs.Compile.{table_defined_by}

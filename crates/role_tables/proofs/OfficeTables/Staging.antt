@@ -1,32 +1,27 @@
 -- One table more, and the others as they were.
-use Rattle.std.proofs.Common.{◌<◌, take, get_or, ◌≡◌, ◌≢◌, ◌⊎◌, inl, inr, ℕ, zero, suc, ◌==◌, ◌+◌, ◌++◌, List, [], ◌∷◌, length, map, not, ◌&&◌, ◌||◌, slice_get, Bool, true, false, Option, Some, None, is_some, IsTrue, Ok, Err, Result, OnOk, refl, sym, ap, ap₂, subst, ◌∙◌, arith, codes}
-use Rattle.std.specs.List.{AllByRecursion, list_any, position_from}
+use Rattle.std.proofs.Common.{◌<◌, take, get_or, ◌≡◌, ◌⊎◌, inl, inr, ℕ, ◌==◌, ◌+◌, ◌++◌, List, [], ◌∷◌, length, map, not, ◌||◌, slice_get, Bool, true, false, Option, Some, None, is_some, IsTrue, Ok, refl, sym, ap, subst, ◌∙◌, arith, codes}
+use Rattle.std.specs.List.{list_any, position_from}
 use Rattle.std.specs.Option.{option_and_then}
 use Rattle.std.proofs.lemmas.Bool.{cases_Bool, or_parts}
-use Rattle.sqlite.specs.Order.{Row}
 use Rattle.sqlite.specs.Schema.{Schema}
 use Rattle.sqlite.specs.Table.{Table}
 use Rattle.sqlite.specs.Change.{created, next_tree}
 use Rattle.sqlite.specs.Does.{lacks_sequence}
-use Rattle.sqlite.specs.Effect.{Database}
-use Rattle.sqlite.specs.Tree.{Trees, IsAscending, IsTable}
-use Rattle.sqlite.specs.State.{State, Executes, ExecutesInside}
-use Rattle.sqlite.specs.declared.error.Error.{Error}
-use Rattle.sqlite.specs.declared.error.Error.TheVariants.{SqliteFailure}
-use Rattle.sqlite.specs.declared.error.ErrorCode.TheVariants.{TransactionState}
+use Rattle.sqlite.specs.Tree.{IsTable}
+use Rattle.sqlite.specs.State.{State, Executes}
 use Rattle.sqlite_schema.specs.Names.{same_name, table_named}
 use Rattle.sqlite_tied.specs.Compute.{everything}
 use Rattle.sqlite_rules.specs.Lists.{Has}
-use Rattle.sqlite_rules.proofs.ListLemmas.{all_from, has_got, has_either}
+use Rattle.sqlite_rules.proofs.ListLemmas.{has_got, has_either}
 use Rattle.sqlite_catalog.proofs.StepLemmas.{table_below}
-use Rattle.sqlite_trees.proofs.ListLemmas.{all-slice_get, ascending-append}
+use Rattle.sqlite_trees.proofs.ListLemmas.{all-slice_get}
 use Rattle.role_tables.specs.TableByName.{IsAlone, HoldsRows, HaveIntIds, cells_at, is_referred, refers_to}
 use Rattle.std.specs.List.Sorted.{IsPermutation}
 use Rattle.role_tables.specs.StrictTable.{Creates}
-use Rattle.role_tables.specs.OfficeTables.{StoredTable, Meta, Names, Pairs, Grants, Sets, Locks, making, made, places, Rows, code, is_wanted, HoldsTables}
+use Rattle.role_tables.specs.OfficeTables.{StoredTable, Meta, Names, Pairs, Grants, Sets, Locks, making, made, places, Rows, code, is_wanted}
 use Rattle.role_tables.specs.Texts.{create_text}
 use Rattle.role_tables.specs.Creating.{with_table, with_tables, IsStage, AreNew, StageAfter}
-use Rattle.role_tables.proofs.OfficeTables.Lists.{found_first, none_last, got_first, got_last, any_last, any_same}
+use Rattle.role_tables.proofs.OfficeTables.Lists.{found_first, none_last, got_first, any_last, any_same}
 use Rattle.std.proofs.lemmas.List.{take_more, take_all}
 use Rattle.role_tables.proofs.OfficeTables.Changes.{same_code}
 use Rattle.role_tables.proofs.Meanings.CreatedTables.{creates_among}

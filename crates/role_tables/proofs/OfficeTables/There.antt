@@ -1,15 +1,14 @@
 -- The tables and columns that a schema has are those that are found.
-use Rattle.std.proofs.Common.{◌≡◌, ◌⊎◌, inl, inr, ℕ, suc, ◌+◌, List, [], ◌∷◌, map, slice_get, Bool, true, false, ◌&&◌, Option, Some, None, is_some, IsSome, IsTrue, refl, sym, ap, subst, ◌∙◌, arith}
+use Rattle.std.proofs.Common.{◌≡◌, ◌⊎◌, inl, inr, ℕ, suc, ◌+◌, List, [], ◌∷◌, map, slice_get, Bool, true, false, ◌&&◌, Option, Some, None, is_some, IsSome, IsTrue, refl, sym, ap, ◌∙◌, arith}
 use Rattle.std.specs.Option.{option_and_then, option_map}
-use Rattle.std.specs.List.{list_all, position_from}
-use Rattle.std.proofs.lemmas.Bool.{cases_Bool, and_parts}
-use Rattle.sqlite.specs.Order.{Row}
+use Rattle.std.specs.List.{position_from}
+use Rattle.std.proofs.lemmas.Bool.{cases_Bool}
 use Rattle.sqlite.specs.Table.{Table}
 use Rattle.sqlite.specs.Effect.{Database}
 use Rattle.sqlite_schema.specs.Names.{same_name, column_named}
 use Rattle.sqlite_schema.specs.declared.schema.Column.{Column}
 use Rattle.role_tables.specs.TableByName.{Place, names_of, cells_at}
-use Rattle.role_tables.specs.OfficeTables.{StoredTable, Meta, Names, Pairs, Grants, Sets, Locks, making, places, is_wanted, tables_of}
+use Rattle.role_tables.specs.OfficeTables.{StoredTable, making, places, is_wanted, tables_of}
 use Rattle.role_tables.specs.Found.{find_places, find_table, held_in}
 use Rattle.role_tables.specs.InSchema.{has_all, is_such, is_there, are_there}
 use Rattle.role_tables.proofs.OfficeTables.Looking.{each_of, all_of}

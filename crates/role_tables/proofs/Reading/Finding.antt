@@ -1,14 +1,13 @@
 -- What is read of the tables that are found by their names, and that reading changes nothing.
-use Rattle.std.proofs.Common.{◌≡◌, ◌⊎◌, inl, inr, ℕ, suc, List, [], ◌∷◌, length, map, slice_get, Bool, true, false, not, ◌&&◌, Option, Some, None, IsSome, Result, Ok, Err, IfOk, refl, sym, ap, subst, ◌∙◌}
+use Rattle.std.proofs.Common.{◌≡◌, inl, inr, ℕ, suc, List, [], ◌∷◌, length, map, slice_get, Bool, true, false, Option, Some, None, Result, Ok, Err, IfOk, refl, sym, ap, subst, ◌∙◌}
 use Rattle.std.specs.Option.{option_and_then, option_map}
 use Rattle.std.specs.List.Sorted.{IsPermutation}
 use Rattle.std.specs.Str.{IsUtf8, is_utf8}
 use Rattle.std.proofs.lemmas.Str.{IsUtf8-from_is_utf8}
-use Rattle.std.proofs.lemmas.Bool.{cases_Bool, and_parts}
+use Rattle.std.proofs.lemmas.Bool.{and_parts}
 use Rattle.std.specs.List.{list_all}
 use Rattle.rbac_sets.specs.Name.{is_name, has_name_length, is_printable}
 use Rattle.sqlite.specs.Order.{Row}
-use Rattle.sqlite.specs.Schema.{Schema}
 use Rattle.sqlite.specs.Table.{Table}
 use Rattle.sqlite.specs.Tree.{Trees}
 use Rattle.sqlite.specs.Command.{Command}
@@ -28,7 +27,7 @@ use Rattle.sqlite_schema.specs.declared.schema.Column.{Column}
 use Rattle.role_tables.specs.TableByName.{Place, AreIn, IsNamed, names_of, cells_at}
 use Rattle.role_tables.specs.OfficeTables.{StoredTable, making, places}
 use Rattle.role_tables.specs.Texts.{read_text}
-use Rattle.role_tables.specs.Found.{find_places, find_table, held_in}
+use Rattle.role_tables.specs.Found.{find_places, held_in}
 use Rattle.role_tables.proofs.Meanings.Columns.{Enough}
 use Rattle.role_tables.proofs.Meanings.Selects.{reading_query, selects}
 use Rattle.role_tables.proofs.Meanings.Understood.{in_ok, in_ok_then, Plans, meant}

@@ -9,14 +9,14 @@ use Rattle.sqlite.specs.Order.{Row}
 use Rattle.sqlite.specs.Effect.{Database}
 use Rattle.sqlite.specs.Tree.{Trees}
 use Rattle.sqlite.specs.Listing.{understood}
-use Rattle.sqlite.specs.State.{State, HasCleanDisk, IsUnchanged, Survives, Shown, CommitsShowing, KeepsCommit, Fails, FailsToQuery, FailsToShow, IsNotRun}
+use Rattle.sqlite.specs.State.{State, IsUnchanged, Survives, Shown, CommitsShowing, KeepsCommit, Fails, FailsToQuery, FailsToShow, IsNotRun}
 use Rattle.sqlite.specs.Clock.{timed}
 use Rattle.sqlite.specs.declared.error.Error.{Error}
 use Rattle.sqlite_schema.specs.declared.command.Returning.{Returning}
 use Rattle.sqlite.proofs.InsideLemmas.{keeps_then, unchanged_keeps}
 use Rattle.sqlite.specs.Held.{Held, state}
 use Rattle.sqlite.specs.Given.{HasBegun, HasGiven, Returns, IsPlain}
-use Rattle.sqlite.proofs.Callers.{begun_plain, unchanged_then}
+use Rattle.sqlite.proofs.Callers.{unchanged_then}
 use Rattle.sqlite.proofs.StateLemmas.{survives_then, survives_weaker}
 use Rattle.sqlite_trees.specs.declared.store.Store.{Ghosts}
 use Rattle.sqlite_resolve.specs.declared.compiled.Compiled.{Compiled}
@@ -25,7 +25,7 @@ use Rattle.role_tables.specs.OfficeTables.{StoredTable}
 use Rattle.role_tables.specs.Texts.{read_text}
 use Rattle.role_tables.specs.Found.{is_whole, has_names, row_in, held_in}
 use Rattle.role_tables.specs.declared.gathering.Gathering.{Gathering}
-use Rattle.role_tables.specs.Gathering.{Gathers, GathersTable, IsRead}
+use Rattle.role_tables.specs.Gathering.{Gathers, IsRead}
 use Rattle.role_tables.proofs.Reading.Finding.{IsFound, found, plain, never, shows_found}
 
 -- ---- what is gathered

@@ -1,15 +1,15 @@
 -- Tables that hold the rows of a good state are found whole and named, and are read as that state alone.
-use Rattle.std.proofs.Common.{◌≢◌, ◌≤◌, ◌≡◌, ◌⊎◌, inl, inr, ℕ, ℤ, pos, ◌==◌, ◌<◌, ◌^◌, List, [], ◌∷◌, ◌++◌, map, filter, codes, Bool, true, false, not, ◌&&◌, if◌then◌else◌, Option, Some, None, is_some, IsSome, IsTrue, refl, sym, ap, subst, ◌∙◌, arith}
-use Rattle.std.specs.Prelude.{nat_eq, nat_le, nat_lt}
-use Rattle.std.specs.List.{list_all, list_any, flat_map, Contains, AllByRecursion}
+use Rattle.std.proofs.Common.{◌≢◌, ◌≤◌, ◌≡◌, ◌⊎◌, inl, inr, ℕ, pos, ◌<◌, ◌^◌, List, [], ◌∷◌, ◌++◌, map, filter, codes, Bool, true, false, ◌&&◌, if◌then◌else◌, Option, Some, None, is_some, IsSome, IsTrue, refl, sym, ap, subst, ◌∙◌, arith}
+use Rattle.std.specs.Prelude.{nat_eq, nat_le}
+use Rattle.std.specs.List.{list_all, flat_map, Contains, AllByRecursion}
 use Rattle.std.specs.List.Sorted.{IsPermutation}
 use Rattle.std.proofs.lemmas.Bool.{cases_Bool, and_parts, or_left, or_right, eqb-true, lt-ltb}
-use Rattle.std.proofs.lemmas.List.Sorted.{IsPermutation-map, IsPermutation-sym, IsPermutation-trans, IsPermutation-refl, IsPermutation-cons, IsPermutation-append, IsPermutation-append_left, IsPermutation-append_right, IsPermutation-middle}
+use Rattle.std.proofs.lemmas.List.Sorted.{IsPermutation-map, IsPermutation-sym, IsPermutation-trans, IsPermutation-refl, IsPermutation-cons, IsPermutation-append, IsPermutation-middle}
 use Rattle.rbac_sets.specs.Name.{is_name}
 use Rattle.rbac_sets.specs.declared.row.Row.{Row}
 use Rattle.rbac_sets.specs.declared.row.Row.TheVariants.{NameRow, PairRow, GrantRow, SetRow, LockedRow}
 use Rattle.rbac_sets.specs.declared.refusal.Refusal.{Refusal}
-use Rattle.rbac_sets.specs.declared.refusal.Refusal.TheVariants.{Memory, Store, NotAnOffice, Version, Damaged, TooMany}
+use Rattle.rbac_sets.specs.declared.refusal.Refusal.TheVariants.{Memory, NotAnOffice, Version, Damaged, TooMany}
 use Rattle.sqlite.specs.Order as sql
 use Rattle.sqlite.specs.Effect.{Database}
 use Rattle.sqlite.proofs.Callers.{one_permutation}
@@ -30,10 +30,10 @@ use Rattle.admin_mgr.proofs.PlanRows.CommitLaws.{same_row-self}
 use Rattle.admin_mgr.specs.Checked.{RefusesRows, AreRowsOf}
 use Rattle.admin_mgr.proofs.StoredRows.AcceptLaws.{good_rows_are_read, readable_of_good}
 use Rattle.admin_mgr.proofs.PlanRows.RowLaws.{rows_determine}
-use Rattle.role_tables.specs.OfficeTables.{StoredTable, Meta, Names, Pairs, Grants, Sets, Locks, Rows, code, meta_row, cells, table_of, is_wanted, row_tables}
+use Rattle.role_tables.specs.OfficeTables.{StoredTable, Meta, Names, Pairs, Grants, Sets, Locks, meta_row, cells, table_of, is_wanted, row_tables}
 use Rattle.role_tables.specs.StoredState.{stored, is_of, cells_of, stored_rows, HoldsState}
 use Rattle.role_tables.specs.Found.{Found, is_whole, has_names, row_in, held_in}
-use Rattle.role_tables.specs.Opening.{values, versions, is_known_version, HasFive, HasKnownVersions, version_in, HasLocks, IsReached, IsOffice, AreWhole, AreNamed, rows_at, rows_in_all, rows_found, RefusesRead, RefusesFound, IsStateFound}
+use Rattle.role_tables.specs.Opening.{values, versions, is_known_version, HasFive, HasKnownVersions, version_in, HasLocks, IsOffice, AreWhole, AreNamed, rows_at, rows_in_all, rows_found, RefusesRead, RefusesFound, IsStateFound}
 use Rattle.role_tables.proofs.OfficeTables.Changes.{same_code}
 use Rattle.role_tables.proofs.OfficeTables.Looking.{rows_wanted}
 use Rattle.role_tables.proofs.Reading.Held.{holds_found}

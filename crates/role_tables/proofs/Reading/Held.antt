@@ -1,13 +1,12 @@
 -- What is found in a database that holds the tables.
-use Rattle.std.proofs.Common.{◌≡◌, ℕ, Bool, List, map, slice_get, Option, Some, None, IsTrue, refl, sym, ap, subst, ◌∙◌}
-use Rattle.std.specs.Option.{option_and_then, option_map}
+use Rattle.std.proofs.Common.{◌≡◌, ℕ, Bool, List, map, Some, IsTrue, refl}
 use Rattle.std.specs.List.Sorted.{IsPermutation}
 use Rattle.sqlite.specs.Order.{Row}
 use Rattle.sqlite.specs.Effect.{Database}
 use Rattle.sqlite_tied.specs.Compute.{everything}
-use Rattle.role_tables.specs.TableByName.{Place, names_of, cells_at}
-use Rattle.role_tables.specs.OfficeTables.{StoredTable, Meta, Names, Pairs, Grants, Sets, Locks, making, made, places, Rows, HoldsTables}
-use Rattle.role_tables.specs.Found.{find_places, find_table, held_in}
+use Rattle.role_tables.specs.TableByName.{names_of, cells_at}
+use Rattle.role_tables.specs.OfficeTables.{StoredTable, Meta, Names, Pairs, Grants, Sets, Locks, made, places, Rows, HoldsTables}
+use Rattle.role_tables.specs.Found.{find_places, held_in}
 
 own_places : (kind : StoredTable) (tree : ℕ) → find_places (made kind tree) (names_of (places kind)) ≡ Some (places kind)
 unfolding everything

@@ -1,19 +1,18 @@
 -- What was found is judged in its order.
-use Rattle.std.proofs.Common.{◌≡◌, ◌⊎◌, inl, inr, ℕ, zero, suc, ℤ, List, [], ◌∷◌, ◌++◌, map, Bool, true, false, ◌&&◌, if◌then◌else◌, Option, Some, None, is_none, IsSome, IsTrue, refl, sym, ap, subst, ◌∙◌, arith}
+use Rattle.std.proofs.Common.{◌≡◌, ◌⊎◌, inl, inr, ℕ, zero, suc, ℤ, List, [], ◌∷◌, ◌++◌, Bool, true, false, ◌&&◌, Option, Some, None, is_none, IsTrue, refl, sym, ap, subst, ◌∙◌, arith}
 use Rattle.std.specs.List.{Contains, list_all, list_any}
 use Rattle.std.specs.List.Sorted.{IsPermutation}
 use Rattle.std.proofs.lemmas.Bool.{cases_Bool, and_parts}
-use Rattle.rbac_sets.specs.declared.row.Row as stored
 use Rattle.rbac_sets.specs.declared.refusal.Refusal.{Refusal}
-use Rattle.rbac_sets.specs.declared.refusal.Refusal.TheVariants.{Memory, Store, NotAnOffice, Version, Damaged, TooMany}
+use Rattle.rbac_sets.specs.declared.refusal.Refusal.TheVariants.{Memory, Store, NotAnOffice, Damaged, TooMany}
 use Rattle.sqlite.specs.Order.{Row}
 use Rattle.sqlite.specs.Effect.{Database}
 use Rattle.admin_mgr.specs.RbacState.{RbacState}
 use Rattle.admin_mgr.specs.Checked.{RefusesRows, IsStateOf}
 use Rattle.role_tables.specs.OfficeTables.{StoredTable, Meta, Names, Pairs, Grants, Sets, Locks, is_wanted, row_tables}
-use Rattle.role_tables.specs.Found.{Found, is_whole, has_names, held_in}
+use Rattle.role_tables.specs.Found.{Found, has_names, held_in}
 use Rattle.role_tables.specs.InSchema.{is_there}
-use Rattle.role_tables.specs.Opening.{IsSecond, values, versions, is_tagged, is_number, is_known_version, is_single, HasFive, IsOffice, IsLeastUnknown, HasKnownVersions, version_in, HasLocks, IsReached, AreWhole, AreNamed, rows_in_all, rows_found, RefusesFound, IsStateFound}
+use Rattle.role_tables.specs.Opening.{IsSecond, values, versions, is_number, is_known_version, HasFive, IsOffice, HasKnownVersions, version_in, HasLocks, IsReached, AreWhole, AreNamed, rows_in_all, rows_found, RefusesFound, IsStateFound}
 use Rattle.role_tables.specs.Migrating.{RefusesMigration}
 use Rattle.role_tables.specs.MetaRows.{IsUnknownOf, Sees}
 use Rattle.role_tables.specs.declared.meta_rows.Metas.{Metas}

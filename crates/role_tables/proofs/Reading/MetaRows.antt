@@ -1,14 +1,13 @@
 -- What is seen of the rows of meta_row, and that it does not hang on their order.
-use Rattle.std.proofs.Common.{◌≡◌, ◌⊎◌, inl, inr, ℕ, suc, ℤ, ◌<◌, ◌≤ℤ◌, ◌<ℤ◌, List, [], ◌∷◌, ◌++◌, length, Bool, true, false, not, ◌&&◌, ◌||◌, if◌then◌else◌, Option, Some, None, IsSome, IsTrue, All, refl, sym, ap, subst, ◌∙◌, arith, nat_eq}
-use Rattle.std.specs.List.{list_all, list_any, flat_map, Contains}
+use Rattle.std.proofs.Common.{◌≡◌, inl, inr, ℕ, suc, ℤ, ◌≤ℤ◌, List, [], ◌∷◌, ◌++◌, length, Bool, true, false, not, ◌&&◌, ◌||◌, Option, Some, None, IsTrue, All, refl, sym, ap, subst, ◌∙◌, arith, nat_eq}
+use Rattle.std.specs.List.{list_all, list_any, Contains}
 use Rattle.std.specs.Int.Signed.{lt_z, ≤ℤ_refl}
 use Rattle.std.specs.List.Sorted.{IsPermutation}
 use Rattle.std.proofs.lemmas.Bool.{cases_Bool, and_parts, eqb-true}
-use Rattle.std.proofs.lemmas.Int.{by_lt_z, ints}
+use Rattle.std.proofs.lemmas.Int.{ints}
 use Rattle.std.proofs.lemmas.List.{append-nil}
 use Rattle.std.proofs.lemmas.List.Folds.{list_all-append, list_any-append}
-use Rattle.std.proofs.lemmas.List.Sums.{AllPass-from_list_all}
-use Rattle.std.proofs.lemmas.List.Elements.{All-append, All-cons, All-nil, All-from_recursion, recursion_from_All, Contains-append_left, Contains-append_right}
+use Rattle.std.proofs.lemmas.List.Elements.{All-append, All-from_recursion, recursion_from_All, Contains-append_left, Contains-append_right}
 use Rattle.std.proofs.lemmas.List.Sorted.{list_any-IsPermutation, length_permutation, All-permutation, Contains-permutation, IsPermutation-sym}
 use Rattle.sqlite_trees.proofs.ListLemmas.{IsPermutation-flat_map}
 use Rattle.std.specs.List.{AllByRecursion}
@@ -16,7 +15,7 @@ use Rattle.sqlite.specs.Order.{Row}
 use Rattle.role_tables.specs.OfficeTables.{Meta}
 use Rattle.role_tables.specs.Found.{is_whole, Found}
 use Rattle.role_tables.specs.Gathering.{IsRead}
-use Rattle.role_tables.specs.Opening.{values, is_tagged, version_at, listed, versions, is_number, is_known_version, IsLeastUnknown, is_single}
+use Rattle.role_tables.specs.Opening.{values, is_tagged, version_at, listed, versions, is_number, is_known_version, is_single}
 use Rattle.role_tables.specs.MetaRows.{IsUnknownOf, lesser, SeesMore, Sees}
 use Rattle.role_tables.specs.declared.meta_rows.Metas.{Metas}
 

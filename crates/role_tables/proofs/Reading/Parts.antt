@@ -1,5 +1,5 @@
 -- What is gathered of one table after another.
-use Rattle.std.proofs.Common.{◌+◌, ◌<◌, length, get_or, take, ◌≡◌, ◌⊎◌, inl, inr, ℕ, List, [], ◌∷◌, ◌++◌, map, Bool, true, false, ◌&&◌, Option, Some, None, IsSome, IsTrue, Result, Ok, Err, OnOk, refl, sym, ap, subst, ◌∙◌, arith}
+use Rattle.std.proofs.Common.{◌+◌, ◌<◌, length, get_or, take, ◌≡◌, inl, ℕ, List, [], ◌∷◌, ◌++◌, map, Bool, true, false, ◌&&◌, Option, Some, None, IsSome, IsTrue, refl, sym, ap, subst, ◌∙◌, arith}
 use Rattle.std.specs.List.{list_all}
 use Rattle.std.specs.List.Sorted.{IsPermutation}
 use Rattle.std.proofs.lemmas.Bool.{and_parts}
@@ -8,19 +8,17 @@ use Rattle.std.proofs.lemmas.List.{append-nil, append_assoc, take_more}
 use Rattle.std.proofs.lemmas.List.Folds.{list_all-append}
 use Rattle.std.proofs.lemmas.List.Sorted.{IsPermutation-map, IsPermutation-append, IsPermutation-refl}
 use Rattle.rbac_sets.specs.declared.row.Row as stored
-use Rattle.rbac_sets.specs.declared.refusal.Refusal.{Refusal}
 use Rattle.sqlite.specs.Order.{Row}
-use Rattle.sqlite.specs.Tree.{Trees}
 use Rattle.sqlite.specs.Effect.{Database}
 use Rattle.sqlite.specs.State.{State, HasCleanDisk, IsUnchanged, KeepsCommit, Survives}
 use Rattle.sqlite.proofs.InsideLemmas.{keeps_then, unchanged_keeps}
 use Rattle.sqlite.proofs.Callers.{unchanged_then}
-use Rattle.sqlite.proofs.StateLemmas.{survives_then, survives_weaker}
+use Rattle.sqlite.proofs.StateLemmas.{survives_then}
 use Rattle.role_tables.specs.OfficeTables.{StoredTable}
 use Rattle.role_tables.specs.Found.{Found, is_whole, has_names, row_in, held_in}
-use Rattle.role_tables.specs.Opening.{values, rows_at}
+use Rattle.role_tables.specs.Opening.{rows_at}
 use Rattle.role_tables.specs.declared.gathering.Gathering.{Gathering}
-use Rattle.role_tables.specs.Gathering.{Gathers, GathersTable, GathersPart, GathersTables, AreThere, HasTables, whole_at, named_at, IsRead}
+use Rattle.role_tables.specs.Gathering.{GathersTable, GathersPart, GathersTables, AreThere, HasTables, whole_at, named_at, IsRead}
 use Rattle.role_tables.proofs.OfficeTables.Lists.{all_at}
 use Rattle.role_tables.proofs.Reading.MetaRows.{list_all-IsPermutation}
 

@@ -1,30 +1,23 @@
 -- What a change of a row makes of the rows of the tables.
-use Rattle.std.proofs.Common.{◌≡◌, ◌⊎◌, inl, inr, ℕ, ℤ, pos, ◌==◌, ◌+◌, List, [], ◌∷◌, ◌++◌, length, map, filter, fold, if◌then◌else◌, Bool, true, false, not, ◌&&◌, ◌||◌, IsTrue, Ordering, Less, Equal, Greater, is_eq, int_cmp, nat_cmp, refl, sym, ap, ap₂, subst, ◌∙◌}
-use Rattle.std.specs.Prelude.{nat_eq}
-use Rattle.std.proofs.lemmas.Bool.{cases_Bool, or_parts, eqb-true, eq-eqb}
-use Rattle.std.proofs.lemmas.Cmp.{tied_itself, nat_list_cmp_total}
+use Rattle.std.proofs.Common.{◌≡◌, inl, inr, ℕ, ℤ, pos, ◌==◌, List, [], ◌∷◌, ◌++◌, map, filter, if◌then◌else◌, Bool, true, false, not, IsTrue, Ordering, Less, Equal, Greater, refl, sym, ap, ap₂, ◌∙◌}
+use Rattle.std.proofs.lemmas.Bool.{cases_Bool}
+use Rattle.std.proofs.lemmas.Cmp.{tied_itself}
 use Rattle.std.specs.Ordering.{ordering_then}
 use Rattle.std.specs.Cmp.{Equal-is}
 use Rattle.std.specs.FinMap.{int_cmp-IsAntisymmetric}
-use Rattle.std.specs.Cmp.Lexicographic.{slice_cmp}
-use Rattle.std.specs.List.{AllByRecursion, list_any}
+use Rattle.std.specs.List.{AllByRecursion}
 use Rattle.rbac_sets.specs.NameOrder.{name_exact}
 use Rattle.rbac_sets.specs.declared.row.Row.{Row}
 use Rattle.rbac_sets.specs.declared.row.Row.TheVariants.{NameRow, PairRow, GrantRow, SetRow, LockedRow}
-use Rattle.rbac_sets.specs.declared.row.Change.{Change}
-use Rattle.rbac_sets.specs.declared.row.Change.TheVariants.{Put, Take}
 use Rattle.sqlite.specs.declared.types.Value.{Value}
 use Rattle.sqlite.specs.declared.types.Value.TheVariants.{Null, Int, Text, Real, Blob}
 use Rattle.sqlite.specs.Order as sql
 use Rattle.sqlite.specs.Order.{row_cmp, value_cmp}
-use Rattle.sqlite_value.proofs.OrderLemmas.{row_cmp_total, value_cmp-Int, value_cmp-Text, value_cmp_total}
+use Rattle.sqlite_value.proofs.OrderLemmas.{row_cmp_total, value_cmp-Int, value_cmp-Text}
 use Rattle.admin_mgr.specs.Changes as change
-use Rattle.admin_mgr.specs.RbacState.{RbacState}
-use Rattle.admin_mgr.specs.Gathered.{is_among}
-use Rattle.admin_mgr.specs.Checked.{AreRowsOf, OccurOnce}
 use Rattle.admin_mgr.proofs.PlanRows.CommitLaws.{same_row-self, same_row-is}
 use Rattle.role_tables.specs.TableByName.{same_row, without_row}
-use Rattle.role_tables.specs.OfficeTables.{StoredTable, Meta, Names, Pairs, Grants, Sets, Locks, Rows, code, changed_at, OfficeRow, meta_row, name_row, pair_row, grant_row, set_row, locked_row, table_of, cells}
+use Rattle.role_tables.specs.OfficeTables.{StoredTable, Meta, Names, Pairs, Grants, Sets, Locks, code, changed_at, OfficeRow, meta_row, name_row, pair_row, grant_row, set_row, locked_row, table_of, cells}
 use Rattle.role_tables.specs.StoredState.{stored, is_of, cells_of, meta_of, stored_rows}
 use Rattle.role_tables.proofs.OfficeTables.Changes.{same_code}
 

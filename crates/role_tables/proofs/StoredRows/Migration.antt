@@ -1,10 +1,8 @@
 -- From the tables of version 1 to those of version 2.
-use Rattle.std.proofs.Common.{None, ◌≡◌, ◌⊎◌, inl, inr, ℕ, ◌==◌, ◌++◌, if◌then◌else◌, List, [], ◌∷◌, map, filter, not, ◌&&◌, ◌||◌, Bool, true, false, IsTrue, Ok, Err, Result, OnOk, refl, sym, ap, subst, ◌∙◌, codes}
-use Rattle.std.specs.Prelude.{nat_eq}
-use Rattle.std.proofs.lemmas.Bool.{cases_Bool, and_parts, eq-eqb, or_left, true≢false}
+use Rattle.std.proofs.Common.{None, ◌≡◌, ℕ, List, [], ◌∷◌, map, filter, true, false, Ok, refl, sym, ap, subst, ◌∙◌, codes}
+use Rattle.std.proofs.lemmas.Bool.{and_parts, or_left, true≢false}
 use Rattle.std.proofs.lemmas.Cmp.{tied_itself}
 use Rattle.std.specs.Cmp.{Equal-is}
-use Rattle.std.specs.List.{list_any}
 use Rattle.rbac_sets.specs.Sets.{contains, empty, name_cmp}
 use Rattle.rbac_sets.proofs.SetLaws.{contains-empty}
 use Rattle.rbac_sets.specs.declared.row.Row.{Row}
@@ -13,25 +11,21 @@ use Rattle.admin_mgr.specs.RbacState.{RbacState}
 use Rattle.admin_mgr.specs.Rows.{has_row}
 use Rattle.admin_mgr.specs.Changes as change
 use Rattle.admin_mgr.specs.Gathered.{is_among}
-use Rattle.admin_mgr.specs.Checked.{AreRowsOf}
 use Rattle.admin_mgr.specs.Good.{IsGood}
 use Rattle.admin_mgr.specs.Life.{taken_into_version_2}
 use Rattle.admin_mgr.proofs.PlanRows.CommitLaws.{same_row-self}
 use Rattle.sqlite.specs.Order as sql
 use Rattle.sqlite.specs.Order.{row_cmp}
 use Rattle.sqlite_value.proofs.OrderLemmas.{row_cmp_total}
-use Rattle.sqlite.specs.declared.error.Error.{Error}
-use Rattle.sqlite.specs.declared.error.Error.TheVariants.{SqliteFailure}
-use Rattle.sqlite.specs.declared.error.ErrorCode.TheVariants.{TransactionState}
 use Rattle.sqlite.specs.Effect.{Database}
 use Rattle.sqlite.specs.State.{State, Executes}
 use Rattle.role_tables.specs.TableByName.{same_row, without_row, is_referred}
 use Rattle.sqlite_schema.specs.Names.{table_named}
-use Rattle.role_tables.specs.OfficeTables.{StoredTable, Meta, Names, Pairs, Grants, Sets, Locks, making, Rows, code, changed_at, meta_row, cells, table_of, is_wanted, HoldsTables}
+use Rattle.role_tables.specs.OfficeTables.{StoredTable, Meta, Names, Pairs, Grants, Sets, Locks, making, Rows, changed_at, meta_row, cells, is_wanted, HoldsTables}
 use Rattle.role_tables.specs.Texts.{take_text}
-use Rattle.role_tables.specs.StoredState.{stored, is_of, cells_of, stored_rows, HoldsState}
+use Rattle.role_tables.specs.StoredState.{is_of, cells_of, stored_rows, HoldsState}
 use Rattle.role_tables.specs.InSchema.{is_free, may_count}
-use Rattle.role_tables.specs.Creating.{with_table, IsStage, AreNew, StageAfter, PutsVersion}
+use Rattle.role_tables.specs.Creating.{with_table, IsStage, StageAfter, PutsVersion}
 use Rattle.role_tables.specs.Migrating.{may_lock, TakesVersion}
 use Rattle.role_tables.proofs.OfficeTables.Changes.{takes_row}
 use Rattle.role_tables.proofs.StoredRows.Texts.{holds_same}

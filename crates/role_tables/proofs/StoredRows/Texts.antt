@@ -1,5 +1,5 @@
 -- What the statements of changes, run inside a transaction, make of the tables.
-use Rattle.std.proofs.Common.{◌≡◌, ℕ, zero, suc, ◌+◌, ◌<◌, Bool, List, [], ◌∷◌, length, get_or, take, inl, inr, false, Ok, Err, Result, OnOk, IsTrue, refl, sym, ap, subst, ◌∙◌, arith}
+use Rattle.std.proofs.Common.{◌≡◌, ℕ, ◌+◌, ◌<◌, Bool, List, length, get_or, take, inl, inr, false, Ok, Err, Result, OnOk, IsTrue, refl, sym, ap, subst, ◌∙◌, arith}
 use Rattle.std.proofs.lemmas.List.Sums.{fold_more}
 use Rattle.std.proofs.lemmas.List.{take_all}
 use Rattle.std.proofs.lemmas.Bool.{cases_Bool}
@@ -15,7 +15,7 @@ use Rattle.sqlite.specs.declared.error.ErrorCode.TheVariants.{TransactionState}
 use Rattle.sqlite.specs.Order as sql
 use Rattle.sqlite.specs.Effect.{Database}
 use Rattle.sqlite.specs.State.{State, Executes, ExecutesInside, KeepsCommit}
-use Rattle.sqlite.proofs.InsideLemmas.{inside_keeps, unchanged_keeps}
+use Rattle.sqlite.proofs.InsideLemmas.{inside_keeps}
 use Rattle.role_tables.specs.TableByName.{HasNoNull, HoldsRows}
 use Rattle.role_tables.specs.OfficeTables.{StoredTable, making, made, places, Rows, is_wanted, HoldsTables}
 use Rattle.role_tables.specs.Texts.{change_text}

@@ -1,9 +1,8 @@
 -- What a transaction leaves, and what the changes of a plan make of a database that holds a state.
-use Rattle.std.proofs.Common.{◌≡◌, ◌⊎◌, ℕ, List, [], ◌∷◌, inl, inr, Bool, true, false, not, ◌||◌, ◌&&◌, Ok, Err, Result, OnOk, OnErr, IfErr, IsTrue, refl, sym, ap, subst, ◌∙◌, arith, eqb}
+use Rattle.std.proofs.Common.{◌≡◌, ℕ, List, [], ◌∷◌, inl, inr, true, false, not, ◌&&◌, Ok, Err, Result, OnOk, OnErr, IfErr, IsTrue, refl, sym, ap, subst, ◌∙◌, arith}
 use Rattle.std.specs.Prelude.{nat_eq}
 use Rattle.std.proofs.lemmas.Bool.{cases_Bool, or_right, or_left, eqb-true}
-use Rattle.std.specs.List.{AllByRecursion}
-use Rattle.rbac_sets.specs.Sets.{contains, empty, name_cmp}
+use Rattle.rbac_sets.specs.Sets.{name_cmp}
 use Rattle.rbac_sets.proofs.SetLaws.{contains-empty}
 use Rattle.rbac_sets.specs.declared.row.Row.{Row}
 use Rattle.rbac_sets.specs.declared.row.Row.TheVariants.{NameRow, PairRow, GrantRow, SetRow, LockedRow}
@@ -16,7 +15,7 @@ use Rattle.admin_mgr.specs.Good.{IsGood}
 use Rattle.admin_mgr.specs.RowsAfter.{rows_after}
 use Rattle.admin_mgr.proofs.PlanRows.CommitLaws.{same_row-self}
 use Rattle.admin_mgr.proofs.PlanRows.RowsAfterLaws.{rows_follow}
-use Rattle.sqlite.specs.State.{State, HasCleanDisk, Survives, Shows, KeepsCounts, KeepsCommit, IsRolledBack, Fails, IsUnchanged}
+use Rattle.sqlite.specs.State.{State, HasCleanDisk, Survives, Shows, KeepsCounts, KeepsCommit, IsRolledBack}
 use Rattle.sqlite.specs.Steps.{FailsToCommit}
 use Rattle.sqlite.specs.Held.{Held, state}
 use Rattle.sqlite.specs.declared.error.Error.{Error}
@@ -27,7 +26,7 @@ use Rattle.sqlite.proofs.StateLemmas.{survives_then}
 use Rattle.sqlite.proofs.Callers.{survives_begin}
 use Rattle.role_tables.specs.OfficeTables.{HoldsTables, table_of, is_wanted}
 use Rattle.role_tables.specs.StoredState.{stored, stored_rows, HoldsState}
-use Rattle.role_tables.specs.Standing.{LeavesSuch, Rests, HoldsAsBefore, Transacts}
+use Rattle.role_tables.specs.Standing.{Rests, HoldsAsBefore, Transacts}
 use Rattle.role_tables.specs.Writing.{AreKept, TablesAfter}
 
 -- ---- a transaction

@@ -1,4 +1,4 @@
-use Rattle.std.proofs.Common.{◌≡◌, rules, arith, ◌∙◌, sym, subst}
+use Rattle.std.proofs.Common.{◌≡◌, rules, arith, ◌∙◌, subst}
 use Rattle.sqlite.specs.State.{HasCleanDisk, KeepsCommit}
 use Rattle.sqlite.specs.Held.{state}
 use Rattle.admin_mgr.specs.RbacState.{empty_state}
@@ -6,7 +6,7 @@ use Rattle.role_tables.specs.StoredState.{HoldsState}
 use Rattle.role_tables.specs.Standing.{Transacts}
 use Rattle.role_tables.proofs.Meanings.Surviving.{survives_both, keeps_both}
 use Rattle.role_tables.proofs.OfficeTables.EmptyOffice.{office_made}
-use Rattle.role_tables.proofs.StoredRows.Transactions.{transaction_dropped, transaction_ended}
+use Rattle.role_tables.proofs.StoredRows.Transactions.{transaction_ended}
 use Rattle.role_tables.proofs.creating.create_office.Goals as goal
 
 pub returns-clause-made : goal.returns-clause-made

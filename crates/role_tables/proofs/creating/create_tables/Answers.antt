@@ -1,6 +1,4 @@
 use Rattle.std.proofs.Common.{rules, refl, arith, ◌∙◌}
-use Rattle.sqlite.specs.State.{HasCleanDisk}
-use Rattle.sqlite.specs.Held.{state}
 use Rattle.role_tables.proofs.Meanings.Surviving.{survives_none, survives_both, keeps_both}
 use Rattle.role_tables.proofs.OfficeTables.Staging.{stage_none, stage_more, stage_all}
 use Rattle.role_tables.proofs.StoredRows.Texts.{keeps_itself}

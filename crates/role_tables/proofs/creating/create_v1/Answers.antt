@@ -1,4 +1,3 @@
-use Rattle.std.proofs.Common.{rules}
 use Rattle.role_tables.proofs.creating.create_v1.Goals as goal
 
 pub returns-clause-stop : goal.returns-clause-stop

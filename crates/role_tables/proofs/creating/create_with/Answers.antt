@@ -1,11 +1,10 @@
-use Rattle.std.proofs.Common.{IsTrue, ◌≡◌, ◌∙◌, rules, true, false, refl, sym, ap, subst}
+use Rattle.std.proofs.Common.{IsTrue, ◌≡◌, ◌∙◌, rules, true, false, sym, ap, subst}
 use Rattle.sqlite.specs.State.{HasCleanDisk}
 use Rattle.sqlite.specs.Held.{state}
 use Rattle.admin_mgr.specs.RbacState.{empty_state}
-use Rattle.role_tables.specs.Creating.{IsStage, MayCreate, no_table, no_rows}
+use Rattle.role_tables.specs.Creating.{IsStage, no_table, no_rows}
 use Rattle.role_tables.specs.InSchema.{may_create}
 use Rattle.role_tables.specs.Standing.{LeavesBeforeOr, Stands}
-use Rattle.role_tables.specs.StoredState.{HoldsState}
 use Rattle.role_tables.proofs.OfficeTables.Looking.{first_stage}
 use Rattle.role_tables.proofs.creating.create_with.Goals as goal
 

@@ -1,12 +1,10 @@
-use Rattle.std.proofs.Common.{rules, ◌≡◌, [], ◌∷◌, ◌++◌, List, IsSome, refl, sym, ap, subst, ◌∙◌, arith}
-use Rattle.sqlite.specs.Order.{Row}
-use Rattle.sqlite.specs.State.{HasCleanDisk, Survives, IsUnchanged, CommitsShowing, FailsToQuery, KeepsCommit}
+use Rattle.std.proofs.Common.{rules, [], ◌∷◌, ◌++◌, refl, ◌∙◌, arith}
+use Rattle.sqlite.specs.State.{HasCleanDisk, Survives, IsUnchanged, CommitsShowing}
 use Rattle.sqlite.specs.Held.{state}
-use Rattle.sqlite.specs.Given.{HasGiven}
 use Rattle.sqlite.proofs.Callers.{unchanged_then}
 use Rattle.role_tables.specs.Texts.{read_text}
 use Rattle.role_tables.specs.Found.{held_in}
-use Rattle.role_tables.specs.Gathering.{Gathers, GathersTable}
+use Rattle.role_tables.specs.Gathering.{GathersTable}
 use Rattle.role_tables.proofs.Reading.Gathering.{Unfound, gathers_none, gathers_more, refused_survives, begun_found, more_survives, ended, query_keeps}
 use Rattle.role_tables.proofs.gathering.read_table.Goals as goal
 

@@ -1,4 +1,4 @@
-use Rattle.std.proofs.Common.{◌≡◌, ◌⊎◌, rules, refl, inl, inr, true, false, IsSome}
+use Rattle.std.proofs.Common.{◌≡◌, rules, refl, inl, inr, true, false, IsSome}
 use Rattle.sqlite.specs.Held.{state}
 use Rattle.sqlite.proofs.StateLemmas.{survives_weaker}
 use Rattle.role_tables.specs.OfficeTables.{Meta, tables_of}

@@ -1,7 +1,5 @@
-use Rattle.std.proofs.Common.{◌≡◌, ◌⊎◌, inr, rules}
+use Rattle.std.proofs.Common.{inr}
 use Rattle.sqlite.specs.Held.{state}
-use Rattle.role_tables.specs.Found.{held_in}
-use Rattle.role_tables.specs.Opening.{IsStateFound, RefusesFound}
 use Rattle.role_tables.proofs.Reading.ReadState.{if_ok, if_err, read_kept, read_survives, reads_state, reads_refusal}
 use Rattle.role_tables.proofs.judging.find_state.Goals as goal
 

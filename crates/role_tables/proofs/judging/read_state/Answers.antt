@@ -1,4 +1,3 @@
-use Rattle.std.proofs.Common.{rules}
 use Rattle.sqlite.specs.Held.{state}
 use Rattle.role_tables.proofs.Reading.Standing.{kept_as_before}
 use Rattle.role_tables.proofs.judging.read_state.Goals as goal

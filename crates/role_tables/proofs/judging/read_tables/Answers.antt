@@ -1,10 +1,9 @@
-use Rattle.std.proofs.Common.{rules, inl, refl, arith, length, take, ◌≡◌, ◌∙◌, subst}
+use Rattle.std.proofs.Common.{rules, inl, arith, length, ◌≡◌, subst}
 use Rattle.std.proofs.lemmas.List.{take_all}
-use Rattle.sqlite.specs.State.{HasCleanDisk, IsUnchanged}
 use Rattle.sqlite.specs.Held.{state}
 use Rattle.sqlite.proofs.InsideLemmas.{unchanged_keeps}
 use Rattle.role_tables.specs.Found.{held_in}
-use Rattle.role_tables.specs.Gathering.{IsOfRows, HasTables, GathersTables}
+use Rattle.role_tables.specs.Gathering.{IsOfRows, GathersTables}
 use Rattle.role_tables.proofs.Meanings.Surviving.{survives_itself, unchanged_itself}
 use Rattle.role_tables.proofs.OfficeTables.Lists.{all_at}
 use Rattle.role_tables.proofs.Reading.Parts.{gathers_nothing, next_survives, next_kept, next_gathered}

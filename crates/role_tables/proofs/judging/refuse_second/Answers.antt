@@ -1,4 +1,4 @@
-use Rattle.std.proofs.Common.{◌≡◌, ◌⊎◌, rules, inl, inr, refl, true, false, Err, IfErr, sym, subst}
+use Rattle.std.proofs.Common.{◌≡◌, rules, inl, inr, refl, Err, IfErr, sym, subst}
 use Rattle.sqlite.specs.Held.{state}
 use Rattle.role_tables.specs.Found.{held_in}
 use Rattle.role_tables.specs.Migrating.{RefusesMigration}

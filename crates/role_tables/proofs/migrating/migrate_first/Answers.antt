@@ -1,12 +1,10 @@
-use Rattle.std.proofs.Common.{rules, ◌≡◌, ◌≢◌, ◌⊎◌, inl, inr, true, false, Err, IfErr, refl, sym, ap, subst, ◌∙◌}
-use Rattle.sqlite.specs.State.{HasCleanDisk}
+use Rattle.std.proofs.Common.{rules, ◌≡◌, inl, inr, true, Err, IfErr, refl, sym, ap, subst, ◌∙◌}
 use Rattle.sqlite.specs.Held.{state}
 use Rattle.admin_mgr.specs.RbacState.{RbacState}
 use Rattle.admin_mgr.specs.Life.{taken_into_version_2}
 use Rattle.role_tables.specs.Found.{held_in}
 use Rattle.role_tables.specs.Migrating.{may_lock, RefusesMigration}
-use Rattle.role_tables.specs.Standing.{HoldsAsBefore}
-use Rattle.role_tables.proofs.Reading.Standing.{leaves_still, stands_still, opens_the_state, leaves_either, second_found, refused_first}
+use Rattle.role_tables.proofs.Reading.Standing.{stands_still, opens_the_state, leaves_either, second_found, refused_first}
 use Rattle.role_tables.proofs.migrating.migrate_first.Goals as goal
 
 pub returns-then-version-ne1-clause-err : goal.returns-then-version-ne1-clause-err

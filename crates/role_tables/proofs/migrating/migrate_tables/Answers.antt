@@ -1,13 +1,12 @@
-use Rattle.std.proofs.Common.{◌≡◌, rules, arith, ◌∙◌, sym, subst}
+use Rattle.std.proofs.Common.{◌≡◌, rules, arith, ◌∙◌, subst}
 use Rattle.sqlite.specs.State.{HasCleanDisk, KeepsCommit}
 use Rattle.sqlite.specs.Held.{state}
-use Rattle.sqlite.proofs.Callers.{survives_begin}
 use Rattle.admin_mgr.specs.Life.{taken_into_version_2}
 use Rattle.role_tables.specs.StoredState.{HoldsState}
 use Rattle.role_tables.specs.Standing.{Transacts}
 use Rattle.role_tables.proofs.Meanings.Surviving.{survives_both, keeps_both}
 use Rattle.role_tables.proofs.StoredRows.Migration.{migrated}
-use Rattle.role_tables.proofs.StoredRows.Transactions.{transaction_dropped, transaction_ended}
+use Rattle.role_tables.proofs.StoredRows.Transactions.{transaction_ended}
 use Rattle.role_tables.proofs.migrating.migrate_tables.Goals as goal
 
 pub returns-clause-written : goal.returns-clause-written

@@ -1,4 +1,4 @@
-use Rattle.std.proofs.Common.{◌≡◌, rules, codes, sym, subst}
+use Rattle.std.proofs.Common.{codes, sym, subst}
 use Rattle.sqlite.specs.Held.{state}
 use Rattle.sqlite.specs.State.{KeepsCommit}
 use Rattle.role_tables.specs.OfficeTables.{Meta, meta_row, cells}

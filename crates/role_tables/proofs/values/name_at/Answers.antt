@@ -1,4 +1,4 @@
-use Rattle.std.proofs.Common.{◌≡◌, rules, false, refl, inr}
+use Rattle.std.proofs.Common.{◌≡◌, rules, false}
 use Rattle.rbac_sets.specs.Name.{is_name}
 use Rattle.role_tables.proofs.Reading.Finding.{no_name}
 use Rattle.role_tables.proofs.values.name_at.Goals as goal

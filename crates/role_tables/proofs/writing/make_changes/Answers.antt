@@ -1,6 +1,4 @@
 use Rattle.std.proofs.Common.{rules, refl, arith, ◌∙◌}
-use Rattle.sqlite.specs.State.{HasCleanDisk}
-use Rattle.sqlite.specs.Held.{state}
 use Rattle.role_tables.proofs.Meanings.Surviving.{survives_none, survives_both, keeps_both}
 use Rattle.role_tables.proofs.StoredRows.Texts.{after_none, after_next, after_all, keeps_itself}
 use Rattle.role_tables.proofs.writing.make_changes.Goals as goal

@@ -1,9 +1,9 @@
-use Rattle.std.proofs.Common.{◌≡◌, rules, arith, refl, IsTrue, Err, ◌∙◌, sym, subst}
-use Rattle.sqlite.specs.State.{HasCleanDisk, KeepsCommit}
+use Rattle.std.proofs.Common.{◌≡◌, rules, arith, subst}
+use Rattle.sqlite.specs.State.{HasCleanDisk}
 use Rattle.sqlite.specs.Held.{state}
 use Rattle.role_tables.specs.StoredState.{HoldsState}
 use Rattle.role_tables.specs.Standing.{Transacts}
-use Rattle.role_tables.proofs.StoredRows.Transactions.{state_after, transaction_dropped, transaction_ended}
+use Rattle.role_tables.proofs.StoredRows.Transactions.{state_after, transaction_ended}
 use Rattle.role_tables.proofs.writing.write_changes.Goals as goal
 
 pub returns-clause-written : goal.returns-clause-written

@@ -1,4 +1,4 @@
-use Rattle.std.proofs.Common.{rules, ◌≡◌, ◌⊎◌, ◌∷◌, [], inl, None, Some, sym, ap, subst, refl, ◌∙◌, Ok, Err}
+use Rattle.std.proofs.Common.{rules, ◌≡◌, ◌⊎◌, ◌∷◌, [], inl, None, Some, sym, ap, subst, refl, ◌∙◌, Err}
 use Rattle.sqlite.specs.Held.{state}
 use Rattle.admin_mgr.specs.After.{after}
 use Rattle.admin_mgr.specs.Good.{IsGood}
@@ -6,8 +6,7 @@ use Rattle.admin_mgr.specs.Planned.{LeadsTo, IsPlanOf, tally_of_report}
 use Rattle.admin_mgr.specs.Verdict.{verdict}
 use Rattle.rbac_sets.specs.declared.refusal.Refusal.TheVariants.{Memory, Store}
 use Rattle.role_tables.specs.Office.{Answers, event_of}
-use Rattle.role_tables.specs.Standing.{Stands, Transacts, HoldsAsBefore, LeavesAsIn}
-use Rattle.role_tables.specs.StoredState.{HoldsState}
+use Rattle.role_tables.specs.Standing.{Stands, LeavesAsIn}
 use Rattle.role_tables.proofs.Reading.Standing.{leaves_either}
 use Rattle.role_tables.proofs.Events.{plan_refused, leaves_unchanged, leaves_done, leaves_stopped}
 use Rattle.role_tables.proofs.office.Office.apply.Goals as goal
