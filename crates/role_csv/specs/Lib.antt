@@ -1,0 +1,3 @@
+pub mod Assignments
+pub mod Export
+pub mod Reading

@@ -1,0 +1,4 @@
+pub mod Answered
+pub mod Head
+pub mod Judging
+pub mod Route

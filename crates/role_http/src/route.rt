@@ -1,0 +1,51 @@
+//! The one route of requests, `/v1/{function}`.
+ghost use Rattle.std.specs.Prelude.{◌≡◌, true, false, IfOk, IfErr, IfSome, IfNone};
+ghost use Rattle.std.specs.Str.{is_utf8};
+ghost use Rattle.role_http.specs.Route.{function_in, routes};
+
+use matchit::Router;
+use rbac_sets::Refusal;
+use role_json::Function;
+use std::alloc::Global;
+
+/// The router of the one route.
+///
+/// # Errors
+///
+/// `Memory` where memory for the router was refused.
+pub fn one_route(alloc: Global) -> Result<Router<()>, Refusal>
+    ensures ok { IfOk result (λ router. router ≡ routes) }
+    ensures cause { IfErr result (λ error. error ≡ Refusal.Memory) }
+{
+    let mut router = Router::new(alloc);
+    let Ok(()) = router.insert("/v1/{function}", ()) else {
+        return Err(Refusal::Memory);
+    };
+    Ok(router)
+}
+
+/// The function that a target names. It takes no memory.
+pub fn function_of(router: &Router<()>, target: &[u8]) -> Option<Function>
+    requires { router.now ≡ routes }
+    ensures { result ≡ function_in target.now }
+{
+    let Some(path) = text(target) else {
+        return None;
+    };
+    let Ok(found) = router.at(path) else {
+        return None;
+    };
+    let Some(name) = found.params.get("function") else {
+        return None;
+    };
+    Function::from_name(name)
+}
+
+// The bytes as text, where they are UTF-8.
+#[tactic(auto, using(crate::proofs::Routing::utf8_steps))]
+fn text(bytes: &[u8]) -> Option<&str>
+    ensures some { IfSome result (λ text. (text.now ≡ bytes.entry.now) × (is_utf8 bytes.entry.now ≡ true)) }
+    ensures none { IfNone result (is_utf8 bytes.entry.now ≡ false) }
+{
+    str::from_utf8(bytes).ok()
+}
