@@ -1,3 +1,4 @@
-pub mod Requested
 pub mod Function
 pub mod Request
+pub mod Requested
+pub mod Steps

@@ -1,0 +1,10 @@
+use Rattle.std.specs.Fmt.{digits}
+use Rattle.std.proofs.Common.{refl}
+use Rattle.serde_json.proofs.OnLiterals.{serde_json_on_literals}
+use Rattle.role_json.specs.Answer.{refusal_text, refusal_data}
+use Rattle.role_http.specs.Reply.{reply_bytes, head_body}
+use Rattle.role_http.proofs.answers.method_not_allowed.Goals as goal
+
+pub returns : goal.returns
+unfolding reply_bytes head_body refusal_text refusal_data digits serde_json_on_literals
+returns c = refl

@@ -1,0 +1,180 @@
+//! Verdicts on requests, and their texts.
+ghost use Rattle.std.specs.Prelude.{◌≡◌, IfOk, IfErr, option_map, string_bytes};
+ghost use Rattle.serde_json.specs.Data.{array};
+ghost use Rattle.serde_json.specs.View.{view};
+ghost use Rattle.role_json.specs.Answer.{part_of, refusal_data, texts_of};
+ghost use Rattle.role_json.specs.Answer.{data_of, pair_data, pairs_of, record_data, records_of, report_data, tally_in, text_of, told, value_data};
+
+use admin_mgr::Report;
+use rbac_sets::{Name, Refusal};
+use serde_json::{Value, json};
+use std::alloc::{AllocError, Global};
+
+/// The answer to a question that isn't refused.
+#[derive(Drop)]
+pub enum Answer {
+    /// Names in byte order, none twice.
+    Names(Vec<Name>),
+    /// Permissions (object, operation) in byte order, none twice.
+    Permissions(Vec<(Name, Name)>),
+    /// A cardinality.
+    Count(u32),
+    /// Whether access is granted.
+    Access(bool),
+}
+
+/// What came of a request.
+#[derive(Drop)]
+pub enum Verdict {
+    /// A command was done.
+    Done,
+    /// An import was done, and this is told of it.
+    Imported(Report),
+    /// A question was answered so.
+    Told(Answer),
+    /// It was refused.
+    Refused(Refusal),
+}
+
+/// The text that answers a request: JSON with no space and with the keys in byte order.
+///
+/// # Errors
+///
+/// `Memory` where memory for the text was refused.
+#[tactic(auto, using(crate::proofs::Writing::text_of_steps))]
+pub fn answer_text(alloc: Global, verdict: &Verdict) -> Result<String, Refusal>
+    ensures ok { IfOk result (λ text. string_bytes text ≡ text_of verdict.now) }
+    ensures cause { IfErr result (λ refusal. refusal ≡ Refusal.Memory) }
+{
+    let value = verdict_value(alloc, verdict)?;
+    let text = value.to_string(alloc)?;
+    Ok(text)
+}
+
+// The JSON value of a verdict.
+#[tactic(auto, unfolding(crate::specs::Answer::data_of))]
+fn verdict_value(alloc: Global, verdict: &Verdict) -> Result<Value, AllocError>
+    ensures { IfOk result (λ value. view value ≡ data_of verdict.now) }
+{
+    match verdict {
+        Verdict::Done => json!(in alloc; {"ok": true}),
+        Verdict::Imported(report) => {
+            let value = report_value(alloc, report)?;
+            json!(in alloc; {"ok": true, "value": value})
+        }
+        Verdict::Told(answer) => {
+            let value = told_value(alloc, answer)?;
+            json!(in alloc; {"ok": true, "value": value})
+        }
+        Verdict::Refused(refusal) => refusal_value(alloc, refusal),
+    }
+}
+
+// The JSON value of an answer to a question.
+#[tactic(auto, unfolding(crate::specs::Answer::value_data))]
+fn told_value(alloc: Global, answer: &Answer) -> Result<Value, AllocError>
+    ensures { IfOk result (λ value. view value ≡ value_data (told answer.now)) }
+{
+    match answer {
+        Answer::Names(names) => names_value(alloc, names),
+        Answer::Permissions(permissions) => pairs_value(alloc, permissions),
+        Answer::Count(count) => Ok(Value::from(*count)),
+        Answer::Access(access) => Ok(Value::from(*access)),
+    }
+}
+
+// A list of names as a JSON value.
+#[tactic(auto, using(crate::proofs::Writing::texts_of_steps))]
+fn names_value(alloc: Global, names: &[Name]) -> Result<Value, AllocError>
+    ensures { IfOk result (λ value. view value ≡ array (texts_of names.now)) }
+{
+    let mut items = Vec::new(alloc);
+    for name in names {
+        let item = Value::try_from_str(alloc, name.as_str())?;
+        items.push(item)?;
+    }
+    Ok(Value::Array(items))
+}
+
+// A list of pairs of names as a JSON value.
+#[tactic(auto, using(crate::proofs::Writing::pairs_of_steps))]
+fn pairs_value(alloc: Global, pairs: &[(Name, Name)]) -> Result<Value, AllocError>
+    ensures { IfOk result (λ value. view value ≡ array (pairs_of pairs.now)) }
+{
+    let mut items = Vec::new(alloc);
+    for pair in pairs {
+        let item = pair_value(alloc, pair)?;
+        items.push(item)?;
+    }
+    Ok(Value::Array(items))
+}
+
+// A pair of names as a JSON value.
+#[tactic(auto, unfolding(crate::specs::Answer::pair_data))]
+fn pair_value(alloc: Global, pair: &(Name, Name)) -> Result<Value, AllocError>
+    ensures { IfOk result (λ value. view value ≡ pair_data pair.now) }
+{
+    json!(in alloc; [pair.0.as_str(), pair.1.as_str()])
+}
+
+// What is told of an import as a JSON value.
+#[tactic(auto, unfolding(crate::specs::Answer::report_data))]
+fn report_value(alloc: Global, report: &Report) -> Result<Value, AllocError>
+    ensures { IfOk result (λ value. view value ≡ report_data (tally_in report.now)) }
+{
+    let refused = records_value(alloc, &report.refused)?;
+    json!(in alloc; {"already": report.already, "assigned": report.assigned, "refused": refused})
+}
+
+// The records that were refused as a JSON value.
+#[tactic(auto, using(crate::proofs::Writing::records_of_steps))]
+fn records_value(alloc: Global, records: &[(u32, u32)]) -> Result<Value, AllocError>
+    ensures { IfOk result (λ value. view value ≡ array (records_of records.now)) }
+{
+    let mut items = Vec::new(alloc);
+    for pair in records {
+        let item = record_value(alloc, *pair)?;
+        items.push(item)?;
+    }
+    Ok(Value::Array(items))
+}
+
+// A record that was refused, with the number of its refusal, as a JSON value.
+#[tactic(auto, unfolding(crate::specs::Answer::record_data))]
+fn record_value(alloc: Global, pair: (u32, u32)) -> Result<Value, AllocError>
+    ensures { IfOk result (λ value. view value ≡ record_data pair) }
+{
+    json!(in alloc; {"code": pair.1, "record": pair.0})
+}
+
+// The JSON value of a refusal.
+#[tactic(auto, unfolding(role_wire::specs::Answer::refusal_data))]
+fn refusal_value(alloc: Global, refusal: &Refusal) -> Result<Value, AllocError>
+    ensures { IfOk result (λ value. view value ≡ refusal_data refusal.now) }
+{
+    let code = refusal.code();
+    let error = refusal.name();
+    match refusal_part(alloc, refusal)? {
+        Some((key, part)) => json!(in alloc; {"code": code, "error": error, key: part}),
+        None => json!(in alloc; {"code": code, "error": error}),
+    }
+}
+
+// What comes with a refusal, with its key.
+fn refusal_part(
+    alloc: Global,
+    refusal: &Refusal,
+) -> Result<Option<(&'static str, Value)>, AllocError>
+    ensures { IfOk result (λ part. option_map (λ member. (member.0.now, view member.1)) part ≡ part_of refusal.now) }
+{
+    match refusal {
+        Refusal::StaticSeparation(set) | Refusal::DynamicSeparation(set) => {
+            Ok(Some(("set", Value::try_from_str(alloc, set.as_str())?)))
+        }
+        Refusal::TooMany(kind) => Ok(Some(("kind", Value::try_from_str(alloc, kind.name())?))),
+        Refusal::BadCsv(number) => Ok(Some(("record", Value::from(*number)))),
+        Refusal::Version(version) => Ok(Some(("version", Value::from(*version)))),
+        Refusal::Damaged(check) => Ok(Some(("check", Value::from(*check)))),
+        _ => Ok(None),
+    }
+}
