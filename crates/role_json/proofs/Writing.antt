@@ -47,7 +47,9 @@ records-nil [] = refl
 records-nil (refused ∷ rest) = ap (item (record_data refused)) (records-nil rest)
 
 pub ruleset texts_of_steps = (texts-nil, items_with-next, items_with-end)
+
 pub ruleset pairs_of_steps = (pairs-nil, items_with-next, items_with-end)
+
 pub ruleset records_of_steps = (records-nil, items_with-next, items_with-end)
 
 -- ---- no float
