@@ -12,7 +12,7 @@ use Rattle.rbac_sets.specs.Sets.{Names, name_cmp, empty, contains, insert, from_
 use Rattle.rbac_sets.specs.declared.refusal.Refusal.{Refusal}
 use Rattle.rbac_sets.specs.declared.refusal.Refusal.TheVariants.{BadName}
 use Rattle.rbac_sets.proofs.SetLaws.{contains-insert, tie_Decides, same_set, from_list_push}
-use Rattle.role_json.specs.Request.{name, name_set}
+use Rattle.role_json.specs.Fields.{name, name_set}
 
 -- the texts behind references
 abbrev pub texts_of_refs : List (Bor (List ℕ)) → List (List ℕ)
@@ -80,7 +80,7 @@ HasFirst-bad texts i d refusal h is =
       | inl good ↦ let r = rw good at is in absurd (let f : ⊥ = cc in f)
       | inr bad ↦
           let some : list_all is_name (texts_of_refs texts) ≡ false =
-              list_all-map is_name (λ (text : Bor (List ℕ)). text.now) texts ∙ list_all_at (λ (text : Bor (List ℕ)). is_name text.now) texts i d h bad in
+          list_all-map is_name (λ (text : Bor (List ℕ)). text.now) texts ∙ list_all_at (λ (text : Bor (List ℕ)). is_name text.now) texts i d h bad in
           let told : BadName ≡ refusal = let r = rw bad at is in cc in
           rw (some, told) refl
     ]

@@ -1,7 +1,7 @@
 use Rattle.std.proofs.Common.{refl, inr, rules}
 use Rattle.std.proofs.lemmas.Result.{err_from_is_err_and}
-use Rattle.role_json.specs.Request.{separation_keys}
-use Rattle.role_json.proofs.request.separation_keys.Goals as goal
+use Rattle.role_json.specs.Fields.{separation_keys}
+use Rattle.role_json.proofs.fields.separation_keys.Goals as goal
 
 pub returns-in_err-cardinality-clause-err : goal.returns-in_err-cardinality-clause-err
 unfolding separation_keys

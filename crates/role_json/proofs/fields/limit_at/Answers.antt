@@ -1,8 +1,8 @@
 use Rattle.std.proofs.Common.{◌≡◌, refl, inl, inr, rules}
 use Rattle.std.proofs.lemmas.Result.{err_from_is_err_and}
-use Rattle.role_json.specs.Request.{limit_at}
+use Rattle.role_json.specs.Fields.{limit_at}
 use Rattle.role_json.proofs.Stepping.{refused_then}
-use Rattle.role_json.proofs.request.limit_at.Goals as goal
+use Rattle.role_json.proofs.fields.limit_at.Goals as goal
 
 pub returns-in_err-cardinality-clause-err : goal.returns-in_err-cardinality-clause-err
 unfolding limit_at
