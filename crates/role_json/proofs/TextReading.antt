@@ -6,16 +6,16 @@ use Rattle.std.proofs.Math.Seq.{drop-cons}
 use Rattle.serde_json.specs.Find.{as_str}
 use Rattle.serde_json.specs.View.{view, items_view}
 use Rattle.serde_json.specs.declared.value.Value.{Value}
-use Rattle.role_json.specs.Request.{texts_of}
+use Rattle.role_json.specs.Request.{texts_in}
 
 -- ---- lists of texts and of names
 
 -- the texts so far, and those of the values that are left
 abbrev pub texts_with : List (List ℕ) → List Value → Option (List (List ℕ))
-texts_with ts vs = option_map (λ us. ts ++ us) (texts_of (items_view vs))
+texts_with ts vs = option_map (λ us. ts ++ us) (texts_in (items_view vs))
 
-pub texts_with-nil : (vs : List Value) → texts_of (items_view vs) ≡ texts_with [] vs
-texts_with-nil vs = same (texts_of (items_view vs))
+pub texts_with-nil : (vs : List Value) → texts_in (items_view vs) ≡ texts_with [] vs
+texts_with-nil vs = same (texts_in (items_view vs))
   where
     same : (o : Option (List (List ℕ))) → o ≡ option_map (λ us. [] ++ us) o
     same None = refl
@@ -29,7 +29,7 @@ after_text ts t (Some us) = ap (λ (x : List (List ℕ)). Some x) (sym (append_a
 pub texts_with-text : (ts : List (List ℕ)) (vs : List Value) (i : ℕ) (v : Value) (t : List ℕ) → i < length vs → v ≡ get_or vs i v
     → as_str (view v) ≡ Some t → texts_with ts (drop i vs) ≡ texts_with (ts ++ t ∷ []) (drop (i + 1) vs)
 texts_with-text ts vs i v t h e text =
-    rw (add-one i, drop-cons vs i v h, ← e, text) (after_text ts t (texts_of (items_view (drop (suc i) vs))))
+    rw (add-one i, drop-cons vs i v h, ← e, text) (after_text ts t (texts_in (items_view (drop (suc i) vs))))
 
 pub texts_with-other : (ts : List (List ℕ)) (vs : List Value) (i : ℕ) (v : Value) → i < length vs → v ≡ get_or vs i v
     → as_str (view v) ≡ None → texts_with ts (drop i vs) ≡ None

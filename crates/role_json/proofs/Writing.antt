@@ -1,6 +1,6 @@
 -- Values of answers: lists in the making, and that no answer has a number that is no integer.
 use Rattle.std.proofs.Common.{◌≡◌, ◌≤◌, ◌<◌, ◌+◌, ℕ, pos, negsuc, List, [], ◌∷◌, ◌++◌, length, map, drop, get_or, suc, add-one, append_assoc, ap, refl}
-use Rattle.std.specs.Prelude.{Bool, false, ◌||◌}
+use Rattle.std.specs.Prelude.{Some, None, false, ◌||◌}
 use Rattle.std.proofs.lemmas.List.{append-nil, drop_all, map-append}
 use Rattle.std.proofs.Math.Seq.{drop-cons}
 use Rattle.serde_json.specs.Data.{Data, array, Items, item, string}
@@ -11,8 +11,9 @@ use Rattle.rbac_sets.specs.Sets.{Pair}
 use Rattle.rbac_sets.specs.declared.refusal.Refusal.{Refusal}
 use Rattle.rbac_sets.specs.declared.refusal.Refusal.TheVariants.{Version}
 use Rattle.admin_mgr.specs.Assignment.{Tally}
-use Rattle.role_json.specs.Answer.{refusal_data, refusal_text, texts_of}
-use Rattle.role_json.specs.Answer.{Told, NamesTold, PermissionsTold, CountTold, AccessTold, told, tally_in, pair_data, pairs_of, record_data, records_of, report_data, value_data, with_value, data_of, done_text, import_text, told_text, text_of}
+use Rattle.admin_mgr.specs.Planned.{tally_of_report}
+use Rattle.review_mgr.specs.Answering.{Told, NamesTold, PermissionsTold, CountTold, AccessTold, told}
+use Rattle.role_json.specs.Answer.{data_of, done_text, import_text, pair_data, pairs_of, record_data, records_of, refusal_data, refusal_text, report_data, text_of, texts_of, told_text, value_data, with_value}
 use Rattle.role_json.specs.declared.answer.Verdict.{Verdict}
 use Rattle.role_json.specs.declared.answer.Verdict.TheVariants as verdict
 
@@ -73,7 +74,8 @@ told-plain : (t : Told) → has_float (value_data t) ≡ false
 unfolding value_data
 told-plain (NamesTold names) = texts-plain names
 told-plain (PermissionsTold permissions) = pairs-plain permissions
-told-plain (CountTold count) = refl
+told-plain (CountTold (Some count)) = refl
+told-plain (CountTold None) = refl
 told-plain (AccessTold access) = refl
 
 report-plain : (tally : Tally) → has_float (report_data tally) ≡ false
@@ -90,7 +92,7 @@ refusal-plain _ = refl
 pub data_of-plain : (v : Verdict) → has_float (data_of v) ≡ false
 unfolding data_of
 data_of-plain verdict.Done = refl
-data_of-plain (verdict.Imported report) = value-plain (report_data (tally_in report)) (report-plain (tally_in report))
+data_of-plain (verdict.Imported report) = value-plain (report_data (tally_of_report report)) (report-plain (tally_of_report report))
 data_of-plain (verdict.Told answer) = value-plain (value_data (told answer)) (told-plain (told answer))
 data_of-plain (verdict.Refused refusal) = refusal-plain refusal
 

@@ -1,3 +1,4 @@
+pub mod Answer
 pub mod Function
 pub mod Request
 pub mod Requested

@@ -6,7 +6,8 @@ use Rattle.serde_json.specs.Data.{Data, Items, no_items, item}
 use Rattle.serde_json.specs.Find.{get, as_str, as_array, as_number, as_u64}
 use Rattle.serde_json.specs.Read.{read}
 use Rattle.rbac_sets.specs.Name.{is_name}
-use Rattle.rbac_sets.specs.Sets.{Names, from_list}
+use Rattle.rbac_sets.specs.Sets.{Names, Pair, from_list}
+use Rattle.rbac_sets.specs.declared.command.Command.{Command}
 use Rattle.rbac_sets.specs.declared.command.Command.TheVariants as command
 use Rattle.rbac_sets.specs.declared.refusal.Refusal.{Refusal}
 use Rattle.rbac_sets.specs.declared.refusal.Refusal.TheVariants.{BadName, BadRequest, UnknownFunction}
@@ -17,6 +18,7 @@ use Rattle.role_json.specs.Function.{function_named, takes_csv}
 use Rattle.role_json.specs.Steps.{◌>>=◌, or_refuse}
 use Rattle.role_json.specs.declared.function.Function.{Function}
 use Rattle.role_json.specs.declared.function.Function.TheVariants as function
+use Rattle.review_mgr.specs.declared.query.Query.{Query}
 use Rattle.review_mgr.specs.declared.query.Query.TheVariants as query
 
 -- the most bytes of a line
@@ -40,13 +42,13 @@ unfoldable pub count_at : List ℕ → Data → Result ℕ Refusal
 count_at key value = or_refuse BadRequest (option_and_then fits_u32 (option_and_then as_u64 (option_and_then as_number (get key value))))
 
 -- the texts of a list of texts
-abbrev pub texts_of : Items → Option (List (List ℕ))
-texts_of no_items = Some []
-texts_of (item value values) = option_and_then (λ text. option_map (λ texts. text ∷ texts) (texts_of values)) (as_str value)
+abbrev pub texts_in : Items → Option (List (List ℕ))
+texts_in no_items = Some []
+texts_in (item value values) = option_and_then (λ text. option_map (λ texts. text ∷ texts) (texts_in values)) (as_str value)
 
 -- the texts of the list at a key
 unfoldable pub texts_at : List ℕ → Data → Result (List (List ℕ)) Refusal
-texts_at key value = or_refuse BadRequest (option_and_then texts_of (option_and_then as_array (get key value)))
+texts_at key value = or_refuse BadRequest (option_and_then texts_in (option_and_then as_array (get key value)))
 
 -- the text as a name
 unfoldable pub name : List ℕ → Result (List ℕ) Refusal
@@ -130,59 +132,71 @@ session_at value = do
   session ← name keys.2
   Ok (user, roles, session)
 
+-- to have a command carried out that has no list of assignments
+abbrev pub change : Command → Result Requested Refusal
+change command = Ok (Change (Single command))
+
+-- to have these assignments imported
+abbrev pub import : List Pair → Result Requested Refusal
+import pairs = Ok (Change (Import pairs))
+
+-- to be told something
+abbrev pub ask : Query → Result Requested Refusal
+ask query = Ok (Ask query)
+
 -- what a call of a function asks for with the arguments in the value
 unfoldable pub request_to : Function → Data → Result Requested Refusal
-request_to function.AddUser value = name_at (codes "user") value >>= λ user. Ok (Change (Single (command.AddUser user)))
-request_to function.DeleteUser value = name_at (codes "user") value >>= λ user. Ok (Change (Single (command.DeleteUser user)))
-request_to function.AddRole value = name_at (codes "role") value >>= λ role. Ok (Change (Single (command.AddRole role)))
-request_to function.DeleteRole value = name_at (codes "role") value >>= λ role. Ok (Change (Single (command.DeleteRole role)))
-request_to function.AddPermObj value = name_at (codes "object") value >>= λ object. Ok (Change (Single (command.AddPermObj object)))
-request_to function.DeletePermObj value = name_at (codes "object") value >>= λ object. Ok (Change (Single (command.DeletePermObj object)))
-request_to function.AddPermission value = names_at (codes "object") (codes "operation") value >>= λ p. Ok (Change (Single (command.AddPermission p.0 p.1)))
-request_to function.DeletePermission value = names_at (codes "object") (codes "operation") value >>= λ p. Ok (Change (Single (command.DeletePermission p.0 p.1)))
-request_to function.GrantPermission value = three_at (codes "object") (codes "operation") (codes "role") value >>= λ p. Ok (Change (Single (command.GrantPermission p.0 p.1 p.2)))
-request_to function.RevokePermission value = three_at (codes "object") (codes "operation") (codes "role") value >>= λ p. Ok (Change (Single (command.RevokePermission p.0 p.1 p.2)))
-request_to function.AssignUser value = names_at (codes "user") (codes "role") value >>= λ p. Ok (Change (Single (command.AssignUser p.0 p.1)))
-request_to function.DeassignUser value = names_at (codes "user") (codes "role") value >>= λ p. Ok (Change (Single (command.DeassignUser p.0 p.1)))
-request_to function.AddInheritance value = names_at (codes "asc") (codes "desc") value >>= λ p. Ok (Change (Single (command.AddInheritance p.0 p.1)))
-request_to function.DeleteInheritance value = names_at (codes "asc") (codes "desc") value >>= λ p. Ok (Change (Single (command.DeleteInheritance p.0 p.1)))
-request_to function.AddAscendant value = names_at (codes "asc") (codes "desc") value >>= λ p. Ok (Change (Single (command.AddAscendant p.0 p.1)))
-request_to function.AddDescendant value = names_at (codes "asc") (codes "desc") value >>= λ p. Ok (Change (Single (command.AddDescendant p.0 p.1)))
-request_to function.CreateSsdSet value = separation_at value >>= λ p. Ok (Change (Single (command.CreateSsdSet p.0 (without_room p.1) p.2)))
-request_to function.AddSsdRoleMember value = names_at (codes "set") (codes "role") value >>= λ p. Ok (Change (Single (command.AddSsdRoleMember p.0 p.1)))
-request_to function.DeleteSsdRoleMember value = names_at (codes "set") (codes "role") value >>= λ p. Ok (Change (Single (command.DeleteSsdRoleMember p.0 p.1)))
-request_to function.SetSsdSetCardinality value = limit_at value >>= λ p. Ok (Change (Single (command.SetSsdSetCardinality p.0 p.1)))
-request_to function.DeleteSsdSet value = name_at (codes "set") value >>= λ set. Ok (Change (Single (command.DeleteSsdSet set)))
-request_to function.CreateDsdSet value = separation_at value >>= λ p. Ok (Change (Single (command.CreateDsdSet p.0 (without_room p.1) p.2)))
-request_to function.AddDsdRoleMember value = names_at (codes "set") (codes "role") value >>= λ p. Ok (Change (Single (command.AddDsdRoleMember p.0 p.1)))
-request_to function.DeleteDsdRoleMember value = names_at (codes "set") (codes "role") value >>= λ p. Ok (Change (Single (command.DeleteDsdRoleMember p.0 p.1)))
-request_to function.SetDsdSetCardinality value = limit_at value >>= λ p. Ok (Change (Single (command.SetDsdSetCardinality p.0 p.1)))
-request_to function.DeleteDsdSet value = name_at (codes "set") value >>= λ set. Ok (Change (Single (command.DeleteDsdSet set)))
-request_to function.CreateSession value = session_at value >>= λ p. Ok (Change (Single (command.CreateSession p.0 (without_room p.1) p.2)))
-request_to function.DeleteSession value = names_at (codes "user") (codes "session") value >>= λ p. Ok (Change (Single (command.DeleteSession p.0 p.1)))
-request_to function.AddActiveRole value = three_at (codes "user") (codes "session") (codes "role") value >>= λ p. Ok (Change (Single (command.AddActiveRole p.0 p.1 p.2)))
-request_to function.DropActiveRole value = three_at (codes "user") (codes "session") (codes "role") value >>= λ p. Ok (Change (Single (command.DropActiveRole p.0 p.1 p.2)))
-request_to function.LockUserAccount value = name_at (codes "user") value >>= λ user. Ok (Change (Single (command.LockUserAccount user)))
-request_to function.UnlockUserAccount value = name_at (codes "user") value >>= λ user. Ok (Change (Single (command.UnlockUserAccount user)))
-request_to function.ImportAssignments value = (text_at (codes "csv") value >>= assignments) >>= λ pairs. Ok (Change (Import pairs))
-request_to function.CheckAccess value = three_at (codes "session") (codes "operation") (codes "object") value >>= λ p. Ok (Ask (query.CheckAccess p.0 p.1 p.2))
-request_to function.AssignedUsers value = name_at (codes "role") value >>= λ role. Ok (Ask (query.AssignedUsers role))
-request_to function.AssignedRoles value = name_at (codes "user") value >>= λ user. Ok (Ask (query.AssignedRoles user))
-request_to function.AuthorizedUsers value = name_at (codes "role") value >>= λ role. Ok (Ask (query.AuthorizedUsers role))
-request_to function.AuthorizedRoles value = name_at (codes "user") value >>= λ user. Ok (Ask (query.AuthorizedRoles user))
-request_to function.RolePermissions value = name_at (codes "role") value >>= λ role. Ok (Ask (query.RolePermissions role))
-request_to function.UserPermissions value = name_at (codes "user") value >>= λ user. Ok (Ask (query.UserPermissions user))
-request_to function.SessionRoles value = name_at (codes "session") value >>= λ session. Ok (Ask (query.SessionRoles session))
-request_to function.SessionPermissions value = name_at (codes "session") value >>= λ session. Ok (Ask (query.SessionPermissions session))
-request_to function.RoleOperationsOnObject value = names_at (codes "role") (codes "object") value >>= λ p. Ok (Ask (query.RoleOperationsOnObject p.0 p.1))
-request_to function.UserOperationsOnObject value = names_at (codes "user") (codes "object") value >>= λ p. Ok (Ask (query.UserOperationsOnObject p.0 p.1))
-request_to function.SsdRoleSets value = Ok (Ask query.SsdRoleSets)
-request_to function.SsdRoleSetRoles value = name_at (codes "set") value >>= λ set. Ok (Ask (query.SsdRoleSetRoles set))
-request_to function.SsdRoleSetCardinality value = name_at (codes "set") value >>= λ set. Ok (Ask (query.SsdRoleSetCardinality set))
-request_to function.DsdRoleSets value = Ok (Ask query.DsdRoleSets)
-request_to function.DsdRoleSetRoles value = name_at (codes "set") value >>= λ set. Ok (Ask (query.DsdRoleSetRoles set))
-request_to function.DsdRoleSetCardinality value = name_at (codes "set") value >>= λ set. Ok (Ask (query.DsdRoleSetCardinality set))
-request_to function.PermissionRoles value = names_at (codes "object") (codes "operation") value >>= λ p. Ok (Ask (query.PermissionRoles p.0 p.1))
+request_to function.AddUser value = name_at (codes "user") value >>= λ user. change (command.AddUser user)
+request_to function.DeleteUser value = name_at (codes "user") value >>= λ user. change (command.DeleteUser user)
+request_to function.AddRole value = name_at (codes "role") value >>= λ role. change (command.AddRole role)
+request_to function.DeleteRole value = name_at (codes "role") value >>= λ role. change (command.DeleteRole role)
+request_to function.AddPermObj value = name_at (codes "object") value >>= λ object. change (command.AddPermObj object)
+request_to function.DeletePermObj value = name_at (codes "object") value >>= λ object. change (command.DeletePermObj object)
+request_to function.AddPermission value = names_at (codes "object") (codes "operation") value >>= λ p. change (command.AddPermission p.0 p.1)
+request_to function.DeletePermission value = names_at (codes "object") (codes "operation") value >>= λ p. change (command.DeletePermission p.0 p.1)
+request_to function.GrantPermission value = three_at (codes "object") (codes "operation") (codes "role") value >>= λ p. change (command.GrantPermission p.0 p.1 p.2)
+request_to function.RevokePermission value = three_at (codes "object") (codes "operation") (codes "role") value >>= λ p. change (command.RevokePermission p.0 p.1 p.2)
+request_to function.AssignUser value = names_at (codes "user") (codes "role") value >>= λ p. change (command.AssignUser p.0 p.1)
+request_to function.DeassignUser value = names_at (codes "user") (codes "role") value >>= λ p. change (command.DeassignUser p.0 p.1)
+request_to function.AddInheritance value = names_at (codes "asc") (codes "desc") value >>= λ p. change (command.AddInheritance p.0 p.1)
+request_to function.DeleteInheritance value = names_at (codes "asc") (codes "desc") value >>= λ p. change (command.DeleteInheritance p.0 p.1)
+request_to function.AddAscendant value = names_at (codes "asc") (codes "desc") value >>= λ p. change (command.AddAscendant p.0 p.1)
+request_to function.AddDescendant value = names_at (codes "asc") (codes "desc") value >>= λ p. change (command.AddDescendant p.0 p.1)
+request_to function.CreateSsdSet value = separation_at value >>= λ p. change (command.CreateSsdSet p.0 (without_room p.1) p.2)
+request_to function.AddSsdRoleMember value = names_at (codes "set") (codes "role") value >>= λ p. change (command.AddSsdRoleMember p.0 p.1)
+request_to function.DeleteSsdRoleMember value = names_at (codes "set") (codes "role") value >>= λ p. change (command.DeleteSsdRoleMember p.0 p.1)
+request_to function.SetSsdSetCardinality value = limit_at value >>= λ p. change (command.SetSsdSetCardinality p.0 p.1)
+request_to function.DeleteSsdSet value = name_at (codes "set") value >>= λ set. change (command.DeleteSsdSet set)
+request_to function.CreateDsdSet value = separation_at value >>= λ p. change (command.CreateDsdSet p.0 (without_room p.1) p.2)
+request_to function.AddDsdRoleMember value = names_at (codes "set") (codes "role") value >>= λ p. change (command.AddDsdRoleMember p.0 p.1)
+request_to function.DeleteDsdRoleMember value = names_at (codes "set") (codes "role") value >>= λ p. change (command.DeleteDsdRoleMember p.0 p.1)
+request_to function.SetDsdSetCardinality value = limit_at value >>= λ p. change (command.SetDsdSetCardinality p.0 p.1)
+request_to function.DeleteDsdSet value = name_at (codes "set") value >>= λ set. change (command.DeleteDsdSet set)
+request_to function.CreateSession value = session_at value >>= λ p. change (command.CreateSession p.0 (without_room p.1) p.2)
+request_to function.DeleteSession value = names_at (codes "user") (codes "session") value >>= λ p. change (command.DeleteSession p.0 p.1)
+request_to function.AddActiveRole value = three_at (codes "user") (codes "session") (codes "role") value >>= λ p. change (command.AddActiveRole p.0 p.1 p.2)
+request_to function.DropActiveRole value = three_at (codes "user") (codes "session") (codes "role") value >>= λ p. change (command.DropActiveRole p.0 p.1 p.2)
+request_to function.LockUserAccount value = name_at (codes "user") value >>= λ user. change (command.LockUserAccount user)
+request_to function.UnlockUserAccount value = name_at (codes "user") value >>= λ user. change (command.UnlockUserAccount user)
+request_to function.ImportAssignments value = text_at (codes "csv") value >>= assignments >>= import
+request_to function.CheckAccess value = three_at (codes "session") (codes "operation") (codes "object") value >>= λ p. ask (query.CheckAccess p.0 p.1 p.2)
+request_to function.AssignedUsers value = name_at (codes "role") value >>= λ role. ask (query.AssignedUsers role)
+request_to function.AssignedRoles value = name_at (codes "user") value >>= λ user. ask (query.AssignedRoles user)
+request_to function.AuthorizedUsers value = name_at (codes "role") value >>= λ role. ask (query.AuthorizedUsers role)
+request_to function.AuthorizedRoles value = name_at (codes "user") value >>= λ user. ask (query.AuthorizedRoles user)
+request_to function.RolePermissions value = name_at (codes "role") value >>= λ role. ask (query.RolePermissions role)
+request_to function.UserPermissions value = name_at (codes "user") value >>= λ user. ask (query.UserPermissions user)
+request_to function.SessionRoles value = name_at (codes "session") value >>= λ session. ask (query.SessionRoles session)
+request_to function.SessionPermissions value = name_at (codes "session") value >>= λ session. ask (query.SessionPermissions session)
+request_to function.RoleOperationsOnObject value = names_at (codes "role") (codes "object") value >>= λ p. ask (query.RoleOperationsOnObject p.0 p.1)
+request_to function.UserOperationsOnObject value = names_at (codes "user") (codes "object") value >>= λ p. ask (query.UserOperationsOnObject p.0 p.1)
+request_to function.SsdRoleSets value = ask query.SsdRoleSets
+request_to function.SsdRoleSetRoles value = name_at (codes "set") value >>= λ set. ask (query.SsdRoleSetRoles set)
+request_to function.SsdRoleSetCardinality value = name_at (codes "set") value >>= λ set. ask (query.SsdRoleSetCardinality set)
+request_to function.DsdRoleSets value = ask query.DsdRoleSets
+request_to function.DsdRoleSetRoles value = name_at (codes "set") value >>= λ set. ask (query.DsdRoleSetRoles set)
+request_to function.DsdRoleSetCardinality value = name_at (codes "set") value >>= λ set. ask (query.DsdRoleSetCardinality set)
+request_to function.PermissionRoles value = names_at (codes "object") (codes "operation") value >>= λ p. ask (query.PermissionRoles p.0 p.1)
 
 -- what a line asks for
 unfoldable pub request : List ℕ → Result Requested Refusal
@@ -199,7 +213,7 @@ json_body body = if nat_eq (length body) 0 then codes "{}" else body
 -- what a call of a function asks for with a body
 unfoldable pub body_to : Function → List ℕ → Result Requested Refusal
 body_to called body =
-    if takes_csv called then assignments body >>= (λ pairs. Ok (Change (Import pairs)))
+    if takes_csv called then assignments body >>= import
     else json_of (json_body body) >>= request_to called
 
 -- what a call of the function of this name asks for with a body

@@ -2,26 +2,15 @@
 ghost use Rattle.std.specs.Prelude.{◌≡◌, IfOk, IfErr, option_map, string_bytes};
 ghost use Rattle.serde_json.specs.Data.{array};
 ghost use Rattle.serde_json.specs.View.{view};
-ghost use Rattle.role_json.specs.Answer.{part_of, refusal_data, texts_of};
-ghost use Rattle.role_json.specs.Answer.{data_of, pair_data, pairs_of, record_data, records_of, report_data, tally_in, text_of, told, value_data};
+ghost use Rattle.admin_mgr.specs.Planned.{tally_of_report};
+ghost use Rattle.review_mgr.specs.Answering.{told};
+ghost use Rattle.role_json.specs.Answer.{data_of, pair_data, pairs_of, part_of, record_data, records_of, refusal_data, report_data, text_of, texts_of, value_data};
 
 use admin_mgr::Report;
 use rbac_sets::{Name, Refusal};
+use review_mgr::Answer;
 use serde_json::{Value, json};
 use std::alloc::{AllocError, Global};
-
-/// The answer to a question that isn't refused.
-#[derive(Drop)]
-pub enum Answer {
-    /// Names in byte order, none twice.
-    Names(Vec<Name>),
-    /// Permissions (object, operation) in byte order, none twice.
-    Permissions(Vec<(Name, Name)>),
-    /// A cardinality.
-    Count(u32),
-    /// Whether access is granted.
-    Access(bool),
-}
 
 /// What came of a request.
 #[derive(Drop)]
@@ -120,7 +109,7 @@ fn pair_value(alloc: Global, pair: &(Name, Name)) -> Result<Value, AllocError>
 // What is told of an import as a JSON value.
 #[tactic(auto, unfolding(crate::specs::Answer::report_data))]
 fn report_value(alloc: Global, report: &Report) -> Result<Value, AllocError>
-    ensures { IfOk result (λ value. view value ≡ report_data (tally_in report.now)) }
+    ensures { IfOk result (λ value. view value ≡ report_data (tally_of_report report.now)) }
 {
     let refused = records_value(alloc, &report.refused)?;
     json!(in alloc; {"already": report.already, "assigned": report.assigned, "refused": refused})
@@ -148,7 +137,7 @@ fn record_value(alloc: Global, pair: (u32, u32)) -> Result<Value, AllocError>
 }
 
 // The JSON value of a refusal.
-#[tactic(auto, unfolding(role_wire::specs::Answer::refusal_data))]
+#[tactic(auto, unfolding(crate::specs::Answer::refusal_data))]
 fn refusal_value(alloc: Global, refusal: &Refusal) -> Result<Value, AllocError>
     ensures { IfOk result (λ value. view value ≡ refusal_data refusal.now) }
 {

@@ -4,7 +4,7 @@ ghost use Rattle.serde_json.specs.View.{view, items_view};
 ghost use Rattle.rbac_sets.specs.Sets.{name_cmp};
 ghost use Rattle.rbac_sets.specs.SortedSet.{set_of};
 ghost use Rattle.role_json.specs.Requested.{requested};
-ghost use Rattle.role_json.specs.Request.{body_request, body_to, count_at, json_of, limit_at, name, name_at, name_set, names_at, request, request_to, separation_at, separation_keys, session_at, session_keys, text_at, texts_at, texts_at_three, texts_of, three_at, three_names};
+ghost use Rattle.role_json.specs.Request.{body_request, body_to, count_at, json_of, limit_at, name, name_at, name_set, names_at, request, request_to, separation_at, separation_keys, session_at, session_keys, text_at, texts_at, texts_at_three, texts_in, three_at, three_names};
 
 use crate::function::Function;
 use review_mgr::Query;
@@ -112,8 +112,8 @@ fn count(value: &Value, key: &str) -> Result<u32, Refusal>
 // The texts in a list of values, where each is a text.
 #[tactic(auto, using(crate::proofs::TextReading::texts_steps))]
 fn text_items<'v>(alloc: Global, values: &'v [Value]) -> Result<Vec<&'v str>, Refusal>
-    ensures ok { IfOk result (λ texts. texts_of (items_view values.entry.now) ≡ Some (map (λ text. text.now) texts.items)) }
-    ensures err { IfErr result (λ refusal. (refusal ≡ Refusal.Memory) ⊎ ((refusal ≡ Refusal.BadRequest) × (texts_of (items_view values.entry.now) ≡ None))) }
+    ensures ok { IfOk result (λ texts. texts_in (items_view values.entry.now) ≡ Some (map (λ text. text.now) texts.items)) }
+    ensures err { IfErr result (λ refusal. (refusal ≡ Refusal.Memory) ⊎ ((refusal ≡ Refusal.BadRequest) × (texts_in (items_view values.entry.now) ≡ None))) }
 {
     let mut texts = Vec::new(alloc);
     for value in values {
