@@ -1,25 +1,34 @@
--- What a head is answered.
-use Rattle.std.specs.Prelude.{◌≡◌, ◌≤◌, ◌⊎◌, ℕ, List, [], length, Option, Result, Ok, Err}
+-- What the head of a request is answered.
+use Rattle.std.specs.Prelude.{◌≡◌, ◌⊎◌, ◌++◌, ℕ, List, [], length, Option, Some, None, Result, Ok, Err}
 use Rattle.std.specs.Io.KnownBytes.{IsAtEnd}
-use Rattle.httparse.specs.Grammar.{RequestHead, print_request, ReadsRequest, HasNoRequest}
-use Rattle.httparse.specs.Spans.{RequestOverflows}
-use Rattle.role_http.specs.Judging.{judged_head}
+use Rattle.httparse.specs.Grammar.{RequestHead, HasNoRequest, NeverHasRequest}
+use Rattle.httparse.specs.Spans.{RequestExceeds, RequestOverflows}
 use Rattle.role_json.specs.declared.function.Function.{Function}
-use Rattle.role_http.specs.Head.{head_limit}
+use Rattle.role_http.specs.Head.{HasHead, longest_head, most_fields}
+use Rattle.role_http.specs.Judging.{judged_head}
 
--- the bytes that were read are a head within the limits that is judged so
-abbrev pub AnswersHead : ℕ → List ℕ → Result (Function × ℕ) ℕ → Type 0
-AnswersHead room bytes answer = (head : RequestHead) × ReadsRequest bytes head [] × (judged_head head ≡ answer) × (length (print_request head) ≤ head_limit) × (length head.fields ≤ room)
+-- the bytes that were taken, and those that are left where they are known
+abbrev pub with_left : List ℕ → Option (List ℕ) → List ℕ
+with_left taken None = taken
+with_left taken (Some left) = taken ++ left
 
--- the bytes that were read begin no head within the limits
-abbrev pub HasNone : ℕ → List ℕ → Option (List ℕ) → Type 0
-HasNone room bytes left = RequestOverflows room bytes ⊎ (HasNoRequest bytes × ((head_limit ≤ length bytes) ⊎ IsAtEnd left))
+-- the bytes that were read are a head within the limits, which is judged so
+abbrev pub AnswersHead : List ℕ → Result (Function × ℕ) ℕ → Type 0
+AnswersHead bytes answer = (head : RequestHead) × HasHead bytes head [] × (judged_head head ≡ answer)
 
--- there is no such head
-abbrev pub RefusesNone : ℕ → List ℕ → Option (List ℕ) → Result (Function × ℕ) ℕ → Type 0
-RefusesNone room bytes left (Ok call) = ⊥
-RefusesNone room bytes left (Err status) = ((status ≡ 400) ⊎ (status ≡ 431)) × HasNone room bytes left
+-- no bytes that follow make these a head, or none follow
+abbrev pub IsNoHead : List ℕ → Option (List ℕ) → Type 0
+IsNoHead bytes left = NeverHasRequest bytes ⊎ (HasNoRequest bytes × IsAtEnd left)
 
--- what was read of the bytes that a source has left after it
-abbrev pub Answers : ℕ → List ℕ → Option (List ℕ) → Result (Function × ℕ) ℕ → Type 0
-Answers room bytes left answer = AnswersHead room bytes answer ⊎ RefusesNone room bytes left answer
+-- they begin a head of too many fields, or are as many as a head may have and no whole one
+abbrev pub PassesLimits : List ℕ → Type 0
+PassesLimits bytes = (RequestExceeds most_fields bytes × RequestOverflows most_fields bytes) ⊎ (HasNoRequest bytes × (length bytes ≡ longest_head))
+
+-- they are no head within the limits, and this status says why
+abbrev pub RefusesBytes : List ℕ → Option (List ℕ) → Result (Function × ℕ) ℕ → Type 0
+RefusesBytes bytes left (Ok call) = ⊥
+RefusesBytes bytes left (Err status) = ((status ≡ 400) × IsNoHead bytes left) ⊎ ((status ≡ 431) × PassesLimits bytes)
+
+-- what is answered to the bytes that were read of a source, which has these left
+abbrev pub Answers : List ℕ → Option (List ℕ) → Result (Function × ℕ) ℕ → Type 0
+Answers bytes left answer = AnswersHead bytes answer ⊎ RefusesBytes bytes left answer

@@ -1,44 +1,65 @@
 //! What the head of a request is answered.
-ghost use Rattle.std.specs.Prelude.{◌≡◌, ◌≤◌, [], ℕ, List, IfErr, IfOk, OnErr, OnOk, length};
-ghost use Rattle.std.specs.Io.KnownBytes.{Consumes};
+ghost use Rattle.std.specs.Prelude.{◌≡◌, ◌≤◌, ℕ, List, IfErr, IfOk, OnErr, OnOk, length};
 ghost use Rattle.httparse.specs.Grammar.{RequestHead};
 ghost use Rattle.httparse.specs.Spans.{IsRequestAt, IsRequestWithin};
-ghost use Rattle.role_http.specs.Judging.{judged_head};
-ghost use Rattle.role_http.specs.Route.{routes};
 ghost use Rattle.rbac_sets.specs.Stream.{HasFailed};
 ghost use Rattle.role_http.specs.Answered.{Answers};
-ghost use Rattle.role_http.specs.Head.{IsInHead};
+ghost use Rattle.role_http.specs.Head.{TakesHead};
+ghost use Rattle.role_http.specs.Judging.{judged_head};
+ghost use Rattle.role_http.specs.Route.{routes};
 
-use crate::{HeadEnd, Stop, read_head};
+use crate::Unread;
+use crate::head::{HeadEnd, MOST_FIELDS, read_head};
+use crate::judge::judge_head;
+use crate::route::function_of;
 use http::StatusCode;
-use httparse::spans::{HeaderSpan, RequestSpans};
-use crate::{function_of, judge_head};
+use httparse::spans::{EMPTY_HEADER_SPAN, HeaderSpan, RequestSpans};
 use matchit::Router;
-use role_json::Function;
 use rbac_sets::Source;
+use role_json::Function;
+use std::alloc::Global;
 
-/// Reads a head, no byte past it, and judges it: it calls a function with a body of so many bytes, or
-/// is refused by a status.
+/// Reads the head of a request from `source`, no byte past it, and judges it. `router` has the one route.
+///
+/// The answer is the function that is called and how many bytes its body has, or the status by which the
+/// head is refused:
+///
+/// | Status | Where |
+/// |---|---|
+/// | 400 | the bytes are no head, the input ends before a whole one, or a Content-Length is empty, isn't digits alone, or differs from another |
+/// | 431 | no head ends within 8,192 bytes, or it has more than 64 fields |
+/// | 501 | it has a Transfer-Encoding |
+/// | 404 | the target isn't that of the route, or names no function |
+/// | 405 | the method isn't POST |
+/// | 411 | it has no Content-Length |
+/// | 413 | the body has more than 65,536 bytes, or 2,097,152 for `importAssignments` |
+///
+/// Of a whole head the first that holds from 501 on counts, where a bad Content-Length comes behind 501.
+///
+/// # Errors
+///
+/// `Fault` where a read of the source failed, and `Memory` where memory for the head was refused. No byte
+/// past the head was read then either.
 pub fn answer_head<R: Source>(
+    alloc: Global,
     router: &Router<()>,
     source: &mut R,
-    bytes: &mut Vec<u8>,
-    headers: &mut [HeaderSpan],
-) -> Result<Result<(Function, u32), StatusCode>, Stop>
-    requires empty { bytes.old.items ≡ [] }
+) -> Result<Result<(Function, u32), StatusCode>, Unread>
     requires route { router.now ≡ routes }
-    ensures answers { IfOk result (Answers (length headers.new) bytes.new.items (R.remaining source.new)) }
-    ensures reads { OnOk result (Consumes (R.remaining source.old) (R.remaining source.new) bytes.new.items) }
-    ensures room { length headers.new ≡ length headers.old }
-    ensures stops { OnErr result ((taken : List ℕ) × Consumes (R.remaining source.old) (R.remaining source.new) taken × IsInHead taken) }
+    ensures answers { IfOk result (λ answer. (taken : List ℕ) × TakesHead (R.remaining source.old) (R.remaining source.new) taken × Answers taken (R.remaining source.new) answer) }
+    ensures stops { OnErr result ((taken : List ℕ) × TakesHead (R.remaining source.old) (R.remaining source.new) taken) }
     ensures steady { OnOk result (R.failed source.new ≡ R.failed source.old) }
-    ensures cause { IfErr result (λ stop. stop ≡ Stop.Read → HasFailed (R.failed source.old) (R.failed source.new)) }
+    ensures fault { IfErr result (λ why. why ≡ Unread.Fault → HasFailed (R.failed source.old) (R.failed source.new)) }
+    ensures memory { IfErr result (λ why. why ≡ Unread.Memory → R.failed source.new ≡ R.failed source.old) }
 {
-    match read_head(source, bytes, headers)? {
-        HeadEnd::Whole(spans) => Ok(judge_whole(router, bytes.as_slice(), headers, &spans)),
-        HeadEnd::Invalid => Ok(Err(StatusCode::BAD_REQUEST)),
-        HeadEnd::Ended => Ok(Err(StatusCode::BAD_REQUEST)),
-        HeadEnd::TooLong => Ok(Err(StatusCode::REQUEST_HEADER_FIELDS_TOO_LARGE)),
+    let mut bytes = Vec::new(alloc);
+    let mut headers = [EMPTY_HEADER_SPAN; MOST_FIELDS];
+    match read_head(source, &mut bytes, &mut headers)? {
+        HeadEnd::Whole(spans) => Ok(judge_whole(router, bytes.as_slice(), &headers, &spans)),
+        HeadEnd::Invalid | HeadEnd::Ended => Ok(Err(StatusCode::BAD_REQUEST)),
+        HeadEnd::TooManyFields | HeadEnd::TooLong => {
+            Ok(Err(StatusCode::REQUEST_HEADER_FIELDS_TOO_LARGE))
+        }
     }
 }
 
@@ -51,7 +72,8 @@ fn judge_whole(
 ) -> Result<(Function, u32), StatusCode>
     requires route { router.now ≡ routes }
     requires within { IsRequestWithin bytes.now headers.now spans.now }
-    ensures { (head : RequestHead) → IsRequestAt bytes.now headers.now spans.now head → (judged_head head ≡ result) × (length head.fields ≤ length headers.now) }
+    ensures judged { (head : RequestHead) → IsRequestAt bytes.now headers.now spans.now head → judged_head head ≡ result }
+    ensures room { (head : RequestHead) → IsRequestAt bytes.now headers.now spans.now head → length head.fields ≤ length headers.now }
 {
     let named = function_of(router, spans.path.of(bytes));
     judge_head(bytes, headers, spans, named)

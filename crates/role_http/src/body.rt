@@ -3,23 +3,32 @@ ghost use Rattle.std.specs.Prelude.{◌≡◌, ◌≤◌, ◌<◌, ℕ, List, le
 ghost use Rattle.std.specs.Io.KnownBytes.{Consumes, IsAtEnd};
 ghost use Rattle.rbac_sets.specs.Stream.{HasFailed};
 
-use crate::head::Stop;
+use crate::Unread;
 use rbac_sets::{Fault, Source};
 use std::alloc::Global;
 
+// The most bytes of one read.
 const PIECE: usize = 8192;
 
-/// Reads so many bytes, or all that there are where there are fewer, and none past them.
+/// Reads `count` bytes, or all that there are where there are fewer, and none past them. Memory is taken for
+/// what comes, and not for what was announced.
 ///
 /// # Errors
 ///
-/// `Read` where the source failed, and `Memory` where memory was refused.
-pub fn read_bytes<R: Source>(alloc: Global, source: &mut R, count: usize) -> Result<Vec<u8>, Stop>
+/// `Fault` where a read of the source failed, and `Memory` where memory for the bytes was refused. No more
+/// than `count` bytes were taken then.
+pub fn read_bytes<R: Source>(
+    alloc: Global,
+    source: &mut R,
+    count: usize,
+) -> Result<Vec<u8>, Unread>
     ensures reads { IfOk result (λ bytes. Consumes (R.remaining source.old) (R.remaining source.new) bytes.items) }
     ensures within { IfOk result (λ bytes. length bytes.items ≤ count) }
     ensures end { IfOk result (λ bytes. length bytes.items < count → IsAtEnd (R.remaining source.new)) }
     ensures stops { OnErr result ((taken : List ℕ) × Consumes (R.remaining source.old) (R.remaining source.new) taken × (length taken ≤ count)) }
-    ensures cause { IfErr result (λ stop. stop ≡ Stop.Read → HasFailed (R.failed source.old) (R.failed source.new)) }
+    ensures steady { OnOk result (R.failed source.new ≡ R.failed source.old) }
+    ensures fault { IfErr result (λ why. why ≡ Unread.Fault → HasFailed (R.failed source.old) (R.failed source.new)) }
+    ensures memory { IfErr result (λ why. why ≡ Unread.Memory → R.failed source.new ≡ R.failed source.old) }
 {
     let mut piece = [0u8; PIECE];
     let mut bytes = Vec::new(alloc);
@@ -28,10 +37,10 @@ pub fn read_bytes<R: Source>(alloc: Global, source: &mut R, count: usize) -> Res
         let taken = match source.read(&mut piece[..most]) {
             Ok(0) => return Ok(bytes),
             Ok(taken) => taken,
-            Err(Fault) => return Err(Stop::Read),
+            Err(Fault) => return Err(Unread::Fault),
         };
         if bytes.extend_from_slice(&piece[..taken]).is_err() {
-            return Err(Stop::Memory);
+            return Err(Unread::Memory);
         }
     }
     Ok(bytes)

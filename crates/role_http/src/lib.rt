@@ -1,7 +1,25 @@
-//! Requests over HTTP: their heads, the one route, and how a reply is written.
+//! Requests over HTTP: the one route, the head of a request and what it is answered, the body, and how a
+//! reply is written.
+//!
+//! A request is `POST /v1/{function}` with a Content-Length; its body holds the arguments of the function.
 #![tactic(auto)]
 
+pub use answer::answer_head;
+pub use body::read_bytes;
+pub use reply::write_reply;
+pub use route::one_route;
+pub use status::{refused_body, status_of};
+pub use unread::Unread;
+
 pub mod answer;
-pub mod head;
-pub mod judge;
+pub mod body;
+pub mod laws;
+pub mod reply;
 pub mod route;
+pub mod status;
+pub mod unread;
+
+mod head;
+mod judge;
+#[cfg(test)]
+mod tests;

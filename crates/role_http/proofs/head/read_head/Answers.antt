@@ -1,20 +1,13 @@
-use Rattle.std.proofs.Common.{◌≡◌, ◌++◌, ◌∷◌, [], ◌∙◌, length, length-append, ap, sym, refl, rules, arith}
+use Rattle.std.proofs.Common.{◌≡◌, ◌≤◌, ◌++◌, ◌∷◌, [], ◌∙◌, length, length-append, ap, sym, refl, rules, arith}
 use Rattle.std.proofs.lemmas.List.{append-nil}
 use Rattle.httparse.specs.Grammar.{print_request}
-use Rattle.role_http.proofs.HeadLemmas.{consumes-keep, in_head, consumes-nil, consumes-push, no_request-nil, no_request-push, whole_at_last}
-use Rattle.role_http.proofs.read_head.Goals as goal
-use Rattle.role_http.proofs.read_head.Goals.{then-byte-eq10+in-Ok-Partial, else-byte-eq10}
+use Rattle.rbac_sets.proofs.Known.{Consumes-more, Consumes-none}
+use Rattle.role_http.proofs.Heads.{TakesHead-all, TakesHead-kept, TakesHead-more, no_request-nil, no_request-push, whole_at_last}
+use Rattle.role_http.proofs.head.read_head.Goals as goal
+use Rattle.role_http.proofs.head.read_head.Goals.{then-byte-eq10+in-Ok-Partial, else-byte-eq10}
 
 pub loop-init : goal.loop-init
-loop-init g c = rw c.requires record { none = no_request-nil; counted = refl; steady = refl; read = consumes-nil _ }
-
-pub returns-in-Ok-Complete-clause-ends : goal.returns-in-Ok-Complete-clause-ends
-returns-in-Ok-Complete-clause-ends g c =
-    let items : c.push.new.self.items ≡ c.loop.bytes.items ++ c.in-Ok-Some.byte ∷ [] = search rules in
-    let found = rw (c.in-Ok-Complete.field-0-is, c.as_slice.ensures.value) at c.in-Ok-Complete.ensures.complete in
-    let (h, at) = found in
-    let done = whole_at_last c.loop.bytes.items c.in-Ok-Some.byte h _ c.loop.invariant.none (rw items at at.reads) in
-    (h, at, ap length (sym (at.reads.1 ∙ (rw (items, done) (append-nil (print_request h))))), rw (items, length-append c.loop.bytes.items (c.in-Ok-Some.byte ∷ []), c.loop.invariant.counted) (omega (arith, c.loop-test.true)))
+loop-init g c = rw c.requires record { none = no_request-nil; counted = refl; steady = refl; read = Consumes-none _ }
 
 pub loop-preserved : goal.loop-preserved
 loop-preserved g c =
@@ -26,13 +19,48 @@ loop-preserved g c =
       ];
       counted = search rules;
       steady = search rules;
-      read = rw items (consumes-push _ _ _ c.loop.bytes.items c.in-Ok-Some.byte c.loop.invariant.read (rw c.in-Ok-Some.field-0-is at c.in-Ok-Some.ensures.byte));
+      read = rw items (Consumes-more _ _ _ c.loop.bytes.items (c.in-Ok-Some.byte ∷ []) c.loop.invariant.read (rw c.in-Ok-Some.field-0-is at c.in-Ok-Some.ensures.byte));
     }
+
+pub returns-in-Ok-Complete-clause-ends : goal.returns-in-Ok-Complete-clause-ends
+returns-in-Ok-Complete-clause-ends g c =
+    let items : c.push.new.self.items ≡ c.loop.bytes.items ++ c.in-Ok-Some.byte ∷ [] = search rules in
+    let found = rw (c.in-Ok-Complete.field-0-is, c.as_slice.ensures.value) at c.in-Ok-Complete.ensures.complete in
+    let (h, at) = found in
+    let done = whole_at_last c.loop.bytes.items c.in-Ok-Some.byte h _ c.loop.invariant.none (rw items at at.reads) in
+    (h, at, ap length (sym (at.reads.1 ∙ (rw (items, done) (append-nil (print_request h))))))
+
+-- ---- no byte past the head
+
+pub returns-in-Ok-None-clause-takes : goal.returns-in-Ok-None-clause-takes
+returns-in-Ok-None-clause-takes g c =
+    let l = c.loop.invariant in
+    TakesHead-kept _ _ _ c.loop.bytes.items l.none (rw l.counted (omega (arith, c.loop-test.true))) l.read (rw c.in-Ok-None.field-0-is at c.in-Ok-None.ensures.end)
 
 pub returns-in-Err-clause-stops : goal.returns-in-Err-clause-stops
 returns-in-Err-clause-stops g c =
-    (c.loop.bytes.items, consumes-keep _ _ _ c.loop.bytes.items c.loop.invariant.read c.in-Err.ensures.err, in_head c.loop.bytes.items c.loop.bytes.items c.loop.invariant.none [] (sym (append-nil c.loop.bytes.items)) (omega arith))
+    let l = c.loop.invariant in
+    (c.loop.bytes.items, TakesHead-kept _ _ _ c.loop.bytes.items l.none (rw l.counted (omega (arith, c.loop-test.true))) l.read c.in-Err.ensures.err)
 
 pub returns-then-is_err-clause-stops : goal.returns-then-is_err-clause-stops
 returns-then-is_err-clause-stops g c =
-    (c.loop.bytes.items ++ c.in-Ok-Some.byte ∷ [], consumes-push _ _ _ c.loop.bytes.items c.in-Ok-Some.byte c.loop.invariant.read (rw c.in-Ok-Some.field-0-is at c.in-Ok-Some.ensures.byte), in_head c.loop.bytes.items _ c.loop.invariant.none (c.in-Ok-Some.byte ∷ []) refl (omega arith))
+    let l = c.loop.invariant in
+    (_, TakesHead-more _ _ _ c.loop.bytes.items c.in-Ok-Some.byte l.none (rw l.counted (omega (arith, c.loop-test.true))) l.read (rw c.in-Ok-Some.field-0-is at c.in-Ok-Some.ensures.byte))
+
+pub returns-in-Ok-Complete-clause-takes : goal.returns-in-Ok-Complete-clause-takes
+returns-in-Ok-Complete-clause-takes g c =
+    let items : c.push.new.self.items ≡ c.loop.bytes.items ++ c.in-Ok-Some.byte ∷ [] = search rules in
+    let l = c.loop.invariant in
+    rw items (TakesHead-more _ _ _ c.loop.bytes.items c.in-Ok-Some.byte l.none (rw l.counted (omega (arith, c.loop-test.true))) l.read (rw c.in-Ok-Some.field-0-is at c.in-Ok-Some.ensures.byte))
+
+pub returns-in-Err-TooManyHeaders-clause-takes : goal.returns-in-Err-TooManyHeaders-clause-takes
+returns-in-Err-TooManyHeaders-clause-takes g c =
+    let items : c.push.new.self.items ≡ c.loop.bytes.items ++ c.in-Ok-Some.byte ∷ [] = search rules in
+    let l = c.loop.invariant in
+    rw items (TakesHead-more _ _ _ c.loop.bytes.items c.in-Ok-Some.byte l.none (rw l.counted (omega (arith, c.loop-test.true))) l.read (rw c.in-Ok-Some.field-0-is at c.in-Ok-Some.ensures.byte))
+
+pub returns-clause-takes : goal.returns-clause-takes
+returns-clause-takes g c =
+    let l = c.loop.invariant in
+    let all : c.loop.counter ≤ 8192 = search rules in
+    TakesHead-all _ _ c.loop.bytes.items l.none (rw l.counted all) l.read

@@ -1,7 +1,7 @@
 use Rattle.std.proofs.Common.{◌≡◌, ◌∙◌, ap, refl, sym, rules}
 use Rattle.role_http.specs.Pieces.{all_of, joined, texts_of}
-use Rattle.role_http.specs.Reply.{reply_bytes, pieces}
-use Rattle.role_http.proofs.write.write_reply.Goals as goal
+use Rattle.role_http.specs.ReplyBytes.{reply_bytes, pieces}
+use Rattle.role_http.proofs.reply.write_reply.Goals as goal
 
 pub returns-clause-ok : goal.returns-clause-ok
 unfolding reply_bytes

@@ -4,7 +4,7 @@ use Rattle.std.proofs.lemmas.Result.{err_from_is_err_and}
 use Rattle.rbac_sets.proofs.Known.{Appends-more}
 use Rattle.role_http.specs.Pieces.{all_of}
 use Rattle.role_http.proofs.Failing.{failed-later}
-use Rattle.role_http.proofs.write.write_pieces.Goals as goal
+use Rattle.role_http.proofs.reply.write_pieces.Goals as goal
 
 next : (pieces : List (Bor (List ℕ))) (i : ℕ) (d : Bor (List ℕ)) → i < length pieces → all_of (drop i pieces) ≡ (get_or pieces i d).now ++ all_of (drop (i + 1) pieces)
 next pieces i d h = rw (add-one i, drop-cons pieces i d h) refl

@@ -2,8 +2,8 @@ use Rattle.std.specs.Fmt.{digits}
 use Rattle.std.proofs.Common.{refl, sym, rules, ◌≡◌, ◌∙◌}
 use Rattle.serde_json.proofs.OnLiterals.{serde_json_on_literals}
 use Rattle.role_json.specs.Answer.{refusal_text, refusal_data}
-use Rattle.role_http.specs.Reply.{head_body}
-use Rattle.role_http.proofs.answers.refused_body.Goals as goal
+use Rattle.role_http.specs.Status.{head_body}
+use Rattle.role_http.proofs.status.refused_body.Goals as goal
 
 pub returns-then-eq : goal.returns-then-eq
 unfolding head_body refusal_text refusal_data digits serde_json_on_literals

@@ -2,19 +2,20 @@
 ghost use Rattle.std.specs.Prelude.{◌≡◌, ◌≤◌, ◌++◌, true, List, ℕ, OnOk, OnErr, length};
 ghost use Rattle.std.specs.Io.KnownBytes.{Appends};
 ghost use Rattle.rbac_sets.specs.Stream.{HasFailed};
-ghost use Rattle.role_http.specs.Reply.{allow, phrase, pieces, reply_bytes};
+ghost use Rattle.role_http.specs.ReplyBytes.{allow, phrase, pieces, reply_bytes};
 ghost use Rattle.role_http.specs.Pieces.{all_of, texts_of};
 
 use http::StatusCode;
 use itoa::Buffer;
 use rbac_sets::{Fault, Sink, write_all};
 
-/// Writes a reply with this status and body. It takes no memory.
+/// Writes a reply with this status and body, and with `Allow: POST` where the status is 405. It takes no
+/// memory.
 ///
 /// # Errors
 ///
-/// `Fault` where the sink failed or took no byte. A part of the reply that is not the whole was
-/// written then.
+/// `Fault` where a write failed, or took no byte though there was one. A part of the reply that is not the
+/// whole was written then.
 pub fn write_reply<W: Sink>(sink: &mut W, status: StatusCode, body: &[u8]) -> Result<(), Fault>
     ensures ok { OnOk result (Appends (W.written sink.old) (W.written sink.new) (reply_bytes status body.now)) }
     ensures part { OnErr result ((part rest : List ℕ) × (reply_bytes status body.now ≡ part ++ rest) × (1 ≤ length rest) × Appends (W.written sink.old) (W.written sink.new) part) }

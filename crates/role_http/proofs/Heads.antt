@@ -1,0 +1,139 @@
+-- Heads: none ends before a line feed, none past the bytes that were taken, and bytes begin with one at most.
+use Rattle.std.proofs.Common.{◌≡◌, ◌≤◌, ◌<◌, ◌∙◌, ◌+◌, ◌⊎◌, ◌≢◌, inl, inr, ℕ, List, [], ◌∷◌, ◌++◌, length, drop, Option, Some, None, Ok, Err, append_assoc, length-append, take, ap, sym, refl, arith}
+use Rattle.std.proofs.lemmas.List.{append-nil, same_from_push, take-append-drop, take-append-le, take_all}
+use Rattle.std.proofs.lemmas.Bool.{cases_lt}
+use Rattle.std.specs.List.{flat_map}
+use Rattle.std.specs.Io.KnownBytes.{Consumes, IsAtEnd, Keeps}
+use Rattle.httparse.specs.Ascii.{space}
+use Rattle.httparse.specs.Grammar.{LineEnd, crlf, lf, print_end, print_blank, print_version, print_field, print_section, RequestHead, print_request, ReadsRequest, HasNoRequest}
+use Rattle.httparse.proofs.GrammarLemmas.{ReadsRequest-append, request_unique}
+use Rattle.rbac_sets.proofs.Known.{Consumes-kept, Consumes-more, Consumes-no_more}
+use Rattle.role_http.specs.Answered.{with_left}
+use Rattle.role_http.specs.Head.{IsInHead, TakesHead, longest_head}
+use Rattle.role_http.specs.Judging.{judged_head}
+use Rattle.role_http.specs.Laws.{AnswersAreOfHeads, HeadsAreUnique}
+
+-- ---- the last byte of a head
+
+end_last : (e : LineEnd) → (front : List ℕ) × (print_end e ≡ front ++ 10 ∷ [])
+end_last crlf = (13 ∷ [], refl)
+end_last lf = ([], refl)
+
+after : (x y p f : List ℕ) → p ≡ f ++ 10 ∷ [] → x ++ (y ++ p) ≡ (x ++ (y ++ f)) ++ 10 ∷ []
+after x y p f e = rw e (sym (append_assoc x (y ++ f) (10 ∷ []) ∙ ap (λ (z : List ℕ). x ++ z) (append_assoc y f (10 ∷ []))))
+
+-- a head's last byte is a line feed
+pub print_request-last : (h : RequestHead) → (front : List ℕ) × (print_request h ≡ front ++ 10 ∷ [])
+unfolding print_request
+print_request-last h =
+    let e = end_last h.last in
+    (_, after (print_blank h.blank ++ h.method ++ space ∷ h.target ++ space ∷ print_version h.minor ++ print_end h.line_end) (flat_map print_field h.fields) (print_end h.last) e.0 e.1)
+
+-- a list is empty or has a last element
+last_of : (xs : List ℕ) → (xs ≡ []) ⊎ ((front : List ℕ) × (x : ℕ) × (xs ≡ front ++ x ∷ []))
+last_of [] = inl refl
+last_of (x ∷ xs) = elim (last_of xs) [
+  | inl e ↦ inr ([], x, ap (λ (z : List ℕ). x ∷ z) e)
+  | inr p ↦ inr (x ∷ p.0, p.1, ap (λ (z : List ℕ). x ∷ z) p.2)
+]
+
+nothing : (f rest : List ℕ) → [] ≡ (f ++ 10 ∷ []) ++ rest → ⊥
+nothing [] rest e = let f : ⊥ = cc in f
+nothing (y ∷ f) rest e = let f : ⊥ = cc in f
+
+-- no head is empty
+pub no_request-nil : HasNoRequest []
+no_request-nil h rest r =
+    let p = print_request-last h in
+    nothing p.0 rest (rw p.1 at r.1)
+
+-- where no prefix was a head, a head takes the byte that came last
+pub whole_at_last : (bs : List ℕ) (b : ℕ) (h : RequestHead) (rest : List ℕ) → HasNoRequest bs → ReadsRequest (bs ++ b ∷ []) h rest → rest ≡ []
+whole_at_last bs b h rest none r =
+    elim (last_of rest) [
+      | inl e ↦ e
+      | inr p ↦
+          let (front, x, e) = p in
+          let whole : bs ++ b ∷ [] ≡ (print_request h ++ front) ++ x ∷ [] = r.1 ∙ rw e (sym (append_assoc (print_request h) front (x ∷ []))) in
+          absurd (none h front (r.0, (same_from_push bs (print_request h ++ front) b x whole).0))
+    ]
+
+-- a byte that is no line feed ends no head
+pub no_request-push : (bs : List ℕ) (b : ℕ) → HasNoRequest bs → b ≢ 10 → HasNoRequest (bs ++ b ∷ [])
+no_request-push bs b none other h rest r =
+    let e = whole_at_last bs b h rest none r in
+    let (front, last) = print_request-last h in
+    let whole : bs ++ b ∷ [] ≡ front ++ 10 ∷ [] = r.1 ∙ rw (e, append-nil (print_request h)) last in
+    other (same_from_push bs front b 10 whole).1
+
+-- ---- bytes that have no head yet
+
+pub front_of : (a b c d : List ℕ) → a ++ b ≡ c ++ d → length a ≤ length c → c ≡ a ++ drop (length a) c
+front_of a b c d e h =
+    let left : take (length a) (a ++ b) ≡ a = take-append-le (length a) a b (omega arith) ∙ take_all (length a) a (omega arith) in
+    let right : take (length a) (c ++ d) ≡ take (length a) c = take-append-le (length a) c d h in
+    let same : take (length a) c ≡ a = sym right ∙ ap (take (length a)) (sym e) ∙ left in
+    sym (take-append-drop (length a) c) ∙ ap (λ (z : List ℕ). z ++ drop (length a) c) same
+
+-- a head at their front ends past them, whatever follows
+ends_past : (bytes later : List ℕ) → HasNoRequest bytes → (head : RequestHead) (rest : List ℕ) → ReadsRequest (bytes ++ later) head rest
+    → length bytes < length (print_request head)
+ends_past bytes later none head rest reads =
+    elim (cases_lt (length bytes) (length (print_request head))) [
+      | inl less ↦ less
+      | inr fits ↦ absurd (none head (drop (length (print_request head)) bytes) (reads.0, front_of (print_request head) rest bytes later (sym reads.1) fits))
+    ]
+
+-- so one byte more than them lies in it
+in_head : (bytes last : List ℕ) → HasNoRequest bytes → length last ≤ 1 → IsInHead (bytes ++ last)
+in_head bytes last none one later head rest reads =
+    let past = ends_past bytes (last ++ later) none head rest (rw (append_assoc bytes last later) at reads) in
+    omega (arith, past, one, length-append bytes last)
+
+-- they were taken
+pub TakesHead-all : (old new : Option (List ℕ)) (bytes : List ℕ) → HasNoRequest bytes → length bytes ≤ longest_head → Consumes old new bytes → TakesHead old new bytes
+TakesHead-all old new bytes none short all = (all, rw (append-nil bytes) at (in_head bytes [] none (omega arith)), short)
+
+-- they were taken, and then none
+pub TakesHead-kept : (old between new : Option (List ℕ)) (bytes : List ℕ) → HasNoRequest bytes → length bytes ≤ longest_head → Consumes old between bytes
+    → Keeps between new → TakesHead old new bytes
+TakesHead-kept old between new bytes none short before kept =
+    TakesHead-all old new bytes none short (Consumes-no_more old between new bytes before (Consumes-kept between new kept))
+
+-- a byte was taken besides
+pub TakesHead-more : (old between new : Option (List ℕ)) (bytes : List ℕ) (byte : ℕ) → HasNoRequest bytes → length bytes < longest_head → Consumes old between bytes
+    → Consumes between new (byte ∷ []) → TakesHead old new (bytes ++ byte ∷ [])
+TakesHead-more old between new bytes byte none short before more =
+    (Consumes-more old between new bytes (byte ∷ []) before more, in_head bytes (byte ∷ []) none (omega arith), rw (length-append bytes (byte ∷ [])) (omega (arith, short)))
+
+-- ---- laws
+
+pub heads_are_unique : HeadsAreUnique
+heads_are_unique bytes head other rest after has has_other = request_unique bytes head other rest after has.0 has_other.0
+
+-- what follows the bytes that were taken
+behind : (taken : List ℕ) (left : Option (List ℕ)) → (later : List ℕ) × (with_left taken left ≡ taken ++ later)
+behind taken None = ([], sym (append-nil taken))
+behind taken (Some left) = (left, refl)
+
+pub answers_are_of_heads : AnswersAreOfHeads
+answers_are_of_heads taken left answer (inl (own, has, is)) head rest stands =
+    let (later, same) = behind taken left in
+    let one = request_unique (taken ++ later) own head later rest (ReadsRequest-append taken own [] later has.0) (rw same at stands.0) in
+    (has.0.1 ∙ append-nil (print_request own) ∙ ap print_request one.0, sym is ∙ ap judged_head one.0)
+answers_are_of_heads taken left (Ok call) (inr nothing) head rest stands = absurd nothing
+answers_are_of_heads taken left (Err status) (inr (inl (bad, inl never))) head rest stands =
+    let (later, same) = behind taken left in
+    absurd (never later head rest (rw same at stands.0))
+answers_are_of_heads taken None (Err status) (inr (inl (bad, inr (none, at_end)))) head rest stands = absurd (none head rest stands.0)
+answers_are_of_heads taken (Some left) (Err status) (inr (inl (bad, inr (none, at_end)))) head rest stands =
+    let all : taken ++ left ≡ taken = rw at_end (append-nil taken) in
+    absurd (none head rest (rw all at stands.0))
+answers_are_of_heads taken left (Err status) (inr (inr (large, inl many))) head rest stands =
+    let (later, same) = behind taken left in
+    let more = many.1 later head rest (rw same at stands.0) in
+    absurd (omega (arith, more, stands.2))
+answers_are_of_heads taken left (Err status) (inr (inr (large, inr long))) head rest stands =
+    let (later, same) = behind taken left in
+    let past = ends_past taken later long.0 head rest (rw same at stands.0) in
+    absurd (omega (arith, past, long.1, stands.1))

@@ -1,0 +1,35 @@
+//! Statuses: by which one a refusal is told, and the body of a reply that refuses a head.
+ghost use Rattle.std.specs.Prelude.{◌≡◌};
+ghost use Rattle.role_http.specs.Status.{head_body, status_of};
+
+use http::StatusCode;
+use rbac_sets::Refusal;
+
+const BAD_REQUEST: &str = "{\"code\":34,\"error\":\"BadRequest\"}";
+const UNKNOWN_FUNCTION: &str = "{\"code\":35,\"error\":\"UnknownFunction\"}";
+
+/// The status by which a refusal is told: 400 for what is badly made, 404 for a function that isn't there,
+/// 503 for want of memory, 500 where the store failed or is closed, and 409 for what the standard refuses.
+pub fn status_of(refusal: &Refusal) -> StatusCode
+    ensures { result ≡ status_of refusal.now }
+{
+    match refusal.code() {
+        1 | 34 | 36 => StatusCode::BAD_REQUEST,
+        35 => StatusCode::NOT_FOUND,
+        40 => StatusCode::SERVICE_UNAVAILABLE,
+        41 | 42 => StatusCode::INTERNAL_SERVER_ERROR,
+        _ => StatusCode::CONFLICT,
+    }
+}
+
+/// The body of a reply that refuses a head by this status: the text of `UnknownFunction` for 404, and that of
+/// `BadRequest` for every other. It takes no memory.
+pub fn refused_body(status: StatusCode) -> &'static str
+    ensures { result.now ≡ head_body status }
+{
+    if status == StatusCode::NOT_FOUND {
+        UNKNOWN_FUNCTION
+    } else {
+        BAD_REQUEST
+    }
+}
