@@ -1,7 +1,7 @@
 use Rattle.std.proofs.Common.{◌≡◌, ◌∙◌, ap, sym}
 use Rattle.rbac_sets.specs.Sets.{members}
 use Rattle.role_csv.specs.Export.{export, exported}
-use Rattle.role_csv.proofs.write.write_assignments.Goals as goal
+use Rattle.role_csv.proofs.writing.write_assignments.Goals as goal
 
 pub returns-clause-part : goal.returns-clause-part
 returns-clause-part g c =
