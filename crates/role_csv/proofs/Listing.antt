@@ -90,11 +90,10 @@ module _ (text : Bytes) (number : ℕ) (pairs : List Pair) (old : TextReader) (h
       → (later : List Fields) × (assignments text ≡ pairs_then pairs (pair_then (judged number fields) (pairs_from (number + 1) later)))
   unfolding pairs_from
   next_listed fields new read =
-      let (later, all) = records-first text ((has.header ∷ has.body) ++ fields ∷ []) new read in
-      (
+      let (later, all) = records-first text ((has.header ∷ has.body) ++ fields ∷ []) new read in (
         later,
         assignments-fit text has.fits ∙ rw (all, has.is_header, append_assoc has.body (fields ∷ []) later)
-        (pairs_from-append 1 has.body (fields ∷ later) pairs has.pairs_are ∙ rw has.count refl),
+            (pairs_from-append 1 has.body (fields ∷ later) pairs has.pairs_are ∙ rw has.count refl),
       )
 
   -- it is refused

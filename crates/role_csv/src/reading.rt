@@ -38,10 +38,7 @@ pub fn read_assignments(alloc: Global, text: &[u8]) -> Result<Vec<(Name, Name)>,
     }
     let mut reader = reader_of(alloc, text);
     let mut row = ByteRecord::new(alloc);
-    if !next_record(&mut reader, &mut row)? {
-        return Err(Refusal::BadCsv(0));
-    }
-    if !is_header(&row) {
+    if !next_record(&mut reader, &mut row)? || !is_header(&row) {
         return Err(Refusal::BadCsv(0));
     }
     let mut pairs = Vec::new(alloc);
@@ -83,7 +80,12 @@ fn read_pair(alloc: Global, number: u32, row: &ByteRecord) -> Result<(Name, Name
 
 // The pair of the two fields of the record of this number.
 #[tactic(auto, unfolding(crate::specs::Assignments::pair_of))]
-fn read_fields(alloc: Global, number: u32, user: &[u8], role: &[u8]) -> Result<(Name, Name), Refusal>
+fn read_fields(
+    alloc: Global,
+    number: u32,
+    user: &[u8],
+    role: &[u8],
+) -> Result<(Name, Name), Refusal>
     ensures ok { IfOk result (λ pair. pair_of number (user.now ∷ role.now ∷ []) ≡ Ok pair) }
     ensures err { IfErr result (λ refusal. (refusal ≡ Refusal.Memory) ⊎ (pair_of number (user.now ∷ role.now ∷ []) ≡ Err refusal)) }
 {

@@ -1,20 +1,22 @@
-use Rattle.std.proofs.Common.{◌≡◌, ◌≤◌, ◌∙◌, [], ◌∷◌, refl, sym, inl, inr, rules, arith}
+use Rattle.std.proofs.Common.{◌∙◌, [], ◌∷◌, sym, inl, inr}
 use Rattle.std.proofs.lemmas.Result.{err_from_is_err_and}
 use Rattle.csv.specs.Records.{fields_of}
 use Rattle.role_csv.proofs.Listing.{assignments-long, no_header, bad_header, good_header, listed-all, listed-refused, listed-too_many, listed-more}
 use Rattle.role_csv.proofs.reading.read_assignments.Goals as goal
+use Rattle.role_csv.proofs.reading.read_assignments.Goals.{then-not-branch-via-then-not-branch, then-not-branch-via-else-not-branch+then-not-is_header}
 
 pub returns-then-text-gt-MOST_BYTES-clause-err : goal.returns-then-text-gt-MOST_BYTES-clause-err
 returns-then-text-gt-MOST_BYTES-clause-err c = inr (assignments-long c.args.text.now c.if-text-gt-MOST_BYTES.true)
 
 pub returns-then-not-branch-clause-err : goal.returns-then-not-branch-clause-err
 returns-then-not-branch-clause-err c =
-    inr (no_header c.args.text.now c.if-text-gt-MOST_BYTES.false (c.in_ok-next_record.ensures.end c.if-not-branch.true c.args.text.now [] c.reader_of-reader.ensures))
-
-pub returns-then-not-is_header-clause-err : goal.returns-then-not-is_header-clause-err
-returns-then-not-is_header-clause-err c =
-    inr (bad_header c.args.text.now (fields_of c.next_record.new.row) c.next_record.new.reader c.if-text-gt-MOST_BYTES.false
-    (c.in_ok-next_record.ensures.more c.if-not-branch.false c.args.text.now [] c.reader_of-reader.ensures) (sym c.is_header.ensures ∙ c.if-not-is_header.true))
+    inr (elim c.then-not-branch.branch [
+      | then-not-branch-via-then-not-branch w ↦
+          no_header c.args.text.now c.if-text-gt-MOST_BYTES.false (c.in_ok-next_record.ensures.end w.if-not-branch.true c.args.text.now [] c.reader_of-reader.ensures)
+      | then-not-branch-via-else-not-branch+then-not-is_header w ↦
+          bad_header c.args.text.now (fields_of c.next_record.new.row) c.next_record.new.reader c.if-text-gt-MOST_BYTES.false
+          (c.in_ok-next_record.ensures.more w.if-not-branch.false c.args.text.now [] c.reader_of-reader.ensures) (sym w.is_header.ensures ∙ w.if-not-is_header.true)
+    ])
 
 pub loop-number-init : goal.loop-number-init
 loop-number-init c =

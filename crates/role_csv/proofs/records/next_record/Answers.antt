@@ -1,4 +1,3 @@
-use Rattle.std.proofs.Common.{◌≡◌, rules, refl}
 use Rattle.csv.specs.Records.{fields_of}
 use Rattle.role_csv.proofs.ReadRecords.{read-more, read-none}
 use Rattle.role_csv.proofs.records.next_record.Goals as goal

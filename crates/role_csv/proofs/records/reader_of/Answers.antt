@@ -1,4 +1,4 @@
-use Rattle.std.proofs.Common.{◌≡◌, ◌∙◌, refl, sym, inl, inr, rules}
+use Rattle.std.proofs.Common.{◌∙◌, refl, sym, inr}
 use Rattle.csv.specs.Reading.{Reached}
 use Rattle.role_csv.proofs.records.reader_of.Goals as goal
 

@@ -1,4 +1,4 @@
-use Rattle.std.proofs.Common.{◌≡◌, ◌<◌, ◌+◌, ◌++◌, ◌∷◌, [], ◌∙◌, Some, ap, refl, sym, rules, arith, suc, add-one, append_assoc, codes, drop, get_or, length, List, ℕ}
+use Rattle.std.proofs.Common.{◌≡◌, ◌<◌, ◌+◌, ◌++◌, [], ◌∙◌, ap, refl, sym, arith, add-one, append_assoc, drop, get_or, length, List, ℕ}
 use Rattle.std.proofs.lemmas.List.{append-nil, drop_all}
 use Rattle.std.proofs.Math.Seq.{drop-cons}
 use Rattle.rbac_sets.specs.Sets.{Pair}
@@ -37,10 +37,10 @@ loop-user-preserved c =
         _,
         refl,
         ap (λ (z : List ℕ). z ++ lines_of (drop (c.loop-user.user-index + 1) c.args.pairs.now)) (told.text ∙ rw (c.as_str.ensures.text, c.as_str-in-loop-user.ensures.text) refl)
-        ∙ append_assoc before (line_of q) (lines_of (drop (c.loop-user.user-index + 1) c.args.pairs.now))
-        ∙ ap (λ (z : List ℕ). before ++ z) (sym step)
-        ∙ ap (λ (z : List ℕ). z ++ lines_of (drop c.loop-user.user-index c.args.pairs.now)) same
-        ∙ all,
+            ∙ append_assoc before (line_of q) (lines_of (drop (c.loop-user.user-index + 1) c.args.pairs.now))
+            ∙ ap (λ (z : List ℕ). before ++ z) (sym step)
+            ∙ ap (λ (z : List ℕ). z ++ lines_of (drop c.loop-user.user-index c.args.pairs.now)) same
+            ∙ all,
       );
     }
 
