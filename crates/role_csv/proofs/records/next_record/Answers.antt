@@ -1,7 +1,6 @@
-use Rattle.std.proofs.Common.{◌≡◌, rules, refl}
 use Rattle.csv.specs.Records.{fields_of}
-use Rattle.role_csv.proofs.Listing.{read-more, read-none}
-use Rattle.role_csv.proofs.read.next_row.Goals as goal
+use Rattle.role_csv.proofs.ReadRecords.{read-more, read-none}
+use Rattle.role_csv.proofs.records.next_record.Goals as goal
 
 pub returns-clause-more : goal.returns-clause-more
 returns-clause-more c found text rows has =

@@ -1,12 +1,12 @@
-use Rattle.std.proofs.Common.{◌≡◌, ◌<◌, ◌+◌, ◌++◌, ◌∷◌, [], ◌∙◌, Some, ap, refl, sym, rules, arith, suc, add-one, append_assoc, codes, drop, get_or, length, List, ℕ}
+use Rattle.std.proofs.Common.{◌≡◌, ◌<◌, ◌+◌, ◌++◌, [], ◌∙◌, ap, refl, sym, arith, add-one, append_assoc, drop, get_or, length, List, ℕ}
 use Rattle.std.proofs.lemmas.List.{append-nil, drop_all}
 use Rattle.std.proofs.Math.Seq.{drop-cons}
 use Rattle.rbac_sets.specs.Sets.{Pair}
-use Rattle.role_csv.specs.Export.{export, line, lines}
-use Rattle.role_csv.proofs.write.export_text.Goals as goal
+use Rattle.role_csv.specs.Export.{export, line_of, lines_of}
+use Rattle.role_csv.proofs.writing.export_text.Goals as goal
 
-lines_step : (pairs : List Pair) (i : ℕ) (q : Pair) → i < length pairs → q ≡ get_or pairs i q → lines (drop i pairs) ≡ line q ++ lines (drop (i + 1) pairs)
-unfolding lines
+lines_step : (pairs : List Pair) (i : ℕ) (q : Pair) → i < length pairs → q ≡ get_or pairs i q → lines_of (drop i pairs) ≡ line_of q ++ lines_of (drop (i + 1) pairs)
+unfolding lines_of
 lines_step pairs i q h is = rw (add-one i, drop-cons pairs i q h, ← is) refl
 
 pub loop-user-init : goal.loop-user-init
@@ -15,10 +15,10 @@ loop-user-init c =
     let from = c.from_writer-writer.ensures in
     let told = c.in_ok-write_pair.ensures in
     record {
-      fresh = told.fresh;
+      ended = told.ended;
       clean = told.clean;
       plain = told.plain;
-      text = (_, refl, ap (λ (z : List ℕ). z ++ lines c.args.pairs.now) (told.text ∙ rw (from.wtr, c.new-2.ensures.items, from.empty) refl));
+      text = (_, refl, ap (λ (z : List ℕ). z ++ lines_of c.args.pairs.now) (told.text ∙ rw (from.wtr, c.new-2.ensures.items, from.empty) refl));
     }
 
 pub loop-user-preserved : goal.loop-user-preserved
@@ -30,22 +30,22 @@ loop-user-preserved c =
     let same : before ≡ t = cc at in
     let step = lines_step c.args.pairs.now c.loop-user.user-index q c.loop-user-test.true c.loop-user-item.is in
     record {
-      fresh = told.fresh;
+      ended = told.ended;
       clean = told.clean;
       plain = told.plain;
       text = (
         _,
         refl,
-        ap (λ (z : List ℕ). z ++ lines (drop (c.loop-user.user-index + 1) c.args.pairs.now)) (told.text ∙ rw (c.as_str.ensures.text, c.as_str-in-loop-user.ensures.text) refl)
-        ∙ append_assoc before (line q) (lines (drop (c.loop-user.user-index + 1) c.args.pairs.now))
-        ∙ ap (λ (z : List ℕ). before ++ z) (sym step)
-        ∙ ap (λ (z : List ℕ). z ++ lines (drop c.loop-user.user-index c.args.pairs.now)) same
-        ∙ all,
+        ap (λ (z : List ℕ). z ++ lines_of (drop (c.loop-user.user-index + 1) c.args.pairs.now)) (told.text ∙ rw (c.as_str.ensures.text, c.as_str-in-loop-user.ensures.text) refl)
+            ∙ append_assoc before (line_of q) (lines_of (drop (c.loop-user.user-index + 1) c.args.pairs.now))
+            ∙ ap (λ (z : List ℕ). before ++ z) (sym step)
+            ∙ ap (λ (z : List ℕ). z ++ lines_of (drop c.loop-user.user-index c.args.pairs.now)) same
+            ∙ all,
       );
     }
 
 pub returns-in-Ok-clause-text : goal.returns-in-Ok-clause-text
-unfolding lines
+unfolding lines_of
 returns-in-Ok-clause-text c =
     let (t, at, all) = c.loop-user.invariant.text in
     let before : List ℕ = c.loop-user.writer.wtr.inner.items ++ c.loop-user.writer.wtr.buf in

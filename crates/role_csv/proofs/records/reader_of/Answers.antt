@@ -1,6 +1,6 @@
-use Rattle.std.proofs.Common.{◌≡◌, ◌∙◌, refl, sym, inl, inr, rules}
+use Rattle.std.proofs.Common.{◌∙◌, refl, sym, inr}
 use Rattle.csv.specs.Reading.{Reached}
-use Rattle.role_csv.proofs.read.reader_of.Goals as goal
+use Rattle.role_csv.proofs.records.reader_of.Goals as goal
 
 pub returns : goal.returns
 unfolding Reached
