@@ -1,6 +1,6 @@
 -- The fields of a head, gone through in order.
-use Rattle.std.proofs.Common.{◌≡◌, ◌<◌, ◌≤◌, ◌∙◌, ◌+◌, ℕ, suc, List, [], ◌∷◌, Bool, true, false, length, map, drop, get_or, Option, Some, None, Ok, Err, ap, refl, sym, rules, add-one}
-use Rattle.std.specs.Prelude.{◌||◌, ◌&&◌, not, Result, codes}
+use Rattle.std.proofs.Common.{◌≡◌, ◌<◌, ◌≤◌, ◌+◌, ℕ, List, [], ◌∷◌, true, false, length, map, drop, get_or, Option, Some, Ok, Err, refl, add-one}
+use Rattle.std.specs.Prelude.{◌&&◌}
 use Rattle.std.specs.Str.{str_eq_ignore_ascii_case}
 use Rattle.std.proofs.lemmas.List.{drop_all}
 use Rattle.std.proofs.Math.Seq.{drop-cons}
@@ -55,6 +55,3 @@ module _ (name bytes : List ℕ) (headers : List HeaderSpan) (i : ℕ) (d : Head
 pub one_length-end : (name bytes : List ℕ) (headers : List HeaderSpan) (i : ℕ) (before : Option (List ℕ)) → length headers ≤ i → one_length before (values_of name (rest_of bytes headers i)) ≡ Ok before
 unfolding values_of one_length
 one_length-end name bytes headers i before h = rw (rest_of-end bytes headers i h) refl
-
-pub ruleset has_field_steps = (has_field-here, has_field-later, has_field-none)
-pub ruleset one_length_steps = (one_length-other, one_length-more, one_length-bad, one_length-end)

@@ -1,6 +1,6 @@
 -- What the router of one route answers.
-use Rattle.std.proofs.Common.{◌≡◌, ◌<◌, ◌≤◌, ◌∙◌, ◌+◌, ◌-◌, ℕ, zero, suc, List, [], ◌∷◌, ◌++◌, Bool, true, false, cond, ◌⊎◌, length, drop, take, Option, Some, None, ap, subst, refl, sym, rules, arith, inl, inr, codes}
-use Rattle.std.specs.Prelude.{◌&&◌, ◌==◌, not, option_and_then, option_map, ltb, leb, IsTrue}
+use Rattle.std.proofs.Common.{◌≡◌, ◌<◌, ◌∙◌, ◌-◌, ℕ, zero, suc, List, [], ◌∷◌, ◌++◌, true, false, cond, ◌⊎◌, length, Option, Some, None, ap, subst, refl, sym, rules, arith, inl, inr, codes}
+use Rattle.std.specs.Prelude.{◌&&◌, ◌==◌, not, option_and_then, option_map, ltb, leb}
 use Rattle.std.specs.List.{list_any, list_all}
 use Rattle.std.proofs.lemmas.Bool.{cases_Bool, and_parts, not-true, eqb-true}
 use Rattle.matchit.specs.Rows.{RowsOf, param_token, catch_all_token}

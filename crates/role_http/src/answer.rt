@@ -19,27 +19,27 @@ use rbac_sets::Source;
 use role_json::Function;
 use std::alloc::Global;
 
-/// Reads the head of a request from `source`, no byte past it, and judges it. `router` has the one route.
+/// Reads the head of a request from `source`, no byte past it, and judges it. `router` is that of
+/// `one_route`.
 ///
-/// The answer is the function that is called and how many bytes its body has, or the status by which the
-/// head is refused:
+/// The answer is the function that the head calls and how many bytes its body has, or the status by which
+/// it is refused, the first of these that holds:
 ///
 /// | Status | Where |
 /// |---|---|
-/// | 400 | the bytes are no head, the input ends before a whole one, or a Content-Length is empty, isn't digits alone, or differs from another |
-/// | 431 | no head ends within 8,192 bytes, or it has more than 64 fields |
-/// | 501 | it has a Transfer-Encoding |
+/// | 400 | the bytes are no head, or the input ends before a whole one |
+/// | 431 | the head has more than 64 fields, or doesn't end within 8,192 bytes |
+/// | 501 | there is a Transfer-Encoding |
+/// | 400 | a Content-Length is empty or isn't digits alone, or two have different bytes |
 /// | 404 | the target isn't that of the route, or names no function |
 /// | 405 | the method isn't POST |
-/// | 411 | it has no Content-Length |
+/// | 411 | there is no Content-Length |
 /// | 413 | the body has more than 65,536 bytes, or 2,097,152 for `importAssignments` |
-///
-/// Of a whole head the first that holds from 501 on counts, where a bad Content-Length comes behind 501.
 ///
 /// # Errors
 ///
 /// `Fault` where a read of the source failed, and `Memory` where memory for the head was refused. No byte
-/// past the head was read then either.
+/// past the head was taken then either.
 pub fn answer_head<R: Source>(
     alloc: Global,
     router: &Router<()>,

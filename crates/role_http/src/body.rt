@@ -17,11 +17,7 @@ const PIECE: usize = 8192;
 ///
 /// `Fault` where a read of the source failed, and `Memory` where memory for the bytes was refused. No more
 /// than `count` bytes were taken then.
-pub fn read_bytes<R: Source>(
-    alloc: Global,
-    source: &mut R,
-    count: usize,
-) -> Result<Vec<u8>, Unread>
+pub fn read_bytes<R: Source>(alloc: Global, source: &mut R, count: usize) -> Result<Vec<u8>, Unread>
     ensures reads { IfOk result (λ bytes. Consumes (R.remaining source.old) (R.remaining source.new) bytes.items) }
     ensures within { IfOk result (λ bytes. length bytes.items ≤ count) }
     ensures end { IfOk result (λ bytes. length bytes.items < count → IsAtEnd (R.remaining source.new)) }

@@ -13,12 +13,16 @@ use http::{Method, StatusCode};
 use httparse::spans::{HeaderSpan, RequestSpans};
 use role_json::Function;
 
+// The most bytes of a body of JSON.
 const MOST_JSON: u32 = 65_536;
+
+// The most bytes of a body of CSV.
 const MOST_CSV: u32 = 2_097_152;
 
 /// The function that a head calls and how many bytes its body has, or the status of its refusal.
 ///
-/// `named` is the function that its target names.
+/// `spans` and `headers` are where the parts of the head are in `bytes`, and `named` is the function that
+/// its target names.
 pub fn judge_head(
     bytes: &[u8],
     headers: &[HeaderSpan],
@@ -144,7 +148,11 @@ fn are_digits(value: &[u8]) -> bool
 fn most_bytes_of(called: Function) -> u32
     ensures { result ≡ most_bytes_of called }
 {
-    if called.takes_csv() { MOST_CSV } else { MOST_JSON }
+    if called.takes_csv() {
+        MOST_CSV
+    } else {
+        MOST_JSON
+    }
 }
 
 // The number that digits write, where it is at most this.

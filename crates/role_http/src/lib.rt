@@ -13,13 +13,12 @@ pub use unread::Unread;
 
 pub mod answer;
 pub mod body;
+mod head;
+mod judge;
 pub mod laws;
 pub mod reply;
 pub mod route;
 pub mod status;
-pub mod unread;
-
-mod head;
-mod judge;
 #[cfg(test)]
 mod tests;
+pub mod unread;

@@ -27,7 +27,13 @@ pub fn write_reply<W: Sink>(sink: &mut W, status: StatusCode, body: &[u8]) -> Re
     let reason = reason(status);
     let mut count = Buffer::new();
     let count = count.format(body.len());
-    let pieces = pieces_of(code.as_bytes(), reason.as_bytes(), count.as_bytes(), allow(status), body);
+    let pieces = pieces_of(
+        code.as_bytes(),
+        reason.as_bytes(),
+        count.as_bytes(),
+        allow(status),
+        body,
+    );
     write_pieces(sink, &pieces)
 }
 

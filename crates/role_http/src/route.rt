@@ -8,7 +8,7 @@ use rbac_sets::Refusal;
 use role_json::Function;
 use std::alloc::Global;
 
-/// The router of the one route.
+/// The router of the one route, `/v1/{function}`. It is made once, and lent to each `answer_head`.
 ///
 /// # Errors
 ///
@@ -24,7 +24,8 @@ pub fn one_route(alloc: Global) -> Result<Router<()>, Refusal>
     Ok(router)
 }
 
-/// The function that a target names. It takes no memory.
+/// The function that a target names, or `None` where the target isn't UTF-8, isn't that of the route, or names
+/// no function. It takes no memory.
 pub fn function_of(router: &Router<()>, target: &[u8]) -> Option<Function>
     requires { router.now ≡ routes }
     ensures { result ≡ function_in target.now }

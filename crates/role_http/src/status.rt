@@ -6,6 +6,7 @@ use http::StatusCode;
 use rbac_sets::Refusal;
 
 const BAD_REQUEST: &str = "{\"code\":34,\"error\":\"BadRequest\"}";
+
 const UNKNOWN_FUNCTION: &str = "{\"code\":35,\"error\":\"UnknownFunction\"}";
 
 /// The status by which a refusal is told: 400 for what is badly made, 404 for a function that isn't there,

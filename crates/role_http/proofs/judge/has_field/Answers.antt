@@ -1,4 +1,4 @@
-use Rattle.std.proofs.Common.{◌≡◌, ◌∙◌, refl, sym, rules}
+use Rattle.std.proofs.Common.{◌∙◌, sym}
 use Rattle.role_http.proofs.Fields.{has_field-here, has_field-later, has_field-none}
 use Rattle.role_http.proofs.judge.has_field.Goals as goal
 

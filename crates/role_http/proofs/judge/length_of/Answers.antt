@@ -1,7 +1,5 @@
-use Rattle.std.proofs.Common.{◌≡◌, ◌≤◌, ◌<◌, ◌∙◌, ◌+◌, ◌-◌, ◌*◌, true, refl, sym, rules, arith, drop, get_or, ℕ, List, length}
-use Rattle.std.specs.Str.Parse.{digits_value, digits_value_after}
+use Rattle.std.proofs.Common.{◌∙◌, ◌+◌, refl, sym, drop}
 use Rattle.std.proofs.lemmas.List.{drop_all}
-use Rattle.role_http.specs.Judging.{is_length}
 use Rattle.role_http.proofs.Digits.{digit_at, digit_of, digit_step, length_of-all, length_of-large}
 use Rattle.role_http.proofs.judge.length_of.Goals as goal
 

@@ -1,4 +1,4 @@
-use Rattle.std.proofs.Common.{◌≡◌, refl, rules}
+use Rattle.std.proofs.Common.{refl}
 use Rattle.role_http.proofs.reply.pieces_of.Goals as goal
 
 pub returns : goal.returns

@@ -1,4 +1,3 @@
-use Rattle.std.proofs.Common.{rules}
 use Rattle.matchit.proofs.OnLiterals.{matchit_on_literals}
 use Rattle.role_http.proofs.route.one_route.Goals as goal
 

@@ -1,5 +1,5 @@
 use Rattle.std.specs.Fmt.{digits}
-use Rattle.std.proofs.Common.{refl, sym, rules, ◌≡◌, ◌∙◌}
+use Rattle.std.proofs.Common.{refl, sym, ◌∙◌}
 use Rattle.serde_json.proofs.OnLiterals.{serde_json_on_literals}
 use Rattle.role_json.specs.Answer.{refusal_text, refusal_data}
 use Rattle.role_http.specs.Status.{head_body}
