@@ -2,7 +2,7 @@
 ghost use Rattle.std.specs.Prelude.{◌≡◌, ◌⊎◌, ◌++◌, ◌≤◌, ℕ, List, true, false, length, Some, Err, IfErr, IfOk, OnErr, OnOk};
 ghost use Rattle.std.specs.Io.KnownBytes.{Appends};
 ghost use Rattle.csv.specs.Writing.{default_writer, fields_written, has_written, writer_setup};
-ghost use Rattle.rbac_sets.specs.Stream.{HasFailed};
+ghost use Rattle.rbac_sets.specs.Stream.{HasRisen};
 ghost use Rattle.role_csv.specs.Export.{export, exported, held_by, line_of};
 
 use admin_mgr::State;
@@ -28,7 +28,7 @@ pub fn write_assignments<W: Sink>(alloc: Global, state: &State, sink: &mut W) ->
     ensures memory { result ≡ Err Refusal.Memory → sink.new ≡ sink.old }
 
     ensures cause { IfErr result (λ refusal. (refusal ≡ Refusal.Memory) ⊎ (refusal ≡ Refusal.Store)) }
-    ensures store { result ≡ Err Refusal.Store → W.takes_some ≡ true → HasFailed (W.failed sink.old) (W.failed sink.new) }
+    ensures store { result ≡ Err Refusal.Store → HasRisen (W.failed sink.old) (W.failed sink.new) ⊎ HasRisen (W.idle sink.old) (W.idle sink.new) }
 {
     let text = export_text(alloc, state.assignments().as_slice())?;
     match write_all(sink, &text) {
