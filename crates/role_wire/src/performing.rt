@@ -4,8 +4,11 @@ ghost use Rattle.sqlite.specs.Held.{state};
 ghost use Rattle.rbac_sets.specs.Asked.{asked_of};
 ghost use Rattle.role_json.specs.Answer.{text_of};
 ghost use Rattle.role_json.specs.Requested.{requested, Change, Ask};
+ghost use Rattle.admin_mgr.specs.Planned.{tally_of_report};
+ghost use Rattle.role_wire.specs.Outcome.{accepted_text};
 ghost use Rattle.role_wire.specs.Performing.{Declines, Performs};
 
+use admin_mgr::Report;
 use rbac_sets::{Command, Refusal};
 use review_mgr::{Query, ask};
 use role_json::{Request, Verdict};
@@ -38,10 +41,17 @@ fn change<S: Alter>(
     ensures refused { IfErr result (λ refusal. Declines (state S.Store) office.old (Change (asked_of command.now)) refusal office.new) }
 {
     let report = office.apply(alloc, command)?;
-    if matches!(command, Command::ImportAssignments(_)) {
-        Ok(Verdict::Imported(report))
-    } else {
-        Ok(Verdict::Done)
+    Ok(verdict_on(command, report))
+}
+
+// The verdict on a command that was done, which tells of an import what was done with its records.
+#[tactic(auto, unfolding(rbac_sets::specs::Asked::asked_of, role_json::specs::Answer::text_of))]
+fn verdict_on(command: &Command, report: Report) -> Verdict
+    ensures { text_of result ≡ accepted_text (asked_of command.now) (tally_of_report report) }
+{
+    match command {
+        Command::ImportAssignments(_) => Verdict::Imported(report),
+        _ => Verdict::Done,
     }
 }
 
