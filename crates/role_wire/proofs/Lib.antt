@@ -1,1 +1,7 @@
+pub mod Answering
+pub mod Judged
 pub mod Performed
+pub mod ReadSoFar
+pub mod Results
+pub mod Splitting
+pub mod Stopping
