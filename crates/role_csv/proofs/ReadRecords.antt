@@ -76,7 +76,8 @@ module _ (text : Bytes) (rows : List Fields) (reader : TextReader) (has : HasRea
   read_then : records_of text ≡ rows ++ records_from default_config (length (strip_bom text) + 1 - length rows) (reader_state reader) has.left
   read_then =
       let most = reached-length default_config rows state.StartRecord (reader_state reader) (strip_bom text) has.left has.reached in
-      reached-first default_config rows (length (strip_bom text) + 1) (length (strip_bom text) + 1 - length rows) state.StartRecord (reader_state reader) (strip_bom text) has.left (omega arith) has.reached
+      reached-first default_config rows (length (strip_bom text) + 1) (length (strip_bom text) + 1 - length rows) state.StartRecord (reader_state reader)
+      (strip_bom text) has.left (omega arith) has.reached
 
   pub records-first : (later : List Fields) × (records_of text ≡ rows ++ later)
   records-first = (_, read_then)
@@ -91,7 +92,8 @@ left_of slice = Some slice.now
 
 module _ (old new : TextReader) (fields : Fields) (text : Bytes) (rows : List Fields) (has : HasRead text rows old) where
   -- one record more was read
-  pub read-more : ((reader_trim old ≡ trim.None) → Ready old → ReadRecord left_of old new true fields) → took_first new ≡ true → is_flexible new ≡ is_flexible old → HasRead text (rows ++ fields ∷ []) new
+  pub read-more : ((reader_trim old ≡ trim.None) → Ready old → ReadRecord left_of old new true fields) → took_first new ≡ true → is_flexible new ≡ is_flexible old
+      → HasRead text (rows ++ fields ∷ []) new
   read-more reads first flexible =
       let r = reads has.untrimmed has.ready in
       let (left, source, reached) = rows-more left_of old new fields default_config state.StartRecord (strip_bom text) has.left rows has.config has.source has.reached r in
