@@ -56,7 +56,7 @@ pub fn read_assignments(alloc: Global, text: &[u8]) -> Result<Vec<(Name, Name)>,
 }
 
 // Whether the record is the header `user,role`.
-#[tactic(auto, using(crate::proofs::Fields::header_steps), unfolding(crate::specs::Assignments::is_header))]
+#[tactic(auto, unfolding(crate::specs::Assignments::is_header))]
 fn is_header(row: &ByteRecord) -> bool
     ensures { result ≡ is_header (fields_of row.now) }
 {
