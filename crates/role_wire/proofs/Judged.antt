@@ -90,8 +90,8 @@ module _ {S : Type 0} (shown : Held S → State) where
   pub judged_refusal : (old new : Opened S) (asked : Requested) (refusal : Refusal) → Declines shown old asked refusal new
       → IfOk (told_of refusal) (Told old asked new) × IfErr (told_of refusal) (λ unanswered. FailsRequest shown old asked unanswered new)
   judged_refusal old new asked refusal (inl (is, same)) = rw is (tt, inl same)
-  judged_refusal old new asked refusal (inr (inl (is, broke))) = rw is (tt, inr broke.breaks)
-  judged_refusal old new asked refusal (inr (inr (inl (is, shut, same)))) = rw is (tt, inl (shut, same))
+  judged_refusal old new asked refusal (inr (inl (is, broke))) = rw is (tt, (broke.breaks.is_closed, inr broke.breaks))
+  judged_refusal old new asked refusal (inr (inr (inl (is, shut, same)))) = rw is (tt, (rw same shut, inl (shut, same)))
   judged_refusal old new asked refusal (inr (inr (inr (is, same)))) = judged_so old new asked refusal (is_judged old.facts asked refusal is) is same
 
   -- ---- lines

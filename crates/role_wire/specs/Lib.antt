@@ -5,4 +5,5 @@ pub mod Outcome
 pub mod Performing
 pub mod Reading
 pub mod Replay
+pub mod Replaying
 pub mod Stop

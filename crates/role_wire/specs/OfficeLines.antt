@@ -25,7 +25,7 @@ module _ {S : Type 0} (shown : Held S → State) where
   -- refused for the command, or was before.
   abbrev pub FailsFor : Opened S → RbacState → Unanswered → Opened S → Type 0
   FailsFor old to Memory new = (new ≡ old) ⊎ Reaches shown old to new
-  FailsFor old to Store new = ((old.is_closed ≡ true) × (new ≡ old)) ⊎ Breaks shown old old.facts to new
+  FailsFor old to Store new = (new.is_closed ≡ true) × (((old.is_closed ≡ true) × (new ≡ old)) ⊎ Breaks shown old old.facts to new)
 
   -- no answer to a request, or to a line
   abbrev pub FailsRequest : Opened S → Requested → Unanswered → Opened S → Type 0
