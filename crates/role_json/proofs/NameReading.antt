@@ -1,6 +1,6 @@
 -- Lists of texts as sets of names.
 use Rattle.std.proofs.Common.{◌≡◌, ◌≤◌, ◌<◌, ◌∙◌, ◌+◌, ℕ, zero, suc, List, [], ◌∷◌, ◌++◌, Bool, true, false, length, inl, inr, Ok, Err, Bor, map, not, take, get_or, ap, refl, sym, arith, add-one}
-use Rattle.std.specs.Prelude.{◌&&◌, ◌||◌, Result}
+use Rattle.std.specs.Prelude.{◌&&◌, ◌||◌}
 use Rattle.std.specs.List.{list_all, list_any}
 use Rattle.std.specs.List.Sorted.{IsPermutation}
 use Rattle.std.specs.Ordering.{eq_by_cmp}

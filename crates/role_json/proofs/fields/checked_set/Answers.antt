@@ -1,4 +1,3 @@
-use Rattle.std.proofs.Common.{rules}
 use Rattle.role_json.proofs.NameReading.{name_set-IsPermutation}
 use Rattle.role_json.proofs.fields.checked_set.Goals as goal
 
