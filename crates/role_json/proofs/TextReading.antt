@@ -6,7 +6,7 @@ use Rattle.std.proofs.Math.Seq.{drop-cons}
 use Rattle.serde_json.specs.Find.{as_str}
 use Rattle.serde_json.specs.View.{view, items_view}
 use Rattle.serde_json.specs.declared.value.Value.{Value}
-use Rattle.role_json.specs.Request.{texts_in}
+use Rattle.role_json.specs.Fields.{texts_in}
 
 -- ---- lists of texts and of names
 
@@ -37,6 +37,5 @@ texts_with-other ts vs i v h e text = rw (drop-cons vs i v h, ← e, text) refl
 
 pub texts_with-end : (ts : List (List ℕ)) (vs : List Value) (i : ℕ) → length vs ≤ i → texts_with ts (drop i vs) ≡ Some ts
 texts_with-end ts vs i h = rw (drop_all i vs h) (ap (λ (x : List (List ℕ)). Some x) (append-nil ts))
-
 
 pub ruleset texts_steps = (texts_with-nil, texts_with-text, texts_with-other, texts_with-end)

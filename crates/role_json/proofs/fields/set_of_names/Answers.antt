@@ -1,10 +1,10 @@
-use Rattle.std.proofs.Common.{◌≡◌, refl, sym, ◌∙◌, inl, inr, rules, false, true, Bor, List, ℕ}
+use Rattle.std.proofs.Common.{refl, sym, ◌∙◌, inl, inr}
 use Rattle.std.proofs.lemmas.Result.{err_from_is_err_and}
 use Rattle.rbac_sets.specs.Sets.{name_cmp}
 use Rattle.rbac_sets.specs.SortedSet.{set_of}
 use Rattle.role_json.proofs.NameReading.{HasFirst-none, HasFirst-put, HasFirst-known, HasFirst-bad}
-use Rattle.role_json.proofs.request.checked_set.Goals as goal
-use Rattle.role_json.proofs.request.checked_set.Goals.{then-not-contains+in_ok-reserve, else-not-contains}
+use Rattle.role_json.proofs.fields.set_of_names.Goals as goal
+use Rattle.role_json.proofs.fields.set_of_names.Goals.{then-not-contains+in_ok-reserve, else-not-contains}
 
 pub loop-text-init : goal.loop-text-init
 loop-text-init c = HasFirst-none c.args.texts.now (set_of name_cmp c.new-set.result) c.new-set.ensures
