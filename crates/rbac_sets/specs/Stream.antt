@@ -1,17 +1,26 @@
 -- What calls on a stream leave.
-use Rattle.std.specs.Prelude.{ℕ, ◌+◌, ◌-◌, ◌^◌, ◌<◌, ◌⊎◌, ◌≤◌, nat_lt, List, Result, is_ok, if◌then◌else◌}
+use Rattle.std.specs.Prelude.{ℕ, ◌+◌, ◌-◌, ◌^◌, ◌<◌, ◌⊎◌, ◌≤◌, ◌&&◌, nat_eq, nat_lt, List, Result, Ok, Err, is_ok, if◌then◌else◌}
 use Rattle.rbac_sets.specs.declared.source.MemorySource.{MemorySource}
 use Rattle.rbac_sets.specs.declared.source.Reader.{Reader}
 use Rattle.rbac_sets.specs.declared.sink.MemorySink.{MemorySink}
 use Rattle.rbac_sets.specs.declared.sink.Writer.{Writer}
 
--- the count of failed calls after one more call. At its greatest value it stays
-abbrev pub failures_after : {X E : Type 0} → ℕ → Result X E → ℕ
-failures_after failures result = if is_ok result then failures else if nat_lt failures (2 ^ 64 - 1) then failures + 1 else failures
+-- the count of calls after one more. At its greatest value it stays
+abbrev pub one_more : ℕ → ℕ
+one_more calls = if nat_lt calls (2 ^ 64 - 1) then calls + 1 else calls
 
--- a call between the two counts failed. At the greatest count this is not told apart
-abbrev pub HasFailed : ℕ → ℕ → Type 0
-HasFailed before after = (before < after) ⊎ (2 ^ 64 - 1 ≤ after)
+-- the count of failed calls after a call with this result
+abbrev pub failures_after : {X E : Type 0} → ℕ → Result X E → ℕ
+failures_after failures result = if is_ok result then failures else one_more failures
+
+-- the count of the writes that took no byte of a piece that has some, after a write of so many bytes with this result
+abbrev pub idle_after : {E : Type 0} → ℕ → ℕ → Result ℕ E → ℕ
+idle_after idle size (Ok count) = if nat_lt 0 size && nat_eq count 0 then one_more idle else idle
+idle_after idle size (Err e) = idle
+
+-- a count rose from the first value to the second. At the greatest value this is not told apart
+abbrev pub HasRisen : ℕ → ℕ → Type 0
+HasRisen before now = (before < now) ⊎ (2 ^ 64 - 1 ≤ now)
 
 -- the bytes that are left
 abbrev pub left_in_memory : MemorySource → List ℕ
@@ -25,9 +34,16 @@ held_in_memory sink = sink.bytes.items
 abbrev pub failed_in_memory : MemorySink → ℕ
 failed_in_memory sink = sink.failures
 
--- the reader that a source stands over, and how many of its reads failed
+-- how many reads were made of it
+abbrev pub reads_of_memory : MemorySource → ℕ
+reads_of_memory source = source.reads
+
+-- the reader that a source stands over, how many reads were made of it, and how many of these failed
 abbrev pub reader_of : {R : Type 0} → Reader R → R
 reader_of source = source.inner
+
+abbrev pub reads_of_reader : {R : Type 0} → Reader R → ℕ
+reads_of_reader source = source.reads
 
 abbrev pub failed_reads : {R : Type 0} → Reader R → ℕ
 failed_reads source = source.failures

@@ -1,7 +1,7 @@
 //! Where bytes go.
-ghost use Rattle.std.specs.Prelude.{◌≡◌, ◌≤◌, ◌<◌, ℕ, Bool, true, List, [], ◌++◌, Option, length, IfOk, OnOk, OnErr};
+ghost use Rattle.std.specs.Prelude.{◌≡◌, ◌≤◌, ◌⊎◌, ℕ, List, [], ◌++◌, Option, length, IfOk, OnOk, OnErr};
 ghost use Rattle.std.specs.Io.KnownBytes.{Appends, WriteAppends};
-ghost use Rattle.rbac_sets.specs.Stream.{failures_after, HasFailed, held_in_memory, failed_in_memory, writer_of, failed_writes};
+ghost use Rattle.rbac_sets.specs.Stream.{failures_after, idle_after, HasRisen, held_in_memory, failed_in_memory, writer_of, failed_writes};
 
 use crate::source::Fault;
 use std::alloc::Global;
@@ -17,8 +17,8 @@ pub trait Sink {
     // How many calls failed.
     ghost failed: { Self → ℕ };
 
-    // Whether a write that succeeds takes a byte where there is one.
-    ghost takes_some: { Bool };
+    // How many calls took no byte of a piece that has some, and did not fail. At its greatest value the count stays.
+    ghost idle: { Self → ℕ };
 
     /// Writes bytes from the front of `piece`, which may have any length, and gives how many.
     ///
@@ -29,7 +29,7 @@ pub trait Sink {
         ensures bound { IfOk result (λ count. count ≤ length piece.now) }
         ensures bytes { WriteAppends (written self.old) (written self.new) result piece.now }
         ensures failures { failed self.new ≡ failures_after (failed self.old) result }
-        ensures progress { takes_some ≡ true → 0 < length piece.now → IfOk result (λ count. 0 < count) };
+        ensures idle { idle self.new ≡ idle_after (idle self.old) (length piece.now) result };
 
     /// How many calls of `write` failed. At its greatest value it stays.
     fn failures(&self) -> u64
@@ -64,14 +64,14 @@ impl MemorySink {
 }
 
 impl Sink for MemorySink {
-    ghost use Rattle.std.specs.Prelude.{Some, true};
+    ghost use Rattle.std.specs.Prelude.{Some};
     ghost use Rattle.rbac_sets.specs.Stream.{held_in_memory, failed_in_memory};
 
     ghost written = { λ s. Some (held_in_memory s) };
 
     ghost failed = { λ s. failed_in_memory s };
 
-    ghost takes_some = { true };
+    ghost idle = { λ _. 0 };
 
     fn write(&mut self, piece: &[u8]) -> Result<usize, Fault> {
         match self.bytes.extend_from_slice(piece) {
@@ -108,14 +108,13 @@ impl<W: io::Write> Writer<W> {
 }
 
 impl<W: io::Write> Sink for Writer<W> {
-    ghost use Rattle.std.specs.Prelude.{true};
     ghost use Rattle.rbac_sets.specs.Stream.{writer_of, failed_writes};
 
     ghost written = { λ s. W.contents (writer_of s) };
 
     ghost failed = { λ s. failed_writes s };
 
-    ghost takes_some = { true };
+    ghost idle = { λ _. 0 };
 
     fn write(&mut self, piece: &[u8]) -> Result<usize, Fault> {
         match self.inner.write(piece) {
@@ -142,7 +141,8 @@ pub fn write_all<W: Sink>(sink: &mut W, piece: &[u8]) -> Result<(), Fault>
     ensures ok { OnOk result (Appends (W.written sink.old) (W.written sink.new) piece.now) }
     ensures part { OnErr result ((part rest : List ℕ) × (piece.now ≡ part ++ rest) × (1 ≤ length rest) × Appends (W.written sink.old) (W.written sink.new) part) }
     ensures failures { W.failed sink.old ≤ W.failed sink.new }
-    ensures cause { OnErr result (W.takes_some ≡ true → HasFailed (W.failed sink.old) (W.failed sink.new)) }
+    ensures idle { W.idle sink.old ≤ W.idle sink.new }
+    ensures cause { OnErr result (HasRisen (W.failed sink.old) (W.failed sink.new) ⊎ HasRisen (W.idle sink.old) (W.idle sink.new)) }
 {
     let mut rest = piece;
     while !rest.is_empty() {

@@ -1,7 +1,7 @@
 //! Where bytes come from.
 ghost use Rattle.std.specs.Prelude.{◌≡◌, ◌≤◌, ◌<◌, ℕ, List, Option, length, IfOk};
 ghost use Rattle.std.specs.Io.KnownBytes.{ReadConsumes};
-ghost use Rattle.rbac_sets.specs.Stream.{failures_after, reader_of, failed_reads};
+ghost use Rattle.rbac_sets.specs.Stream.{failures_after, one_more, reader_of, failed_reads, reads_of_reader};
 
 use std::io;
 use thiserror::Error;
@@ -19,7 +19,10 @@ pub trait Source {
     // The bytes that are left, where they are known.
     ghost remaining: { Self → Option (List ℕ) };
 
-    // How many calls failed.
+    // How many reads were made, failed ones too. At its greatest value the count stays.
+    ghost reads: { Self → ℕ };
+
+    // How many of them failed.
     ghost failed: { Self → ℕ };
 
     /// Reads into the front of `buffer`, which may have any length, and gives how many bytes were
@@ -31,6 +34,7 @@ pub trait Source {
     fn read(&mut self, buffer: &mut [u8]) -> Result<usize, Fault>
         ensures bound { IfOk result (λ count. count ≤ length buffer.new) }
         ensures bytes { ReadConsumes (remaining self.old) (remaining self.new) result buffer.new }
+        ensures reads { reads self.new ≡ one_more (reads self.old) }
         ensures failures { failed self.new ≡ failures_after (failed self.old) result };
 
     /// How many calls of `read` failed. At its greatest value it stays.
@@ -42,28 +46,33 @@ pub trait Source {
 #[derive(Drop)]
 pub struct MemorySource<'a> {
     bytes: &'a [u8],
+    reads: u64,
 }
 
 impl<'a> MemorySource<'a> {
-    ghost use Rattle.rbac_sets.specs.Stream.{left_in_memory};
+    ghost use Rattle.rbac_sets.specs.Stream.{left_in_memory, reads_of_memory};
 
     /// The source that gives these bytes, from the first to the last.
     pub fn new(bytes: &'a [u8]) -> MemorySource<'a>
-        ensures { left_in_memory result ≡ bytes.now }
+        ensures bytes { left_in_memory result ≡ bytes.now }
+        ensures reads { reads_of_memory result ≡ 0 }
     {
-        MemorySource { bytes }
+        MemorySource { bytes, reads: 0 }
     }
 }
 
 impl Source for MemorySource<'_> {
     ghost use Rattle.std.specs.Prelude.{Some};
-    ghost use Rattle.rbac_sets.specs.Stream.{left_in_memory};
+    ghost use Rattle.rbac_sets.specs.Stream.{left_in_memory, reads_of_memory};
 
     ghost remaining = { λ s. Some (left_in_memory s) };
+
+    ghost reads = { λ s. reads_of_memory s };
 
     ghost failed = { λ _. 0 };
 
     fn read(&mut self, buffer: &mut [u8]) -> Result<usize, Fault> {
+        self.reads = self.reads.saturating_add(1);
         let count = buffer.len().min(self.bytes.len());
         let (front, back) = self.bytes.split_at(count);
         buffer[..count].copy_from_slice(front);
@@ -80,27 +89,36 @@ impl Source for MemorySource<'_> {
 #[derive(Drop)]
 pub struct Reader<R> {
     inner: R,
+    reads: u64,
     failures: u64,
 }
 
 impl<R: io::Read> Reader<R> {
-    /// The source that reads from `inner`, of which no call has failed yet.
+    /// The source that reads from `inner`, of which no read was made yet.
     pub fn new(inner: R) -> Reader<R>
         ensures inner { reader_of result ≡ inner }
+        ensures reads { reads_of_reader result ≡ 0 }
         ensures failures { failed_reads result ≡ 0 }
     {
-        Reader { inner, failures: 0 }
+        Reader {
+            inner,
+            reads: 0,
+            failures: 0,
+        }
     }
 }
 
 impl<R: io::Read> Source for Reader<R> {
-    ghost use Rattle.rbac_sets.specs.Stream.{reader_of, failed_reads};
+    ghost use Rattle.rbac_sets.specs.Stream.{reader_of, failed_reads, reads_of_reader};
 
     ghost remaining = { λ s. R.remaining (reader_of s) };
+
+    ghost reads = { λ s. reads_of_reader s };
 
     ghost failed = { λ s. failed_reads s };
 
     fn read(&mut self, buffer: &mut [u8]) -> Result<usize, Fault> {
+        self.reads = self.reads.saturating_add(1);
         match self.inner.read(buffer) {
             Ok(count) => Ok(count),
             Err(_) => {

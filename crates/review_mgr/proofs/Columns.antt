@@ -1,5 +1,5 @@
 -- The text of the report.
-use Rattle.std.proofs.Common.{◌≡◌, ℕ, ◌+◌, ◌<◌, List, [], ◌∷◌, ◌++◌, length, take, drop, get_or, zero, ◌≤◌, inl, inr, suc, arith, refl, sym, ◌∙◌, ap, append_assoc}
+use Rattle.std.proofs.Common.{◌≡◌, ℕ, ◌+◌, ◌<◌, List, [], ◌∷◌, ◌++◌, length, take, drop, get_or, zero, ◌≤◌, suc, arith, refl, sym, ◌∙◌, ap, append_assoc}
 use Rattle.std.specs.declared.cmp.Ordering.{Ordering}
 use Rattle.std.specs.FinSet.{FinSet}
 use Rattle.std.proofs.lemmas.List.{take_more, append-nil, take-append-drop}
@@ -13,7 +13,6 @@ use Rattle.std.specs.List.{repeat}
 use Rattle.std.specs.Fmt.{styled_decimal, format_spec, padded_integral, char_count}
 use Rattle.std.specs.Io.KnownBytes.{Appends}
 use Rattle.std.proofs.Math.Seq.{drop-cons}
-use Rattle.rbac_sets.specs.Stream.{HasFailed}
 use Rattle.rbac_sets.proofs.Runs.{take_whole}
 use Rattle.rbac_sets.proofs.Known.{Appends-more}
 use Rattle.review_mgr.specs.Report.{column, columns, heading, line_of, lines_of, report}
@@ -74,11 +73,6 @@ report-whole S roles i all past = ap (λ l. heading ++ lines_of S l) (take_whole
 pub on_err : {X E : Type 0} (P : Type 0) (r : Result X E) → P → OnErr r P
 on_err P (Ok x) h = tt
 on_err P (Err e) h = h
-
--- a failure after no fewer failures
-pub failed_since : (first before after : ℕ) → first ≤ before → HasFailed before after → HasFailed first after
-failed_since first before after le (inl less) = inl (omega arith)
-failed_since first before after le (inr most) = inr most
 
 -- ---- a number at the right of twelve places is what `{:>12}` writes
 

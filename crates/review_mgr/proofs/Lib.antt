@@ -3,3 +3,4 @@ pub mod Below
 pub mod Columns
 pub mod Gathering
 pub mod Reached
+pub mod Refusing

@@ -13,6 +13,7 @@ pub use report::report_roles;
 pub mod access;
 pub mod asking;
 mod gather;
+pub mod laws;
 mod lookup;
 pub mod query;
 pub mod report;

@@ -2,7 +2,7 @@
 ghost use Rattle.std.specs.Prelude.{Err, count_by, ◌≡◌, ◌⊎◌, ◌++◌, ℕ, List, ◌≤◌, length, true, string_bytes, IfOk, IfErr, OnOk, OnErr};
 ghost use Rattle.std.specs.Io.KnownBytes.{Appends};
 ghost use Rattle.rbac_sets.specs.Sets.{Triple, count, len, same_name};
-ghost use Rattle.rbac_sets.specs.Stream.{HasFailed};
+ghost use Rattle.rbac_sets.specs.Stream.{HasRisen};
 ghost use Rattle.role_order.specs.Order.{juniors, seniors};
 ghost use Rattle.admin_mgr.specs.Authorization.{authorized_permissions, authorized_users};
 ghost use Rattle.review_mgr.specs.Report.{column, counts_of, line_of, report};
@@ -137,7 +137,7 @@ pub fn report_roles<W: Sink>(alloc: Global, state: &State, sink: &mut W) -> Resu
     ensures ok { OnOk result (Appends (W.written sink.old) (W.written sink.new) (report state.now.facts)) }
     ensures part { OnErr result ((part rest : List ℕ) × (report state.now.facts ≡ part ++ rest) × Appends (W.written sink.old) (W.written sink.new) part) }
     ensures cause { IfErr result (λ refusal. (refusal ≡ Refusal.Memory) ⊎ (refusal ≡ Refusal.Store)) }
-    ensures store { result ≡ Err Refusal.Store → W.takes_some ≡ true → HasFailed (W.failed sink.old) (W.failed sink.new) }
+    ensures store { result ≡ Err Refusal.Store → HasRisen (W.failed sink.old) (W.failed sink.new) ⊎ HasRisen (W.idle sink.old) (W.idle sink.new) }
 {
     write_text(sink, HEADING)?;
     for role in state.roles().as_slice() {
@@ -153,7 +153,8 @@ fn write_text<W: Sink>(sink: &mut W, text: &str) -> Result<(), Refusal>
     ensures part { OnErr result ((part rest : List ℕ) × (text.now ≡ part ++ rest) × Appends (W.written sink.old) (W.written sink.new) part) }
     ensures failures { W.failed sink.old ≤ W.failed sink.new }
     ensures cause { IfErr result (λ refusal. refusal ≡ Refusal.Store) }
-    ensures store { OnErr result (W.takes_some ≡ true → HasFailed (W.failed sink.old) (W.failed sink.new)) }
+    ensures idle { W.idle sink.old ≤ W.idle sink.new }
+    ensures store { OnErr result (HasRisen (W.failed sink.old) (W.failed sink.new) ⊎ HasRisen (W.idle sink.old) (W.idle sink.new)) }
 {
     match write_all(sink, text.as_bytes()) {
         Ok(()) => Ok(()),

@@ -1,3 +1,3 @@
 pub mod Assignments
 pub mod Export
-pub mod Reading
+pub mod Records

@@ -1,10 +1,11 @@
-//! Assignments as CSV: reading the pairs that a text lists, and writing those of a state.
+//! Assignments of users to roles as CSV: the pairs that a text lists, and the text of those of a state.
 #![tactic(auto)]
 
-pub use read::read_assignments;
-pub use write::write_assignments;
+pub use reading::read_assignments;
+pub use writing::write_assignments;
 
-pub mod read;
+pub mod reading;
+mod records;
 #[cfg(test)]
 mod tests;
-pub mod write;
+pub mod writing;

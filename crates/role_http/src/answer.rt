@@ -2,7 +2,7 @@
 ghost use Rattle.std.specs.Prelude.{◌≡◌, ◌≤◌, ℕ, List, IfErr, IfOk, OnErr, OnOk, length};
 ghost use Rattle.httparse.specs.Grammar.{RequestHead};
 ghost use Rattle.httparse.specs.Spans.{IsRequestAt, IsRequestWithin};
-ghost use Rattle.rbac_sets.specs.Stream.{HasFailed};
+ghost use Rattle.rbac_sets.specs.Stream.{HasRisen};
 ghost use Rattle.role_http.specs.Answered.{Answers};
 ghost use Rattle.role_http.specs.Head.{TakesHead};
 ghost use Rattle.role_http.specs.Judging.{judged_head};
@@ -49,7 +49,7 @@ pub fn answer_head<R: Source>(
     ensures answers { IfOk result (λ answer. (taken : List ℕ) × TakesHead (R.remaining source.old) (R.remaining source.new) taken × Answers taken (R.remaining source.new) answer) }
     ensures stops { OnErr result ((taken : List ℕ) × TakesHead (R.remaining source.old) (R.remaining source.new) taken) }
     ensures steady { OnOk result (R.failed source.new ≡ R.failed source.old) }
-    ensures fault { IfErr result (λ why. why ≡ Unread.Fault → HasFailed (R.failed source.old) (R.failed source.new)) }
+    ensures fault { IfErr result (λ why. why ≡ Unread.Fault → HasRisen (R.failed source.old) (R.failed source.new)) }
     ensures memory { IfErr result (λ why. why ≡ Unread.Memory → R.failed source.new ≡ R.failed source.old) }
 {
     let mut bytes = Vec::new(alloc);

@@ -1,7 +1,7 @@
 //! The body of a request.
 ghost use Rattle.std.specs.Prelude.{◌≡◌, ◌≤◌, ◌<◌, ℕ, List, length, IfErr, IfOk, OnErr, OnOk};
 ghost use Rattle.std.specs.Io.KnownBytes.{Consumes, IsAtEnd};
-ghost use Rattle.rbac_sets.specs.Stream.{HasFailed};
+ghost use Rattle.rbac_sets.specs.Stream.{HasRisen};
 
 use crate::Unread;
 use rbac_sets::Source;
@@ -23,7 +23,7 @@ pub fn read_bytes<R: Source>(alloc: Global, source: &mut R, count: usize) -> Res
     ensures end { IfOk result (λ bytes. length bytes.items < count → IsAtEnd (R.remaining source.new)) }
     ensures stops { OnErr result ((taken : List ℕ) × Consumes (R.remaining source.old) (R.remaining source.new) taken × (length taken ≤ count)) }
     ensures steady { OnOk result (R.failed source.new ≡ R.failed source.old) }
-    ensures fault { IfErr result (λ why. why ≡ Unread.Fault → HasFailed (R.failed source.old) (R.failed source.new)) }
+    ensures fault { IfErr result (λ why. why ≡ Unread.Fault → HasRisen (R.failed source.old) (R.failed source.new)) }
     ensures memory { IfErr result (λ why. why ≡ Unread.Memory → R.failed source.new ≡ R.failed source.old) }
 {
     let mut piece = [0u8; PIECE];

@@ -1,7 +1,7 @@
 //! The head of a request, read a byte at a time.
 ghost use Rattle.std.specs.Prelude.{◌≡◌, ◌≤◌, ◌∷◌, [], ℕ, List, IfErr, IfOk, OnErr, OnOk, length, MatchOption, MatchResult};
 ghost use Rattle.std.specs.Io.KnownBytes.{Consumes, IsAtEnd, Keeps};
-ghost use Rattle.rbac_sets.specs.Stream.{HasFailed};
+ghost use Rattle.rbac_sets.specs.Stream.{HasRisen};
 ghost use Rattle.role_http.specs.Head.{TakesHead};
 ghost use Rattle.role_http.specs.HeadEnd.{EndsHead, IsWholeWithin};
 
@@ -44,7 +44,7 @@ pub fn read_head<R: Source>(
     ensures room { length headers.new ≡ length headers.old }
     ensures stops { OnErr result ((taken : List ℕ) × TakesHead (R.remaining source.old) (R.remaining source.new) taken) }
     ensures steady { OnOk result (R.failed source.new ≡ R.failed source.old) }
-    ensures fault { IfErr result (λ why. why ≡ Unread.Fault → HasFailed (R.failed source.old) (R.failed source.new)) }
+    ensures fault { IfErr result (λ why. why ≡ Unread.Fault → HasRisen (R.failed source.old) (R.failed source.new)) }
     ensures memory { IfErr result (λ why. why ≡ Unread.Memory → R.failed source.new ≡ R.failed source.old) }
 {
     for _ in 0..MOST_BYTES {
@@ -70,7 +70,7 @@ fn next_byte<R: Source>(source: &mut R) -> Result<Option<u8>, Fault>
     ensures end { IfOk result (λ o. MatchOption o (Keeps (R.remaining source.old) (R.remaining source.new)) (λ b. ℕ)) }
     ensures err { OnErr result (Keeps (R.remaining source.old) (R.remaining source.new)) }
     ensures steady { OnOk result (R.failed source.new ≡ R.failed source.old) }
-    ensures fault { OnErr result (HasFailed (R.failed source.old) (R.failed source.new)) }
+    ensures fault { OnErr result (HasRisen (R.failed source.old) (R.failed source.new)) }
 {
     let mut byte = [0u8; 1];
     match source.read(&mut byte) {

@@ -1,7 +1,7 @@
 //! How a reply is written.
-ghost use Rattle.std.specs.Prelude.{◌≡◌, ◌≤◌, ◌++◌, true, List, ℕ, OnOk, OnErr, length};
+ghost use Rattle.std.specs.Prelude.{◌≡◌, ◌≤◌, ◌⊎◌, ◌++◌, List, ℕ, OnOk, OnErr, length};
 ghost use Rattle.std.specs.Io.KnownBytes.{Appends};
-ghost use Rattle.rbac_sets.specs.Stream.{HasFailed};
+ghost use Rattle.rbac_sets.specs.Stream.{HasRisen};
 ghost use Rattle.role_http.specs.ReplyBytes.{allow, phrase, pieces, reply_bytes};
 ghost use Rattle.role_http.specs.Pieces.{all_of, texts_of};
 
@@ -20,7 +20,8 @@ pub fn write_reply<W: Sink>(sink: &mut W, status: StatusCode, body: &[u8]) -> Re
     ensures ok { OnOk result (Appends (W.written sink.old) (W.written sink.new) (reply_bytes status body.now)) }
     ensures part { OnErr result ((part rest : List ℕ) × (reply_bytes status body.now ≡ part ++ rest) × (1 ≤ length rest) × Appends (W.written sink.old) (W.written sink.new) part) }
     ensures failures { W.failed sink.old ≤ W.failed sink.new }
-    ensures cause { OnErr result (W.takes_some ≡ true → HasFailed (W.failed sink.old) (W.failed sink.new)) }
+    ensures idle { W.idle sink.old ≤ W.idle sink.new }
+    ensures cause { OnErr result (HasRisen (W.failed sink.old) (W.failed sink.new) ⊎ HasRisen (W.idle sink.old) (W.idle sink.new)) }
 {
     let mut code = Buffer::new();
     let code = code.format(status.as_u16());
@@ -84,7 +85,8 @@ fn write_pieces<W: Sink>(sink: &mut W, pieces: &[&[u8]]) -> Result<(), Fault>
     ensures ok { OnOk result (Appends (W.written sink.old) (W.written sink.new) (all_of pieces.now)) }
     ensures part { OnErr result ((part rest : List ℕ) × (all_of pieces.now ≡ part ++ rest) × (1 ≤ length rest) × Appends (W.written sink.old) (W.written sink.new) part) }
     ensures failures { W.failed sink.old ≤ W.failed sink.new }
-    ensures cause { OnErr result (W.takes_some ≡ true → HasFailed (W.failed sink.old) (W.failed sink.new)) }
+    ensures idle { W.idle sink.old ≤ W.idle sink.new }
+    ensures cause { OnErr result (HasRisen (W.failed sink.old) (W.failed sink.new) ⊎ HasRisen (W.idle sink.old) (W.idle sink.new)) }
 {
     for piece in pieces {
         write_all(sink, piece)?;

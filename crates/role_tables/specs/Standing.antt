@@ -2,7 +2,7 @@
 use Rattle.std.specs.Prelude.{◌≡◌, ◌⊎◌, false, IsTrue, List, Result, OnOk, OnErr}
 use Rattle.sqlite.specs.Tree.{Trees}
 use Rattle.sqlite.specs.Effect.{Database}
-use Rattle.sqlite.specs.State.{State}
+use Rattle.sqlite.specs.State.{State, HasCleanDisk}
 use Rattle.sqlite.specs.declared.error.Error.{Error}
 use Rattle.admin_mgr.specs.RbacState.{RbacState}
 use Rattle.admin_mgr.specs.Life.{Event, Leaves}
@@ -26,6 +26,10 @@ pub record Rests (s : State) (Is : Database → Type 0) : Type 0 where
 -- the state stands in the tables, and a stop would leave it there
 abbrev pub Stands : State → RbacState → Type 0
 Stands s S = Rests s (λ db. HoldsState db S)
+
+-- no fault is forgotten: a disk that is clean now was clean before
+abbrev pub ForgetsNoFault : State → State → Type 0
+ForgetsNoFault old new = HasCleanDisk new → HasCleanDisk old
 
 -- while the connection is open, it holds what it held before
 abbrev pub HoldsAsBefore : State → State → Type 0

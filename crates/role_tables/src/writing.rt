@@ -6,7 +6,7 @@ ghost use Rattle.admin_mgr.specs.RbacState.{RbacState};
 ghost use Rattle.admin_mgr.specs.RowsAfter.{rows_after};
 ghost use Rattle.sqlite.specs.State.{HasCleanDisk, KeepsCommit, Survives};
 ghost use Rattle.sqlite.specs.Held.{state};
-ghost use Rattle.role_tables.specs.Standing.{Stands, Transacts};
+ghost use Rattle.role_tables.specs.Standing.{ForgetsNoFault, Stands, Transacts};
 ghost use Rattle.role_tables.specs.StoredState.{HoldsState};
 ghost use Rattle.role_tables.specs.Writing.{AreKept, TablesAfter};
 
@@ -34,6 +34,7 @@ pub(crate) fn write_changes<S: Alter>(
 ) -> Result<(), Error>
     requires { conn.old.in_transaction ≡ false }
     ensures ended { conn.new.in_transaction ≡ false }
+    ensures clean { ForgetsNoFault (state S.Store conn.old) (state S.Store conn.new) }
     ensures written { HasCleanDisk (state S.Store conn.new) → (from to : RbacState) → Turns from changes.now to → IsGood from → IsGood to → Stands (state S.Store conn.old) from → Transacts (state S.Store conn.old) (state S.Store conn.new) (λ db. HoldsState db to) result }
 {
     is_settled(conn);

@@ -1,8 +1,3 @@
-pub mod Answer
-pub mod Function
-pub mod Lines
-pub mod Reading
-pub mod Replay
-pub mod Request
-pub mod Steps
-pub mod Stop
+pub mod Keeping
+pub mod Outcome
+pub mod Performing

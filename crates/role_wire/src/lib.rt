@@ -1,16 +1,4 @@
-//! The texts of the office: requests as lines of JSON, their answers, and the replay of an input
-//! line by line.
+//! What clients see: requests as lines, over HTTP, and assignments as CSV, over an office in its file.
 #![tactic(auto)]
 
-pub use answer::{Verdict, answer_text};
-pub use function::Function;
-pub use lines::{AnswerLines, Cause, Count, Stop, Unanswered, replay};
-pub use request::{Request, read_request};
-
-pub mod answer;
-pub mod function;
-pub mod laws;
-pub mod lines;
-pub mod request;
-#[cfg(test)]
-mod tests;
+mod performing;

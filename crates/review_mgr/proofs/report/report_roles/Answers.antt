@@ -1,10 +1,11 @@
-use Rattle.std.proofs.Common.{◌≡◌, [], sym, ap, subst, refl, ◌∙◌, ◌++◌, take, drop, suc, arith, append_assoc}
+use Rattle.std.proofs.Common.{◌≡◌, inl, inr, [], sym, ap, subst, refl, ◌∙◌, ◌++◌, take, drop, suc, arith, append_assoc}
 use Rattle.std.proofs.lemmas.List.{append-nil}
 use Rattle.rbac_sets.specs.Sets.{members}
 use Rattle.std.specs.Io.KnownBytes.{Appends}
 use Rattle.rbac_sets.proofs.Known.{Appends-none, Appends-more}
+use Rattle.rbac_sets.proofs.Counting.{risen_since}
 use Rattle.review_mgr.specs.Report.{heading, line_of, lines_of, report}
-use Rattle.review_mgr.proofs.Columns.{begun, report-split, report-step, report-whole, on_err, failed_since, lines-more}
+use Rattle.review_mgr.proofs.Columns.{begun, report-split, report-step, report-whole, on_err, lines-more}
 use Rattle.review_mgr.proofs.report.report_roles.Goals as goal
 
 pub returns-in_err-write_text-clause-part : goal.returns-in_err-write_text-clause-part
@@ -17,6 +18,7 @@ pub loop-role-init : goal.loop-role-init
 loop-role-init g c = record {
   written = subst (Appends (g.W.Sink.written c.args.sink.now) (g.W.Sink.written c.write_text.new.sink)) (sym (append-nil heading)) c.in_ok-write_text.ensures.ok;
   failures = c.write_text.ensures.failures;
+  idle = c.write_text.ensures.idle;
 }
 
 pub loop-role-preserved : goal.loop-role-preserved
@@ -30,6 +32,7 @@ loop-role-preserved g c =
           ∙ ap (λ l. heading ++ l) (sym more))
           (Appends-more (g.W.Sink.written c.args.sink.now) (g.W.Sink.written c.loop-role.sink) (g.W.Sink.written c.write_text-in-loop-role.new.sink) _ _ c.loop-role.invariant.written c.in_ok-write_text-2.ensures.ok);
       failures = omega (arith, c.loop-role.invariant.failures, c.write_text-in-loop-role.ensures.failures);
+      idle = omega (arith, c.loop-role.invariant.idle, c.write_text-in-loop-role.ensures.idle);
     }
 
 pub returns-in_err-line-clause-part : goal.returns-in_err-line-clause-part
@@ -52,8 +55,10 @@ returns-in_err-write_text-2-clause-part g c =
     ∙ ap (λ l. so_far ++ (l ++ rest)) (sym line)))
 
 pub returns-in_err-write_text-2-clause-store : goal.returns-in_err-write_text-2-clause-store
-returns-in_err-write_text-2-clause-store g c = λ _ takes.
-    failed_since (g.W.Sink.failed c.args.sink.now) (g.W.Sink.failed c.loop-role.sink) (g.W.Sink.failed c.write_text-in-loop-role.new.sink) c.loop-role.invariant.failures (c.in_err-write_text-2.ensures.store takes)
+returns-in_err-write_text-2-clause-store g c = λ _. elim c.in_err-write_text-2.ensures.store [
+  | inl failed ↦ inl (risen_since (g.W.Sink.failed c.args.sink.now) (g.W.Sink.failed c.loop-role.sink) (g.W.Sink.failed c.write_text-in-loop-role.new.sink) c.loop-role.invariant.failures failed)
+  | inr idle ↦ inr (risen_since (g.W.Sink.idle c.args.sink.now) (g.W.Sink.idle c.loop-role.sink) (g.W.Sink.idle c.write_text-in-loop-role.new.sink) c.loop-role.invariant.idle idle)
+]
 
 pub returns-clause-ok : goal.returns-clause-ok
 returns-clause-ok g c = subst (Appends (g.W.Sink.written c.args.sink.now) (g.W.Sink.written c.loop-role.sink))

@@ -1,9 +1,9 @@
-use Rattle.std.proofs.Common.{◌≡◌, ◌<◌, ◌++◌, ◌∙◌, ◌+◌, List, ℕ, Bor, length, length-append, drop, get_or, ap, refl, sym, arith, add-one, append_assoc}
+use Rattle.std.proofs.Common.{◌≡◌, inl, inr, ◌<◌, ◌++◌, ◌∙◌, ◌+◌, List, ℕ, Bor, length, length-append, drop, get_or, ap, refl, sym, arith, add-one, append_assoc}
 use Rattle.std.proofs.Math.Seq.{drop-cons}
 use Rattle.std.proofs.lemmas.Result.{err_from_is_err_and}
+use Rattle.rbac_sets.proofs.Counting.{risen_since}
 use Rattle.rbac_sets.proofs.Known.{Appends-more}
 use Rattle.role_http.specs.Pieces.{all_of}
-use Rattle.role_http.proofs.Failing.{failed-later}
 use Rattle.role_http.proofs.reply.write_pieces.Goals as goal
 
 next : (pieces : List (Bor (List ℕ))) (i : ℕ) (d : Bor (List ℕ)) → i < length pieces → all_of (drop i pieces) ≡ (get_or pieces i d).now ++ all_of (drop (i + 1) pieces)
@@ -11,7 +11,7 @@ next pieces i d h = rw (add-one i, drop-cons pieces i d h) refl
 
 pub returns-in_err-write_all-clause-part : goal.returns-in_err-write_all-clause-part
 returns-in_err-write_all-clause-part g c =
-    let (done, appended, all, failed) = c.loop-piece.invariant in
+    let (done, appended, all, failed, idle) = c.loop-piece.invariant in
     let (part, rest, is, some, more) = c.in_err-write_all.ensures.part in
     let tail : List ℕ = all_of (drop (c.loop-piece.piece-index + 1) c.args.pieces.now) in
     let p = err_from_is_err_and c.from_residual.result c.from_residual.ensures.1 in
@@ -25,12 +25,15 @@ returns-in_err-write_all-clause-part g c =
 
 pub loop-piece-preserved : goal.loop-piece-preserved
 loop-piece-preserved g c =
-    let (done, appended, all, failed) = c.loop-piece.invariant in
+    let (done, appended, all, failed, idle) = c.loop-piece.invariant in
     let wrote = c.in_ok-write_all.ensures.ok in
-    (_, Appends-more _ _ _ done _ appended wrote, all ∙ ap (λ z. done ++ z) (next c.args.pieces.now c.loop-piece.piece-index _ c.loop-piece-test.true) ∙ sym (append_assoc done _ _), omega (arith, failed, c.in_ok-write_all.ensures.failures))
+    (_, Appends-more _ _ _ done _ appended wrote, all ∙ ap (λ z. done ++ z) (next c.args.pieces.now c.loop-piece.piece-index _ c.loop-piece-test.true) ∙ sym (append_assoc done _ _), omega (arith, failed, c.in_ok-write_all.ensures.failures), omega (arith, idle, c.in_ok-write_all.ensures.idle))
 
 pub returns-in_err-write_all-clause-cause : goal.returns-in_err-write_all-clause-cause
 returns-in_err-write_all-clause-cause g c =
-    let (done, appended, all, failed) = c.loop-piece.invariant in
+    let (done, appended, all, failed, idle) = c.loop-piece.invariant in
     let p = err_from_is_err_and c.from_residual.result c.from_residual.ensures.1 in
-    rw p.1 (λ takes. failed-later _ _ _ failed (c.in_err-write_all.ensures.cause takes))
+    rw p.1 (elim c.in_err-write_all.ensures.cause [
+      | inl fault ↦ inl (risen_since _ _ _ failed fault)
+      | inr none ↦ inr (risen_since _ _ _ idle none)
+    ])

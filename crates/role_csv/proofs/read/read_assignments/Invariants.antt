@@ -1,5 +1,0 @@
-use Rattle.role_csv.proofs.Listing.{HasListed}
-use Rattle.role_csv.proofs.read.read_assignments.Given as goal
-
-abbrev pub invariant-loop-number : goal.invariant-loop-number
-invariant-loop-number l = HasListed l.fn.text l.number l.pairs.items l.reader

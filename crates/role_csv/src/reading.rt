@@ -1,0 +1,107 @@
+//! The assignments that a text lists.
+ghost use Rattle.std.specs.Prelude.{◌≡◌, ◌⊎◌, ◌∷◌, [], Ok, Err, IfOk, IfErr};
+ghost use Rattle.csv.specs.Records.{fields_of};
+ghost use Rattle.role_csv.specs.Assignments.{assignments, is_header, pair_of, pair_of_names};
+
+use crate::records::{next_record, reader_of, text_of, two_fields};
+use csv::ByteRecord;
+use rbac_sets::{Kind, Name, Refusal};
+use std::alloc::Global;
+
+/// The most records under the header.
+const MOST_RECORDS: u32 = 10_000;
+
+/// The most bytes of a text.
+const MOST_BYTES: usize = 2_097_152;
+
+/// The assignments that a CSV text lists, as pairs of a user and a role in the order of its records.
+/// They are what importAssignments takes: nothing is asked of an office here, and a pair that is
+/// listed twice is there twice.
+///
+/// `text` is read as `csv` reads by default: fields stand between commas, may be in double quotes,
+/// and lines without a byte are no records. A byte order mark at its start is passed over. The
+/// first record is the header `user,role`; those under it are numbered from 1.
+///
+/// # Errors
+///
+/// `TooMany(Kind::Byte)` where the text has more than 2,097,152 bytes, and `BadCsv(0)` where its
+/// first record isn't the header. Else the first record at fault decides: `TooMany(Kind::Record)`
+/// where it is behind 10,000 others, `BadCsv` with its number where it hasn't two fields or one of
+/// them isn't UTF-8, `BadName` where one is no name. `Memory` where memory was refused, which may
+/// stand in place of any other answer.
+pub fn read_assignments(alloc: Global, text: &[u8]) -> Result<Vec<(Name, Name)>, Refusal>
+    ensures ok { IfOk result (λ pairs. assignments text.now ≡ Ok pairs.items) }
+    ensures err { IfErr result (λ refusal. (refusal ≡ Refusal.Memory) ⊎ (assignments text.now ≡ Err refusal)) }
+{
+    if text.len() > MOST_BYTES {
+        return Err(Refusal::TooMany(Kind::Byte));
+    }
+    let mut reader = reader_of(alloc, text);
+    let mut row = ByteRecord::new(alloc);
+    if !next_record(&mut reader, &mut row)? || !is_header(&row) {
+        return Err(Refusal::BadCsv(0));
+    }
+    let mut pairs = Vec::new(alloc);
+    for number in 1..=MOST_RECORDS {
+        if !next_record(&mut reader, &mut row)? {
+            return Ok(pairs);
+        }
+        let pair = read_pair(alloc, number, &row)?;
+        pairs.push(pair)?;
+    }
+    if next_record(&mut reader, &mut row)? {
+        return Err(Refusal::TooMany(Kind::Record));
+    }
+    Ok(pairs)
+}
+
+// Whether the record is the header `user,role`.
+#[tactic(auto, using(crate::proofs::Fields::header_steps), unfolding(crate::specs::Assignments::is_header))]
+fn is_header(row: &ByteRecord) -> bool
+    ensures { result ≡ is_header (fields_of row.now) }
+{
+    match two_fields(row) {
+        Some((user, role)) => user == b"user".as_slice() && role == b"role".as_slice(),
+        None => false,
+    }
+}
+
+// The pair that the record of this number lists.
+#[tactic(auto, using(crate::proofs::Fields::pair_steps))]
+fn read_pair(alloc: Global, number: u32, row: &ByteRecord) -> Result<(Name, Name), Refusal>
+    ensures ok { IfOk result (λ pair. pair_of number (fields_of row.now) ≡ Ok pair) }
+    ensures err { IfErr result (λ refusal. (refusal ≡ Refusal.Memory) ⊎ (pair_of number (fields_of row.now) ≡ Err refusal)) }
+{
+    let Some((user, role)) = two_fields(row) else {
+        return Err(Refusal::BadCsv(number));
+    };
+    read_fields(alloc, number, user, role)
+}
+
+// The pair of the two fields of the record of this number.
+#[tactic(auto, unfolding(crate::specs::Assignments::pair_of))]
+fn read_fields(
+    alloc: Global,
+    number: u32,
+    user: &[u8],
+    role: &[u8],
+) -> Result<(Name, Name), Refusal>
+    ensures ok { IfOk result (λ pair. pair_of number (user.now ∷ role.now ∷ []) ≡ Ok pair) }
+    ensures err { IfErr result (λ refusal. (refusal ≡ Refusal.Memory) ⊎ (pair_of number (user.now ∷ role.now ∷ []) ≡ Err refusal)) }
+{
+    let (Some(user), Some(role)) = (text_of(user), text_of(role)) else {
+        return Err(Refusal::BadCsv(number));
+    };
+    read_names(alloc, user, role)
+}
+
+// The pair of two texts that are names.
+#[tactic(auto, unfolding(crate::specs::Assignments::pair_of_names))]
+fn read_names(alloc: Global, user: &str, role: &str) -> Result<(Name, Name), Refusal>
+    ensures ok { IfOk result (λ pair. pair_of_names user.now role.now ≡ Ok pair) }
+    ensures err { IfErr result (λ refusal. (refusal ≡ Refusal.Memory) ⊎ (pair_of_names user.now role.now ≡ Err refusal)) }
+{
+    let user = Name::new(alloc, user)?;
+    let role = Name::new(alloc, role)?;
+    Ok((user, role))
+}

@@ -1,0 +1,72 @@
+//! The export of a state's assignments.
+ghost use Rattle.std.specs.Prelude.{◌≡◌, ◌⊎◌, ◌++◌, ◌≤◌, ℕ, List, true, false, length, Some, Err, IfErr, IfOk, OnErr, OnOk};
+ghost use Rattle.std.specs.Io.KnownBytes.{Appends};
+ghost use Rattle.csv.specs.Writing.{default_writer, fields_written, has_written, writer_setup};
+ghost use Rattle.rbac_sets.specs.Stream.{HasRisen};
+ghost use Rattle.role_csv.specs.Export.{export, exported, held_by, line_of};
+
+use admin_mgr::State;
+use csv::{Writer, WriterBuilder};
+use rbac_sets::{Fault, Name, Refusal, Sink, write_all};
+use std::alloc::Global;
+
+/// Writes the assignments of a state as CSV, in a form that `read_assignments` reads: the header
+/// `user,role`, then a record with user and role for each assignment in byte order. Each record ends
+/// with LF, and a field is in double quotes where `csv` puts it so by default. The text is made
+/// whole before its first byte is written.
+///
+/// # Errors
+///
+/// `Memory` where memory for the text was refused; nothing was written then. `Store` where a write
+/// to the sink failed, or took no byte; what was written then is the start of the text, and not the
+/// whole.
+pub fn write_assignments<W: Sink>(alloc: Global, state: &State, sink: &mut W) -> Result<(), Refusal>
+    ensures ok { OnOk result (Appends (W.written sink.old) (W.written sink.new) (exported state.now.facts)) }
+
+    // Of a text that isn't whole its start was written, where memory was refused nothing.
+    ensures part { OnErr result ((part rest : List ℕ) × (exported state.now.facts ≡ part ++ rest) × (1 ≤ length rest) × Appends (W.written sink.old) (W.written sink.new) part) }
+    ensures memory { result ≡ Err Refusal.Memory → sink.new ≡ sink.old }
+
+    ensures cause { IfErr result (λ refusal. (refusal ≡ Refusal.Memory) ⊎ (refusal ≡ Refusal.Store)) }
+    ensures store { result ≡ Err Refusal.Store → HasRisen (W.failed sink.old) (W.failed sink.new) ⊎ HasRisen (W.idle sink.old) (W.idle sink.new) }
+{
+    let text = export_text(alloc, state.assignments().as_slice())?;
+    match write_all(sink, &text) {
+        Ok(()) => Ok(()),
+        Err(Fault) => Err(Refusal::Store),
+    }
+}
+
+// The header and these pairs as text.
+fn export_text(alloc: Global, pairs: &[(Name, Name)]) -> Result<Vec<u8>, Refusal>
+    ensures text { IfOk result (λ text. text.items ≡ export pairs.now) }
+    ensures cause { IfErr result (λ refusal. refusal ≡ Refusal.Memory) }
+{
+    let mut writer = WriterBuilder::new().from_writer(Vec::new(alloc));
+    write_pair(&mut writer, "user", "role")?;
+    for (user, role) in pairs {
+        write_pair(&mut writer, user.as_str(), role.as_str())?;
+    }
+    match writer.into_inner() {
+        Ok(text) => Ok(text),
+        Err(_) => Err(Refusal::Memory),
+    }
+}
+
+// Writes a record of two fields.
+#[tactic(auto, unfolding(crate::specs::Export::line_of))]
+fn write_pair(writer: &mut Writer<Vec<u8>>, user: &str, role: &str) -> Result<(), Refusal>
+    requires ended { fields_written writer.old ≡ 0 }
+    requires clean { has_written writer.old ≡ false }
+    requires plain { writer_setup writer.old ≡ default_writer }
+    ensures ended { OnOk result (fields_written writer.new ≡ 0) }
+    ensures clean { OnOk result (has_written writer.new ≡ false) }
+    ensures plain { OnOk result (writer_setup writer.new ≡ default_writer) }
+    ensures text { OnOk result (Appends (held_by writer.old) (held_by writer.new) (line_of (user.now, role.now))) }
+    ensures cause { IfErr result (λ refusal. refusal ≡ Refusal.Memory) }
+{
+    match writer.write_fields(&[user.as_bytes(), role.as_bytes()]) {
+        Ok(()) => Ok(()),
+        Err(_) => Err(Refusal::Memory),
+    }
+}

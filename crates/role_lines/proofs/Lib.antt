@@ -1,0 +1,4 @@
+pub mod Answering
+pub mod ReadSoFar
+pub mod Splitting
+pub mod Stopping

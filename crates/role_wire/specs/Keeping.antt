@@ -1,0 +1,30 @@
+-- What a call leaves of an office and its tables.
+--     shown conn      the state of the store behind a connection
+use Rattle.std.specs.Prelude.{◌≡◌, true, IsTrue}
+use Rattle.sqlite.specs.Held.{Held}
+use Rattle.sqlite.specs.State.{State, HasCleanDisk}
+use Rattle.admin_mgr.specs.RbacState.{RbacState}
+use Rattle.role_tables.specs.Office.{Opened}
+use Rattle.role_tables.specs.Standing.{ForgetsNoFault, LeavesEither, Stands}
+use Rattle.role_tables.specs.StoredState.{HoldsState}
+
+module _ {S : Type 0} (shown : Held S → State) where
+  -- where the state of the first office stood in its tables, that of the second stands there now; no fault is forgotten
+  pub record Keeps (old new : Opened S) : Type 0 where
+    pub clean : ForgetsNoFault (shown old.conn) (shown new.conn)
+    pub stands : HasCleanDisk (shown new.conn) → Stands (shown old.conn) old.facts → Stands (shown new.conn) new.facts
+
+  -- the office has this state now and keeps it in its tables; it is closed where it was closed before
+  pub record Reaches (old : Opened S) (T : RbacState) (new : Opened S) : Type 0 where
+    pub state : new.facts ≡ T
+    pub is_closed : new.is_closed ≡ old.is_closed
+    pub keeps : Keeps old new
+
+  -- The store was refused for a command that leads from `from` to `to`: the office is closed. Where its state stood in its
+  -- tables, the open connection holds `from`, and a stop leaves `from` or `to`.
+  pub record Breaks (old : Opened S) (from to : RbacState) (new : Opened S) : Type 0 where
+    pub is_closed : new.is_closed ≡ true
+    pub state : new.facts ≡ from
+    pub clean : ForgetsNoFault (shown old.conn) (shown new.conn)
+    pub held : HasCleanDisk (shown new.conn) → Stands (shown old.conn) old.facts → IsTrue (shown new.conn).is_open → HoldsState (shown new.conn).now from
+    pub left : HasCleanDisk (shown new.conn) → Stands (shown old.conn) old.facts → LeavesEither (shown new.conn) from to

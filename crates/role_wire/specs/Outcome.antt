@@ -1,0 +1,78 @@
+-- What comes of requests: what the office answers to each, and its state after it.
+use Rattle.std.specs.Prelude.{ℕ, List, [], ◌∷◌, Option, Some, None, is_none, Result, Ok, Err, if◌then◌else◌}
+use Rattle.rbac_sets.specs.Asked.{Asked, Single, Import}
+use Rattle.rbac_sets.specs.declared.refusal.Refusal.{Refusal}
+use Rattle.admin_mgr.specs.RbacState.{RbacState}
+use Rattle.admin_mgr.specs.Asked.{asked_verdict, asked_after, asked_tally}
+use Rattle.admin_mgr.specs.Assignment.{Tally}
+use Rattle.review_mgr.specs.Answering.{value}
+use Rattle.review_mgr.specs.Questions.{refused}
+use Rattle.role_json.specs.Answer.{done_text, import_text, told_text, refusal_text}
+use Rattle.role_json.specs.Request.{request}
+use Rattle.role_json.specs.Requested.{Requested, Change, Ask}
+use Rattle.role_lines.specs.Lines.{split_lines, asking, with_line_feeds}
+
+-- ---- one request
+
+-- the text for a command that is accepted: an import tells of its records
+abbrev pub accepted_text : Asked → Tally → List ℕ
+accepted_text (Single command) tally = done_text
+accepted_text (Import pairs) tally = import_text tally
+
+-- the value, unless there is a refusal
+abbrev pub unless : {X : Type 0} → Option Refusal → X → Result X Refusal
+unless None value = Ok value
+unless (Some refusal) value = Err refusal
+
+-- what comes of a request in this state: the text that accepts the command or answers the question, or a refusal
+unfoldable pub outcome_of : RbacState → Requested → Result (List ℕ) Refusal
+outcome_of S (Change asked) = unless (asked_verdict S asked) (accepted_text asked (asked_tally S asked))
+outcome_of S (Ask query) = unless (refused S query) (told_text (value S query))
+
+-- the state after a request: only a command that is accepted changes it
+unfoldable pub state_after : RbacState → Requested → RbacState
+state_after S (Change asked) = if is_none (asked_verdict S asked) then asked_after S asked else S
+state_after S (Ask query) = S
+
+-- ---- what was read of a text: a request, or the refusal of a text that is none
+
+-- what comes of it
+abbrev pub outcome : RbacState → Result Requested Refusal → Result (List ℕ) Refusal
+outcome S (Ok requested) = outcome_of S requested
+outcome S (Err refusal) = Err refusal
+
+-- the state after it
+abbrev pub after_reading : RbacState → Result Requested Refusal → RbacState
+after_reading S (Ok requested) = state_after S requested
+after_reading S (Err refusal) = S
+
+-- the text that tells an outcome
+abbrev pub told_as : Result (List ℕ) Refusal → List ℕ
+told_as (Ok text) = text
+told_as (Err refusal) = refusal_text refusal
+
+-- ---- lines
+
+-- what a line is answered in this state, and the state after it
+unfoldable pub answer_to : RbacState → List ℕ → List ℕ
+answer_to S line = told_as (outcome S (request line))
+
+unfoldable pub after_line : RbacState → List ℕ → RbacState
+after_line S line = after_reading S (request line)
+
+-- what lines are answered, each in the state after those before it, and the state after them all
+unfoldable pub answers_to : RbacState → List (List ℕ) → List (List ℕ)
+answers_to S [] = []
+answers_to S (line ∷ lines) = answer_to S line ∷ answers_to (after_line S line) lines
+
+unfoldable pub after_lines : RbacState → List (List ℕ) → RbacState
+after_lines S [] = S
+after_lines S (line ∷ lines) = after_lines (after_line S line) lines
+
+-- the lines of an input that ask for an answer
+abbrev pub asking_lines : List ℕ → List (List ℕ)
+asking_lines input = asking (split_lines input)
+
+-- what an input is answered: each of its lines that ask, in order, each answer with LF
+unfoldable pub answer_lines : RbacState → List ℕ → List ℕ
+answer_lines S input = with_line_feeds (answers_to S (asking_lines input))

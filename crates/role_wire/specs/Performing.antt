@@ -1,0 +1,36 @@
+-- What an office does for one request.
+use Rattle.std.specs.Prelude.{◌≡◌, ◌⊎◌, true, ℕ, List, None, Result, Ok, Err}
+use Rattle.sqlite.specs.Held.{Held}
+use Rattle.sqlite.specs.State.{State}
+use Rattle.rbac_sets.specs.Asked.{Asked}
+use Rattle.rbac_sets.specs.declared.refusal.Refusal.{Refusal}
+use Rattle.rbac_sets.specs.declared.refusal.Refusal.TheVariants.{Memory, Store, Closed}
+use Rattle.admin_mgr.specs.Asked.{asked_verdict}
+use Rattle.admin_mgr.specs.RbacState.{RbacState}
+use Rattle.role_json.specs.Requested.{Requested, Change}
+use Rattle.role_tables.specs.Office.{Opened}
+use Rattle.role_wire.specs.Keeping.{Breaks, Reaches}
+use Rattle.role_wire.specs.Outcome.{outcome_of, state_after}
+
+-- the request is a command that is accepted in this state
+abbrev pub IsAccepted : RbacState → Requested → Type 0
+IsAccepted S requested = (asked : Asked) × (requested ≡ Change asked) × (asked_verdict S asked ≡ None)
+
+module _ {S : Type 0} (shown : Held S → State) where
+  -- it was done or answered, which this text tells
+  pub record Performs (old : Opened S) (requested : Requested) (text : List ℕ) (new : Opened S) : Type 0 where
+    pub outcome : outcome_of old.facts requested ≡ Ok text
+    pub reaches : Reaches shown old (state_after old.facts requested) new
+
+  -- the store was refused for it
+  pub record BreaksAt (old : Opened S) (requested : Requested) (new : Opened S) : Type 0 where
+    pub accepted : IsAccepted old.facts requested
+    pub breaks : Breaks shown old old.facts (state_after old.facts requested) new
+
+  -- it was not done: memory was refused, or the store, or the office is closed, or the request is refused
+  abbrev pub Declines : Opened S → Requested → Refusal → Opened S → Type 0
+  Declines old requested refusal new =
+      ((refusal ≡ Memory) × (new ≡ old))
+      ⊎ (((refusal ≡ Store) × BreaksAt old requested new)
+      ⊎ (((refusal ≡ Closed) × (old.is_closed ≡ true) × (new ≡ old))
+      ⊎ ((outcome_of old.facts requested ≡ Err refusal) × (new ≡ old))))

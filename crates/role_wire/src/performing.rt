@@ -1,0 +1,70 @@
+//! One request, done or answered by an office.
+ghost use Rattle.std.specs.Prelude.{◌≡◌, IfOk, IfErr};
+ghost use Rattle.sqlite.specs.Held.{state};
+ghost use Rattle.rbac_sets.specs.Asked.{asked_of};
+ghost use Rattle.role_json.specs.Answer.{text_of};
+ghost use Rattle.role_json.specs.Requested.{requested, Change, Ask};
+ghost use Rattle.admin_mgr.specs.Planned.{tally_of_report};
+ghost use Rattle.role_wire.specs.Outcome.{accepted_text};
+ghost use Rattle.role_wire.specs.Performing.{Declines, Performs};
+
+use admin_mgr::Report;
+use rbac_sets::{Command, Refusal};
+use review_mgr::{Query, ask};
+use role_json::{Request, Verdict};
+use role_tables::Office;
+use sqlite::Alter;
+use std::alloc::Global;
+
+// Does what the request asks for.
+pub(crate) fn perform<S: Alter>(
+    alloc: Global,
+    office: &mut Office<S>,
+    request: &Request,
+) -> Result<Verdict, Refusal>
+    ensures done { IfOk result (λ verdict. Performs (state S.Store) office.old (requested request.now) (text_of verdict) office.new) }
+    ensures refused { IfErr result (λ refusal. Declines (state S.Store) office.old (requested request.now) refusal office.new) }
+{
+    match request {
+        Request::Change(command) => change(alloc, office, command),
+        Request::Ask(query) => answer(alloc, office, query),
+    }
+}
+
+// Does a command.
+fn change<S: Alter>(
+    alloc: Global,
+    office: &mut Office<S>,
+    command: &Command,
+) -> Result<Verdict, Refusal>
+    ensures done { IfOk result (λ verdict. Performs (state S.Store) office.old (Change (asked_of command.now)) (text_of verdict) office.new) }
+    ensures refused { IfErr result (λ refusal. Declines (state S.Store) office.old (Change (asked_of command.now)) refusal office.new) }
+{
+    let report = office.apply(alloc, command)?;
+    Ok(verdict_on(command, report))
+}
+
+// The verdict on a command that was done, which tells of an import what was done with its records.
+#[tactic(auto, unfolding(rbac_sets::specs::Asked::asked_of, role_json::specs::Answer::text_of))]
+fn verdict_on(command: &Command, report: Report) -> Verdict
+    ensures { text_of result ≡ accepted_text (asked_of command.now) (tally_of_report report) }
+{
+    match command {
+        Command::ImportAssignments(_) => Verdict::Imported(report),
+        _ => Verdict::Done,
+    }
+}
+
+// Answers a question.
+fn answer<S: Alter>(
+    alloc: Global,
+    office: &Office<S>,
+    query: &Query,
+) -> Result<Verdict, Refusal>
+    ensures done { IfOk result (λ verdict. Performs (state S.Store) office.now (Ask query.now) (text_of verdict) office.now) }
+    ensures refused { IfErr result (λ refusal. Declines (state S.Store) office.now (Ask query.now) refusal office.now) }
+{
+    let state = office.state()?;
+    let answer = ask(alloc, state, query)?;
+    Ok(Verdict::Told(answer))
+}
