@@ -9,9 +9,9 @@ use Rattle.httparse.specs.Grammar.{LineEnd, crlf, lf, print_end, print_blank, pr
 use Rattle.httparse.proofs.GrammarLemmas.{ReadsRequest-append, request_unique}
 use Rattle.rbac_sets.proofs.Known.{Consumes-kept, Consumes-more, Consumes-no_more}
 use Rattle.role_http.specs.Answered.{with_left}
-use Rattle.role_http.specs.Head.{IsInHead, TakesHead, longest_head}
+use Rattle.role_http.specs.Head.{HasHead, IsInHead, TakesHead, longest_head}
 use Rattle.role_http.specs.Judging.{judged_head}
-use Rattle.role_http.specs.Laws.{AnswersAreOfHeads, HeadsAreUnique}
+use Rattle.role_http.specs.Laws.{AnswersAreOfHeads, HeadsAreUnique, RefusedHaveNoHead}
 
 -- ---- the last byte of a head
 
@@ -111,29 +111,36 @@ TakesHead-more old between new bytes byte none short before more =
 pub heads_are_unique : HeadsAreUnique
 heads_are_unique bytes head other rest after has has_other = request_unique bytes head other rest after has.0 has_other.0
 
+-- a head that is all of the bytes is the head of those that go on
+pub HasHead-append : (bytes rest : List ℕ) (head : RequestHead) → HasHead bytes head [] → HasHead (bytes ++ rest) head rest
+HasHead-append bytes rest head has = (ReadsRequest-append bytes head [] rest has.0, has.1, has.2)
+
 -- what follows the bytes that were taken
-behind : (taken : List ℕ) (left : Option (List ℕ)) → (later : List ℕ) × (with_left taken left ≡ taken ++ later)
-behind taken None = ([], sym (append-nil taken))
-behind taken (Some left) = (left, refl)
+pub with_left-later : (taken : List ℕ) (left : Option (List ℕ)) → (later : List ℕ) × (with_left taken left ≡ taken ++ later)
+with_left-later taken None = ([], sym (append-nil taken))
+with_left-later taken (Some left) = (left, refl)
+
+pub refused_have_no_head : RefusedHaveNoHead
+refused_have_no_head taken left (Ok call) nothing head rest has = absurd nothing
+refused_have_no_head taken left (Err status) (inl (bad, inl never)) head rest has =
+    let (later, same) = with_left-later taken left in
+    never later head rest (rw same at has.0)
+refused_have_no_head taken None (Err status) (inl (bad, inr (none, at_end))) head rest has = none head rest has.0
+refused_have_no_head taken (Some left) (Err status) (inl (bad, inr (none, at_end))) head rest has =
+    let all : taken ++ left ≡ taken = rw at_end (append-nil taken) in
+    none head rest (rw all at has.0)
+refused_have_no_head taken left (Err status) (inr (large, inl many)) head rest has =
+    let (later, same) = with_left-later taken left in
+    let more = many.1 later head rest (rw same at has.0) in
+    absurd (omega (arith, more, has.2))
+refused_have_no_head taken left (Err status) (inr (large, inr long)) head rest has =
+    let (later, same) = with_left-later taken left in
+    let past = ends_past taken later long.0 head rest (rw same at has.0) in
+    absurd (omega (arith, past, long.1, has.1))
 
 pub answers_are_of_heads : AnswersAreOfHeads
-answers_are_of_heads taken left answer (inl (own, has, is)) head rest stands =
-    let (later, same) = behind taken left in
-    let one = request_unique (taken ++ later) own head later rest (ReadsRequest-append taken own [] later has.0) (rw same at stands.0) in
-    (has.0.1 ∙ append-nil (print_request own) ∙ ap print_request one.0, sym is ∙ ap judged_head one.0)
-answers_are_of_heads taken left (Ok call) (inr nothing) head rest stands = absurd nothing
-answers_are_of_heads taken left (Err status) (inr (inl (bad, inl never))) head rest stands =
-    let (later, same) = behind taken left in
-    absurd (never later head rest (rw same at stands.0))
-answers_are_of_heads taken None (Err status) (inr (inl (bad, inr (none, at_end)))) head rest stands = absurd (none head rest stands.0)
-answers_are_of_heads taken (Some left) (Err status) (inr (inl (bad, inr (none, at_end)))) head rest stands =
-    let all : taken ++ left ≡ taken = rw at_end (append-nil taken) in
-    absurd (none head rest (rw all at stands.0))
-answers_are_of_heads taken left (Err status) (inr (inr (large, inl many))) head rest stands =
-    let (later, same) = behind taken left in
-    let more = many.1 later head rest (rw same at stands.0) in
-    absurd (omega (arith, more, stands.2))
-answers_are_of_heads taken left (Err status) (inr (inr (large, inr long))) head rest stands =
-    let (later, same) = behind taken left in
-    let past = ends_past taken later long.0 head rest (rw same at stands.0) in
-    absurd (omega (arith, past, long.1, stands.1))
+answers_are_of_heads taken left answer (inl (own, has_own, is)) head rest has =
+    let (later, same) = with_left-later taken left in
+    let one = heads_are_unique (taken ++ later) own head later rest (HasHead-append taken later own has_own) (rw same at has) in
+    (has_own.0.1 ∙ append-nil (print_request own) ∙ ap print_request one.0, sym is ∙ ap judged_head one.0)
+answers_are_of_heads taken left answer (inr refused) head rest has = absurd (refused_have_no_head taken left answer refused head rest has)

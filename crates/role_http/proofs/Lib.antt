@@ -1,4 +1,5 @@
 pub mod Digits
+pub mod Failing
 pub mod Fields
 pub mod Heads
 pub mod Routing

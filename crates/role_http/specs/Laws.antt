@@ -2,13 +2,18 @@
 use Rattle.std.specs.Prelude.{◌≡◌, ℕ, List, Option, Result}
 use Rattle.httparse.specs.Grammar.{RequestHead, print_request}
 use Rattle.role_json.specs.declared.function.Function.{Function}
-use Rattle.role_http.specs.Answered.{Answers, with_left}
+use Rattle.role_http.specs.Answered.{Answers, RefusesBytes, with_left}
 use Rattle.role_http.specs.Head.{HasHead}
 use Rattle.role_http.specs.Judging.{judged_head}
 
 -- bytes determine their head and what follows it
 abbrev pub HeadsAreUnique : Type 0
 HeadsAreUnique = (bytes : List ℕ) (head other : RequestHead) (rest after : List ℕ) → HasHead bytes head rest → HasHead bytes other after → (head ≡ other) × (rest ≡ after)
+
+-- bytes that are refused as no head begin with none within the limits, with those that are left
+abbrev pub RefusedHaveNoHead : Type 0
+RefusedHaveNoHead = (taken : List ℕ) (left : Option (List ℕ)) (answer : Result (Function × ℕ) ℕ) → RefusesBytes taken left answer
+    → (head : RequestHead) (rest : List ℕ) → ¬ (HasHead (with_left taken left) head rest)
 
 -- where the bytes that were read and those that are left begin with a head within the limits, it is what was read, and it is answered
 abbrev pub AnswersAreOfHeads : Type 0

@@ -4,7 +4,7 @@ ghost use Rattle.std.specs.Io.KnownBytes.{Consumes, IsAtEnd};
 ghost use Rattle.rbac_sets.specs.Stream.{HasRisen};
 
 use crate::Unread;
-use rbac_sets::{Fault, Source};
+use rbac_sets::Source;
 use std::alloc::Global;
 
 // The most bytes of one read.
@@ -30,14 +30,11 @@ pub fn read_bytes<R: Source>(alloc: Global, source: &mut R, count: usize) -> Res
     let mut bytes = Vec::new(alloc);
     while bytes.len() < count {
         let most = PIECE.min(count - bytes.len());
-        let taken = match source.read(&mut piece[..most]) {
-            Ok(0) => return Ok(bytes),
-            Ok(taken) => taken,
-            Err(Fault) => return Err(Unread::Fault),
-        };
-        if bytes.extend_from_slice(&piece[..taken]).is_err() {
-            return Err(Unread::Memory);
+        let taken = source.read(&mut piece[..most])?;
+        if taken == 0 {
+            return Ok(bytes);
         }
+        bytes.extend_from_slice(&piece[..taken])?;
     }
     Ok(bytes)
 }

@@ -1,5 +1,5 @@
 //! The head of a request, read a byte at a time.
-ghost use Rattle.std.specs.Prelude.{◌≡◌, ◌≤◌, ◌∷◌, [], ℕ, List, IfErr, IfOk, OnErr, OnOk, length, MatchOption, MatchResult};
+ghost use Rattle.std.specs.Prelude.{◌≡◌, ◌∷◌, [], ℕ, List, IfErr, IfOk, OnErr, OnOk, length, MatchOption};
 ghost use Rattle.std.specs.Io.KnownBytes.{Consumes, IsAtEnd, Keeps};
 ghost use Rattle.rbac_sets.specs.Stream.{HasRisen};
 ghost use Rattle.role_http.specs.Head.{TakesHead};
@@ -48,14 +48,10 @@ pub fn read_head<R: Source>(
     ensures memory { IfErr result (λ why. why ≡ Unread.Memory → R.failed source.new ≡ R.failed source.old) }
 {
     for _ in 0..MOST_BYTES {
-        let byte = match next_byte(source) {
-            Ok(Some(byte)) => byte,
-            Ok(None) => return Ok(HeadEnd::Ended),
-            Err(Fault) => return Err(Unread::Fault),
+        let Some(byte) = next_byte(source)? else {
+            return Ok(HeadEnd::Ended);
         };
-        if bytes.push(byte).is_err() {
-            return Err(Unread::Memory);
-        }
+        bytes.push(byte)?;
         if byte == b'\n' {
             match parse_request(bytes.as_slice(), headers) {
                 Ok(Status::Complete(spans)) => return Ok(HeadEnd::Whole(spans)),

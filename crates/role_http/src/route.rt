@@ -26,7 +26,7 @@ pub fn one_route(alloc: Global) -> Result<Router<()>, Refusal>
 
 /// The function that a target names, or `None` where the target isn't UTF-8, isn't that of the route, or names
 /// no function. It takes no memory.
-pub fn function_of(router: &Router<()>, target: &[u8]) -> Option<Function>
+pub(crate) fn function_of(router: &Router<()>, target: &[u8]) -> Option<Function>
     requires { router.now ≡ routes }
     ensures { result ≡ function_in target.now }
 {

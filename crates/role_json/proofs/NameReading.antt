@@ -1,17 +1,19 @@
 -- Lists of texts as sets of names.
-use Rattle.std.proofs.Common.{◌≡◌, ◌≤◌, ◌<◌, ◌∙◌, ◌+◌, ℕ, zero, suc, List, [], ◌∷◌, ◌++◌, Bool, true, false, length, inl, inr, Ok, Err, Bor, map, take, get_or, ap, refl, sym, arith, add-one}
-use Rattle.std.specs.Prelude.{◌&&◌, ◌||◌, Result}
-use Rattle.std.specs.List.{list_all}
+use Rattle.std.proofs.Common.{◌≡◌, ◌≤◌, ◌<◌, ◌∙◌, ◌+◌, ℕ, zero, suc, List, [], ◌∷◌, ◌++◌, Bool, true, false, length, inl, inr, Ok, Err, Bor, map, not, take, get_or, ap, refl, sym, arith, add-one}
+use Rattle.std.specs.Prelude.{◌&&◌, ◌||◌}
+use Rattle.std.specs.List.{list_all, list_any}
+use Rattle.std.specs.List.Sorted.{IsPermutation}
 use Rattle.std.specs.Ordering.{eq_by_cmp}
 use Rattle.std.proofs.lemmas.Bool.{cases_Bool}
 use Rattle.std.proofs.lemmas.List.{take_all}
 use Rattle.std.proofs.lemmas.List.Folds.{list_all-map, list_all_at, list_all_more}
+use Rattle.std.proofs.lemmas.List.Sorted.{IsPermutation-map, list_any-IsPermutation}
 use Rattle.rbac_sets.specs.Name.{is_name}
 use Rattle.rbac_sets.specs.NameOrder.{name_total, name_exact}
-use Rattle.rbac_sets.specs.Sets.{Names, name_cmp, empty, contains, insert, from_list}
+use Rattle.rbac_sets.specs.Sets.{Bytes, Names, name_cmp, empty, contains, insert, from_list}
 use Rattle.rbac_sets.specs.declared.refusal.Refusal.{Refusal}
 use Rattle.rbac_sets.specs.declared.refusal.Refusal.TheVariants.{BadName}
-use Rattle.rbac_sets.proofs.SetLaws.{contains-insert, tie_Decides, same_set, from_list_push}
+use Rattle.rbac_sets.proofs.SetLaws.{contains-from_list, contains-insert, tie_Decides, same_set, from_list_push}
 use Rattle.role_json.specs.Fields.{name, name_set}
 
 -- the texts behind references
@@ -86,3 +88,30 @@ HasFirst-bad texts i d refusal h is =
     ]
 
 pub ruleset name_set_steps = (HasFirst-none, HasFirst-put, HasFirst-known, HasFirst-all, HasFirst-bad)
+
+-- ---- in another order
+
+-- all pass where none fails
+all_by_any : (p : Bytes → Bool) (xs : List Bytes) → list_all p xs ≡ not (list_any (λ x. not (p x)) xs)
+all_by_any p [] = refl
+all_by_any p (x ∷ xs) = step (list_all p xs) (list_any (λ y. not (p y)) xs) (all_by_any p xs) (p x)
+  where
+    step : (all fails : Bool) → all ≡ not fails → (b : Bool) → (b && all) ≡ not (not b || fails)
+    step all fails same true = same
+    step all fails same false = refl
+
+list_all-IsPermutation : (p : Bytes → Bool) (xs ys : List Bytes) → IsPermutation xs ys → list_all p xs ≡ list_all p ys
+list_all-IsPermutation p xs ys same = all_by_any p xs ∙ ap not (list_any-IsPermutation (λ x. not (p x)) xs ys same) ∙ sym (all_by_any p ys)
+
+from_list-IsPermutation : (xs ys : List Bytes) → IsPermutation xs ys → from_list {R = name_cmp} xs ≡ from_list ys
+from_list-IsPermutation xs ys same = same_set name_total name_exact (from_list xs) (from_list ys)
+    (λ y. contains-from_list name_total xs y ∙ list_any-IsPermutation (eq_by_cmp name_cmp y) xs ys same ∙ sym (contains-from_list name_total ys y))
+
+-- the set of the names is the same in any order
+pub name_set-IsPermutation : (texts others : List (Bor Bytes)) → IsPermutation texts others → name_set (texts_of_refs texts) ≡ name_set (texts_of_refs others)
+unfolding name_set
+name_set-IsPermutation texts others same =
+    let moved = IsPermutation-map (λ text. text.now) texts others same in
+    rw (list_all-IsPermutation is_name _ _ moved, from_list-IsPermutation _ _ moved) refl
+
+pub ruleset sorted_steps = (name_set-IsPermutation)

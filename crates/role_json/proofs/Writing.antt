@@ -1,9 +1,9 @@
 -- Values of answers: lists in the making, and that no answer has a number that is no integer.
 use Rattle.std.proofs.Common.{◌≡◌, ◌≤◌, ◌<◌, ◌+◌, ℕ, pos, negsuc, List, [], ◌∷◌, ◌++◌, length, map, drop, get_or, suc, add-one, append_assoc, ap, refl}
-use Rattle.std.specs.Prelude.{Some, None, false, ◌||◌}
+use Rattle.std.specs.Prelude.{Some, None, false}
 use Rattle.std.proofs.lemmas.List.{append-nil, drop_all, map-append}
 use Rattle.std.proofs.Math.Seq.{drop-cons}
-use Rattle.serde_json.specs.Data.{Data, array, Items, item, string}
+use Rattle.serde_json.specs.Data.{Data, Items, item, string}
 use Rattle.serde_json.specs.View.{view, items_of, items_view}
 use Rattle.serde_json.specs.Written.{compact_text, has_float, items_have_float}
 use Rattle.serde_json.specs.declared.value.Value.{Value}

@@ -20,7 +20,37 @@ single command = Ok (Some (Single command))
 abbrev pub import : List Pair → Result (Option Asked) Refusal
 import pairs = Ok (Some (Import pairs))
 
--- the command that a call asks for with the arguments in the value, where its function is a command
+-- on sessions
+unfoldable pub session_command_to : Function → Data → Result (Option Asked) Refusal
+session_command_to function.CreateSession value = new_session_at value >>= λ p. single (command.CreateSession p.0 (without_room p.1) p.2)
+session_command_to function.DeleteSession value = owned_session_at value >>= λ p. single (command.DeleteSession p.0 p.1)
+session_command_to function.AddActiveRole value = activation_at value >>= λ p. single (command.AddActiveRole p.0 p.1 p.2)
+session_command_to function.DropActiveRole value = activation_at value >>= λ p. single (command.DropActiveRole p.0 p.1 p.2)
+session_command_to _ value = Ok None
+
+-- on separation of duty sets
+unfoldable pub separation_command_to : Function → Data → Result (Option Asked) Refusal
+separation_command_to function.CreateSsdSet value = separation_at value >>= λ p. single (command.CreateSsdSet p.0 (without_room p.1) p.2)
+separation_command_to function.AddSsdRoleMember value = member_at value >>= λ p. single (command.AddSsdRoleMember p.0 p.1)
+separation_command_to function.DeleteSsdRoleMember value = member_at value >>= λ p. single (command.DeleteSsdRoleMember p.0 p.1)
+separation_command_to function.SetSsdSetCardinality value = limit_at value >>= λ p. single (command.SetSsdSetCardinality p.0 p.1)
+separation_command_to function.DeleteSsdSet value = name_at (codes "set") value >>= λ set. single (command.DeleteSsdSet set)
+separation_command_to function.CreateDsdSet value = separation_at value >>= λ p. single (command.CreateDsdSet p.0 (without_room p.1) p.2)
+separation_command_to function.AddDsdRoleMember value = member_at value >>= λ p. single (command.AddDsdRoleMember p.0 p.1)
+separation_command_to function.DeleteDsdRoleMember value = member_at value >>= λ p. single (command.DeleteDsdRoleMember p.0 p.1)
+separation_command_to function.SetDsdSetCardinality value = limit_at value >>= λ p. single (command.SetDsdSetCardinality p.0 p.1)
+separation_command_to function.DeleteDsdSet value = name_at (codes "set") value >>= λ set. single (command.DeleteDsdSet set)
+separation_command_to other value = session_command_to other value
+
+-- on the role hierarchy
+unfoldable pub hierarchy_command_to : Function → Data → Result (Option Asked) Refusal
+hierarchy_command_to function.AddInheritance value = inheritance_at value >>= λ p. single (command.AddInheritance p.0 p.1)
+hierarchy_command_to function.DeleteInheritance value = inheritance_at value >>= λ p. single (command.DeleteInheritance p.0 p.1)
+hierarchy_command_to function.AddAscendant value = inheritance_at value >>= λ p. single (command.AddAscendant p.0 p.1)
+hierarchy_command_to function.AddDescendant value = inheritance_at value >>= λ p. single (command.AddDescendant p.0 p.1)
+hierarchy_command_to other value = separation_command_to other value
+
+-- the command that a call asks for with the arguments in the value, if its function asks for one: on users, roles, objects and permissions
 unfoldable pub command_to : Function → Data → Result (Option Asked) Refusal
 command_to function.AddUser value = name_at (codes "user") value >>= λ user. single (command.AddUser user)
 command_to function.DeleteUser value = name_at (codes "user") value >>= λ user. single (command.DeleteUser user)
@@ -34,25 +64,7 @@ command_to function.GrantPermission value = grant_at value >>= λ p. single (com
 command_to function.RevokePermission value = grant_at value >>= λ p. single (command.RevokePermission p.0 p.1 p.2)
 command_to function.AssignUser value = assignment_at value >>= λ p. single (command.AssignUser p.0 p.1)
 command_to function.DeassignUser value = assignment_at value >>= λ p. single (command.DeassignUser p.0 p.1)
-command_to function.AddInheritance value = inheritance_at value >>= λ p. single (command.AddInheritance p.0 p.1)
-command_to function.DeleteInheritance value = inheritance_at value >>= λ p. single (command.DeleteInheritance p.0 p.1)
-command_to function.AddAscendant value = inheritance_at value >>= λ p. single (command.AddAscendant p.0 p.1)
-command_to function.AddDescendant value = inheritance_at value >>= λ p. single (command.AddDescendant p.0 p.1)
-command_to function.CreateSsdSet value = separation_at value >>= λ p. single (command.CreateSsdSet p.0 (without_room p.1) p.2)
-command_to function.AddSsdRoleMember value = member_at value >>= λ p. single (command.AddSsdRoleMember p.0 p.1)
-command_to function.DeleteSsdRoleMember value = member_at value >>= λ p. single (command.DeleteSsdRoleMember p.0 p.1)
-command_to function.SetSsdSetCardinality value = limit_at value >>= λ p. single (command.SetSsdSetCardinality p.0 p.1)
-command_to function.DeleteSsdSet value = name_at (codes "set") value >>= λ set. single (command.DeleteSsdSet set)
-command_to function.CreateDsdSet value = separation_at value >>= λ p. single (command.CreateDsdSet p.0 (without_room p.1) p.2)
-command_to function.AddDsdRoleMember value = member_at value >>= λ p. single (command.AddDsdRoleMember p.0 p.1)
-command_to function.DeleteDsdRoleMember value = member_at value >>= λ p. single (command.DeleteDsdRoleMember p.0 p.1)
-command_to function.SetDsdSetCardinality value = limit_at value >>= λ p. single (command.SetDsdSetCardinality p.0 p.1)
-command_to function.DeleteDsdSet value = name_at (codes "set") value >>= λ set. single (command.DeleteDsdSet set)
-command_to function.CreateSession value = new_session_at value >>= λ p. single (command.CreateSession p.0 (without_room p.1) p.2)
-command_to function.DeleteSession value = owned_session_at value >>= λ p. single (command.DeleteSession p.0 p.1)
-command_to function.AddActiveRole value = activation_at value >>= λ p. single (command.AddActiveRole p.0 p.1 p.2)
-command_to function.DropActiveRole value = activation_at value >>= λ p. single (command.DropActiveRole p.0 p.1 p.2)
 command_to function.LockUserAccount value = name_at (codes "user") value >>= λ user. single (command.LockUserAccount user)
 command_to function.UnlockUserAccount value = name_at (codes "user") value >>= λ user. single (command.UnlockUserAccount user)
 command_to function.ImportAssignments value = text_at (codes "csv") value >>= assignments >>= import
-command_to _ value = Ok None
+command_to other value = hierarchy_command_to other value

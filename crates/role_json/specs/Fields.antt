@@ -17,18 +17,18 @@ text_at key value = or_refuse BadRequest (option_and_then as_str (get key value)
 abbrev pub fits_u32 : ℕ → Option ℕ
 fits_u32 n = if nat_lt n (2 ^ 32) then Some n else None
 
--- the whole number at a key, written in digits alone
-unfoldable pub count_at : Bytes → Data → Result ℕ Refusal
-count_at key value = or_refuse BadRequest (option_and_then fits_u32 (option_and_then as_u64 (option_and_then as_number (get key value))))
+-- the cardinality of a separation of duty set: a whole number that fits a `u32`, written in digits alone
+unfoldable pub cardinality_at : Data → Result ℕ Refusal
+cardinality_at value = or_refuse BadRequest (option_and_then fits_u32 (option_and_then as_u64 (option_and_then as_number (get (codes "cardinality") value))))
 
 -- the texts of a list of texts
 abbrev pub texts_in : Items → Option (List Bytes)
 texts_in no_items = Some []
 texts_in (item value values) = option_and_then (λ text. option_map (λ texts. text ∷ texts) (texts_in values)) (as_str value)
 
--- the texts of the list at a key
-unfoldable pub texts_at : Bytes → Data → Result (List Bytes) Refusal
-texts_at key value = or_refuse BadRequest (option_and_then texts_in (option_and_then as_array (get key value)))
+-- the texts of the list of roles
+unfoldable pub roles_at : Data → Result (List Bytes) Refusal
+roles_at value = or_refuse BadRequest (option_and_then texts_in (option_and_then as_array (get (codes "roles") value)))
 
 -- the text as a name
 unfoldable pub name : Bytes → Result Bytes Refusal
@@ -107,8 +107,8 @@ access_at value = three_at (codes "session") (codes "operation") (codes "object"
 unfoldable pub separation_keys : Data → Result (Bytes × List Bytes × ℕ) Refusal
 separation_keys value = do
   set ← text_at (codes "set") value
-  roles ← texts_at (codes "roles") value
-  cardinality ← count_at (codes "cardinality") value
+  roles ← roles_at value
+  cardinality ← cardinality_at value
   Ok (set, roles, cardinality)
 
 -- a separation of duty set: its name, its roles and its cardinality. The keys are judged before the names
@@ -123,7 +123,7 @@ separation_at value = do
 unfoldable pub limit_at : Data → Result (Bytes × ℕ) Refusal
 limit_at value = do
   text ← text_at (codes "set") value
-  cardinality ← count_at (codes "cardinality") value
+  cardinality ← cardinality_at value
   set ← name text
   Ok (set, cardinality)
 
@@ -131,7 +131,7 @@ limit_at value = do
 unfoldable pub new_session_keys : Data → Result (Bytes × List Bytes × Bytes) Refusal
 new_session_keys value = do
   user ← text_at (codes "user") value
-  roles ← texts_at (codes "roles") value
+  roles ← roles_at value
   session ← text_at (codes "session") value
   Ok (user, roles, session)
 

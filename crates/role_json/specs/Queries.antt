@@ -13,7 +13,17 @@ use Rattle.role_json.specs.declared.function.Function.TheVariants as function
 abbrev pub ask : Query → Result (Option Query) Refusal
 ask query = Ok (Some query)
 
--- the question that a call asks with the arguments in the value, where its function is a question
+-- on separation of duty sets
+unfoldable pub separation_query_to : Function → Data → Result (Option Query) Refusal
+separation_query_to function.SsdRoleSets value = ask query.SsdRoleSets
+separation_query_to function.SsdRoleSetRoles value = name_at (codes "set") value >>= λ set. ask (query.SsdRoleSetRoles set)
+separation_query_to function.SsdRoleSetCardinality value = name_at (codes "set") value >>= λ set. ask (query.SsdRoleSetCardinality set)
+separation_query_to function.DsdRoleSets value = ask query.DsdRoleSets
+separation_query_to function.DsdRoleSetRoles value = name_at (codes "set") value >>= λ set. ask (query.DsdRoleSetRoles set)
+separation_query_to function.DsdRoleSetCardinality value = name_at (codes "set") value >>= λ set. ask (query.DsdRoleSetCardinality set)
+separation_query_to _ value = Ok None
+
+-- the question that a call asks with the arguments in the value, if its function asks one: on users, roles, sessions and permissions
 unfoldable pub query_to : Function → Data → Result (Option Query) Refusal
 query_to function.CheckAccess value = access_at value >>= λ p. ask (query.CheckAccess p.0 p.1 p.2)
 query_to function.AssignedUsers value = name_at (codes "role") value >>= λ role. ask (query.AssignedUsers role)
@@ -26,11 +36,5 @@ query_to function.SessionRoles value = name_at (codes "session") value >>= λ se
 query_to function.SessionPermissions value = name_at (codes "session") value >>= λ session. ask (query.SessionPermissions session)
 query_to function.RoleOperationsOnObject value = names_at (codes "role") (codes "object") value >>= λ p. ask (query.RoleOperationsOnObject p.0 p.1)
 query_to function.UserOperationsOnObject value = names_at (codes "user") (codes "object") value >>= λ p. ask (query.UserOperationsOnObject p.0 p.1)
-query_to function.SsdRoleSets value = ask query.SsdRoleSets
-query_to function.SsdRoleSetRoles value = name_at (codes "set") value >>= λ set. ask (query.SsdRoleSetRoles set)
-query_to function.SsdRoleSetCardinality value = name_at (codes "set") value >>= λ set. ask (query.SsdRoleSetCardinality set)
-query_to function.DsdRoleSets value = ask query.DsdRoleSets
-query_to function.DsdRoleSetRoles value = name_at (codes "set") value >>= λ set. ask (query.DsdRoleSetRoles set)
-query_to function.DsdRoleSetCardinality value = name_at (codes "set") value >>= λ set. ask (query.DsdRoleSetCardinality set)
 query_to function.PermissionRoles value = permission_at value >>= λ p. ask (query.PermissionRoles p.0 p.1)
-query_to _ value = Ok None
+query_to other value = separation_query_to other value

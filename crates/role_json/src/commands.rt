@@ -2,7 +2,7 @@
 ghost use Rattle.std.specs.Prelude.{◌≡◌, ◌⊎◌, Ok, Err, IfOk, IfErr, option_map};
 ghost use Rattle.serde_json.specs.View.{view};
 ghost use Rattle.rbac_sets.specs.Asked.{asked_of};
-ghost use Rattle.role_json.specs.Commands.{command_to};
+ghost use Rattle.role_json.specs.Commands.{command_to, hierarchy_command_to, separation_command_to, session_command_to};
 
 use crate::fields::{
     activation_at, assignment_at, grant_at, inheritance_at, limit_at, member_at, name_at,
@@ -14,7 +14,7 @@ use role_csv::read_assignments;
 use serde_json::Value;
 use std::alloc::Global;
 
-// The command that a call asks for with the arguments in the value, or `None` where its function is a question.
+// The command that a call asks for with the arguments in the value, or `None` where its function asks for none.
 #[tactic(auto, unfolding(crate::specs::Commands::command_to, rbac_sets::specs::Asked::asked_of))]
 pub(crate) fn command_to(
     alloc: Global,
@@ -81,6 +81,34 @@ pub(crate) fn command_to(
             let (user, role) = assignment_at(alloc, value)?;
             Ok(Some(Command::DeassignUser { user, role }))
         }
+        Function::LockUserAccount => {
+            let user = name_at(alloc, value, "user")?;
+            Ok(Some(Command::LockUserAccount { user }))
+        }
+        Function::UnlockUserAccount => {
+            let user = name_at(alloc, value, "user")?;
+            Ok(Some(Command::UnlockUserAccount { user }))
+        }
+        Function::ImportAssignments => {
+            let text = text_at(value, "csv")?;
+            let pairs = read_assignments(alloc, text.as_bytes())?;
+            Ok(Some(Command::ImportAssignments(pairs)))
+        }
+        _ => hierarchy_command_to(alloc, function, value),
+    }
+}
+
+// The same where it is no command on users, roles, objects and permissions.
+#[tactic(auto, unfolding(crate::specs::Commands::hierarchy_command_to, rbac_sets::specs::Asked::asked_of))]
+fn hierarchy_command_to(
+    alloc: Global,
+    function: Function,
+    value: &Value,
+) -> Result<Option<Command>, Refusal>
+    ensures ok { IfOk result (λ command. hierarchy_command_to function (view value.now) ≡ Ok (option_map asked_of command)) }
+    ensures err { IfErr result (λ refusal. (refusal ≡ Refusal.Memory) ⊎ (hierarchy_command_to function (view value.now) ≡ Err refusal)) }
+{
+    match function {
         Function::AddInheritance => {
             let (asc, desc) = inheritance_at(alloc, value)?;
             Ok(Some(Command::AddInheritance { asc, desc }))
@@ -97,6 +125,21 @@ pub(crate) fn command_to(
             let (asc, desc) = inheritance_at(alloc, value)?;
             Ok(Some(Command::AddDescendant { asc, desc }))
         }
+        _ => separation_command_to(alloc, function, value),
+    }
+}
+
+// The same where it is no command on the role hierarchy either.
+#[tactic(auto, unfolding(crate::specs::Commands::separation_command_to, rbac_sets::specs::Asked::asked_of))]
+fn separation_command_to(
+    alloc: Global,
+    function: Function,
+    value: &Value,
+) -> Result<Option<Command>, Refusal>
+    ensures ok { IfOk result (λ command. separation_command_to function (view value.now) ≡ Ok (option_map asked_of command)) }
+    ensures err { IfErr result (λ refusal. (refusal ≡ Refusal.Memory) ⊎ (separation_command_to function (view value.now) ≡ Err refusal)) }
+{
+    match function {
         Function::CreateSsdSet => {
             let (set, roles, cardinality) = separation_at(alloc, value)?;
             Ok(Some(Command::CreateSsdSet {
@@ -145,6 +188,21 @@ pub(crate) fn command_to(
             let set = name_at(alloc, value, "set")?;
             Ok(Some(Command::DeleteDsdSet { set }))
         }
+        _ => session_command_to(alloc, function, value),
+    }
+}
+
+// The same where it is no command on separation of duty sets either.
+#[tactic(auto, unfolding(crate::specs::Commands::session_command_to, rbac_sets::specs::Asked::asked_of))]
+fn session_command_to(
+    alloc: Global,
+    function: Function,
+    value: &Value,
+) -> Result<Option<Command>, Refusal>
+    ensures ok { IfOk result (λ command. session_command_to function (view value.now) ≡ Ok (option_map asked_of command)) }
+    ensures err { IfErr result (λ refusal. (refusal ≡ Refusal.Memory) ⊎ (session_command_to function (view value.now) ≡ Err refusal)) }
+{
+    match function {
         Function::CreateSession => {
             let (user, roles, session) = new_session_at(alloc, value)?;
             Ok(Some(Command::CreateSession {
@@ -172,19 +230,6 @@ pub(crate) fn command_to(
                 session,
                 role,
             }))
-        }
-        Function::LockUserAccount => {
-            let user = name_at(alloc, value, "user")?;
-            Ok(Some(Command::LockUserAccount { user }))
-        }
-        Function::UnlockUserAccount => {
-            let user = name_at(alloc, value, "user")?;
-            Ok(Some(Command::UnlockUserAccount { user }))
-        }
-        Function::ImportAssignments => {
-            let text = text_at(value, "csv")?;
-            let pairs = read_assignments(alloc, text.as_bytes())?;
-            Ok(Some(Command::ImportAssignments(pairs)))
         }
         _ => Ok(None),
     }

@@ -5,7 +5,7 @@ ghost use Rattle.std.specs.Prelude.{◌≡◌, ◌⊎◌, Ok, Err, Some, None, I
 ghost use Rattle.serde_json.specs.View.{view, items_view};
 ghost use Rattle.rbac_sets.specs.Sets.{name_cmp};
 ghost use Rattle.rbac_sets.specs.SortedSet.{set_of};
-ghost use Rattle.role_json.specs.Fields.{access_at, activation_at, assignment_at, count_at, grant_at, inheritance_at, limit_at, member_at, name, name_at, name_set, names_at, new_session_at, new_session_keys, owned_session_at, permission_at, separation_at, separation_keys, text_at, texts_at, texts_at_three, texts_in, three_at, three_names};
+ghost use Rattle.role_json.specs.Fields.{access_at, activation_at, assignment_at, cardinality_at, grant_at, inheritance_at, limit_at, member_at, name, name_at, name_set, names_at, new_session_at, new_session_keys, owned_session_at, permission_at, roles_at, separation_at, separation_keys, text_at, texts_at_three, texts_in, three_at, three_names};
 
 use rbac_sets::{Name, NameSet, Refusal};
 use serde_json::Value;
@@ -23,13 +23,13 @@ pub(crate) fn text_at<'v>(value: &'v Value, key: &str) -> Result<&'v str, Refusa
         .ok_or(Refusal::BadRequest)
 }
 
-// The whole number at a key.
-#[tactic(auto, unfolding(crate::specs::Fields::count_at))]
-fn count_at(value: &Value, key: &str) -> Result<u32, Refusal>
-    ensures ok { IfOk result (λ n. count_at key.now (view value.now) ≡ Ok n) }
-    ensures err { IfErr result (λ refusal. count_at key.now (view value.now) ≡ Err refusal) }
+// The cardinality of a separation of duty set.
+#[tactic(auto, unfolding(crate::specs::Fields::cardinality_at))]
+fn cardinality_at(value: &Value) -> Result<u32, Refusal>
+    ensures ok { IfOk result (λ n. cardinality_at (view value.now) ≡ Ok n) }
+    ensures err { IfErr result (λ refusal. cardinality_at (view value.now) ≡ Err refusal) }
 {
-    let Some(n) = value.get(key).and_then(Value::as_u64) else {
+    let Some(n) = value.get("cardinality").and_then(Value::as_u64) else {
         return Err(Refusal::BadRequest);
     };
     if n <= u64::from(u32::MAX) {
@@ -55,13 +55,13 @@ fn text_items<'v>(alloc: Global, values: &'v [Value]) -> Result<Vec<&'v str>, Re
     Ok(texts)
 }
 
-// The texts of the list at a key.
-#[tactic(auto, unfolding(crate::specs::Fields::texts_at))]
-fn texts_at<'v>(alloc: Global, value: &'v Value, key: &str) -> Result<Vec<&'v str>, Refusal>
-    ensures ok { IfOk result (λ texts. texts_at key.now (view value.entry.now) ≡ Ok (map (λ text. text.now) texts.items)) }
-    ensures err { IfErr result (λ refusal. (refusal ≡ Refusal.Memory) ⊎ (texts_at key.now (view value.entry.now) ≡ Err refusal)) }
+// The texts of the list of roles.
+#[tactic(auto, unfolding(crate::specs::Fields::roles_at))]
+fn roles_at<'v>(alloc: Global, value: &'v Value) -> Result<Vec<&'v str>, Refusal>
+    ensures ok { IfOk result (λ texts. roles_at (view value.entry.now) ≡ Ok (map (λ text. text.now) texts.items)) }
+    ensures err { IfErr result (λ refusal. (refusal ≡ Refusal.Memory) ⊎ (roles_at (view value.entry.now) ≡ Err refusal)) }
 {
-    let Some(values) = value.get(key).and_then(Value::as_array) else {
+    let Some(values) = value.get("roles").and_then(Value::as_array) else {
         return Err(Refusal::BadRequest);
     };
     text_items(alloc, values)
@@ -76,9 +76,20 @@ fn checked_name(alloc: Global, text: &str) -> Result<Name, Refusal>
     Name::new(alloc, text)
 }
 
-// The set of the names with these texts.
+// The set of the names with these texts. They are sorted first, so that each name goes to the end of
+// the set, and none behind it is moved.
+#[tactic(auto, using(crate::proofs::NameReading::sorted_steps))]
+fn checked_set(alloc: Global, mut texts: Vec<&str>) -> Result<NameSet, Refusal>
+    ensures ok { IfOk result (λ set. name_set (map (λ text. text.now) texts.entry.items) ≡ Ok (set_of name_cmp set)) }
+    ensures err { IfErr result (λ refusal. (refusal ≡ Refusal.Memory) ⊎ (name_set (map (λ text. text.now) texts.entry.items) ≡ Err refusal)) }
+{
+    texts.sort_unstable();
+    set_of_names(alloc, &texts)
+}
+
+// The set of the names with these texts, put one after the other.
 #[tactic(auto, using(crate::proofs::NameReading::name_set_steps))]
-fn checked_set(alloc: Global, texts: &[&str]) -> Result<NameSet, Refusal>
+fn set_of_names(alloc: Global, texts: &[&str]) -> Result<NameSet, Refusal>
     ensures ok { IfOk result (λ set. name_set (map (λ text. text.now) texts.now) ≡ Ok (set_of name_cmp set)) }
     ensures err { IfErr result (λ refusal. (refusal ≡ Refusal.Memory) ⊎ (name_set (map (λ text. text.now) texts.now) ≡ Err refusal)) }
 {
@@ -253,8 +264,8 @@ fn separation_keys<'v>(
     ensures err { IfErr result (λ refusal. (refusal ≡ Refusal.Memory) ⊎ (separation_keys (view value.entry.now) ≡ Err refusal)) }
 {
     let set = text_at(value, "set")?;
-    let roles = texts_at(alloc, value, "roles")?;
-    let cardinality = count_at(value, "cardinality")?;
+    let roles = roles_at(alloc, value)?;
+    let cardinality = cardinality_at(value)?;
     Ok((set, roles, cardinality))
 }
 
@@ -266,7 +277,7 @@ pub(crate) fn separation_at(alloc: Global, value: &Value) -> Result<(Name, NameS
 {
     let (set, roles, cardinality) = separation_keys(alloc, value)?;
     let set = checked_name(alloc, set)?;
-    let roles = checked_set(alloc, &roles)?;
+    let roles = checked_set(alloc, roles)?;
     Ok((set, roles, cardinality))
 }
 
@@ -277,7 +288,7 @@ pub(crate) fn limit_at(alloc: Global, value: &Value) -> Result<(Name, u32), Refu
     ensures err { IfErr result (λ refusal. (refusal ≡ Refusal.Memory) ⊎ (limit_at (view value.now) ≡ Err refusal)) }
 {
     let set = text_at(value, "set")?;
-    let cardinality = count_at(value, "cardinality")?;
+    let cardinality = cardinality_at(value)?;
     let set = checked_name(alloc, set)?;
     Ok((set, cardinality))
 }
@@ -292,7 +303,7 @@ fn new_session_keys<'v>(
     ensures err { IfErr result (λ refusal. (refusal ≡ Refusal.Memory) ⊎ (new_session_keys (view value.entry.now) ≡ Err refusal)) }
 {
     let user = text_at(value, "user")?;
-    let roles = texts_at(alloc, value, "roles")?;
+    let roles = roles_at(alloc, value)?;
     let session = text_at(value, "session")?;
     Ok((user, roles, session))
 }
@@ -305,7 +316,7 @@ pub(crate) fn new_session_at(alloc: Global, value: &Value) -> Result<(Name, Name
 {
     let (user, roles, session) = new_session_keys(alloc, value)?;
     let user = checked_name(alloc, user)?;
-    let roles = checked_set(alloc, &roles)?;
+    let roles = checked_set(alloc, roles)?;
     let session = checked_name(alloc, session)?;
     Ok((user, roles, session))
 }

@@ -1,7 +1,7 @@
 //! The questions that a call may ask.
 ghost use Rattle.std.specs.Prelude.{◌≡◌, ◌⊎◌, Ok, Err, IfOk, IfErr};
 ghost use Rattle.serde_json.specs.View.{view};
-ghost use Rattle.role_json.specs.Queries.{query_to};
+ghost use Rattle.role_json.specs.Queries.{query_to, separation_query_to};
 
 use crate::fields::{access_at, name_at, names_at, permission_at};
 use crate::function::Function;
@@ -10,7 +10,7 @@ use review_mgr::Query;
 use serde_json::Value;
 use std::alloc::Global;
 
-// The question that a call asks with the arguments in the value, or `None` where its function is a command.
+// The question that a call asks with the arguments in the value, or `None` where its function asks none.
 #[tactic(auto, unfolding(crate::specs::Queries::query_to))]
 pub(crate) fn query_to(
     alloc: Global,
@@ -69,6 +69,25 @@ pub(crate) fn query_to(
             let (user, object) = names_at(alloc, value, "user", "object")?;
             Ok(Some(Query::UserOperationsOnObject { user, object }))
         }
+        Function::PermissionRoles => {
+            let (object, operation) = permission_at(alloc, value)?;
+            Ok(Some(Query::PermissionRoles { object, operation }))
+        }
+        _ => separation_query_to(alloc, function, value),
+    }
+}
+
+// The same where it is none on users, roles, sessions and permissions.
+#[tactic(auto, unfolding(crate::specs::Queries::separation_query_to))]
+fn separation_query_to(
+    alloc: Global,
+    function: Function,
+    value: &Value,
+) -> Result<Option<Query>, Refusal>
+    ensures ok { IfOk result (λ query. separation_query_to function (view value.now) ≡ Ok query) }
+    ensures err { IfErr result (λ refusal. (refusal ≡ Refusal.Memory) ⊎ (separation_query_to function (view value.now) ≡ Err refusal)) }
+{
+    match function {
         Function::SsdRoleSets => Ok(Some(Query::SsdRoleSets)),
         Function::SsdRoleSetRoles => {
             let set = name_at(alloc, value, "set")?;
@@ -86,10 +105,6 @@ pub(crate) fn query_to(
         Function::DsdRoleSetCardinality => {
             let set = name_at(alloc, value, "set")?;
             Ok(Some(Query::DsdRoleSetCardinality { set }))
-        }
-        Function::PermissionRoles => {
-            let (object, operation) = permission_at(alloc, value)?;
-            Ok(Some(Query::PermissionRoles { object, operation }))
         }
         _ => Ok(None),
     }

@@ -2,6 +2,7 @@ use Rattle.std.proofs.Common.{◌≡◌, ◌≤◌, ◌++◌, ◌∷◌, [], ◌
 use Rattle.std.proofs.lemmas.List.{append-nil}
 use Rattle.httparse.specs.Grammar.{print_request}
 use Rattle.rbac_sets.proofs.Known.{Consumes-more, Consumes-none}
+use Rattle.role_http.proofs.Failing.{on_err}
 use Rattle.role_http.proofs.Heads.{TakesHead-all, TakesHead-kept, TakesHead-more, no_request-nil, no_request-push, whole_at_last}
 use Rattle.role_http.proofs.head.read_head.Goals as goal
 use Rattle.role_http.proofs.head.read_head.Goals.{then-byte-eq10+in-Ok-Partial, else-byte-eq10}
@@ -11,53 +12,54 @@ loop-init g c = rw c.requires record { none = no_request-nil; counted = refl; st
 
 pub loop-preserved : goal.loop-preserved
 loop-preserved g c =
-    let items : c.push.new.self.items ≡ c.loop.bytes.items ++ c.in-Ok-Some.byte ∷ [] = search rules in
+    let items : c.push.new.self.items ≡ c.loop.bytes.items ++ c.in-Some.byte ∷ [] = search rules in
     record {
       none = elim c.if-byte-eq10.branch [
         | then-byte-eq10+in-Ok-Partial w ↦ rw (w.in-Ok-Partial.field-0-is, w.as_slice.ensures.value) at w.in-Ok-Partial.ensures.partial
-        | else-byte-eq10 w ↦ rw items (no_request-push c.loop.bytes.items c.in-Ok-Some.byte c.loop.invariant.none w.if-byte-eq10.false)
+        | else-byte-eq10 w ↦ rw items (no_request-push c.loop.bytes.items c.in-Some.byte c.loop.invariant.none w.if-byte-eq10.false)
       ];
       counted = search rules;
       steady = search rules;
-      read = rw items (Consumes-more _ _ _ c.loop.bytes.items (c.in-Ok-Some.byte ∷ []) c.loop.invariant.read (rw c.in-Ok-Some.field-0-is at c.in-Ok-Some.ensures.byte));
+      read = rw items (Consumes-more _ _ _ c.loop.bytes.items (c.in-Some.byte ∷ []) c.loop.invariant.read (rw c.in-Some.is at c.in_ok-byte.ensures.byte));
     }
 
 pub returns-in-Ok-Complete-clause-ends : goal.returns-in-Ok-Complete-clause-ends
 returns-in-Ok-Complete-clause-ends g c =
-    let items : c.push.new.self.items ≡ c.loop.bytes.items ++ c.in-Ok-Some.byte ∷ [] = search rules in
+    let items : c.push.new.self.items ≡ c.loop.bytes.items ++ c.in-Some.byte ∷ [] = search rules in
     let found = rw (c.in-Ok-Complete.field-0-is, c.as_slice.ensures.value) at c.in-Ok-Complete.ensures.complete in
     let (h, at) = found in
-    let done = whole_at_last c.loop.bytes.items c.in-Ok-Some.byte h _ c.loop.invariant.none (rw items at at.reads) in
+    let done = whole_at_last c.loop.bytes.items c.in-Some.byte h _ c.loop.invariant.none (rw items at at.reads) in
     (h, at, ap length (sym (at.reads.1 ∙ (rw (items, done) (append-nil (print_request h))))))
 
 -- ---- no byte past the head
 
-pub returns-in-Ok-None-clause-takes : goal.returns-in-Ok-None-clause-takes
-returns-in-Ok-None-clause-takes g c =
+pub returns-in_default-clause-takes : goal.returns-in_default-clause-takes
+returns-in_default-clause-takes g c =
     let l = c.loop.invariant in
-    TakesHead-kept _ _ _ c.loop.bytes.items l.none (rw l.counted (omega (arith, c.loop-test.true))) l.read (rw c.in-Ok-None.field-0-is at c.in-Ok-None.ensures.end)
+    TakesHead-kept _ _ _ c.loop.bytes.items l.none (rw l.counted (omega (arith, c.loop-test.true))) l.read (rw c.in_default.is at c.in_ok-byte.ensures.end)
 
-pub returns-in-Err-clause-stops : goal.returns-in-Err-clause-stops
-returns-in-Err-clause-stops g c =
+pub returns-in_err-byte-clause-stops : goal.returns-in_err-byte-clause-stops
+returns-in_err-byte-clause-stops g c =
     let l = c.loop.invariant in
-    (c.loop.bytes.items, TakesHead-kept _ _ _ c.loop.bytes.items l.none (rw l.counted (omega (arith, c.loop-test.true))) l.read c.in-Err.ensures.err)
+    on_err _ c.from_residual.result (c.loop.bytes.items, TakesHead-kept _ _ _ c.loop.bytes.items l.none (rw l.counted (omega (arith, c.loop-test.true))) l.read c.in_err-byte.ensures.err)
 
-pub returns-then-is_err-clause-stops : goal.returns-then-is_err-clause-stops
-returns-then-is_err-clause-stops g c =
+pub returns-in_err-push-clause-stops : goal.returns-in_err-push-clause-stops
+returns-in_err-push-clause-stops g c =
     let l = c.loop.invariant in
-    (_, TakesHead-more _ _ _ c.loop.bytes.items c.in-Ok-Some.byte l.none (rw l.counted (omega (arith, c.loop-test.true))) l.read (rw c.in-Ok-Some.field-0-is at c.in-Ok-Some.ensures.byte))
+    on_err _ c.from_residual-in_err-push.result
+    (_, TakesHead-more _ _ _ c.loop.bytes.items c.in-Some.byte l.none (rw l.counted (omega (arith, c.loop-test.true))) l.read (rw c.in-Some.is at c.in_ok-byte.ensures.byte))
 
 pub returns-in-Ok-Complete-clause-takes : goal.returns-in-Ok-Complete-clause-takes
 returns-in-Ok-Complete-clause-takes g c =
-    let items : c.push.new.self.items ≡ c.loop.bytes.items ++ c.in-Ok-Some.byte ∷ [] = search rules in
+    let items : c.push.new.self.items ≡ c.loop.bytes.items ++ c.in-Some.byte ∷ [] = search rules in
     let l = c.loop.invariant in
-    rw items (TakesHead-more _ _ _ c.loop.bytes.items c.in-Ok-Some.byte l.none (rw l.counted (omega (arith, c.loop-test.true))) l.read (rw c.in-Ok-Some.field-0-is at c.in-Ok-Some.ensures.byte))
+    rw items (TakesHead-more _ _ _ c.loop.bytes.items c.in-Some.byte l.none (rw l.counted (omega (arith, c.loop-test.true))) l.read (rw c.in-Some.is at c.in_ok-byte.ensures.byte))
 
 pub returns-in-Err-TooManyHeaders-clause-takes : goal.returns-in-Err-TooManyHeaders-clause-takes
 returns-in-Err-TooManyHeaders-clause-takes g c =
-    let items : c.push.new.self.items ≡ c.loop.bytes.items ++ c.in-Ok-Some.byte ∷ [] = search rules in
+    let items : c.push.new.self.items ≡ c.loop.bytes.items ++ c.in-Some.byte ∷ [] = search rules in
     let l = c.loop.invariant in
-    rw items (TakesHead-more _ _ _ c.loop.bytes.items c.in-Ok-Some.byte l.none (rw l.counted (omega (arith, c.loop-test.true))) l.read (rw c.in-Ok-Some.field-0-is at c.in-Ok-Some.ensures.byte))
+    rw items (TakesHead-more _ _ _ c.loop.bytes.items c.in-Some.byte l.none (rw l.counted (omega (arith, c.loop-test.true))) l.read (rw c.in-Some.is at c.in_ok-byte.ensures.byte))
 
 pub returns-clause-takes : goal.returns-clause-takes
 returns-clause-takes g c =

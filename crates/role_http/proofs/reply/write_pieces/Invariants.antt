@@ -4,4 +4,8 @@ use Rattle.role_http.specs.Pieces.{all_of}
 use Rattle.role_http.proofs.reply.write_pieces.Given as goal
 
 abbrev pub invariant-loop-piece : goal.invariant-loop-piece
-invariant-loop-piece g l = (done : List ℕ) × Appends (g.W.Sink.written l.initial.sink) (g.W.Sink.written l.sink) done × (all_of l.pieces ≡ done ++ all_of (drop l.piece-index l.pieces)) × (g.W.Sink.failed l.initial.sink ≤ g.W.Sink.failed l.sink) × (g.W.Sink.idle l.initial.sink ≤ g.W.Sink.idle l.sink)
+invariant-loop-piece g l = record {
+  written : (done : List ℕ) × Appends (g.W.Sink.written l.initial.sink) (g.W.Sink.written l.sink) done × (all_of l.pieces ≡ done ++ all_of (drop l.piece-index l.pieces));
+  failed : g.W.Sink.failed l.initial.sink ≤ g.W.Sink.failed l.sink;
+  idle : g.W.Sink.idle l.initial.sink ≤ g.W.Sink.idle l.sink;
+}
