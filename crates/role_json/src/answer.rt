@@ -42,7 +42,7 @@ pub enum Verdict {
 /// # Errors
 ///
 /// `Memory` where memory for the text was refused.
-#[tactic(auto, using(crate::proofs::Writing::text_of_steps))]
+#[tactic(auto, using(crate::proofs::JsonWriting::text_of_steps))]
 pub fn answer_text(alloc: Global, verdict: &Verdict) -> Result<String, Refusal>
     ensures ok { IfOk result (λ text. string_bytes text ≡ text_of verdict.now) }
     ensures cause { IfErr result (λ refusal. refusal ≡ Refusal.Memory) }
@@ -86,7 +86,7 @@ fn told_value(alloc: Global, answer: &Answer) -> Result<Value, AllocError>
 }
 
 // A list of names as a JSON value.
-#[tactic(auto, using(crate::proofs::Writing::texts_of_steps))]
+#[tactic(auto, using(crate::proofs::JsonWriting::texts_of_steps))]
 fn names_value(alloc: Global, names: &[Name]) -> Result<Value, AllocError>
     ensures { IfOk result (λ value. view value ≡ array (texts_of names.now)) }
 {
@@ -99,7 +99,7 @@ fn names_value(alloc: Global, names: &[Name]) -> Result<Value, AllocError>
 }
 
 // A list of pairs of names as a JSON value.
-#[tactic(auto, using(crate::proofs::Writing::pairs_of_steps))]
+#[tactic(auto, using(crate::proofs::JsonWriting::pairs_of_steps))]
 fn pairs_value(alloc: Global, pairs: &[(Name, Name)]) -> Result<Value, AllocError>
     ensures { IfOk result (λ value. view value ≡ array (pairs_of pairs.now)) }
 {
@@ -129,7 +129,7 @@ fn report_value(alloc: Global, report: &Report) -> Result<Value, AllocError>
 }
 
 // The records that were refused as a JSON value.
-#[tactic(auto, using(crate::proofs::Writing::records_of_steps))]
+#[tactic(auto, using(crate::proofs::JsonWriting::records_of_steps))]
 fn records_value(alloc: Global, records: &[(u32, u32)]) -> Result<Value, AllocError>
     ensures { IfOk result (λ value. view value ≡ array (records_of records.now)) }
 {

@@ -15,7 +15,7 @@ use serde_json::Value;
 use std::alloc::Global;
 
 /// The most bytes of a line, and of a body that is no CSV.
-const LONGEST_LINE: usize = 65_536;
+pub const LONGEST_LINE: usize = 65_536;
 
 /// What a request asks for.
 #[derive(Drop)]
