@@ -5,11 +5,7 @@
 
 set -u
 tests=$(cd "$(dirname "$0")" && pwd) || exit 1
-<<<<<<< HEAD
-crates='rbac_sets role_order admin_mgr review_mgr role_csv'
-=======
 crates='rbac_sets role_order admin_mgr review_mgr role_csv role_json'
->>>>>>> json
 
 # The seconds that one test may take.
 most=300
