@@ -1,9 +1,12 @@
 pub mod Keeping
 pub mod Lines
+pub mod Made
 pub mod OfficeLines
 pub mod Outcome
 pub mod Performing
 pub mod Reading
 pub mod Replay
 pub mod Replaying
+pub mod Reply
+pub mod Serving
 pub mod Stop

@@ -5,5 +5,6 @@ pub use lines::{Cause, Count, Stop};
 
 pub mod laws;
 pub mod lines;
+mod made;
 mod performing;
 mod replaying;

@@ -1,0 +1,7 @@
+use Rattle.std.proofs.Common.{rules}
+use Rattle.role_http.specs.Status.{head_body}
+use Rattle.role_wire.proofs.made.unknown_function_text.Goals as goal
+
+pub returns : goal.returns
+unfolding head_body
+returns c = c.refused_body.ensures

@@ -1,0 +1,61 @@
+-- What a request over HTTP is replied, over its head and the bytes behind it.
+use Rattle.std.specs.Prelude.{◌≡◌, ◌⊎◌, ℕ, ◌+◌, ◌≤◌, List, length, nat_lt, take, Result, Ok, Err, if◌then◌else◌}
+use Rattle.httparse.specs.Grammar.{RequestHead, print_request}
+use Rattle.rbac_sets.specs.declared.refusal.Refusal.{Refusal}
+use Rattle.rbac_sets.specs.declared.refusal.Refusal.TheVariants.{BadRequest}
+use Rattle.admin_mgr.specs.RbacState.{RbacState}
+use Rattle.role_json.specs.Request.{body_to}
+use Rattle.role_json.specs.Requested.{Requested}
+use Rattle.role_json.specs.declared.function.Function.{Function}
+use Rattle.role_http.specs.Head.{HasHead}
+use Rattle.role_http.specs.Judging.{judged_head}
+use Rattle.role_http.specs.Status.{status_of, head_body}
+use Rattle.role_wire.specs.Outcome.{outcome, after_reading, told_as}
+
+-- a reply: its status and its body, the state after it, and how many bytes behind its head the request has
+pub record Reply : Type 0 where
+  pub status : ℕ
+  pub body : List ℕ
+  pub after : RbacState
+  pub taken : ℕ
+
+-- the status that tells an outcome
+abbrev pub status_in : Result (List ℕ) Refusal → ℕ
+status_in (Ok text) = 200
+status_in (Err refusal) = status_of refusal
+
+-- the reply to what was read of a body of so many bytes
+abbrev pub reply_of : RbacState → ℕ → Result Requested Refusal → Reply
+reply_of S taken read = record { status = status_in (outcome S read); body = told_as (outcome S read); after = after_reading S read; taken = taken }
+
+-- what a call asks for by the bytes behind its head: fewer than it tells are no request
+abbrev pub called_for : List ℕ → Function → ℕ → Result Requested Refusal
+called_for rest called count = if nat_lt (length rest) count then Err BadRequest else body_to called (take count rest)
+
+-- the reply to a head that was judged so, and to the bytes behind it
+abbrev pub behind_head : RbacState → List ℕ → Result (Function × ℕ) ℕ → Reply
+behind_head S rest (Err status) = record { status = status; body = head_body status; after = S; taken = 0 }
+behind_head S rest (Ok (called, count)) = reply_of S (length (take count rest)) (called_for rest called count)
+
+-- the reply to a head and the bytes behind it
+unfoldable pub reply_to : RbacState → RequestHead → List ℕ → Reply
+reply_to S head rest = behind_head S rest (judged_head head)
+
+-- the reply to a request in these bytes. Where they begin with no head within the limits, the status is 400 or 431
+abbrev pub Replies : RbacState → List ℕ → Reply → Type 0
+Replies S bytes reply =
+    ((head : RequestHead) × (rest : List ℕ) × HasHead bytes head rest × (reply ≡ reply_to S head rest))
+    ⊎ (((head : RequestHead) (rest : List ℕ) → ¬ (HasHead bytes head rest)) × ((reply.status ≡ 400) ⊎ (reply.status ≡ 431)) × (reply.body ≡ head_body reply.status) × (reply.after ≡ S))
+
+-- the request in these bytes asks for this
+abbrev pub Asks : List ℕ → Requested → Type 0
+Asks bytes asked = (head : RequestHead) × (rest : List ℕ) × HasHead bytes head rest
+    × ((called : Function) × (count : ℕ) × (judged_head head ≡ Ok (called, count)) × (called_for rest called count ≡ Ok asked))
+
+-- of a request in these bytes no byte was taken past its end
+abbrev pub TakesNoFurther : RbacState → List ℕ → List ℕ → Type 0
+TakesNoFurther S bytes taken = (head : RequestHead) (rest : List ℕ) → HasHead bytes head rest → length taken ≤ length (print_request head) + (reply_to S head rest).taken
+
+-- a request with a head within the limits has one reply
+abbrev pub RepliesOnce : Type 0
+RepliesOnce = (S : RbacState) (bytes : List ℕ) (head : RequestHead) (rest : List ℕ) → HasHead bytes head rest → (first second : Reply) → Replies S bytes first → Replies S bytes second → first ≡ second

@@ -1,0 +1,62 @@
+-- What a request over HTTP is told, and what that leaves of the office.
+use Rattle.std.specs.Prelude.{◌≡◌, ◌⊎◌, ◌++◌, ℕ, ◌≤◌, true, List, [], length, Option, Result, Ok}
+use Rattle.std.specs.Io.KnownBytes.{Appends}
+use Rattle.sqlite.specs.Held.{Held}
+use Rattle.sqlite.specs.State.{State}
+use Rattle.rbac_sets.specs.declared.refusal.Refusal.{Refusal}
+use Rattle.rbac_sets.specs.declared.refusal.Refusal.TheVariants.{Memory, Store, Closed}
+use Rattle.role_json.specs.Answer.{refusal_text}
+use Rattle.role_json.specs.Requested.{Requested}
+use Rattle.role_http.specs.ReplyBytes.{reply_bytes}
+use Rattle.role_tables.specs.Office.{Opened}
+use Rattle.role_wire.specs.Keeping.{Reaches}
+use Rattle.role_wire.specs.Made.{bytes_in}
+use Rattle.role_wire.specs.Outcome.{state_after}
+use Rattle.role_wire.specs.Performing.{IsAccepted, BreaksAt}
+use Rattle.role_wire.specs.Reply.{Reply, Replies, Asks}
+use Rattle.role_wire.specs.declared.lines.Cause.{Cause}
+use Rattle.role_wire.specs.declared.lines.Cause.TheVariants as cause
+use Rattle.role_wire.specs.declared.made.Made.{Made}
+
+module _ {S : Type 0} (shown : Held S → State) where
+  -- the reply is told
+  abbrev pub IsTold : Opened S → Reply → ℕ → List ℕ → Opened S → Type 0
+  IsTold old reply status body new = (status ≡ reply.status) × (body ≡ reply.body) × Reaches shown old reply.after new
+
+  -- told in place of the reply to a request that asks for this: that memory was refused before anything was done, that the store was
+  -- refused for its command, or that the office was closed
+  abbrev pub IsToldInPlace : Opened S → (Requested → Type 0) → ℕ → List ℕ → Opened S → Type 0
+  IsToldInPlace old AsksFor status body new =
+      ((status ≡ 503) × (body ≡ refusal_text Memory) × Reaches shown old old.facts new)
+      ⊎ (((status ≡ 500) × (body ≡ refusal_text Store) × ((asked : Requested) × AsksFor asked × BreaksAt shown old asked new))
+      ⊎ ((status ≡ 500) × (body ≡ refusal_text Closed) × (old.is_closed ≡ true) × (new ≡ old)))
+
+  -- an accepted command was done
+  abbrev pub IsDone : Opened S → (Requested → Type 0) → Opened S → Type 0
+  IsDone old AsksFor new = (asked : Requested) × AsksFor asked × IsAccepted old.facts asked × Reaches shown old (state_after old.facts asked) new
+
+  -- why no reply was made: nothing was done, or an accepted command whose text found no memory
+  abbrev pub LeavesUntold : Cause → Opened S → (Requested → Type 0) → Opened S → Type 0
+  LeavesUntold cause.Read old AsksFor new = Reaches shown old old.facts new
+  LeavesUntold cause.Memory old AsksFor new = IsDone old AsksFor new
+  LeavesUntold _ old AsksFor new = ⊥
+
+  -- ---- what was read of a body
+
+  -- the reply to it is in the making, or what is told in its place
+  abbrev pub Comes : Opened S → Reply → (Requested → Type 0) → Made → Opened S → Type 0
+  Comes old reply AsksFor made new = IsTold old reply made.status (bytes_in made.body) new ⊎ IsToldInPlace old AsksFor made.status (bytes_in made.body) new
+
+  -- ---- whole requests
+
+  -- what a request in these bytes is told
+  abbrev pub Tells : Opened S → List ℕ → ℕ → List ℕ → Opened S → Type 0
+  Tells old bytes status body new =
+      ((reply : Reply) × Replies old.facts bytes reply × IsTold old reply status body new)
+      ⊎ IsToldInPlace old (Asks bytes) status body new
+
+  -- what a stop leaves of the office, and of what was written: nothing, or a part of the reply
+  abbrev pub StopsAt : Cause → Opened S → List ℕ → Opened S → Option (List ℕ) → Option (List ℕ) → Type 0
+  StopsAt cause.Write old bytes new written now_written = (status : ℕ) × (body : List ℕ) × Tells old bytes status body new
+      × ((part rest : List ℕ) × (reply_bytes status body ≡ part ++ rest) × (1 ≤ length rest) × Appends written now_written part)
+  StopsAt why old bytes new written now_written = LeavesUntold why old (Asks bytes) new × Appends written now_written []
