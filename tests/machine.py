@@ -2,8 +2,8 @@
 """The plain model of an office in the folder machine, alone: it answers every row as is written there.
 
     machine.py                    checks the model on the rows, and on a small office
-    machine.py replay [VERSION]   writes the answers to the lines of standard input
-    machine.py report|export|rows [VERSION]   writes that of the state after these lines
+    machine.py replay [--version-1]   writes the answers to the lines of standard input
+    machine.py report|export|rows [--version-1]   writes that of the state after these lines
 """
 
 import sys
@@ -121,7 +121,7 @@ def main(words):
     if not words:
         return check()
     if words[0] in ("replay", "report", "export", "rows"):
-        return write(words[0], int(words[1]) if len(words) > 1 else 2)
+        return write(words[0], 1 if "--version-1" in words else 2)
     print(__doc__, file=sys.stderr)
     return 2
 
