@@ -25,6 +25,10 @@ POOLS = {
 }
 POOLS["asc"] = POOLS["desc"] = POOLS["role"]
 
+# In so many lines at first, few commands take anything.
+BUILDING = 120
+TAKING = ("delete", "deassign", "drop", "revoke", "lock")
+
 # How often each command is drawn; a question is drawn half as often as all commands together.
 WEIGHTS = {
     "addUser": 6,
@@ -39,20 +43,20 @@ WEIGHTS = {
     "revokePermission": 2,
     "assignUser": 14,
     "deassignUser": 4,
-    "addInheritance": 12,
-    "deleteInheritance": 4,
+    "addInheritance": 20,
+    "deleteInheritance": 3,
     "addAscendant": 2,
     "addDescendant": 2,
-    "createSsdSet": 3,
+    "createSsdSet": 6,
     "addSsdRoleMember": 3,
     "deleteSsdRoleMember": 2,
     "setSsdSetCardinality": 3,
-    "deleteSsdSet": 2,
-    "createDsdSet": 3,
+    "deleteSsdSet": 1,
+    "createDsdSet": 4,
     "addDsdRoleMember": 3,
     "deleteDsdRoleMember": 2,
     "setDsdSetCardinality": 3,
-    "deleteDsdSet": 2,
+    "deleteDsdSet": 1,
     "createSession": 12,
     "deleteSession": 2,
     "addActiveRole": 10,
@@ -124,6 +128,7 @@ class Draws:
     def __init__(self, seed):
         self.random = random.Random(seed)
         self.replay = Replay()
+        self.drawn = 0
 
     @property
     def state(self):
@@ -147,6 +152,7 @@ class Draws:
         """A request: the function that is meant, its line, and its answer; a blank line has no answer."""
         if self.chance(80):
             return "blank", self.random.choice([b"", b" ", b"\t\r", b"\r"]), b""
+        self.drawn += 1
         function, line = self.draw_line()
         return function, line, self.replay.answer(line)
 
@@ -165,7 +171,10 @@ class Draws:
     def draw_function(self):
         if self.chance(3):
             return self.random.choice(list(QUESTIONS))
-        return self.random.choices(list(WEIGHTS), list(WEIGHTS.values()))[0]
+        function = self.random.choices(list(WEIGHTS), list(WEIGHTS.values()))[0]
+        if self.drawn < BUILDING and function.startswith(TAKING) and not self.chance(4):
+            return self.draw_function()
+        return function
 
     def draw_values(self, function):
         """The arguments of a function at their keys, each as JSON."""
@@ -219,8 +228,8 @@ class Draws:
         name = self.one(sets)
         roles, cardinality = sets.get(name, (frozenset(), 2))
         if function.startswith("create"):
-            some = self.random.sample(sorted(self.state.roles), min(len(self.state.roles), 3))
-            return self.one(set(POOLS["set"]) - set(sets)), some, self.random.choice([2, 2, 2, 3])
+            some = self.some(self.state.roles, 4)
+            return self.one(set(POOLS["set"]) - set(sets)), some, self.random.choice([2, 2, 3, len(some)])
         if function.startswith("addD") or function.startswith("addS"):
             return name, self.one(self.state.roles - roles)
         if function.endswith("Member"):
