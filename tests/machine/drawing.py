@@ -32,7 +32,7 @@ TAKING = ("delete", "deassign", "drop", "revoke", "lock")
 # How often each command is drawn; a question is drawn half as often as all commands together.
 WEIGHTS = {
     "addUser": 6,
-    "deleteUser": 1,
+    "deleteUser": 2,
     "addRole": 7,
     "deleteRole": 2,
     "addPermObj": 3,
@@ -62,7 +62,7 @@ WEIGHTS = {
     "addActiveRole": 10,
     "dropActiveRole": 4,
     "importAssignments": 4,
-    "lockUserAccount": 1,
+    "lockUserAccount": 2,
     "unlockUserAccount": 2,
 }
 
@@ -103,8 +103,20 @@ NO_REQUESTS = [
 # Names of no function.
 NO_FUNCTIONS = ["fly", "", "AddUser", "addUser ", "adduser", "importAssignment"]
 
-# CSV texts that are none of assignments.
-NO_ASSIGNMENTS = [
+# What may stand in a request and does not count.
+NOT_COUNTED = [
+    '"x":[1,{"y":null}]',
+    '"Fn":"addUser"',
+    '"":{}',
+    '"fn ":-1.5e-3',
+    '"x":123456789012345678901234567890',
+    '"x":[1E300,0.1e-999,-0]',
+    '"x":' + "[" * 126 + "]" * 126,
+    '"x":"\\ud83d\\ude00\\u0000\\/"',
+]
+
+# CSV texts that are none of assignments, and others that need care.
+ODD_ASSIGNMENTS = [
     "",
     "\n\n",
     "user;role\nann;r1\n",
@@ -119,6 +131,14 @@ NO_ASSIGNMENTS = [
     "user,role\nann,r1\nann,a\tb\n",
     'user,role\n"ann\n",r1\n',
     "\ufeff\ufeffuser,role\nann,r1\n",
+    '"user"x,role\nann,r1\n',
+    '"us"er,ro"le\nann,r1\n',
+    '"us"er,role\n"an"n,r1\n',
+    'user,role\nann,"r1',
+    'user,role\nq"u,r1\n"q""u",r2\n"ann"" ",r3\n',
+    '\n\r\n"user",role\r\r\nann,"r1"\r',
+    "user,role",
+    "user,role\n\n\nann,r1\n \n",
 ]
 
 
@@ -241,6 +261,11 @@ class Draws:
     def aim_addUser(self):
         return [self.one(set(POOLS["user"]) - self.state.users)]
 
+    def aim_deleteUser(self):
+        """Mostly one who is locked, since the lock has to go as well."""
+        locked = self.state.locked
+        return [self.one(locked if locked and not self.chance(3) else self.state.users)]
+
     def aim_addRole(self):
         return [self.one(set(POOLS["role"]) - self.state.roles)]
 
@@ -320,7 +345,7 @@ class Draws:
     def draw_csv(self):
         """A CSV text of assignments."""
         if self.chance(8):
-            return self.random.choice(NO_ASSIGNMENTS)
+            return self.random.choice(ODD_ASSIGNMENTS)
         end = self.random.choice(["\n", "\n", "\r\n", "\r", "\n\n"])
         mark = "\ufeff" if self.chance(6) else ""
         lines = [self.random.choice(["user,role", '"user","role"'])]
@@ -353,8 +378,8 @@ class Draws:
         members = list(members)
         self.random.shuffle(members)
         if self.chance(10):
-            extra = self.random.choice(['"x":[1,{"y":null}]', '"Fn":"addUser"', '"":{}', '"fn ":-1.5e-3'])
-            members.insert(self.random.randrange(len(members) + 1), tuple(extra.split(":", 1)))
+            more = tuple(self.random.choice(NOT_COUNTED).split(":", 1))
+            members.insert(self.random.randrange(len(members) + 1), more)
         written = [f"{self.write_key(key)}{self.space()}:{self.space()}{value}" for key, value in members]
         if self.chance(20):
             key, _ = self.random.choice(members)
