@@ -1,11 +1,12 @@
 #!/usr/bin/env python3
-"""Gives drawn lines to the program, and compares its answers with those of the plain model in the folder machine.
+"""Gives drawn lines to the program, and compares its answers with those of the plain model in machine/.
 
     drawn.py [SEEDS]
 
 There are SEEDS scripts of 500 drawn lines (400 where it isn't said), scripts of commands that are drawn
-evenly, and scripts that reach each limit, whose answers are written beside them as well. At the end a table tells
-how often each function was accepted and met each of its refusals; one that can be met and wasn't is a failure.
+evenly, and scripts that reach each limit, whose answers are written beside them as well. At the end a
+table tells how often each function was accepted and met each of its refusals; one that can be met and
+wasn't is a failure.
 """
 
 import json

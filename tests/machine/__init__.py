@@ -7,7 +7,11 @@ rows of the tables of a state. Nothing in it is made to be fast.
     commands    the 33 commands: what each is refused by, and what it leaves
     questions   the 18 questions: what each is refused by, and its answer
     requests    what a request line asks for, or why it is none
+    names       what a name is
     assignments assignments as CSV, read and written
     texts       answers, the role report and the rows of the tables
     replaying   the answers to the lines of an input
+    drawing     requests that are drawn, most of them to be accepted
+    even        commands that are drawn evenly
+    limits      scripts that reach each limit
 """

@@ -10,6 +10,7 @@ both; a record with `^3` behind it stands three times. No line is longer than a 
 
 import json
 import re
+from itertools import product
 
 from .commands import COMMANDS
 from .state import ERRORS
@@ -293,13 +294,17 @@ def answer_of(text):
     return json_text({"code": code, "error": ERRORS[code], **named}).encode()
 
 
+def repeat(command):
+    """The command, as often as the numbers before it say, with the numbers in the place of their signs."""
+    counts, command = re.fullmatch(r"((?:\d+ )*)(.*)", command).groups()
+    outer, inner = (*map(int, counts.split()), 1, 1)[:2]
+    for one, two in product(range(1, outer + 1), range(1, inner + 1)):
+        yield command.replace("#", str(one)).replace("&", str(one + 1)).replace("@", str(two))
+
+
 def expand(script):
     """The requests of a script: each a function, a line and the answer that it has."""
     for line in script.strip().splitlines():
         command, answer = (part.strip() for part in line.split("="))
-        counts, command = re.fullmatch(r"((?:\d+ )*)(.*)", command).groups()
-        outer, inner = (*map(int, counts.split()), 1, 1)[:2]
-        for one in range(1, outer + 1):
-            for two in range(1, inner + 1):
-                text = command.replace("#", str(one)).replace("&", str(one + 1)).replace("@", str(two))
-                yield *line_of(text.split()), answer_of(answer)
+        for text in repeat(command):
+            yield *line_of(text.split()), answer_of(answer)
