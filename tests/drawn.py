@@ -134,6 +134,8 @@ def wanted(function):
 def show_table(counts):
     """Prints how often what was met, and gives what was never met."""
     missing = []
+    changed = sum(count for (function, _), count in counts.items() if function == "changed byte")
+    print(f"{'changed byte':<24} {changed:,}")
     for function in ["no request", "no function", *COMMANDS, *QUESTIONS]:
         words = wanted(function)
         others = sorted({word for of, word in counts if of == function} - set(words))

@@ -115,6 +115,9 @@ NOT_COUNTED = [
     '"x":"\\ud83d\\ude00\\u0000\\/"',
 ]
 
+# What a byte is changed to.
+BYTES = b'{}[]",:\\/u0123456789abeEfnrtx+-. \t\r\x00\x0c\x1f\x7f\x80\xc3\xa9\xff'
+
 # CSV texts that are none of assignments, and others that need care.
 ODD_ASSIGNMENTS = [
     "",
@@ -181,6 +184,9 @@ class Draws:
             return "no request", self.random.choice(NO_REQUESTS)
         function = self.draw_function()
         values = self.draw_values(function)
+        if self.chance(25):
+            members = [("fn", json.dumps(function)), *values.items()]
+            return "changed byte", self.change(self.write(members))
         if self.chance(100):
             members = [("fn", json.dumps(self.random.choice(NO_FUNCTIONS))), *values.items()]
             return "no function", self.write(members)
@@ -372,6 +378,16 @@ class Draws:
             values[key] = self.as_json(names)
         else:
             values[key] = self.as_json(self.random.choice(BAD_NAMES))
+
+    def change(self, line):
+        """The line with one byte less, more or in place of another."""
+        at = self.random.randrange(len(line))
+        byte = bytes([self.random.choice(BYTES)])
+        return self.random.choice([
+            line[:at] + line[at + 1 :],
+            line[:at] + byte + line[at:],
+            line[:at] + byte + line[at + 1 :],
+        ])
 
     def write(self, members):
         """The object of these members, in any order, with what does not count among them."""
