@@ -1,0 +1,172 @@
+#!/usr/bin/env python3
+"""Gives drawn lines to the program, and compares its answers with those of the plain model in machine/.
+
+    drawn.py [SEEDS]
+
+There are SEEDS scripts of 500 drawn lines (400 where it isn't said), scripts of commands that are drawn
+evenly, and scripts that reach each limit, whose answers are written beside them as well. At the end a
+table tells how often each function was accepted and met each of its refusals; one that can be met and
+wasn't is a failure.
+"""
+
+import json
+import os
+import subprocess
+import sys
+from collections import Counter
+from concurrent.futures import ProcessPoolExecutor
+from pathlib import Path
+
+from machine import limits
+from machine.commands import COMMANDS
+from machine.drawing import draw_script
+from machine.even import draw_even_script
+from machine.questions import QUESTIONS
+from machine.replaying import Replay
+
+TESTS = Path(__file__).resolve().parent
+PROGRAM = os.environ.get("RBAC_PROGRAM", str(TESTS / "../crates/rbac/out/rbac"))
+LINES = 500
+WORKERS = 2
+SECONDS = 120
+
+# What no line meets in an office of version 2: the program replays into no other in memory. In version 1 the
+# locks are refused by 51, and users, roles and edges have other limits; the model alone is tested there.
+OUT_OF_REACH = {"51"}
+
+# How an import's own refusals are told: those of reading it, and those of its records.
+OF_IMPORTS = ["36", "record 2", "record 4", "record 24", "record 32"]
+
+
+def word_of(answer):
+    """How an answer is counted: `ok`, the number of a refusal, or that with its kind."""
+    told = json.loads(answer)
+    if "ok" in told:
+        return "ok"
+    return f"{told['code']}:{told['kind']}" if "kind" in told else str(told["code"])
+
+
+def count_answer(counts, function, answer):
+    """Counts an answer, and the refusals of the records of an import."""
+    counts[function, word_of(answer)] += 1
+    if function == "importAssignments" and b'"refused"' in answer:
+        for record in json.loads(answer)["value"]["refused"]:
+            counts[function, f"record {record['code']}"] += 1
+
+
+def written_script(name):
+    """A script of the limits, and the faults of the model against what is written there."""
+    replay, script, faults = Replay(), [], []
+    for function, line, answer in limits.expand(limits.SCRIPTS[name]):
+        script.append((function, line, answer))
+        given = replay.answer(line)
+        if given != answer:
+            faults.append(f"the model answers {line[:200]!r} by {given[:200]!r} and not {answer[:200]!r}")
+    return script, faults
+
+
+def old_faults():
+    """The faults of the model in version 1 against what is written of the limits there."""
+    faults = []
+    for name, script in limits.OLD_SCRIPTS.items():
+        replay = Replay(1)
+        for _, line, answer in limits.expand(script):
+            given = replay.answer(line)
+            if given != answer:
+                faults.append(f"version 1, {name}: {line[:200]!r} is answered by {given!r} and not {answer!r}")
+    return faults
+
+
+def run(script):
+    """What the program answers to the lines of a script, and the faults of the run itself."""
+    text = b"".join(line + b"\n" for _, line, _ in script)
+    try:
+        done = subprocess.run(
+            [PROGRAM, "replay", "--memory"], input=text, capture_output=True, timeout=SECONDS, check=False
+        )
+    except (OSError, subprocess.TimeoutExpired) as error:
+        return [], [str(error)]
+    faults = []
+    if done.returncode or done.stderr:
+        faults.append(f"the status is {done.returncode}, and standard error says {done.stderr[:200]!r}")
+    return done.stdout.splitlines(keepends=True), faults
+
+
+def compare(script, faults):
+    """Counts the answers of a script, and compares them with those of the program."""
+    counts = Counter()
+    asked = [request for request in script if request[2]]
+    given, more = run(script)
+    faults = faults + more
+    if len(given) != len(asked):
+        faults.append(f"{len(given)} answers and not {len(asked)}")
+    for number, ((function, line, answer), got) in enumerate(zip(asked, given), 1):
+        if got != answer + b"\n":
+            faults.append(f"{number}: {line[:300]!r} is answered by {got[:300]!r} and not {answer[:300]!r}")
+    for function, _, answer in asked:
+        count_answer(counts, function, answer)
+    return counts, faults
+
+
+def check(job):
+    """Checks one script: its name, how its answers are counted, and its faults."""
+    sort, which = job
+    if sort == "limit":
+        counts, faults = compare(*written_script(which))
+    elif sort == "even":
+        counts, faults = compare(draw_even_script(which, 2_000), [])
+    else:
+        counts, faults = compare(draw_script(which, LINES), [])
+    return f"{sort} {which}", counts, faults
+
+
+def wanted(function):
+    """What has to be met of a function, in the order in which it is judged."""
+    if function in ("no request", "no function"):
+        return ["34"] if function == "no request" else ["35"]
+    _, keys, refusals = COMMANDS.get(function) or QUESTIONS[function]
+    reading = ["34", "1"] if keys else []
+    if function == "importAssignments":
+        reading += OF_IMPORTS
+    return ["ok", *reading, *(word for word in refusals.split() if word not in OUT_OF_REACH)]
+
+
+def show_table(counts):
+    """Prints how often what was met, and gives what was never met."""
+    missing = []
+    changed = sum(count for (function, _), count in counts.items() if function == "changed byte")
+    print(f"{'changed byte':<24} {changed:,}")
+    for function in ["no request", "no function", *COMMANDS, *QUESTIONS]:
+        words = wanted(function)
+        others = sorted({word for of, word in counts if of == function} - set(words))
+        cells = [f"{word.replace(':', ' ')} {counts[function, word]:,}" for word in [*words, *others]]
+        print(f"{function:<24} " + "; ".join(cells))
+        missing += [f"{function} never meets {word}" for word in words if not counts[function, word]]
+        missing += [f"{function} meets {word}, which it cannot" for word in others]
+    return missing
+
+
+def main(words):
+    seeds = int(words[0]) if words else 400
+    if not os.access(PROGRAM, os.X_OK):
+        print(f"FAILED: there is no program {PROGRAM}\n0 passed, 1 failed")
+        return 1
+    jobs = [("limit", name) for name in limits.SCRIPTS]
+    jobs += [("even", start) for start in (1, 2, 3)] + [("seed", seed) for seed in range(seeds)]
+    passed = failed = 0
+    counts = Counter()
+    with ProcessPoolExecutor(WORKERS) as pool:
+        for name, some, faults in pool.map(check, jobs):
+            counts += some
+            passed, failed = (passed, failed + 1) if faults else (passed + 1, failed)
+            for fault in faults[:3]:
+                print(f"FAILED: {name}: {fault}")
+    for fault in old_faults() + show_table(counts):
+        failed += 1
+        print(f"FAILED: {fault}")
+    print(f"{passed} passed, {failed} failed")
+    return 1 if failed else 0
+
+
+if __name__ == "__main__":
+    sys.exit(main(sys.argv[1:]))

@@ -1,0 +1,130 @@
+#!/usr/bin/env python3
+"""The plain model of an office in the folder machine, alone: it answers every row as is written there.
+
+    machine.py                    checks the model on the rows, and on a small office
+    machine.py replay [--version-1]   writes the answers to the lines of standard input
+    machine.py report|export|rows [--version-1]   writes that of the state after these lines
+"""
+
+import sys
+from pathlib import Path
+
+from machine.assignments import export
+from machine.replaying import Replay
+from machine.texts import json_text, report, rows
+
+TESTS = Path(__file__).resolve().parent
+
+# What is told of the small office, whose commands are the first lines of this row.
+SMALL_OFFICE = (TESTS / "rows/reviewed.jsonl", 16)
+REPORT = b"""\
+    assigned  authorized     granted   permitted     juniors     seniors  role
+           1           1           1           2           1           0  boss
+           1           2           1           1           0           1  clerk
+           0           0           0           0           0           0  temp
+"""
+EXPORT = b"user,role\nann,boss\nbob,clerk\n"
+ROWS = {
+    "meta_row": [("rbac", 2)],
+    "name_row": [(1, "ann"), (1, "bob"), (2, "boss"), (2, "clerk"), (2, "temp"), (3, "safe")],
+    "pair_row": [
+        (1, "safe", "open"),
+        (1, "safe", "view"),
+        (2, "ann", "boss"),
+        (2, "bob", "clerk"),
+        (3, "boss", "clerk"),
+        (4, "boss", "clerk"),
+        (5, "pay", "clerk"),
+        (5, "pay", "temp"),
+        (6, "till", "boss"),
+        (6, "till", "temp"),
+        (7, "s1", "ann"),
+        (8, "s1", "boss"),
+    ],
+    "grant_row": [("safe", "open", "clerk"), ("safe", "view", "boss")],
+    "set_row": [(1, "pay", 2), (2, "till", 2)],
+    "locked_row": [],
+}
+
+
+def small_office(version):
+    """The state of the small office."""
+    path, count = SMALL_OFFICE
+    replay = Replay(version)
+    for line in path.read_bytes().splitlines()[:count]:
+        if replay.answer(line) != b'{"ok":true}':
+            raise ValueError(f"{line!r} is refused")
+    return replay.state
+
+
+def content(path):
+    """The bytes of a file, none where it is not there."""
+    return path.read_bytes() if path.exists() else b""
+
+
+def check_row(path):
+    """Whether the lines of a row are answered as the files beside it say."""
+    replay = Replay(1 if path.parent.name == "version-1" else 2)
+    wanted = content(path.with_suffix(".answers")).splitlines(keepends=True)
+    given = list(replay.answers(path.read_bytes()))
+    name = path.relative_to(TESTS / "rows").with_suffix("")
+    for number, (given_one, wanted_one) in enumerate(zip(given, wanted), 1):
+        if given_one != wanted_one:
+            print(f"FAILED: {name}: answer {number} is {given_one!r} and not {wanted_one!r}")
+            return False
+    if len(given) != len(wanted) or replay.message() != content(path.with_suffix(".stderr")):
+        print(f"FAILED: {name}: {len(given)} answers and not {len(wanted)}, then {replay.message()!r}")
+        return False
+    return True
+
+
+def check_told(name, given, wanted):
+    """Whether what is told of the small office is right."""
+    if given != wanted:
+        print(f"FAILED: the {name} of the small office is {given!r}")
+    return given == wanted
+
+
+def check():
+    """Checks the model, and prints the count."""
+    results = [check_row(path) for path in sorted((TESTS / "rows").rglob("*.jsonl"))]
+    state = small_office(2)
+    results.append(check_told("report", report(state), REPORT))
+    results.append(check_told("export", export(state), EXPORT))
+    results.append(check_told("table", rows(state), ROWS))
+    old = {**ROWS, "meta_row": [("rbac", 1)]}
+    del old["locked_row"]
+    results.append(check_told("table of version 1", rows(small_office(1)), old))
+    print(f"{sum(results)} passed, {len(results) - sum(results)} failed")
+    return 0 if all(results) else 1
+
+
+def write(word, version):
+    """Writes the answers to the lines of standard input, or what the state after them is."""
+    replay = Replay(version)
+    for answer in replay.answers(sys.stdin.buffer.read()):
+        if word == "replay":
+            sys.stdout.buffer.write(answer)
+    if word == "report":
+        sys.stdout.buffer.write(report(replay.state))
+    elif word == "export":
+        sys.stdout.buffer.write(export(replay.state))
+    elif word == "rows":
+        for table, found in rows(replay.state).items():
+            for row in found:
+                print(f"{table} {json_text(row)}")
+    sys.stderr.buffer.write(replay.message())
+    return 1 if replay.stop else 0
+
+
+def main(words):
+    if not words:
+        return check()
+    if words[0] in ("replay", "report", "export", "rows"):
+        return write(words[0], 1 if "--version-1" in words else 2)
+    print(__doc__, file=sys.stderr)
+    return 2
+
+
+if __name__ == "__main__":
+    sys.exit(main(sys.argv[1:]))

@@ -1,0 +1,207 @@
+"""The state of an office: the sets and relations of the standard, and what follows from them.
+
+A state is a value: what changes it gives another one. Names are texts, whose order by code points is
+that of their bytes in UTF-8. A set of pairs or triples is ordered by the first part first.
+"""
+
+from collections import Counter
+from dataclasses import dataclass, field, replace
+
+# What there may be at most, in version 1 and in version 2.
+LIMITS = {
+    "user": (5_000, 20_000),
+    "role": (256, 1_024),
+    "object": (2_000, 2_000),
+    "permission": (5_000, 5_000),
+    "grant": (20_000, 20_000),
+    "assignment": (20_000, 20_000),
+    "edge": (1_024, 4_096),
+    "ssdSet": (64, 64),
+    "dsdSet": (64, 64),
+    "member": (32, 32),
+    "session": (1_000, 1_000),
+    "activeRole": (32, 32),
+    "record": (10_000, 10_000),
+    "byte": (2_097_152, 2_097_152),
+}
+
+# The names of the refusals.
+ERRORS = {
+    1: "BadName",
+    2: "NoUser",
+    3: "UserExists",
+    4: "NoRole",
+    5: "RoleExists",
+    6: "NoObject",
+    7: "ObjectExists",
+    8: "NoPermission",
+    9: "PermissionExists",
+    10: "AlreadyAssigned",
+    11: "NotAssigned",
+    12: "AlreadyGranted",
+    13: "NotGranted",
+    14: "EdgeExists",
+    15: "NoEdge",
+    16: "Cycle",
+    17: "RoleInUse",
+    18: "ObjectInUse",
+    19: "SetExists",
+    20: "NoSet",
+    21: "MemberExists",
+    22: "NoMember",
+    23: "BadCardinality",
+    24: "StaticSeparation",
+    25: "DynamicSeparation",
+    26: "NoSession",
+    27: "SessionExists",
+    28: "NotOwner",
+    29: "NotAuthorized",
+    30: "AlreadyActive",
+    31: "NotActive",
+    32: "TooMany",
+    33: "NoOperation",
+    34: "BadRequest",
+    35: "UnknownFunction",
+    36: "BadCsv",
+    37: "UserLocked",
+    51: "Version",
+}
+
+
+class Refused(Exception):
+    """A refusal: its code, and the set, kind, record or version that comes with it."""
+
+    def __init__(self, code, **told):
+        super().__init__(code, told)
+        self.code = code
+        self.told = told
+
+
+def refuse_if(condition, code, **told):
+    """Refuses by this code where the condition holds."""
+    if condition:
+        raise Refused(code, **told)
+
+
+@dataclass(frozen=True)
+class State:
+    """What an office holds.
+
+    permissions are pairs (object, operation), grants (object, operation, role), assignments (user, role)
+    and edges, the immediate inheritances, (ascendant, descendant). Separation of duty sets are kept as
+    name -> (roles, cardinality), and sessions as name -> (user, activated roles).
+    """
+
+    version: int = 2
+    users: frozenset = frozenset()
+    locked: frozenset = frozenset()
+    roles: frozenset = frozenset()
+    objects: frozenset = frozenset()
+    permissions: frozenset = frozenset()
+    grants: frozenset = frozenset()
+    assignments: frozenset = frozenset()
+    edges: frozenset = frozenset()
+    static_sets: dict = field(default_factory=dict)
+    dynamic_sets: dict = field(default_factory=dict)
+    sessions: dict = field(default_factory=dict)
+
+    def but(self, **changes):
+        """The state with these parts in place of its own."""
+        return replace(self, **changes)
+
+    def limit(self, kind):
+        """How many of a kind there may be."""
+        return LIMITS[kind][self.version - 1]
+
+
+def reach(pairs, start):
+    """The start, and all that pairs lead to from there."""
+    found = new = {start}
+    while new:
+        new = {second for first, second in pairs if first in new} - found
+        found = found | new
+    return found
+
+
+def below(state, role):
+    """The role itself and its juniors: all q with role >= q."""
+    return reach(state.edges, role)
+
+
+def above(state, role):
+    """The role itself and its seniors: all q with q >= role."""
+    return reach({(desc, asc) for asc, desc in state.edges}, role)
+
+
+def assigned_users(state, role):
+    """The users who are assigned the role."""
+    return {user for user, assigned in state.assignments if assigned == role}
+
+
+def assigned_roles(state, user):
+    """The roles that the user is assigned."""
+    return {role for assigned, role in state.assignments if assigned == user}
+
+
+def authorized_users(state, role):
+    """The users who are assigned the role or one above it."""
+    seniors = above(state, role)
+    return {user for user, assigned in state.assignments if assigned in seniors}
+
+
+def authorized_roles(state, user):
+    """The roles that the user is assigned, and those below them."""
+    return {junior for role in assigned_roles(state, user) for junior in below(state, role)}
+
+
+def granted_permissions(state, roles):
+    """The permissions that are granted to one of these roles directly."""
+    return {(ob, op) for ob, op, role in state.grants if role in roles}
+
+
+def authorized_permissions(state, role):
+    """The permissions that are granted to the role or to one below it."""
+    return granted_permissions(state, below(state, role))
+
+
+def session_roles(state, session):
+    """The roles that were activated in the session, and those below them."""
+    _, active = state.sessions[session]
+    return {junior for role in active for junior in below(state, role)}
+
+
+def static_violation(state):
+    """The first static set in byte order of which someone is authorized for too many roles, or None."""
+    for name, (roles, cardinality) in sorted(state.static_sets.items()):
+        counts = Counter()
+        for role in roles:
+            counts.update(authorized_users(state, role))
+        if any(count >= cardinality for count in counts.values()):
+            return name
+    return None
+
+
+def dynamic_violation(state):
+    """The first dynamic set in byte order of which a session has too many roles, or None."""
+    for name, (roles, cardinality) in sorted(state.dynamic_sets.items()):
+        for session in state.sessions:
+            if len(session_roles(state, session) & roles) >= cardinality:
+                return name
+    return None
+
+
+def may_go_on(state, user, active):
+    """Whether a session of the user with these activated roles may be."""
+    if user not in state.users or user in state.locked:
+        return False
+    return not active or active <= authorized_roles(state, user)
+
+
+def end_sessions(state):
+    """The state without the sessions that may not be any more."""
+    sessions = {
+        session: (user, active)
+        for session, (user, active) in state.sessions.items()
+        if may_go_on(state, user, active)
+    }
+    return state.but(sessions=sessions)
