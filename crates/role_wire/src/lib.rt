@@ -2,9 +2,12 @@
 #![tactic(auto)]
 
 pub use lines::{Cause, Count, Stop};
+pub use replaying::replay;
+pub use role_csv::{read_assignments, write_assignments};
+pub use role_json::{Function, Request, Verdict, answer_text, read_body, read_request};
 
 pub mod laws;
 pub mod lines;
 mod made;
 mod performing;
-mod replaying;
+pub mod replaying;
