@@ -2,7 +2,8 @@
 use Rattle.std.specs.Prelude.{◌≡◌, ◌⊎◌, ℕ, Bool, true, false, List, string_bytes}
 use Rattle.rbac_sets.specs.declared.refusal.Refusal.{Refusal}
 use Rattle.rbac_sets.specs.declared.refusal.Refusal.TheVariants.{BadRequest, UnknownFunction, Memory, Store, Closed}
-use Rattle.role_json.specs.Answer.{refusal_text}
+use Rattle.role_json.specs.Answer.{refusal_text, text_of}
+use Rattle.role_json.specs.declared.answer.Verdict.{Verdict}
 use Rattle.role_http.specs.Status.{status_of}
 use Rattle.role_wire.specs.declared.made.Body.{Body}
 use Rattle.role_wire.specs.declared.made.Body.TheVariants.{Fixed, Text}
@@ -29,3 +30,7 @@ is_fixed _ = false
 -- the reply tells the refusal or, where its text takes memory, that this was refused
 abbrev pub TellsRefusal : Refusal → Made → Type 0
 TellsRefusal refusal made = IsRefusal refusal made ⊎ (IsRefusal Memory made × (is_fixed refusal ≡ false))
+
+-- the reply tells what was done or answered
+abbrev pub IsReplied : Verdict → Made → Type 0
+IsReplied verdict made = (made.status ≡ 200) × (bytes_in made.body ≡ text_of verdict)

@@ -7,10 +7,18 @@ use Rattle.rbac_sets.specs.declared.refusal.Refusal.{Refusal}
 use Rattle.rbac_sets.specs.declared.refusal.Refusal.TheVariants.{Memory, Store, Closed}
 use Rattle.admin_mgr.specs.Asked.{asked_verdict}
 use Rattle.admin_mgr.specs.RbacState.{RbacState}
-use Rattle.role_json.specs.Requested.{Requested, Change}
+use Rattle.review_mgr.specs.declared.query.Query.{Query}
+use Rattle.role_json.specs.Requested.{Requested, Change, Ask}
 use Rattle.role_tables.specs.Office.{Opened}
 use Rattle.role_wire.specs.Keeping.{Breaks, Reaches}
 use Rattle.role_wire.specs.Outcome.{outcome_of, state_after}
+
+-- it is a command, or a question
+abbrev pub IsCommand : Requested → Type 0
+IsCommand requested = (asked : Asked) × (requested ≡ Change asked)
+
+abbrev pub IsQuestion : Requested → Type 0
+IsQuestion requested = (query : Query) × (requested ≡ Ask query)
 
 -- the request is a command that is accepted in this state
 abbrev pub IsAccepted : RbacState → Requested → Type 0

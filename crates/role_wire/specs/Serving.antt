@@ -13,10 +13,14 @@ use Rattle.role_wire.specs.Keeping.{Reaches}
 use Rattle.role_wire.specs.Made.{bytes_in}
 use Rattle.role_wire.specs.Outcome.{state_after}
 use Rattle.role_wire.specs.Performing.{IsAccepted, BreaksAt}
-use Rattle.role_wire.specs.Reply.{Reply, Replies, Asks}
+use Rattle.role_wire.specs.Reply.{Reply, Replies, Asks, reply_of}
 use Rattle.role_wire.specs.declared.lines.Cause.{Cause}
 use Rattle.role_wire.specs.declared.lines.Cause.TheVariants as cause
 use Rattle.role_wire.specs.declared.made.Made.{Made}
+
+-- this was read
+abbrev pub IsRead : Result Requested Refusal → Requested → Type 0
+IsRead read asked = read ≡ Ok asked
 
 module _ {S : Type 0} (shown : Held S → State) where
   -- the reply is told
@@ -43,9 +47,10 @@ module _ {S : Type 0} (shown : Held S → State) where
 
   -- ---- what was read of a body
 
-  -- the reply to it is in the making, or what is told in its place
-  abbrev pub Comes : Opened S → Reply → (Requested → Type 0) → Made → Opened S → Type 0
-  Comes old reply AsksFor made new = IsTold old reply made.status (bytes_in made.body) new ⊎ IsToldInPlace old AsksFor made.status (bytes_in made.body) new
+  -- the reply to it is in the making, or what is told in its place. The reply tells nothing of how long the body is
+  abbrev pub ComesOf : Opened S → Result Requested Refusal → Made → Opened S → Type 0
+  ComesOf old read made new = ((taken : ℕ) → IsTold old (reply_of old.facts taken read) made.status (bytes_in made.body) new)
+      ⊎ IsToldInPlace old (IsRead read) made.status (bytes_in made.body) new
 
   -- ---- whole requests
 

@@ -1,0 +1,228 @@
+//! One request over HTTP, from its first byte to the last of its reply.
+ghost use Rattle.std.specs.Prelude.{◌≡◌, ◌≤◌, ◌⊎◌, ◌++◌, ℕ, List, length, take, Ok, Err, IfErr, IfOk, OnErr};
+ghost use Rattle.std.specs.Io.KnownBytes.{Appends, Consumes};
+ghost use Rattle.sqlite.specs.Held.{state};
+ghost use Rattle.rbac_sets.specs.Stream.{HasRisen};
+ghost use Rattle.role_json.specs.Request.{body_to};
+ghost use Rattle.role_json.specs.Requested.{requested};
+ghost use Rattle.role_http.specs.Answered.{with_left};
+ghost use Rattle.role_http.specs.ReplyBytes.{reply_bytes};
+ghost use Rattle.role_http.specs.Route.{routes};
+ghost use Rattle.role_wire.specs.Made.{IsRefusal, IsReplied, bytes_in};
+ghost use Rattle.role_wire.specs.Performing.{IsCommand, IsQuestion};
+ghost use Rattle.role_wire.specs.Reply.{Asks, TakesNoFurther, called_for};
+ghost use Rattle.role_wire.specs.Serving.{ComesOf, IsDone, IsRead, LeavesUntold, StopsAt, Tells};
+
+use crate::lines::{Cause, Stop};
+use crate::made::{Body, Made, no_memory, refused, refused_head};
+use crate::performing::perform;
+use http::StatusCode;
+use matchit::Router;
+use rbac_sets::{Fault, Refusal, Sink, Source};
+use role_http::{Unread, answer_head, one_route, read_bytes, write_reply};
+use role_json::{Function, Request, Verdict, answer_text, body_to};
+use role_tables::Office;
+use sqlite::Alter;
+use std::alloc::Global;
+
+/// A request that was replied.
+#[derive(Clone, Copy, Debug, PartialEq, Eq)]
+pub struct Served {
+    /// The status of the reply.
+    pub status: u16,
+}
+
+/// Reads one request from `source`, does what it asks for, and writes the reply to `sink`. No byte
+/// past the request is read.
+///
+/// A request is `POST /v1/FUNCTION` with a Content-Length, and its body is what `read_body` reads.
+/// Its reply has the status 200 and the answer text where the command was done or the question
+/// answered. Else the body tells a refusal: with 409 one of the request's own (numbers 2 to 33, 37
+/// and 51), with 400 a request, a name or a CSV that is badly made, with 404 another function, 405
+/// another method, 411 no length, 413 a body above its limit, 431 a head above its limits, 501 a
+/// Transfer-Encoding. Where memory was refused before anything was done, it is 503; where the store
+/// was refused or the office is closed, 500.
+///
+/// # Errors
+///
+/// A stop leaves no whole reply; its `answered` is 0.
+///
+/// - `Read`: a read failed. Nothing was done and nothing written.
+/// - `Memory`: memory for the text of an accepted command was refused. The command is done, and
+///   nothing was written.
+/// - `Write`: a write failed, or took no byte. A part of the reply was written; what it tells holds.
+pub fn serve_one<S: Alter, R: Source, W: Sink>(
+    alloc: Global,
+    office: &mut Office<S>,
+    source: &mut R,
+    sink: &mut W,
+) -> Result<Served, Stop>
+    ensures served { IfOk result (λ served. (taken : List ℕ) × Consumes (R.remaining source.old) (R.remaining source.new) taken
+        × TakesNoFurther office.old.facts (with_left taken (R.remaining source.new)) taken
+        × ((body : List ℕ) × Tells (state S.Store) office.old (with_left taken (R.remaining source.new)) served.status body office.new
+        × Appends (W.written sink.old) (W.written sink.new) (reply_bytes served.status body))) }
+    ensures stopped { IfErr result (λ stop. (stop.answered ≡ 0) × ((taken : List ℕ) × Consumes (R.remaining source.old) (R.remaining source.new) taken
+        × TakesNoFurther office.old.facts (with_left taken (R.remaining source.new)) taken
+        × StopsAt (state S.Store) stop.cause office.old (with_left taken (R.remaining source.new)) office.new (W.written sink.old) (W.written sink.new))) }
+    ensures read_cause { IfErr result (λ stop. stop.cause ≡ Cause.Read → HasRisen (R.failed source.old) (R.failed source.new)) }
+    ensures write_cause { IfErr result (λ stop. stop.cause ≡ Cause.Write → HasRisen (W.failed sink.old) (W.failed sink.new) ⊎ HasRisen (W.idle sink.old) (W.idle sink.new)) }
+{
+    match one_route(alloc) {
+        Ok(router) => serve_with(alloc, &router, office, source, sink),
+        Err(_) => send(sink, &no_memory()),
+    }
+}
+
+/// `serve_one`, with a router that was made before by `one_route` of `role_http`.
+///
+/// # Errors
+///
+/// As `serve_one`.
+pub fn serve_with<S: Alter, R: Source, W: Sink>(
+    alloc: Global,
+    router: &Router<()>,
+    office: &mut Office<S>,
+    source: &mut R,
+    sink: &mut W,
+) -> Result<Served, Stop>
+    requires route { router.now ≡ routes }
+    ensures served { IfOk result (λ served. (taken : List ℕ) × Consumes (R.remaining source.old) (R.remaining source.new) taken
+        × TakesNoFurther office.old.facts (with_left taken (R.remaining source.new)) taken
+        × ((body : List ℕ) × Tells (state S.Store) office.old (with_left taken (R.remaining source.new)) served.status body office.new
+        × Appends (W.written sink.old) (W.written sink.new) (reply_bytes served.status body))) }
+    ensures stopped { IfErr result (λ stop. (stop.answered ≡ 0) × ((taken : List ℕ) × Consumes (R.remaining source.old) (R.remaining source.new) taken
+        × TakesNoFurther office.old.facts (with_left taken (R.remaining source.new)) taken
+        × StopsAt (state S.Store) stop.cause office.old (with_left taken (R.remaining source.new)) office.new (W.written sink.old) (W.written sink.new))) }
+    ensures read_cause { IfErr result (λ stop. stop.cause ≡ Cause.Read → HasRisen (R.failed source.old) (R.failed source.new)) }
+    ensures write_cause { IfErr result (λ stop. stop.cause ≡ Cause.Write → HasRisen (W.failed sink.old) (W.failed sink.new) ⊎ HasRisen (W.idle sink.old) (W.idle sink.new)) }
+{
+    match do_request(alloc, router, office, source) {
+        Ok(made) => send(sink, &made),
+        Err(cause) => Err(Stop { cause, answered: 0 }),
+    }
+}
+
+// Writes a reply.
+fn send<W: Sink>(sink: &mut W, made: &Made) -> Result<Served, Stop>
+    ensures served { IfOk result (λ served. (served.status ≡ made.now.status) × Appends (W.written sink.old) (W.written sink.new) (reply_bytes made.now.status (bytes_in made.now.body))) }
+    ensures part { IfErr result (λ stop. (stop.answered ≡ 0) × (stop.cause ≡ Cause.Write)
+        × ((part rest : List ℕ) × (reply_bytes made.now.status (bytes_in made.now.body) ≡ part ++ rest) × (1 ≤ length rest) × Appends (W.written sink.old) (W.written sink.new) part)) }
+    ensures cause { OnErr result (HasRisen (W.failed sink.old) (W.failed sink.new) ⊎ HasRisen (W.idle sink.old) (W.idle sink.new)) }
+{
+    match write_reply(sink, made.status, made.body.as_bytes()) {
+        Ok(()) => Ok(Served {
+            status: made.status.as_u16(),
+        }),
+        Err(Fault) => Err(Stop {
+            cause: Cause::Write,
+            answered: 0,
+        }),
+    }
+}
+
+// Reads a request, does what it asks for, and makes the reply.
+fn do_request<S: Alter, R: Source>(
+    alloc: Global,
+    router: &Router<()>,
+    office: &mut Office<S>,
+    source: &mut R,
+) -> Result<Made, Cause>
+    requires route { router.now ≡ routes }
+    ensures made { IfOk result (λ made. (taken : List ℕ) × Consumes (R.remaining source.old) (R.remaining source.new) taken
+        × TakesNoFurther office.old.facts (with_left taken (R.remaining source.new)) taken
+        × Tells (state S.Store) office.old (with_left taken (R.remaining source.new)) made.status (bytes_in made.body) office.new) }
+    ensures left { IfErr result (λ cause. (taken : List ℕ) × Consumes (R.remaining source.old) (R.remaining source.new) taken
+        × TakesNoFurther office.old.facts (with_left taken (R.remaining source.new)) taken
+        × LeavesUntold (state S.Store) cause office.old (Asks (with_left taken (R.remaining source.new))) office.new) }
+    ensures cause { IfErr result (λ cause. cause ≡ Cause.Read → HasRisen (R.failed source.old) (R.failed source.new)) }
+{
+    match answer_head(alloc, router, source) {
+        Ok(Ok((called, count))) => do_call(alloc, office, source, called, count),
+        Ok(Err(status)) => Ok(refused_head(status)),
+        Err(Unread::Memory) => Ok(no_memory()),
+        Err(Unread::Fault) => Err(Cause::Read),
+    }
+}
+
+// Reads the body of a call, does what it asks for, and makes the reply.
+fn do_call<S: Alter, R: Source>(
+    alloc: Global,
+    office: &mut Office<S>,
+    source: &mut R,
+    called: Function,
+    count: u32,
+) -> Result<Made, Cause>
+    ensures made { IfOk result (λ made. (taken : List ℕ) × Consumes (R.remaining source.old) (R.remaining source.new) taken
+        × (length taken ≤ length (take count (with_left taken (R.remaining source.new))))
+        × ComesOf (state S.Store) office.old (called_for (with_left taken (R.remaining source.new)) called count) made office.new) }
+    ensures left { IfErr result (λ cause. (taken : List ℕ) × Consumes (R.remaining source.old) (R.remaining source.new) taken
+        × (length taken ≤ length (take count (with_left taken (R.remaining source.new))))
+        × LeavesUntold (state S.Store) cause office.old (IsRead (called_for (with_left taken (R.remaining source.new)) called count)) office.new) }
+    ensures cause { IfErr result (λ cause. cause ≡ Cause.Read → HasRisen (R.failed source.old) (R.failed source.new)) }
+{
+    let body = match read_bytes(alloc, source, count as usize) {
+        Ok(body) => body,
+        Err(Unread::Memory) => return Ok(no_memory()),
+        Err(Unread::Fault) => return Err(Cause::Read),
+    };
+    if body.len() < count as usize {
+        return Ok(refused_head(StatusCode::BAD_REQUEST));
+    }
+    do_body(alloc, office, called, &body)
+}
+
+// Does what a body asks for, and makes the reply.
+fn do_body<S: Alter>(
+    alloc: Global,
+    office: &mut Office<S>,
+    called: Function,
+    body: &[u8],
+) -> Result<Made, Cause>
+    ensures made { IfOk result (λ made. ComesOf (state S.Store) office.old (body_to called body.now) made office.new) }
+    ensures left { IfErr result (λ cause. (cause ≡ Cause.Memory) × IsDone (state S.Store) office.old (IsRead (body_to called body.now)) office.new) }
+{
+    match body_to(alloc, called, body) {
+        Ok(request) => do_asked(alloc, office, &request),
+        Err(refusal) => Ok(refused(alloc, refusal)),
+    }
+}
+
+// Does what a request asks for, and makes the reply.
+fn do_asked<S: Alter>(
+    alloc: Global,
+    office: &mut Office<S>,
+    request: &Request,
+) -> Result<Made, Cause>
+    ensures made { IfOk result (λ made. ComesOf (state S.Store) office.old (Ok (requested request.now)) made office.new) }
+    ensures left { IfErr result (λ cause. (cause ≡ Cause.Memory) × IsDone (state S.Store) office.old (IsRead (Ok (requested request.now))) office.new) }
+{
+    match perform(alloc, office, request) {
+        Ok(verdict) => tell(alloc, request, &verdict),
+        Err(refusal) => Ok(refused(alloc, refusal)),
+    }
+}
+
+// The reply to a request that was done or answered with this verdict.
+fn tell(alloc: Global, request: &Request, verdict: &Verdict) -> Result<Made, Cause>
+    ensures made { IfOk result (λ made. IsReplied verdict.now made ⊎ (IsRefusal Refusal.Memory made × IsQuestion (requested request.now))) }
+    ensures left { IfErr result (λ cause. (cause ≡ Cause.Memory) × IsCommand (requested request.now)) }
+{
+    match answer_text(alloc, verdict) {
+        Ok(text) => Ok(Made {
+            status: StatusCode::OK,
+            body: Body::Text(text),
+        }),
+        Err(_) => untold(request),
+    }
+}
+
+// What comes of a request that was done or answered, where memory for its text was refused.
+fn untold(request: &Request) -> Result<Made, Cause>
+    ensures made { IfOk result (λ made. IsRefusal Refusal.Memory made × IsQuestion (requested request.now)) }
+    ensures left { IfErr result (λ cause. (cause ≡ Cause.Memory) × IsCommand (requested request.now)) }
+{
+    match request {
+        Request::Ask(_) => Ok(no_memory()),
+        Request::Change(_) => Err(Cause::Memory),
+    }
+}
