@@ -1,11 +1,11 @@
 #!/bin/sh
-# Runs the tests of the folder office: commands and questions on states, by the public functions of the
-# crates. They are laid with copies of the crates into workspaces of their own, where `rt try` builds them
+# Runs the tests of the folder office: commands and questions on states, and requests as texts, by the
+# public functions of the crates. They are laid with copies of the crates into workspaces of their own, where `rt try` builds them
 # with checks and without proof, and runs each. Nothing need be proved or built before.
 
 set -u
 tests=$(cd "$(dirname "$0")" && pwd) || exit 1
-crates='rbac_sets role_order admin_mgr review_mgr role_csv'
+crates='rbac_sets role_order admin_mgr review_mgr role_csv role_json'
 
 # The seconds that one test may take.
 most=300

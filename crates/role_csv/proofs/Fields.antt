@@ -56,5 +56,3 @@ is_header-other [] other = refl
 is_header-other (x ∷ []) other = refl
 is_header-other (x ∷ y ∷ []) other = absurd (other refl)
 is_header-other (x ∷ y ∷ z ∷ fields) other = refl
-
-pub ruleset header_steps = (is_header-other)

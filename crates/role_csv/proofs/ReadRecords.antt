@@ -4,7 +4,7 @@ use Rattle.std.specs.Borrow.{Bor}
 use Rattle.std.proofs.lemmas.Bool.{cases_Bool}
 use Rattle.std.proofs.lemmas.List.{append-nil}
 use Rattle.csv.specs.Machine.{Read, ends_at_end, field_after, fields_after, is_end, next_record, step}
-use Rattle.csv.specs.Reading.{Reached, ReadRecord, Ready, default_config, reader_state, reader_trim, records_from, strip_bom, took_first}
+use Rattle.csv.specs.Reading.{Reached, ReadRecord, Ready, default_config, is_flexible, reader_state, reader_trim, records_from, strip_bom, took_first}
 use Rattle.csv.specs.declared.parser.Config.{Config}
 use Rattle.csv.specs.declared.parser.State.{State}
 use Rattle.csv.specs.declared.parser.State.TheVariants as state
@@ -76,7 +76,8 @@ module _ (text : Bytes) (rows : List Fields) (reader : TextReader) (has : HasRea
   read_then : records_of text ≡ rows ++ records_from default_config (length (strip_bom text) + 1 - length rows) (reader_state reader) has.left
   read_then =
       let most = reached-length default_config rows state.StartRecord (reader_state reader) (strip_bom text) has.left has.reached in
-      reached-first default_config rows (length (strip_bom text) + 1) (length (strip_bom text) + 1 - length rows) state.StartRecord (reader_state reader) (strip_bom text) has.left (omega arith) has.reached
+      reached-first default_config rows (length (strip_bom text) + 1) (length (strip_bom text) + 1 - length rows) state.StartRecord (reader_state reader)
+      (strip_bom text) has.left (omega arith) has.reached
 
   pub records-first : (later : List Fields) × (records_of text ≡ rows ++ later)
   records-first = (_, read_then)
@@ -91,11 +92,12 @@ left_of slice = Some slice.now
 
 module _ (old new : TextReader) (fields : Fields) (text : Bytes) (rows : List Fields) (has : HasRead text rows old) where
   -- one record more was read
-  pub read-more : ((reader_trim old ≡ trim.None) → Ready old → ReadRecord left_of old new true fields) → took_first new ≡ true → HasRead text (rows ++ fields ∷ []) new
-  read-more reads first =
+  pub read-more : ((reader_trim old ≡ trim.None) → Ready old → ReadRecord left_of old new true fields) → took_first new ≡ true → is_flexible new ≡ is_flexible old
+      → HasRead text (rows ++ fields ∷ []) new
+  read-more reads first flexible =
       let r = reads has.untrimmed has.ready in
       let (left, source, reached) = rows-more left_of old new fields default_config state.StartRecord (strip_bom text) has.left rows has.config has.source has.reached r in
-      record { untrimmed = r.3 ∙ has.untrimmed; ready = inl first; config = r.2 ∙ has.config; left = left; source = source; reached = reached }
+      record { untrimmed = r.3 ∙ has.untrimmed; flexible = flexible ∙ has.flexible; ready = inl first; config = r.2 ∙ has.config; left = left; source = source; reached = reached }
 
   -- there was none
   pub read-none : ((reader_trim old ≡ trim.None) → Ready old → ReadRecord left_of old new false fields) → records_of text ≡ rows

@@ -1,7 +1,7 @@
 -- The records of a CSV text, and which of them a reader has read.
-use Rattle.std.specs.Prelude.{◌≡◌, ◌++◌, ◌∷◌, [], List, Some}
+use Rattle.std.specs.Prelude.{◌≡◌, ◌++◌, ◌∷◌, [], List, Some, true}
 use Rattle.std.specs.Borrow.{Bor}
-use Rattle.csv.specs.Reading.{Reached, Ready, default_config, reader_config, reader_state, reader_trim, records, source_of, strip_bom}
+use Rattle.csv.specs.Reading.{Reached, Ready, default_config, is_flexible, reader_config, reader_state, reader_trim, records, source_of, strip_bom}
 use Rattle.csv.specs.declared.parser.State.TheVariants as state
 use Rattle.csv.specs.declared.reader.Reader.{Reader}
 use Rattle.csv.specs.declared.reader.Trim.TheVariants as trim
@@ -19,9 +19,10 @@ records_of text = records default_config (strip_bom text)
 abbrev pub TextReader : Type 0
 TextReader = Reader (Bor Bytes)
 
--- the reader has read these records, the first of the text, and no byte behind them
+-- the reader takes records of any length, and has read these, the first of the text, and no byte behind them
 pub record HasRead (text : Bytes) (rows : List Fields) (reader : TextReader) : Type 0 where
   pub untrimmed : reader_trim reader ≡ trim.None
+  pub flexible : is_flexible reader ≡ true
   pub ready : Ready reader
   pub config : reader_config reader ≡ default_config
   pub left : Bytes

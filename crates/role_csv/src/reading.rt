@@ -18,9 +18,11 @@ const MOST_BYTES: usize = 2_097_152;
 /// They are what importAssignments takes: nothing is asked of an office here, and a pair that is
 /// listed twice is there twice.
 ///
-/// `text` is read as `csv` reads by default: fields stand between commas, may be in double quotes,
-/// and lines without a byte are no records. A byte order mark at its start is passed over. The
-/// first record is the header `user,role`; those under it are numbered from 1.
+/// `text` may be any bytes. Its records are those of `csv`: fields stand between commas, with no
+/// space taken away, and may be in double quotes, within which a double quote is written twice; a
+/// record ends with LF, CR or CRLF, and a line without a byte is none. One byte order mark at the
+/// start is passed over. The first record is the header `user,role`; those under it are numbered
+/// from 1.
 ///
 /// # Errors
 ///
@@ -56,7 +58,7 @@ pub fn read_assignments(alloc: Global, text: &[u8]) -> Result<Vec<(Name, Name)>,
 }
 
 // Whether the record is the header `user,role`.
-#[tactic(auto, using(crate::proofs::Fields::header_steps), unfolding(crate::specs::Assignments::is_header))]
+#[tactic(auto, unfolding(crate::specs::Assignments::is_header))]
 fn is_header(row: &ByteRecord) -> bool
     ensures { result ≡ is_header (fields_of row.now) }
 {

@@ -1,6 +1,7 @@
 //! The records of a text, one after another.
 ghost use Rattle.std.specs.Prelude.{◌≡◌, ◌≢◌, ◌∷◌, [], true, false, IfOk, IfErr, IfSome, IfNone, length};
 ghost use Rattle.std.specs.Str.{is_utf8};
+ghost use Rattle.csv.specs.Reading.{is_flexible};
 ghost use Rattle.csv.specs.Records.{fields_of};
 ghost use Rattle.role_csv.specs.Records.{HasRead, HasReadAll, ReadsOneMore};
 
@@ -18,8 +19,10 @@ pub(crate) fn reader_of(alloc: Global, text: &[u8]) -> Reader<&[u8]>
         .from_reader(alloc, text)
 }
 
-// Reads the next record into `row`, and tells whether there was one.
+// Reads the next record into `row`, and tells whether there was one. A reader that takes records of any length
+// fails for want of memory alone.
 pub(crate) fn next_record(reader: &mut Reader<&[u8]>, row: &mut ByteRecord) -> Result<bool, Refusal>
+    requires { is_flexible reader.old ≡ true }
     ensures more { IfOk result (λ found. found ≡ true → ReadsOneMore reader.old (fields_of row.new) reader.new) }
     ensures end { IfOk result (λ found. found ≡ false → HasReadAll reader.old) }
     ensures cause { IfErr result (λ refusal. refusal ≡ Refusal.Memory) }

@@ -10,10 +10,11 @@ use csv::{Writer, WriterBuilder};
 use rbac_sets::{Fault, Name, Refusal, Sink, write_all};
 use std::alloc::Global;
 
-/// Writes the assignments of a state as CSV, in a form that `read_assignments` reads: the header
-/// `user,role`, then a record with user and role for each assignment in byte order. Each record ends
-/// with LF, and a field is in double quotes where `csv` puts it so by default. The text is made
-/// whole before its first byte is written.
+/// Writes the assignments of a state as CSV: the header `user,role`, then a record with user and
+/// role for each assignment in byte order. Each record ends with LF, and a field that has a comma
+/// or a double quote is in double quotes, its own written twice. It is the form that
+/// `read_assignments` reads, which takes 10,000 records at most: an export may have more. The text
+/// is made whole before its first byte is written.
 ///
 /// # Errors
 ///

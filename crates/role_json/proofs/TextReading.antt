@@ -8,8 +8,6 @@ use Rattle.serde_json.specs.View.{view, items_view}
 use Rattle.serde_json.specs.declared.value.Value.{Value}
 use Rattle.role_json.specs.Fields.{texts_in}
 
--- ---- lists of texts and of names
-
 -- the texts so far, and those of the values that are left
 abbrev pub texts_with : List (List ℕ) → List Value → Option (List (List ℕ))
 texts_with ts vs = option_map (λ us. ts ++ us) (texts_in (items_view vs))

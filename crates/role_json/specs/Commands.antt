@@ -12,15 +12,15 @@ use Rattle.role_json.specs.Steps.{◌>>=◌}
 use Rattle.role_json.specs.declared.function.Function.{Function}
 use Rattle.role_json.specs.declared.function.Function.TheVariants as function
 
--- a command that is no import
+-- such a command is asked for
 abbrev pub single : Command → Result (Option Asked) Refusal
 single command = Ok (Some (Single command))
 
--- the import of these assignments
+-- an import of these assignments is asked for
 abbrev pub import : List Pair → Result (Option Asked) Refusal
 import pairs = Ok (Some (Import pairs))
 
--- on sessions
+-- the command on a session that a call asks for with the arguments in the value, if its function is one
 unfoldable pub session_command_to : Function → Data → Result (Option Asked) Refusal
 session_command_to function.CreateSession value = new_session_at value >>= λ p. single (command.CreateSession p.0 (without_room p.1) p.2)
 session_command_to function.DeleteSession value = owned_session_at value >>= λ p. single (command.DeleteSession p.0 p.1)
@@ -28,7 +28,7 @@ session_command_to function.AddActiveRole value = activation_at value >>= λ p. 
 session_command_to function.DropActiveRole value = activation_at value >>= λ p. single (command.DropActiveRole p.0 p.1 p.2)
 session_command_to _ value = Ok None
 
--- on separation of duty sets
+-- the command on a separation of duty set or on a session
 unfoldable pub separation_command_to : Function → Data → Result (Option Asked) Refusal
 separation_command_to function.CreateSsdSet value = separation_at value >>= λ p. single (command.CreateSsdSet p.0 (without_room p.1) p.2)
 separation_command_to function.AddSsdRoleMember value = member_at value >>= λ p. single (command.AddSsdRoleMember p.0 p.1)
@@ -42,7 +42,7 @@ separation_command_to function.SetDsdSetCardinality value = limit_at value >>= �
 separation_command_to function.DeleteDsdSet value = name_at (codes "set") value >>= λ set. single (command.DeleteDsdSet set)
 separation_command_to other value = session_command_to other value
 
--- on the role hierarchy
+-- the command on the role hierarchy, on a separation of duty set or on a session
 unfoldable pub hierarchy_command_to : Function → Data → Result (Option Asked) Refusal
 hierarchy_command_to function.AddInheritance value = inheritance_at value >>= λ p. single (command.AddInheritance p.0 p.1)
 hierarchy_command_to function.DeleteInheritance value = inheritance_at value >>= λ p. single (command.DeleteInheritance p.0 p.1)
@@ -50,7 +50,7 @@ hierarchy_command_to function.AddAscendant value = inheritance_at value >>= λ p
 hierarchy_command_to function.AddDescendant value = inheritance_at value >>= λ p. single (command.AddDescendant p.0 p.1)
 hierarchy_command_to other value = separation_command_to other value
 
--- the command that a call asks for with the arguments in the value, if its function asks for one: on users, roles, objects and permissions
+-- the command, if the function is one
 unfoldable pub command_to : Function → Data → Result (Option Asked) Refusal
 command_to function.AddUser value = name_at (codes "user") value >>= λ user. single (command.AddUser user)
 command_to function.DeleteUser value = name_at (codes "user") value >>= λ user. single (command.DeleteUser user)

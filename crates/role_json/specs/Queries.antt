@@ -9,11 +9,11 @@ use Rattle.role_json.specs.Steps.{◌>>=◌}
 use Rattle.role_json.specs.declared.function.Function.{Function}
 use Rattle.role_json.specs.declared.function.Function.TheVariants as function
 
--- a question
+-- such a question is asked
 abbrev pub ask : Query → Result (Option Query) Refusal
 ask query = Ok (Some query)
 
--- on separation of duty sets
+-- the question on separation of duty sets that a call asks with the arguments in the value, if its function is one
 unfoldable pub separation_query_to : Function → Data → Result (Option Query) Refusal
 separation_query_to function.SsdRoleSets value = ask query.SsdRoleSets
 separation_query_to function.SsdRoleSetRoles value = name_at (codes "set") value >>= λ set. ask (query.SsdRoleSetRoles set)
@@ -23,7 +23,7 @@ separation_query_to function.DsdRoleSetRoles value = name_at (codes "set") value
 separation_query_to function.DsdRoleSetCardinality value = name_at (codes "set") value >>= λ set. ask (query.DsdRoleSetCardinality set)
 separation_query_to _ value = Ok None
 
--- the question that a call asks with the arguments in the value, if its function asks one: on users, roles, sessions and permissions
+-- the question, if the function is one
 unfoldable pub query_to : Function → Data → Result (Option Query) Refusal
 query_to function.CheckAccess value = access_at value >>= λ p. ask (query.CheckAccess p.0 p.1 p.2)
 query_to function.AssignedUsers value = name_at (codes "role") value >>= λ role. ask (query.AssignedUsers role)

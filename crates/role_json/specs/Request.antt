@@ -24,7 +24,7 @@ longest_line = 65536
 unfoldable pub json_of : List ℕ → Result Data Refusal
 json_of line = or_refuse BadRequest (if nat_le (length line) longest_line && is_utf8 line then read line else None)
 
--- the command if there is one, and else the question
+-- the command if there is one, and else the question; each function is one of the two
 abbrev pub command_or : Result (Option Query) Refusal → Option Asked → Result Requested Refusal
 command_or query (Some command) = Ok (Change command)
 command_or query None = query >>= λ asked. or_refuse UnknownFunction (option_map Ask asked)

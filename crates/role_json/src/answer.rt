@@ -4,7 +4,7 @@ ghost use Rattle.serde_json.specs.Data.{array};
 ghost use Rattle.serde_json.specs.View.{view};
 ghost use Rattle.admin_mgr.specs.Planned.{tally_of_report};
 ghost use Rattle.review_mgr.specs.Answering.{told};
-ghost use Rattle.role_json.specs.Answer.{data_of, pair_data, pairs_of, part_of, record_data, records_of, refusal_data, report_data, text_of, texts_of, value_data};
+ghost use Rattle.role_json.specs.Answer.{data_of, pair_data, pairs_of, part_of, record_data, records_of, refusal_data, report_data, text_of, texts_of, value_data, with_value};
 
 use admin_mgr::Report;
 use rbac_sets::{Name, Refusal};
@@ -25,12 +25,24 @@ pub enum Verdict {
     Refused(Refusal),
 }
 
-/// The text that answers a request: JSON with no space and with the keys in byte order.
+/// The text that answers a request: JSON with no space and with the keys in byte order. In its texts
+/// `"` and `\` stand behind a `\`, and no other character is escaped.
+///
+/// - Done: `{"ok":true}`
+/// - Imported: `{"ok":true,"value":{"already":1,"assigned":2,"refused":[{"code":2,"record":3}]}}`, with
+///   the number of the refusal and of the record for each record that was refused otherwise than by
+///   `AlreadyAssigned`.
+/// - Told: `{"ok":true,"value":V}`, where V is a list of names as `["ann","bob"]`, a list of
+///   permissions as `[["safe","open"]]`, a number, or `true` or `false`.
+/// - Refused: `{"code":2,"error":"NoUser"}`, with the number and the name of the refusal, and with
+///   what comes with it at a key of its own: `set` the name of the separation of duty set, `kind`
+///   the word of what the limit counts, `record` the number of the record, `version` the version
+///   of the office, `check` the number of the check that failed.
 ///
 /// # Errors
 ///
 /// `Memory` where memory for the text was refused.
-#[tactic(auto, using(crate::proofs::Writing::text_of_steps))]
+#[tactic(auto, using(crate::proofs::JsonWriting::text_of_steps))]
 pub fn answer_text(alloc: Global, verdict: &Verdict) -> Result<String, Refusal>
     ensures ok { IfOk result (λ text. string_bytes text ≡ text_of verdict.now) }
     ensures cause { IfErr result (λ refusal. refusal ≡ Refusal.Memory) }
@@ -47,16 +59,17 @@ fn verdict_value(alloc: Global, verdict: &Verdict) -> Result<Value, AllocError>
 {
     match verdict {
         Verdict::Done => json!(in alloc; {"ok": true}),
-        Verdict::Imported(report) => {
-            let value = report_value(alloc, report)?;
-            json!(in alloc; {"ok": true, "value": value})
-        }
-        Verdict::Told(answer) => {
-            let value = told_value(alloc, answer)?;
-            json!(in alloc; {"ok": true, "value": value})
-        }
+        Verdict::Imported(report) => with_value(alloc, report_value(alloc, report)?),
+        Verdict::Told(answer) => with_value(alloc, told_value(alloc, answer)?),
         Verdict::Refused(refusal) => refusal_value(alloc, refusal),
     }
+}
+
+// The JSON value of an answer with this value.
+fn with_value(alloc: Global, value: Value) -> Result<Value, AllocError>
+    ensures { IfOk result (λ answer. view answer ≡ with_value (view value)) }
+{
+    json!(in alloc; {"ok": true, "value": value})
 }
 
 // The JSON value of an answer to a question.
@@ -73,7 +86,7 @@ fn told_value(alloc: Global, answer: &Answer) -> Result<Value, AllocError>
 }
 
 // A list of names as a JSON value.
-#[tactic(auto, using(crate::proofs::Writing::texts_of_steps))]
+#[tactic(auto, using(crate::proofs::JsonWriting::texts_of_steps))]
 fn names_value(alloc: Global, names: &[Name]) -> Result<Value, AllocError>
     ensures { IfOk result (λ value. view value ≡ array (texts_of names.now)) }
 {
@@ -86,7 +99,7 @@ fn names_value(alloc: Global, names: &[Name]) -> Result<Value, AllocError>
 }
 
 // A list of pairs of names as a JSON value.
-#[tactic(auto, using(crate::proofs::Writing::pairs_of_steps))]
+#[tactic(auto, using(crate::proofs::JsonWriting::pairs_of_steps))]
 fn pairs_value(alloc: Global, pairs: &[(Name, Name)]) -> Result<Value, AllocError>
     ensures { IfOk result (λ value. view value ≡ array (pairs_of pairs.now)) }
 {
@@ -116,7 +129,7 @@ fn report_value(alloc: Global, report: &Report) -> Result<Value, AllocError>
 }
 
 // The records that were refused as a JSON value.
-#[tactic(auto, using(crate::proofs::Writing::records_of_steps))]
+#[tactic(auto, using(crate::proofs::JsonWriting::records_of_steps))]
 fn records_value(alloc: Global, records: &[(u32, u32)]) -> Result<Value, AllocError>
     ensures { IfOk result (λ value. view value ≡ array (records_of records.now)) }
 {

@@ -14,7 +14,8 @@ use role_csv::read_assignments;
 use serde_json::Value;
 use std::alloc::Global;
 
-// The command that a call asks for with the arguments in the value, or `None` where its function asks for none.
+// The command that a call asks for with the arguments in the value, or `None` where its function is no command. Here
+// stand those on users, roles, objects, permissions and grants, and below the others.
 #[tactic(auto, unfolding(crate::specs::Commands::command_to, rbac_sets::specs::Asked::asked_of))]
 pub(crate) fn command_to(
     alloc: Global,
@@ -98,7 +99,7 @@ pub(crate) fn command_to(
     }
 }
 
-// The same where it is no command on users, roles, objects and permissions.
+// The command on the hierarchy, on a separation of duty set or on a session that a call asks for, or `None`.
 #[tactic(auto, unfolding(crate::specs::Commands::hierarchy_command_to, rbac_sets::specs::Asked::asked_of))]
 fn hierarchy_command_to(
     alloc: Global,
@@ -129,7 +130,7 @@ fn hierarchy_command_to(
     }
 }
 
-// The same where it is no command on the role hierarchy either.
+// The command on a separation of duty set or on a session that a call asks for, or `None`.
 #[tactic(auto, unfolding(crate::specs::Commands::separation_command_to, rbac_sets::specs::Asked::asked_of))]
 fn separation_command_to(
     alloc: Global,
@@ -192,7 +193,7 @@ fn separation_command_to(
     }
 }
 
-// The same where it is no command on separation of duty sets either.
+// The command on a session that a call asks for, or `None`.
 #[tactic(auto, unfolding(crate::specs::Commands::session_command_to, rbac_sets::specs::Asked::asked_of))]
 fn session_command_to(
     alloc: Global,

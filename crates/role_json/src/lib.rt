@@ -4,7 +4,7 @@
 
 pub use answer::{Verdict, answer_text};
 pub use function::Function;
-pub use request::{Request, body_to, read_body, read_request};
+pub use request::{LONGEST_LINE, Request, body_to, read_body, read_request};
 
 pub mod answer;
 mod commands;

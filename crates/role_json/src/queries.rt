@@ -10,7 +10,8 @@ use review_mgr::Query;
 use serde_json::Value;
 use std::alloc::Global;
 
-// The question that a call asks with the arguments in the value, or `None` where its function asks none.
+// The question that a call asks with the arguments in the value, or `None` where its function is no question. Here
+// stand those on users, roles, sessions and permissions, and below the others.
 #[tactic(auto, unfolding(crate::specs::Queries::query_to))]
 pub(crate) fn query_to(
     alloc: Global,
@@ -77,7 +78,7 @@ pub(crate) fn query_to(
     }
 }
 
-// The same where it is none on users, roles, sessions and permissions.
+// The question on separation of duty sets that a call asks, or `None`.
 #[tactic(auto, unfolding(crate::specs::Queries::separation_query_to))]
 fn separation_query_to(
     alloc: Global,

@@ -15,7 +15,7 @@ use serde_json::Value;
 use std::alloc::Global;
 
 /// The most bytes of a line, and of a body that is no CSV.
-const LONGEST_LINE: usize = 65_536;
+pub const LONGEST_LINE: usize = 65_536;
 
 /// What a request asks for.
 #[derive(Drop)]
@@ -55,10 +55,8 @@ pub fn read_request(alloc: Global, line: &[u8]) -> Result<Request, Refusal>
 {
     let value = json(alloc, line)?;
     let name = text_at(&value, "fn")?;
-    let Some(function) = Function::from_name(name) else {
-        return Err(Refusal::UnknownFunction);
-    };
-    request_to(alloc, function, &value)
+    let called = Function::from_name(name).ok_or(Refusal::UnknownFunction)?;
+    request_to(alloc, called, &value)
 }
 
 /// The request that calls the function of this name with this body. `function` may be any text and
@@ -76,9 +74,7 @@ pub fn read_body(alloc: Global, function: &str, body: &[u8]) -> Result<Request, 
     ensures ok { IfOk result (λ read. body_request function.now body.now ≡ Ok (requested read)) }
     ensures err { IfErr result (λ refusal. (refusal ≡ Refusal.Memory) ⊎ (body_request function.now body.now ≡ Err refusal)) }
 {
-    let Some(called) = Function::from_name(function) else {
-        return Err(Refusal::UnknownFunction);
-    };
+    let called = Function::from_name(function).ok_or(Refusal::UnknownFunction)?;
     body_to(alloc, called, body)
 }
 

@@ -1,121 +1,257 @@
-//! What lines and bodies ask for.
-use crate::request::{Request, read_body, read_request};
-use rbac_sets::{Command, Refusal};
-use review_mgr::Query;
-use std::prelude::HostRuntime;
+//! What lines and bodies ask for, and the texts that answer. Each of the 51 functions is read in
+//! tests/office of the repository.
+use super::*;
+use admin_mgr::Report;
+use rbac_sets::{Command, Kind, Name, Refusal};
+use review_mgr::{Answer, Query};
+use std::alloc::{AllocError, Global};
 use std::test::Fail;
 
-fn line_code(rt: &HostRuntime, line: &[u8]) -> u32 {
-    match read_request(rt.alloc(), line) {
-        Ok(
-            Request::Change(
-                Command::CreateSsdSet {
-                    roles,
-                    cardinality,
-                    ..
-                },
-            ),
-        ) => 100 + roles.len() as u32 * 10 + cardinality,
-        Ok(Request::Change(Command::CreateSession { roles, .. })) => 200 + roles.len() as u32,
-        Ok(Request::Change(Command::ImportAssignments(pairs))) => 300 + pairs.len() as u32,
-        Ok(Request::Change(_)) => 400,
-        Ok(Request::Ask(Query::CheckAccess { .. })) => 501,
-        Ok(Request::Ask(_)) => 500,
-        Err(refusal) => refusal.code(),
+// What was read, in words: the arguments with the name of their shape, or the number of the refusal.
+fn outcome(alloc: Global, read: Result<Request, Refusal>) -> Result<String, AllocError> {
+    match read {
+        Ok(Request::Change(command)) => show_command(alloc, &command),
+        Ok(Request::Ask(query)) => show_query(alloc, &query),
+        Err(refusal) => format!(in alloc; "{}", refusal.code()),
     }
 }
 
-fn body_code(rt: &HostRuntime, function: &str, body: &[u8]) -> u32 {
-    match read_body(rt.alloc(), function, body) {
-        Ok(Request::Change(Command::ImportAssignments(pairs))) => 300 + pairs.len() as u32,
-        Ok(Request::Change(_)) => 400,
-        Ok(Request::Ask(_)) => 500,
-        Err(refusal) => refusal.code(),
+fn show_command(alloc: Global, command: &Command) -> Result<String, AllocError> {
+    match command {
+        Command::AddUser { user } => format!(in alloc; "user {}", user.as_str()),
+        Command::AssignUser { user, role } => {
+            format!(in alloc; "assigned {} {}", user.as_str(), role.as_str())
+        }
+        Command::GrantPermission {
+            object,
+            operation,
+            role,
+        } => {
+            let (object, operation) = (object.as_str(), operation.as_str());
+            format!(in alloc; "granted {object} {operation} {}", role.as_str())
+        }
+        Command::CreateSsdSet {
+            set,
+            roles,
+            cardinality,
+        } => {
+            let roles = show_names(alloc, roles.as_slice())?;
+            format!(in alloc; "set {} {roles} {cardinality}", set.as_str())
+        }
+        Command::SetSsdSetCardinality { set, cardinality } => {
+            format!(in alloc; "limit {} {cardinality}", set.as_str())
+        }
+        Command::CreateSession {
+            user,
+            roles,
+            session,
+        } => {
+            let roles = show_names(alloc, roles.as_slice())?;
+            format!(in alloc; "session {} {roles} {}", user.as_str(), session.as_str())
+        }
+        Command::ImportAssignments(pairs) => format!(in alloc; "import {}", pairs.len()),
+        _ => String::from_str(alloc, "another command"),
     }
+}
+
+fn show_query(alloc: Global, query: &Query) -> Result<String, AllocError> {
+    match query {
+        Query::CheckAccess {
+            session,
+            operation,
+            object,
+        } => {
+            let (session, operation) = (session.as_str(), operation.as_str());
+            format!(in alloc; "access {session} {operation} {}", object.as_str())
+        }
+        Query::SsdRoleSets => String::from_str(alloc, "sets"),
+        _ => String::from_str(alloc, "another question"),
+    }
+}
+
+fn show_names(alloc: Global, names: &[Name]) -> Result<String, AllocError> {
+    let mut text = String::new(alloc);
+    for name in names {
+        text.push('<')?;
+        text.push_str(name.as_str())?;
+        text.push('>')?;
+    }
+    Ok(text)
 }
 
 #[test]
-fn lines_ask(rt: HostRuntime) -> Result<(), Fail> {
-    assert_eq!(rt;
-        line_code(
-            &rt,
-            b"{\"fn\":\"createSsdSet\",\"set\":\"pay\",\"roles\":[\"b\",\"a\",\"b\"],\"cardinality\":2}"
+fn reads_each_shape(rt: HostRuntime) -> Result<(), Fail> {
+    let alloc = rt.alloc();
+    for (line, want) in [
+        (r#"{"fn":"addUser","user":"ann"}"#, "user ann"),
+        (
+            r#"{"role":"b\u00f6ss","x":[1],"user":"bob","user":"ann","fn":"assignUser"}"#,
+            "assigned ann b\u{f6}ss",
         ),
-        122
-    );
-    assert_eq!(rt;
-        line_code(
-            &rt,
-            b"{\"fn\":\"createSsdSet\",\"set\":\"\",\"roles\":[\"b\",7],\"cardinality\":2}"
+        (
+            r#"{"fn":"grantPermission","object":"safe","operation":"open","role":"boss"}"#,
+            "granted safe open boss",
         ),
-        34
-    );
-    assert_eq!(rt;
-        line_code(
-            &rt,
-            b"{\"fn\":\"createSsdSet\",\"set\":\"pay\",\"roles\":[\"b\",\"\"],\"cardinality\":2}"
+        (
+            r#"{"fn":"createSsdSet","set":"pay","roles":["c","a","b","a","c"],"cardinality":2}"#,
+            "set pay <a><b><c> 2",
         ),
-        1
-    );
-    assert_eq!(rt;
-        line_code(
-            &rt,
-            b"{\"fn\":\"createSsdSet\",\"set\":\"pay\",\"roles\":[],\"cardinality\":4294967296}"
+        (
+            r#"{"fn":"setSsdSetCardinality","set":"pay","cardinality":4294967295}"#,
+            "limit pay 4294967295",
         ),
-        34
-    );
-    assert_eq!(rt;
-        line_code(
-            &rt,
-            b"{\"fn\":\"createSsdSet\",\"set\":\"pay\",\"roles\":[],\"cardinality\":2.0}"
+        (
+            r#"{"fn":"createSession","user":"ann","roles":[],"session":"s1"}"#,
+            "session ann  s1",
         ),
-        34
-    );
-    assert_eq!(rt;
-        line_code(
-            &rt,
-            b"{\"fn\":\"createSession\",\"session\":\"s\",\"roles\":[],\"user\":\"u\"}"
+        (
+            r#"{"fn":"importAssignments","csv":"user,role\nann,boss\nbob,clerk"}"#,
+            "import 2",
         ),
-        200
-    );
-    assert_eq!(rt;
-        line_code(
-            &rt,
-            b"{\"fn\":\"importAssignments\",\"csv\":\"user,role\\na,b\\n\"}"
+        (
+            r#"{"fn":"checkAccess","session":"s1","operation":"open","object":"safe"}"#,
+            "access s1 open safe",
         ),
-        301
-    );
-    assert_eq!(rt;
-        line_code(&rt, b"{\"fn\":\"importAssignments\",\"csv\":\"user;role\"}"),
-        36
-    );
-    assert_eq!(rt;
-        line_code(
-            &rt,
-            b"{\"fn\":\"checkAccess\",\"session\":\"s\",\"operation\":\"o\",\"object\":\"x\"}"
-        ),
-        501
-    );
-    assert_eq!(rt; line_code(&rt, b"{\"fn\":\"ssdRoleSets\"}"), 500);
-    assert_eq!(rt;
-        line_code(&rt, b"{\"fn\":\"lockUserAccount\",\"user\":\"u\"}"),
-        400
-    );
-    assert_eq!(rt; line_code(&rt, b"{\"fn\":\"fly\"}"), 35);
-    assert_eq!(rt; line_code(&rt, b"[]"), 34);
+        (r#"{"fn":"ssdRoleSets"}"#, "sets"),
+    ] {
+        let read = read_request(alloc, line.as_bytes());
+        assert_eq!(rt; outcome(alloc, read)?.as_str(), want, "at {line}");
+    }
     Ok(())
 }
 
 #[test]
-fn bodies_ask(rt: HostRuntime) -> Result<(), Fail> {
-    assert_eq!(rt; body_code(&rt, "ssdRoleSets", b""), 500);
-    assert_eq!(rt; body_code(&rt, "addUser", b""), 34);
+fn refuses_in_order(rt: HostRuntime) -> Result<(), Fail> {
+    let alloc = rt.alloc();
+    for (line, want) in [
+        ("", "34"),
+        (r#"["fly"]"#, "34"),
+        (r#"{"fn":7,"user":""}"#, "34"),
+        (r#"{"fn":"fly"}"#, "35"),
+        (r#"{"fn":"assignUser","user":""}"#, "34"),
+        (r#"{"fn":"assignUser","user":"","role":"a"}"#, "1"),
+        (
+            r#"{"fn":"createSsdSet","set":"","roles":["a",7],"cardinality":2}"#,
+            "34",
+        ),
+        (
+            r#"{"fn":"createSsdSet","set":"","roles":["a"],"cardinality":4294967296}"#,
+            "34",
+        ),
+        (
+            r#"{"fn":"setSsdSetCardinality","set":"","cardinality":2.0}"#,
+            "34",
+        ),
+        (
+            r#"{"fn":"createSession","user":"ann","roles":["a",""],"session":"s1"}"#,
+            "1",
+        ),
+        (r#"{"fn":"importAssignments","csv":"user;role"}"#, "36"),
+        (r#"{"fn":"importAssignments","csv":"user,role\n,a"}"#, "1"),
+    ] {
+        let read = read_request(alloc, line.as_bytes());
+        assert_eq!(rt; outcome(alloc, read)?.as_str(), want, "at {line}");
+    }
+    Ok(())
+}
+
+#[test]
+fn reads_bodies(rt: HostRuntime) -> Result<(), Fail> {
+    let alloc = rt.alloc();
+    for (function, body, want) in [
+        ("fly", "[", "35"),
+        ("ssdRoleSets", "", "sets"),
+        ("addUser", "", "34"),
+        ("addUser", r#"{"fn":"fly","user":"ann"}"#, "user ann"),
+        ("importAssignments", "user,role\nann,boss\n", "import 1"),
+        ("importAssignments", r#"{"csv":"user,role"}"#, "36"),
+    ] {
+        let read = read_body(alloc, function, body.as_bytes());
+        assert_eq!(rt;
+            outcome(alloc, read)?.as_str(),
+            want,
+            "at {function} {body}"
+        );
+    }
+    let read = body_to(alloc, Function::AddUser, br#"{"user":""}"#);
+    assert_eq!(rt; outcome(alloc, read)?.as_str(), "1");
+    Ok(())
+}
+
+fn name(alloc: Global, text: &str) -> Result<Name, Fail> {
+    Ok(Name::new(alloc, text)?)
+}
+
+fn answer(alloc: Global, verdict: &Verdict) -> Result<String, Fail> {
+    Ok(answer_text(alloc, verdict)?)
+}
+
+#[test]
+fn answers_commands(rt: HostRuntime) -> Result<(), Fail> {
+    let alloc = rt.alloc();
+    assert_eq!(rt; answer(alloc, &Verdict::Done)?.as_str(), r#"{"ok":true}"#);
+    let report = Report {
+        assigned: 2,
+        already: 1,
+        refused: vec![in alloc; (3, 2), (7, 24)]?,
+    };
     assert_eq!(rt;
-        body_code(&rt, "addUser", b"{\"fn\":\"fly\",\"user\":\"u\"}"),
-        400
+        answer(alloc, &Verdict::Imported(report))?.as_str(),
+        r#"{"ok":true,"value":{"already":1,"assigned":2,"refused":[{"code":2,"record":3},{"code":24,"record":7}]}}"#
     );
-    assert_eq!(rt; body_code(&rt, "fly", b""), 35);
-    assert_eq!(rt; body_code(&rt, "importAssignments", b"user,role\n"), 300);
-    assert_eq!(rt; body_code(&rt, "importAssignments", b""), 36);
+    Ok(())
+}
+
+#[test]
+fn answers_questions(rt: HostRuntime) -> Result<(), Fail> {
+    let alloc = rt.alloc();
+    let names = vec![in alloc; name(alloc, "ann")?, name(alloc, "a\"b\\c/d")?]?;
+    let permissions = vec![in alloc; (name(alloc, "safe")?, name(alloc, "open")?)]?;
+    for (told, want) in [
+        (
+            Answer::Names(names),
+            r#"{"ok":true,"value":["ann","a\"b\\c/d"]}"#,
+        ),
+        (
+            Answer::Permissions(permissions),
+            r#"{"ok":true,"value":[["safe","open"]]}"#,
+        ),
+        (Answer::Count(2), r#"{"ok":true,"value":2}"#),
+        (Answer::Access(true), r#"{"ok":true,"value":true}"#),
+    ] {
+        assert_eq!(rt; answer(alloc, &Verdict::Told(told))?.as_str(), want);
+    }
+    Ok(())
+}
+
+#[test]
+fn answers_with_refusals(rt: HostRuntime) -> Result<(), Fail> {
+    let alloc = rt.alloc();
+    let pay = name(alloc, "pay")?;
+    for (refusal, want) in [
+        (Refusal::NoUser, r#"{"code":2,"error":"NoUser"}"#),
+        (
+            Refusal::StaticSeparation(pay),
+            r#"{"code":24,"error":"StaticSeparation","set":"pay"}"#,
+        ),
+        (
+            Refusal::TooMany(Kind::ActiveRole),
+            r#"{"code":32,"error":"TooMany","kind":"activeRole"}"#,
+        ),
+        (
+            Refusal::BadCsv(3),
+            r#"{"code":36,"error":"BadCsv","record":3}"#,
+        ),
+        (
+            Refusal::Version(-7),
+            r#"{"code":51,"error":"Version","version":-7}"#,
+        ),
+        (
+            Refusal::Damaged(6),
+            r#"{"check":6,"code":52,"error":"Damaged"}"#,
+        ),
+    ] {
+        assert_eq!(rt; answer(alloc, &Verdict::Refused(refusal))?.as_str(), want);
+    }
     Ok(())
 }

@@ -10,7 +10,7 @@ use Rattle.review_mgr.specs.Questions.{refused}
 use Rattle.role_json.specs.Answer.{done_text, import_text, told_text, refusal_text}
 use Rattle.role_json.specs.Request.{request}
 use Rattle.role_json.specs.Requested.{Requested, Change, Ask}
-use Rattle.role_lines.specs.Lines.{split_lines, asking, with_line_feeds}
+use Rattle.role_wire.specs.Lines.{split_lines, asking, with_line_feeds}
 
 -- ---- one request
 

@@ -1,4 +1,4 @@
-use Rattle.std.proofs.Common.{◌∙◌, [], ◌∷◌, sym, inl, inr}
+use Rattle.std.proofs.Common.{◌∙◌, [], ◌∷◌, arith, sym, inl, inr}
 use Rattle.std.proofs.lemmas.Result.{err_from_is_err_and}
 use Rattle.csv.specs.Records.{fields_of}
 use Rattle.role_csv.proofs.Listing.{assignments-long, no_header, bad_header, good_header, listed-all, listed-refused, listed-too_many, listed-more}
@@ -6,7 +6,7 @@ use Rattle.role_csv.proofs.reading.read_assignments.Goals as goal
 use Rattle.role_csv.proofs.reading.read_assignments.Goals.{then-not-branch-via-then-not-branch, then-not-branch-via-else-not-branch+then-not-is_header}
 
 pub returns-then-text-gt-MOST_BYTES-clause-err : goal.returns-then-text-gt-MOST_BYTES-clause-err
-returns-then-text-gt-MOST_BYTES-clause-err c = inr (assignments-long c.args.text.now c.if-text-gt-MOST_BYTES.true)
+returns-then-text-gt-MOST_BYTES-clause-err c = inr (assignments-long c.args.text.now (omega (arith, c.if-text-gt-MOST_BYTES.true)))
 
 pub returns-then-not-branch-clause-err : goal.returns-then-not-branch-clause-err
 returns-then-not-branch-clause-err c =
@@ -35,21 +35,25 @@ returns-in_err-pair-clause-err c =
     let listed = c.loop-number.invariant in
     rw (p.1, p.2) (elim c.in_err-pair.ensures.err [
       | inl memory ↦ inl memory
-      | inr bad ↦ inr (listed-refused c.args.text.now c.loop-number.number c.loop-number.pairs.items c.loop-number.reader listed (fields_of c.next_record-in-loop-number.new.row) c.next_record-in-loop-number.new.reader _
-          (c.in_ok-next_record-2.ensures.more c.if-not-branch-2.false c.args.text.now (listed.header ∷ listed.body) listed.read) c.loop-number-test.true bad)
+      | inr bad ↦ inr (listed-refused c.args.text.now c.loop-number.number c.loop-number.pairs.items c.loop-number.reader listed
+          (fields_of c.next_record-in-loop-number.new.row) c.next_record-in-loop-number.new.reader _
+          (c.in_ok-next_record-2.ensures.more c.if-not-branch-2.false c.args.text.now (listed.header ∷ listed.body) listed.read) (omega (arith, c.loop-number-test.true)) bad)
     ])
 
 pub loop-number-preserved : goal.loop-number-preserved
 loop-number-preserved c =
     let listed = c.loop-number.invariant in
-    listed-more c.args.text.now c.loop-number.number c.loop-number.pairs.items c.loop-number.reader listed (fields_of c.next_record-in-loop-number.new.row) c.next_record-in-loop-number.new.reader _ _
-    (c.in_ok-next_record-2.ensures.more c.if-not-branch-2.false c.args.text.now (listed.header ∷ listed.body) listed.read) c.loop-number-test.true c.in_ok-pair.ensures.ok c.in_ok-push.ensures.items
+    listed-more c.args.text.now c.loop-number.number c.loop-number.pairs.items c.loop-number.reader listed
+    (fields_of c.next_record-in-loop-number.new.row) c.next_record-in-loop-number.new.reader _ _
+    (c.in_ok-next_record-2.ensures.more c.if-not-branch-2.false c.args.text.now (listed.header ∷ listed.body) listed.read)
+    (omega (arith, c.loop-number-test.true)) c.in_ok-pair.ensures.ok c.in_ok-push.ensures.items
 
 pub returns-then-branch-clause-err : goal.returns-then-branch-clause-err
 returns-then-branch-clause-err c =
     let listed = c.loop-number.invariant in
-    inr (listed-too_many c.args.text.now c.loop-number.number c.loop-number.pairs.items c.loop-number.reader listed (fields_of c.next_record-2.new.row) c.next_record-2.new.reader
-    (c.in_ok-next_record-3.ensures.more c.if-branch.true c.args.text.now (listed.header ∷ listed.body) listed.read) c.loop-number-test.false)
+    inr (listed-too_many c.args.text.now c.loop-number.number c.loop-number.pairs.items c.loop-number.reader listed
+    (fields_of c.next_record-2.new.row) c.next_record-2.new.reader
+    (c.in_ok-next_record-3.ensures.more c.if-branch.true c.args.text.now (listed.header ∷ listed.body) listed.read) (omega (arith, c.loop-number-test.false)))
 
 pub returns-clause-ok : goal.returns-clause-ok
 returns-clause-ok c =

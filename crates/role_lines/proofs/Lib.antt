@@ -1,4 +1,0 @@
-pub mod Answering
-pub mod ReadSoFar
-pub mod Splitting
-pub mod Stopping

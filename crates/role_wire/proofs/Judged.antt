@@ -1,0 +1,116 @@
+-- The verdicts on requests and on lines.
+use Rattle.std.proofs.Common.{◌≡◌, ◌⊎◌, inl, inr, ℕ, List, [], ◌∷◌, length, Bool, true, false, Option, Some, None, Result, Ok, Err, IfOk, IfErr, refl, sym, ap, subst, ◌∙◌}
+use Rattle.std.proofs.lemmas.Bool.{cases_Bool}
+use Rattle.sqlite.specs.Held.{Held}
+use Rattle.sqlite.specs.State.{State}
+use Rattle.rbac_sets.specs.Asked.{Asked, Single, Import}
+use Rattle.rbac_sets.specs.Refusal.{is_memory}
+use Rattle.rbac_sets.specs.declared.kind.Kind.TheVariants.{Record}
+use Rattle.rbac_sets.specs.declared.refusal.Refusal.{Refusal}
+use Rattle.rbac_sets.specs.declared.refusal.Refusal.TheVariants.{Memory, Store, Closed, TooMany}
+use Rattle.admin_mgr.specs.Asked.{asked_verdict}
+use Rattle.admin_mgr.specs.CommandLaws.{refuses_commands}
+use Rattle.admin_mgr.specs.RbacState.{RbacState}
+use Rattle.admin_mgr.specs.Refusing.{first, refuse_if, too_many}
+use Rattle.admin_mgr.specs.Verdict.{verdict}
+use Rattle.admin_mgr.proofs.Verdicts.RefusingLaws.{verdicts_refuse_commands}
+use Rattle.review_mgr.specs.QuestionLaws.{refuses_questions}
+use Rattle.review_mgr.specs.Questions.{refused}
+use Rattle.review_mgr.proofs.Refusing.{refusals_of_questions}
+use Rattle.role_json.specs.Answer.{text_of}
+use Rattle.role_json.specs.Request.{request}
+use Rattle.role_json.specs.Requested.{Requested, Change, Ask}
+use Rattle.role_json.specs.declared.answer.Verdict.{Verdict}
+use Rattle.role_tables.specs.Office.{Opened}
+use Rattle.role_wire.specs.Keeping.{Reaches}
+use Rattle.role_wire.specs.OfficeLines.{AnswersLine, FailsLine, FailsRequest, told_of, told_unread}
+use Rattle.role_wire.specs.Outcome.{outcome_of, state_after, told_as, unless, answer_to, after_line}
+use Rattle.role_wire.specs.Performing.{Declines}
+use Rattle.role_wire.specs.declared.lines.Unanswered.{Unanswered}
+use Rattle.role_wire.proofs.Performed.{stays}
+
+-- ---- what refuses a request
+
+-- a refusal that tells of the request, and not of memory or the store
+abbrev IsJudged : Refusal → Type 0
+IsJudged Memory = ⊥
+IsJudged Store = ⊥
+IsJudged Closed = ⊥
+IsJudged refusal = Unit {0}
+
+of_command : (refusal : Refusal) → refuses_commands refusal ≡ true → IsJudged refusal
+of_command Memory told = absurd (cc)
+of_command Store told = absurd (cc)
+of_command Closed told = absurd (cc)
+of_command refusal told = tt
+
+of_question : (refusal : Refusal) → refuses_questions refusal ≡ true → IsJudged refusal
+of_question Memory told = absurd (cc)
+of_question Store told = absurd (cc)
+of_question Closed told = absurd (cc)
+of_question refusal told = tt
+
+was_refused : {X : Type 0} (v : Option Refusal) (value : X) (refusal : Refusal) → unless v value ≡ Err refusal → v ≡ Some refusal
+was_refused None value refusal is = cc
+was_refused (Some told) value refusal is = cc
+
+too_large : (b : Bool) (refusal : Refusal) → first (refuse_if b (TooMany Record) ∷ []) ≡ Some refusal → IsJudged refusal
+too_large true refusal is = subst IsJudged (let same : TooMany Record ≡ refusal = cc in same) tt
+too_large false refusal is = absurd (cc)
+
+-- a refused request is refused for what it asks
+is_judged : (S : RbacState) (asked : Requested) (refusal : Refusal) → outcome_of S asked ≡ Err refusal → IsJudged refusal
+unfolding outcome_of asked_verdict
+is_judged S (Change (Single command)) refusal is = of_command refusal (verdicts_refuse_commands S command refusal (was_refused (verdict S command) _ refusal is))
+is_judged S (Change (Import pairs)) refusal is = too_large _ refusal (was_refused (first (too_many S Record (length pairs) ∷ [])) _ refusal is)
+is_judged S (Ask query) refusal is = of_question refusal (refusals_of_questions S query refusal (was_refused (refused S query) _ refusal is))
+
+-- and leaves the state
+stays_refused : (S : RbacState) (asked : Requested) (refusal : Refusal) → outcome_of S asked ≡ Err refusal → state_after S asked ≡ S
+unfolding outcome_of state_after
+stays_refused S (Change asked) refusal is = rw (was_refused (asked_verdict S asked) _ refusal is) refl
+stays_refused S (Ask query) refusal is = refl
+
+module _ {S : Type 0} (shown : Held S → State) where
+  abbrev Told : Opened S → Requested → Opened S → Verdict → Type 0
+  Told old asked new verdict = (text_of verdict ≡ told_as (outcome_of old.facts asked)) × Reaches shown old (state_after old.facts asked) new
+
+  judged_so : (old new : Opened S) (asked : Requested) (refusal : Refusal) → IsJudged refusal → outcome_of old.facts asked ≡ Err refusal → new ≡ old
+      → IfOk (told_of refusal) (Told old asked new) × IfErr (told_of refusal) (λ unanswered. FailsRequest shown old asked unanswered new)
+  unfolding text_of
+  judged_so old new asked Memory judged is same = absurd judged
+  judged_so old new asked Store judged is same = absurd judged
+  judged_so old new asked Closed judged is same = absurd judged
+  judged_so old new asked refusal judged is same = (
+    (sym (ap told_as is), subst (λ o. Reaches shown old (state_after old.facts asked) o) (sym same) (subst (λ T. Reaches shown old T old) (sym (stays_refused old.facts asked refusal is)) (stays shown old))),
+    tt,
+  )
+
+  -- a request that was not done
+  pub judged_refusal : (old new : Opened S) (asked : Requested) (refusal : Refusal) → Declines shown old asked refusal new
+      → IfOk (told_of refusal) (Told old asked new) × IfErr (told_of refusal) (λ unanswered. FailsRequest shown old asked unanswered new)
+  judged_refusal old new asked refusal (inl (is, same)) = rw is (tt, inl same)
+  judged_refusal old new asked refusal (inr (inl (is, broke))) = rw is (tt, (broke.breaks.is_closed, inr broke.breaks))
+  judged_refusal old new asked refusal (inr (inr (inl (is, shut, same)))) = rw is (tt, (rw same shut, inl (shut, same)))
+  judged_refusal old new asked refusal (inr (inr (inr (is, same)))) = judged_so old new asked refusal (is_judged old.facts asked refusal is) is same
+
+  -- ---- lines
+
+  pub line_answered : (old new : Opened S) (line text : List ℕ) (asked : Requested) → request line ≡ Ok asked → text ≡ told_as (outcome_of old.facts asked) → Reaches shown old (state_after old.facts asked) new
+      → AnswersLine shown old line text new
+  unfolding answer_to after_line
+  line_answered old new line text asked read is reaches = record { text_is = rw read is; reaches = rw read reaches }
+
+  pub line_failed : (old new : Opened S) (line : List ℕ) (asked : Requested) (unanswered : Unanswered) → request line ≡ Ok asked → FailsRequest shown old asked unanswered new → FailsLine shown old line unanswered new
+  unfolding after_line
+  line_failed old new line asked unanswered read failed = rw read failed
+
+  -- a line that asks for nothing
+  pub line_unread : (office : Opened S) (line : List ℕ) (refusal : Refusal) → (refusal ≡ Memory) ⊎ (request line ≡ Err refusal)
+      → IfOk (told_unread refusal) (λ verdict. AnswersLine shown office line (text_of verdict) office) × IfErr (told_unread refusal) (λ unanswered. FailsLine shown office line unanswered office)
+  unfolding answer_to after_line text_of
+  line_unread office line refusal (inl memory) = rw memory (tt, inl refl)
+  line_unread office line refusal (inr read) = elim (cases_Bool (is_memory refusal)) [
+    | inl memory ↦ rw memory (tt, inl refl)
+    | inr plain ↦ rw plain (record { text_is = rw read refl; reaches = rw read (stays shown office) }, tt)
+  ]

@@ -1,0 +1,129 @@
+-- The lines that an office answered, as functions of its state.
+use Rattle.std.proofs.Common.{◌≡◌, ◌⊎◌, inl, inr, ℕ, suc, List, [], ◌∷◌, ◌++◌, length, Bool, true, false, Option, refl, sym, ap, subst, ◌∙◌}
+use Rattle.std.specs.Io.KnownBytes.{Appends}
+use Rattle.sqlite.specs.Held.{Held}
+use Rattle.sqlite.specs.State.{State}
+use Rattle.admin_mgr.specs.RbacState.{RbacState}
+use Rattle.role_tables.specs.Office.{Opened}
+use Rattle.role_tables.specs.Standing.{Stands}
+use Rattle.role_wire.specs.Keeping.{Keeps, Reaches, Breaks}
+use Rattle.role_wire.specs.Lines.{line_feed, with_line_feeds}
+use Rattle.role_wire.specs.OfficeLines.{AnswersLine, FailsLine}
+use Rattle.role_wire.specs.Outcome.{answer_to, after_line, answers_to, answer_lines, after_lines, asking_lines}
+use Rattle.role_wire.specs.Replay.{AreAnswered, IsReplayed, IsStopped, LeavesLine}
+use Rattle.role_wire.specs.Replaying.{IsAnswered, LeavesNext, IsHalted}
+use Rattle.role_wire.specs.declared.lines.Cause.{Cause}
+use Rattle.role_wire.specs.declared.lines.Cause.TheVariants.{Read, Write, Line, Store, Closed, Memory}
+use Rattle.role_wire.proofs.Performed.{stays}
+
+-- one line more
+pub after_lines-more : (S : RbacState) (done : List (List ℕ)) (line : List ℕ) → after_lines S (done ++ line ∷ []) ≡ after_line (after_lines S done) line
+unfolding after_lines
+after_lines-more S [] line = refl
+after_lines-more S (first ∷ done) line = after_lines-more (after_line S first) done line
+
+answers_to-length : (S : RbacState) (lines : List (List ℕ)) → length (answers_to S lines) ≡ length lines
+unfolding answers_to
+answers_to-length S [] = refl
+answers_to-length S (line ∷ lines) = ap (λ n. suc n) (answers_to-length (after_line S line) lines)
+
+module _ {S : Type 0} (shown : Held S → State) where
+  keeps_then : (a b c : Opened S) → Keeps shown a b → Keeps shown b c → Keeps shown a c
+  keeps_then a b c first later = record {
+    clean = λ clean. first.clean (later.clean clean);
+    stands = λ clean stands. later.stands clean (first.stands (later.clean clean) stands);
+  }
+
+  -- one state, and then another
+  pub reaches_then : (a b c : Opened S) (T U : RbacState) → Reaches shown a T b → Reaches shown b U c → Reaches shown a U c
+  reaches_then a b c T U first later = record {
+    state = later.state;
+    is_closed = later.is_closed ∙ first.is_closed;
+    keeps = keeps_then a b c first.keeps later.keeps;
+  }
+
+  -- a state, and then the store was refused
+  pub breaks_then : (a b c : Opened S) (T U : RbacState) → Reaches shown a T b → Breaks shown b T U c → Breaks shown a T U c
+  breaks_then a b c T U first broke = record {
+    is_closed = broke.is_closed;
+    state = broke.state;
+    clean = λ clean. first.keeps.clean (broke.clean clean);
+    held = λ clean stands. broke.held clean (first.keeps.stands (broke.clean clean) stands);
+    left = λ clean stands. broke.left clean (first.keeps.stands (broke.clean clean) stands);
+  }
+
+  -- lines that were answered
+  pub answered : (old new : Opened S) (lines texts : List (List ℕ)) → AreAnswered (AnswersLine shown) old lines texts new
+      → (texts ≡ answers_to old.facts lines) × Reaches shown old (after_lines old.facts lines) new
+  unfolding AreAnswered answers_to after_lines
+  answered old new [] [] same = (refl, subst (Reaches shown old old.facts) same (stays shown old))
+  answered old new [] (text ∷ texts) none = absurd none
+  answered old new (line ∷ lines) [] none = absurd none
+  answered old new (line ∷ lines) (text ∷ texts) (between, is, later) =
+      let (rest, reaches) = answered between new lines texts later in
+      let to : between.facts ≡ after_line old.facts line = is.reaches.state in
+      (
+        ap (λ t. t ∷ texts) is.text_is ∙ ap (λ ts. answer_to old.facts line ∷ ts) (rest ∙ ap (λ s. answers_to s lines) to),
+        reaches_then old between new (after_line old.facts line) (after_lines (after_line old.facts line) lines) is.reaches
+            (subst (λ s. Reaches shown between (after_lines s lines) new) to reaches),
+      )
+
+  -- a replay that came to the end
+  pub replayed : (old new : Opened S) (input : List ℕ) (written now_written : Option (List ℕ)) (count : ℕ) → IsReplayed (AnswersLine shown) old new input written now_written count
+      → IsAnswered old.facts input written now_written count × Reaches shown old (after_lines old.facts (asking_lines input)) new
+  unfolding answer_lines
+  replayed old new input written now_written count done =
+      let (texts, reaches) = answered old new (asking_lines input) done.texts done.are_answered in
+      (
+        record {
+          lines_fit = done.lines_fit;
+          text = subst (λ t. Appends written now_written (with_line_feeds t)) texts done.text;
+          count = done.count ∙ ap length texts ∙ answers_to-length old.facts (asking_lines input);
+        },
+        reaches,
+      )
+
+  -- ---- a replay that stopped
+
+  module _ (old between new : Opened S) (done : List (List ℕ)) (first : Reaches shown old (after_lines old.facts done) between) (works : old.is_closed ≡ false) (line part : List ℕ) where
+    -- from the state after the lines that are done on
+    further : Reaches shown between (after_line between.facts line) new → Reaches shown old (after_lines old.facts (done ++ line ∷ [])) new
+    further later = subst (λ T. Reaches shown old T new) (ap (λ s. after_line s line) first.state ∙ sym (after_lines-more old.facts done line))
+        (reaches_then old between new (after_lines old.facts done) (after_line between.facts line) first later)
+
+    same_state : new ≡ between → Reaches shown old (after_lines old.facts done) new
+    same_state same = subst (λ o. Reaches shown old (after_lines old.facts done) o) (sym same) first
+
+    further_broken : Breaks shown between between.facts (after_line between.facts line) new → Breaks shown old (after_lines old.facts done) (after_lines old.facts (done ++ line ∷ [])) new
+    further_broken broke = subst (λ T. Breaks shown old (after_lines old.facts done) T new) (sym (after_lines-more old.facts done line))
+        (breaks_then old between new (after_lines old.facts done) (after_line (after_lines old.facts done) line) first
+        (subst (λ s. Breaks shown between s (after_line s line) new) first.state broke))
+
+    next_left : (cause : Cause) → LeavesLine (AnswersLine shown) (FailsLine shown) cause between line new part → LeavesNext shown cause old done line part new
+    next_left Write (text, is, rest, whole, some) = (
+      further is.reaches,
+      (rest, ap (λ t. t ++ line_feed ∷ []) (sym (is.text_is ∙ ap (λ s. answer_to s line) first.state)) ∙ whole, some),
+    )
+    next_left Store ((closed, inl (shut, same)), none) = absurd (let no = sym shut ∙ (first.is_closed ∙ works) in cc)
+    next_left Store ((closed, inr broke), none) = (further_broken broke, none)
+    next_left Memory (inl (inl same), none) = (inl (same_state same), none)
+    next_left Memory (inl (inr reaches), none) = (inr (further reaches), none)
+    next_left Memory (inr (text, is), none) = (inr (further is.reaches), none)
+    next_left Read left = absurd left
+    next_left (Line number) left = absurd left
+    next_left Closed left = absurd left
+
+  pub halted : (old new : Opened S) (taken : List ℕ) (at_end : Type 0) (written now_written : Option (List ℕ)) (cause : Cause) (count : ℕ) → old.is_closed ≡ false
+      → IsStopped (AnswersLine shown) (FailsLine shown) old new taken at_end written now_written cause count → IsHalted shown old new taken at_end written now_written cause count
+  halted old new taken at_end written now_written cause count works stopped =
+      let (texts, reaches) = answered old stopped.between stopped.done stopped.texts stopped.are_answered in
+      record {
+        done = stopped.done;
+        part = stopped.part;
+        text = subst (λ t. Appends written now_written (with_line_feeds t ++ stopped.part)) texts stopped.text;
+        count = stopped.count ∙ ap length texts ∙ answers_to-length old.facts stopped.done;
+        left = elim stopped.left [
+          | inl (line, next, left) ↦ inl (line, next, next_left old stopped.between new stopped.done reaches works line stopped.part cause left)
+          | inr (off, same, none) ↦ inr (off, subst (λ o. Reaches shown old (after_lines old.facts stopped.done) o) (sym same) reaches, none)
+        ];
+      }

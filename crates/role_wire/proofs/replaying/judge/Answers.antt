@@ -1,0 +1,20 @@
+use Rattle.std.proofs.Common.{◌≡◌, IfOk, IfErr, subst, sym}
+use Rattle.sqlite.specs.Held.{state}
+use Rattle.role_json.specs.Answer.{text_of}
+use Rattle.role_json.specs.Requested.{requested}
+use Rattle.role_wire.specs.Keeping.{Reaches}
+use Rattle.role_wire.specs.OfficeLines.{FailsRequest}
+use Rattle.role_wire.specs.Outcome.{outcome_of, state_after, told_as}
+use Rattle.role_wire.proofs.Judged.{judged_refusal}
+use Rattle.role_wire.proofs.replaying.judge.Goals as goal
+
+
+pub returns-in-Err-clause-answered : goal.returns-in-Err-clause-answered
+returns-in-Err-clause-answered g c =
+    subst (λ r. IfOk r (λ verdict. (text_of verdict ≡ told_as (outcome_of c.args.office.now.facts (requested c.args.request.now))) × Reaches (state g.S.Store) c.args.office.now (state_after c.args.office.now.facts (requested c.args.request.now)) c.perform.new.office))
+    (sym c.told.ensures) (judged_refusal (state g.S.Store) c.args.office.now c.perform.new.office (requested c.args.request.now) c.in-Err.refusal c.in-Err.ensures.refused).0
+
+pub returns-in-Err-clause-failed : goal.returns-in-Err-clause-failed
+returns-in-Err-clause-failed g c =
+    subst (λ r. IfErr r (λ unanswered. FailsRequest (state g.S.Store) c.args.office.now (requested c.args.request.now) unanswered c.perform.new.office))
+    (sym c.told.ensures) (judged_refusal (state g.S.Store) c.args.office.now c.perform.new.office (requested c.args.request.now) c.in-Err.refusal c.in-Err.ensures.refused).1

@@ -1,0 +1,39 @@
+-- What a replay over an office writes, and what it leaves.
+use Rattle.std.specs.Prelude.{◌≡◌, ◌⊎◌, ℕ, ◌≤◌, List, [], ◌∷◌, ◌++◌, length, Option, All}
+use Rattle.std.specs.Io.KnownBytes.{Appends}
+use Rattle.sqlite.specs.Held.{Held}
+use Rattle.sqlite.specs.State.{State}
+use Rattle.admin_mgr.specs.RbacState.{RbacState}
+use Rattle.role_tables.specs.Office.{Opened}
+use Rattle.role_wire.specs.Keeping.{Breaks, Reaches}
+use Rattle.role_wire.specs.Lines.{longest_line, line_feed, split_lines, with_line_feeds}
+use Rattle.role_wire.specs.Outcome.{answer_to, answers_to, answer_lines, after_lines, asking_lines}
+use Rattle.role_wire.specs.Replay.{IsNext, LeavesOff}
+use Rattle.role_wire.specs.declared.lines.Cause.{Cause}
+use Rattle.role_wire.specs.declared.lines.Cause.TheVariants.{Write, Store, Memory}
+
+-- a whole input was answered from this state on: each line that asks, in order
+pub record IsAnswered (S : RbacState) (input : List ℕ) (written now_written : Option (List ℕ)) (answered : ℕ) : Type 0 where
+  pub lines_fit : All (λ line. length line ≤ longest_line) (split_lines input)
+  pub text : Appends written now_written (answer_lines S input)
+  pub count : answered ≡ length (asking_lines input)
+
+module _ {S : Type 0} (shown : Held S → State) where
+  -- what a stop leaves of the line at which it came, behind those that are done: this part of its answer was written
+  abbrev pub LeavesNext : Cause → Opened S → List (List ℕ) → List ℕ → List ℕ → Opened S → Type 0
+  LeavesNext Write old done line part new = Reaches shown old (after_lines old.facts (done ++ line ∷ [])) new
+      × ((rest : List ℕ) × (answer_to (after_lines old.facts done) line ++ line_feed ∷ [] ≡ part ++ rest) × (1 ≤ length rest))
+  LeavesNext Store old done line part new = Breaks shown old (after_lines old.facts done) (after_lines old.facts (done ++ line ∷ [])) new × (part ≡ [])
+  LeavesNext Memory old done line part new =
+      (Reaches shown old (after_lines old.facts done) new ⊎ Reaches shown old (after_lines old.facts (done ++ line ∷ [])) new) × (part ≡ [])
+  LeavesNext _ old done line part new = ⊥
+
+  -- Of the bytes that were read, the first lines that ask were done and their answers written. Then the next line stopped the replay,
+  -- or it came to no further line.
+  pub record IsHalted (old new : Opened S) (taken : List ℕ) (at_end : Type 0) (written now_written : Option (List ℕ)) (cause : Cause) (answered : ℕ) : Type 0 where
+    pub done : List (List ℕ)
+    pub part : List ℕ
+    pub text : Appends written now_written (with_line_feeds (answers_to old.facts done) ++ part)
+    pub count : answered ≡ length done
+    pub left : ((line : List ℕ) × IsNext done line taken at_end × LeavesNext cause old done line part new)
+        ⊎ (LeavesOff cause done taken × Reaches shown old (after_lines old.facts done) new × (part ≡ []))
