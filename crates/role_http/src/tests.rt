@@ -77,6 +77,7 @@ fn heads_are_judged_in_order(rt: HostRuntime) -> Result<(), Fail> {
         ("GET /v1/fly HTTP/1.1\r\n\r\n", Err(404)),
         ("GET /v1/addUser/ HTTP/1.1\r\n\r\n", Err(404)),
         ("GET /v1/addUser?x=1 HTTP/1.1\r\n\r\n", Err(404)),
+        ("GET /v1/add%55ser HTTP/1.1\r\n\r\n", Err(404)),
         ("GET /v1/ HTTP/1.1\r\n\r\n", Err(404)),
         ("GET /v2/addUser HTTP/1.1\r\n\r\n", Err(404)),
         ("GET /v1/addUser HTTP/1.1\r\n\r\n", Err(405)),
