@@ -66,7 +66,7 @@ is_judged S (Change (Import pairs)) refusal is = too_large _ refusal (was_refuse
 is_judged S (Ask query) refusal is = of_question refusal (refusals_of_questions S query refusal (was_refused (refused S query) _ refusal is))
 
 -- and leaves the state
-stays_refused : (S : RbacState) (asked : Requested) (refusal : Refusal) → outcome_of S asked ≡ Err refusal → state_after S asked ≡ S
+pub stays_refused : (S : RbacState) (asked : Requested) (refusal : Refusal) → outcome_of S asked ≡ Err refusal → state_after S asked ≡ S
 unfolding outcome_of state_after
 stays_refused S (Change asked) refusal is = rw (was_refused (asked_verdict S asked) _ refusal is) refl
 stays_refused S (Ask query) refusal is = refl

@@ -6,3 +6,4 @@ pub mod Replayed
 pub mod Results
 pub mod Splitting
 pub mod Stopping
+pub mod Telling
