@@ -1,8 +1,10 @@
 pub mod Answering
+pub mod Calling
 pub mod Judged
 pub mod Performed
 pub mod ReadSoFar
 pub mod Replayed
+pub mod Requesting
 pub mod Results
 pub mod Splitting
 pub mod Stopping

@@ -1,0 +1,55 @@
+-- Calls: what stands behind a head.
+use Rattle.std.proofs.Common.{◌≡◌, ◌≤◌, ◌<◌, ◌∙◌, inl, inr, ℕ, Bool, true, false, List, [], ◌++◌, length, length-append, length-take, take, nat_lt, Option, Some, None, Result, Ok, Err, ap, sym, refl, arith, subst}
+use Rattle.std.specs.Io.KnownBytes.{IsAtEnd}
+use Rattle.std.proofs.lemmas.Bool.{le-ltb, lt-ltb}
+use Rattle.std.proofs.lemmas.List.{append-nil, take-append-le, take_all}
+use Rattle.sqlite.specs.Held.{Held}
+use Rattle.sqlite.specs.State.{State}
+use Rattle.rbac_sets.specs.declared.refusal.Refusal.TheVariants.{BadRequest}
+use Rattle.role_json.specs.Request.{body_to}
+use Rattle.role_json.specs.declared.function.Function.{Function}
+use Rattle.role_http.specs.Answered.{with_left}
+use Rattle.role_http.specs.Status.{head_body}
+use Rattle.role_tables.specs.Office.{Opened}
+use Rattle.role_wire.specs.Made.{bytes_in}
+use Rattle.role_wire.specs.Reply.{called_for}
+use Rattle.role_wire.specs.Serving.{ComesOf}
+use Rattle.role_wire.specs.declared.made.Made.{Made}
+use Rattle.role_wire.proofs.Performed.{stays}
+
+-- ---- bytes that were taken, and those that are left
+
+length-with_left : (taken : List ℕ) (left : Option (List ℕ)) → length taken ≤ length (with_left taken left)
+length-with_left taken None = omega arith
+length-with_left taken (Some ys) = omega (arith, length-append taken ys)
+
+take-with_left : (taken : List ℕ) (left : Option (List ℕ)) (count : ℕ) → length taken ≡ count → take count (with_left taken left) ≡ taken
+take-with_left taken None count e = take_all count taken (omega (arith, e))
+take-with_left taken (Some ys) count e = take-append-le count taken ys (omega (arith, e)) ∙ take_all count taken (omega (arith, e))
+
+with_left-end : (taken : List ℕ) (left : Option (List ℕ)) → IsAtEnd left → with_left taken left ≡ taken
+with_left-end taken None at_end = refl
+with_left-end taken (Some ys) at_end = rw at_end (append-nil taken)
+
+-- ---- a body
+
+-- that is whole
+pub called_whole : (taken : List ℕ) (left : Option (List ℕ)) (called : Function) (count : ℕ) → length taken ≡ count → called_for (with_left taken left) called count ≡ body_to called taken
+called_whole taken left called count e =
+    rw (le-ltb (length (with_left taken left)) count (omega (arith, e, length-with_left taken left)), take-with_left taken left count e) refl
+
+-- that is short
+pub called_short : (taken : List ℕ) (left : Option (List ℕ)) (called : Function) (count : ℕ) → length taken < count → IsAtEnd left → called_for (with_left taken left) called count ≡ Err BadRequest
+called_short taken left called count less at_end = rw (with_left-end taken left at_end, lt-ltb (length taken) count less) refl
+
+-- no more was taken than the call has
+pub taken_within : (taken : List ℕ) (left : Option (List ℕ)) (count : ℕ) → length taken ≤ count → length taken ≤ length (take count (with_left taken left))
+taken_within taken left count within = omega (arith, within, length-take count (with_left taken left), length-with_left taken left)
+
+module _ {S : Type 0} (shown : Held S → State) where
+  -- what comes of a short body
+  pub short_told : (office : Opened S) (taken : List ℕ) (left : Option (List ℕ)) (called : Function) (count : ℕ) (made : Made) → length taken < count → IsAtEnd left
+      → made.status ≡ 400 → bytes_in made.body ≡ head_body 400 → ComesOf shown office (called_for (with_left taken left) called count) made office
+  unfolding head_body
+  short_told office taken left called count made less at_end status body =
+      subst (λ read. ComesOf shown office read made office) (sym (called_short taken left called count less at_end)) (inl (λ _. (status, body, stays shown office)))

@@ -1,0 +1,188 @@
+-- Whole requests: a head and a call.
+use Rattle.std.proofs.Common.{◌≡◌, ◌≤◌, ◌+◌, ◌∙◌, ◌⊎◌, inl, inr, ℕ, List, [], ◌++◌, length, length-append, append_assoc, take, Option, Some, None, Result, Ok, Err, ap, sym, refl, arith, subst}
+use Rattle.std.proofs.lemmas.List.{append-nil}
+use Rattle.std.specs.Io.KnownBytes.{Appends, Consumes}
+use Rattle.httparse.specs.Grammar.{RequestHead, print_request}
+use Rattle.sqlite.specs.Held.{Held}
+use Rattle.sqlite.specs.State.{State}
+use Rattle.rbac_sets.specs.declared.refusal.Refusal.TheVariants.{Memory}
+use Rattle.rbac_sets.proofs.Known.{Appends-none, Consumes-more}
+use Rattle.admin_mgr.specs.RbacState.{RbacState}
+use Rattle.role_json.specs.Answer.{refusal_text}
+use Rattle.role_json.specs.Requested.{Requested}
+use Rattle.role_json.specs.declared.function.Function.{Function}
+use Rattle.role_http.specs.Answered.{Answers, RefusesBytes, with_left}
+use Rattle.role_http.specs.Head.{HasHead, TakesHead}
+use Rattle.role_http.specs.Judging.{judged_head}
+use Rattle.role_http.specs.ReplyBytes.{reply_bytes}
+use Rattle.role_http.specs.Status.{head_body}
+use Rattle.role_http.proofs.Heads.{HasHead-append, with_left-later, heads_are_unique, refused_have_no_head}
+use Rattle.role_tables.specs.Office.{Opened}
+use Rattle.role_wire.specs.Keeping.{Reaches}
+use Rattle.role_wire.specs.Made.{bytes_in}
+use Rattle.role_wire.specs.Reply.{Asks, Replies, TakesNoFurther, behind_head, called_for, reply_of, reply_to}
+use Rattle.role_wire.specs.Serving.{ComesOf, IsDone, IsRead, IsToldInPlace, LeavesUntold, StopsAt, Tells}
+use Rattle.role_wire.specs.declared.lines.Cause.{Cause}
+use Rattle.role_wire.specs.declared.lines.Cause.TheVariants as cause
+use Rattle.role_wire.specs.declared.made.Made.{Made}
+use Rattle.role_wire.proofs.Performed.{stays}
+
+-- ---- no byte past the request
+
+-- what a head is, it is in all of the bytes
+further : (S : RbacState) (bytes rest taken : List ℕ) (head : RequestHead) → HasHead (bytes ++ rest) head rest → length bytes ≡ length (print_request head)
+    → length taken ≤ (reply_to S head rest).taken → TakesNoFurther S (bytes ++ rest) (bytes ++ taken)
+further S bytes rest taken head has whole few other after stands =
+    let same = heads_are_unique (bytes ++ rest) head other rest after has stands in
+    subst (λ h. length (bytes ++ taken) ≤ length (print_request h) + (reply_to S h after).taken) same.0
+    (subst (λ r. length (bytes ++ taken) ≤ length (print_request head) + (reply_to S head r).taken) same.1 (omega (arith, few, whole, length-append bytes taken)))
+
+-- bytes that lie in the head
+pub within_head : (S : RbacState) (old new : Option (List ℕ)) (taken : List ℕ) → TakesHead old new taken → TakesNoFurther S (with_left taken new) taken
+within_head S old new taken takes head rest has =
+    let (later, same) = with_left-later taken new in
+    let few = takes.1 later head rest (rw same at has.0) in
+    omega (arith, few)
+
+with_left-append : (taken more : List ℕ) (left : Option (List ℕ)) → with_left (taken ++ more) left ≡ taken ++ with_left more left
+with_left-append taken more None = refl
+with_left-append taken more (Some ys) = append_assoc taken more ys
+
+length-head : (bytes : List ℕ) (head : RequestHead) → HasHead bytes head [] → length bytes ≡ length (print_request head)
+length-head bytes head has = ap length (has.0.1 ∙ append-nil (print_request head))
+
+module _ {S : Type 0} (shown : Held S → State) where
+  -- a reply that is in the making, of a request in these bytes
+  abbrev Replied : Opened S → Option (List ℕ) → Option (List ℕ) → ℕ → List ℕ → Opened S → Type 0
+  Replied old source end status body new = (taken : List ℕ) × Consumes source end taken × TakesNoFurther old.facts (with_left taken end) taken × Tells shown old (with_left taken end) status body new
+
+  abbrev Untold : Cause → Opened S → Option (List ℕ) → Option (List ℕ) → Opened S → Type 0
+  Untold why old source end new = (taken : List ℕ) × Consumes source end taken × TakesNoFurther old.facts (with_left taken end) taken × LeavesUntold shown why old (Asks (with_left taken end)) new
+
+  -- ---- what is told
+
+  in_place : (old new : Opened S) (status : ℕ) (body : List ℕ) (First Then : Requested → Type 0) → ((asked : Requested) → First asked → Then asked) → IsToldInPlace shown old First status body new
+      → IsToldInPlace shown old Then status body new
+  in_place old new status body First Then step (inl memory) = inl memory
+  in_place old new status body First Then step (inr (inl (is, told, (asked, for, broke)))) = inr (inl (is, told, (asked, step asked for, broke)))
+  in_place old new status body First Then step (inr (inr shut)) = inr (inr shut)
+
+  tells_called : (old new : Opened S) (bytes rest : List ℕ) (head : RequestHead) (called : Function) (count : ℕ) (made : Made) → HasHead (bytes ++ rest) head rest
+      → judged_head head ≡ Ok (called, count) → ComesOf shown old (called_for rest called count) made new → Tells shown old (bytes ++ rest) made.status (bytes_in made.body) new
+  unfolding reply_to
+  tells_called old new bytes rest head called count made has is (inl told) =
+      inl (reply_of old.facts (length (take count rest)) (called_for rest called count), inl (head, rest, has, rw is refl), told (length (take count rest)))
+  tells_called old new bytes rest head called count made has is (inr place) =
+      inr (in_place old new made.status (bytes_in made.body) (IsRead (called_for rest called count)) (Asks (bytes ++ rest)) (λ asked read. (head, rest, has, (called, count, is, read))) place)
+
+  leaves_called : (why : Cause) (old new : Opened S) (bytes rest : List ℕ) (head : RequestHead) (called : Function) (count : ℕ) → HasHead (bytes ++ rest) head rest
+      → judged_head head ≡ Ok (called, count) → LeavesUntold shown why old (IsRead (called_for rest called count)) new → LeavesUntold shown why old (Asks (bytes ++ rest)) new
+  leaves_called cause.Read old new bytes rest head called count has is left = left
+  leaves_called cause.Memory old new bytes rest head called count has is (asked, read, accepted, reaches) = (asked, (head, rest, has, (called, count, is, read)), accepted, reaches)
+  leaves_called cause.Write old new bytes rest head called count has is left = absurd left
+  leaves_called (cause.Line n) old new bytes rest head called count has is left = absurd left
+  leaves_called cause.Store old new bytes rest head called count has is left = absurd left
+  leaves_called cause.Closed old new bytes rest head called count has is left = absurd left
+
+  -- ---- reading in two steps
+
+  pub made_called : (old new : Opened S) (source mid end : Option (List ℕ)) (called : Function) (count : ℕ) (made : Made)
+      → ((taken : List ℕ) × TakesHead source mid taken × Answers taken mid (Ok (called, count)))
+      → ((taken : List ℕ) × Consumes mid end taken × (length taken ≤ length (take count (with_left taken end))) × ComesOf shown old (called_for (with_left taken end) called count) made new)
+      → Replied old source end made.status (bytes_in made.body) new
+  unfolding reply_to
+  made_called old new source mid end called count made (bytes, first, inl (head, has, is)) (more, later, part, comes) =
+      let stands = HasHead-append bytes (with_left more end) head has in
+      let all = with_left-append bytes more end in (
+        bytes ++ more,
+        Consumes-more source mid end bytes more first.0 later,
+        subst (λ l. TakesNoFurther old.facts l (bytes ++ more)) (sym all) (further old.facts bytes (with_left more end) more head stands (length-head bytes head has) (rw is part)),
+        subst (λ l. Tells shown old l made.status (bytes_in made.body) new) (sym all) (tells_called old new bytes (with_left more end) head called count made stands is comes),
+      )
+  made_called old new source mid end called count made (bytes, first, inr none) second = absurd none
+
+  pub left_called : (why : Cause) (old new : Opened S) (source mid end : Option (List ℕ)) (called : Function) (count : ℕ)
+      → ((taken : List ℕ) × TakesHead source mid taken × Answers taken mid (Ok (called, count)))
+      → ((taken : List ℕ) × Consumes mid end taken × (length taken ≤ length (take count (with_left taken end))) × LeavesUntold shown why old (IsRead (called_for (with_left taken end) called count)) new)
+      → Untold why old source end new
+  unfolding reply_to
+  left_called why old new source mid end called count (bytes, first, inl (head, has, is)) (more, later, part, leaves) =
+      let stands = HasHead-append bytes (with_left more end) head has in
+      let all = with_left-append bytes more end in (
+        bytes ++ more,
+        Consumes-more source mid end bytes more first.0 later,
+        subst (λ l. TakesNoFurther old.facts l (bytes ++ more)) (sym all) (further old.facts bytes (with_left more end) more head stands (length-head bytes head has) (rw is part)),
+        subst (λ l. LeavesUntold shown why old (Asks l) new) (sym all) (leaves_called why old new bytes (with_left more end) head called count stands is leaves),
+      )
+  left_called why old new source mid end called count (bytes, first, inr none) second = absurd none
+
+  -- a head that is refused
+  pub made_head : (office : Opened S) (source mid : Option (List ℕ)) (status told : ℕ) (body : List ℕ) → ((taken : List ℕ) × TakesHead source mid taken × Answers taken mid (Err status))
+      → told ≡ status → body ≡ head_body status → Replied office source mid told body office
+  unfolding reply_to
+  made_head office source mid status told body (bytes, first, inl (head, has, is)) same text =
+      let (later, all) = with_left-later bytes mid in
+      (
+        bytes,
+        first.0,
+        within_head office.facts source mid bytes first,
+        inl (
+          record { status = status; body = head_body status; after = office.facts; taken = 0 },
+          inl (head, later, subst (λ l. HasHead l head later) (sym all) (HasHead-append bytes later head has), rw is refl),
+          (same, text, stays shown office),
+        ),
+      )
+  made_head office source mid status told body (bytes, first, inr refuses) same text = (
+    bytes,
+    first.0,
+    within_head office.facts source mid bytes first,
+    inl (
+      record { status = status; body = head_body status; after = office.facts; taken = 0 },
+      inr (refused_have_no_head bytes mid (Err status) refuses, which refuses, refl, refl),
+      (same, text, stays shown office),
+    ),
+  )
+    where
+      which : RefusesBytes bytes mid (Err status) → (status ≡ 400) ⊎ (status ≡ 431)
+      which (inl (bad, why)) = inl bad
+      which (inr (large, why)) = inr large
+
+  -- reading stopped within the head
+  pub made_stopped : (office : Opened S) (source mid : Option (List ℕ)) (status : ℕ) (body : List ℕ) → ((taken : List ℕ) × TakesHead source mid taken) → status ≡ 503 → body ≡ refusal_text Memory
+      → Replied office source mid status body office
+  made_stopped office source mid status body (bytes, first) same text = (bytes, first.0, within_head office.facts source mid bytes first, inr (inl (same, text, stays shown office)))
+
+  pub left_stopped : (office : Opened S) (source mid : Option (List ℕ)) → ((taken : List ℕ) × TakesHead source mid taken) → Untold cause.Read office source mid office
+  left_stopped office source mid (bytes, first) = (bytes, first.0, within_head office.facts source mid bytes first, stays shown office)
+
+  -- ---- writing
+
+  -- before a byte was read
+  pub made_at_once : (office : Opened S) (source : Option (List ℕ)) (status : ℕ) (body : List ℕ) → Consumes source source [] → status ≡ 503 → body ≡ refusal_text Memory → Replied office source source status body office
+  made_at_once office source status body none same text = ([], none, λ head rest has. omega arith, inr (inl (same, text, stays shown office)))
+
+  -- a reply that was written
+  pub sent : (old new : Opened S) (source end written now_written : Option (List ℕ)) (status told : ℕ) (body : List ℕ) → Replied old source end status body new → told ≡ status
+      → Appends written now_written (reply_bytes status body)
+      → (taken : List ℕ) × Consumes source end taken × TakesNoFurther old.facts (with_left taken end) taken
+          × ((text : List ℕ) × Tells shown old (with_left taken end) told text new × Appends written now_written (reply_bytes told text))
+  sent old new source end written now_written status told body (taken, first, few, tells) same appended = (taken, first, few, (body, rw same tells, rw same appended))
+
+  -- a reply that was written in part
+  pub sent_part : (why : Cause) (old new : Opened S) (source end written now_written : Option (List ℕ)) (status : ℕ) (body : List ℕ) → Replied old source end status body new → why ≡ cause.Write
+      → ((part rest : List ℕ) × (reply_bytes status body ≡ part ++ rest) × (1 ≤ length rest) × Appends written now_written part)
+      → (taken : List ℕ) × Consumes source end taken × TakesNoFurther old.facts (with_left taken end) taken × StopsAt shown why old (with_left taken end) new written now_written
+  sent_part why old new source end written now_written status body (taken, first, few, tells) same part = (taken, first, few, rw same (status, body, tells, part))
+
+  stops : (why : Cause) (old new : Opened S) (bytes : List ℕ) (written : Option (List ℕ)) → LeavesUntold shown why old (Asks bytes) new → StopsAt shown why old bytes new written written
+  stops cause.Read old new bytes written left = (left, Appends-none written)
+  stops cause.Memory old new bytes written left = (left, Appends-none written)
+  stops cause.Write old new bytes written left = absurd left
+  stops (cause.Line n) old new bytes written left = absurd left
+  stops cause.Store old new bytes written left = absurd left
+  stops cause.Closed old new bytes written left = absurd left
+
+  -- no reply was made
+  pub unsent : (why : Cause) (old new : Opened S) (source end written : Option (List ℕ)) → Untold why old source end new
+      → (taken : List ℕ) × Consumes source end taken × TakesNoFurther old.facts (with_left taken end) taken × StopsAt shown why old (with_left taken end) new written written
+  unsent why old new source end written (taken, first, few, left) = (taken, first, few, stops why old new (with_left taken end) written left)

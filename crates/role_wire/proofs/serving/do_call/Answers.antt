@@ -1,0 +1,28 @@
+use Rattle.std.proofs.Common.{◌≡◌, ◌<◌, length, arith, subst, sym}
+use Rattle.sqlite.specs.Held.{state}
+use Rattle.role_http.specs.Answered.{with_left}
+use Rattle.role_wire.specs.Serving.{ComesOf, IsRead, LeavesUntold, IsDone}
+use Rattle.role_wire.specs.declared.lines.Cause.TheVariants as cause
+use Rattle.role_wire.proofs.Calling.{called_whole, short_told, taken_within}
+use Rattle.role_wire.proofs.Results.{if_ok-then, if_err-then}
+use Rattle.role_wire.proofs.serving.do_call.Goals as goal
+
+pub returns-then-len-count-clause-made : goal.returns-then-len-count-clause-made
+returns-then-len-count-clause-made g c =
+    let short : length c.in-Ok.body.items < c.args.count = omega (arith, c.len.ensures, c.if-len-count.true) in
+    (
+      c.in-Ok.body.items,
+      c.in-Ok.ensures.reads,
+      taken_within c.in-Ok.body.items _ c.args.count c.in-Ok.ensures.within,
+      short_told (state g.S.Store) c.args.office.now c.in-Ok.body.items _ c.args.called c.args.count c.refused_head.result short (c.in-Ok.ensures.end short) c.refused_head.ensures.status c.refused_head.ensures.body,
+    )
+
+pub returns-clause-made : goal.returns-clause-made
+returns-clause-made g c =
+    let full : length c.in-Ok.body.items ≡ c.args.count = omega (arith, c.in-Ok.ensures.within, c.len.ensures, c.if-len-count.false) in
+    if_ok-then c.do_body.result _ _ c.do_body.ensures.made (λ made told. (
+      c.in-Ok.body.items,
+      c.in-Ok.ensures.reads,
+      taken_within c.in-Ok.body.items _ c.args.count c.in-Ok.ensures.within,
+      subst (λ read. ComesOf (state g.S.Store) c.args.office.now read made c.do_body.new.office) (sym (called_whole c.in-Ok.body.items _ c.args.called c.args.count full)) (rw c.deref.ensures.value at told),
+    ))
