@@ -1,9 +1,9 @@
 -- The verdicts on requests and on lines.
-use Rattle.std.proofs.Common.{◌≡◌, ◌⊎◌, inl, inr, ℕ, List, [], ◌∷◌, length, Bool, true, false, Option, Some, None, Result, Ok, Err, IfOk, IfErr, refl, sym, ap, subst, ◌∙◌}
+use Rattle.std.proofs.Common.{◌≡◌, ◌⊎◌, inl, inr, ℕ, List, [], ◌∷◌, length, Bool, true, false, Option, Some, None, Ok, Err, IfOk, IfErr, refl, sym, ap, subst}
 use Rattle.std.proofs.lemmas.Bool.{cases_Bool}
 use Rattle.sqlite.specs.Held.{Held}
 use Rattle.sqlite.specs.State.{State}
-use Rattle.rbac_sets.specs.Asked.{Asked, Single, Import}
+use Rattle.rbac_sets.specs.Asked.{Single, Import}
 use Rattle.rbac_sets.specs.Refusal.{is_memory}
 use Rattle.rbac_sets.specs.declared.kind.Kind.TheVariants.{Record}
 use Rattle.rbac_sets.specs.declared.refusal.Refusal.{Refusal}

@@ -1,18 +1,16 @@
 -- What an office does for a command or a question.
-use Rattle.std.proofs.Common.{◌≡◌, ◌⊎◌, ◌∷◌, [], inl, inr, ℕ, List, Bool, true, false, Some, None, Result, Ok, Err, IsTrue, OnOk, IfErr, refl, sym, ap, subst, ◌∙◌}
+use Rattle.std.proofs.Common.{◌≡◌, ◌⊎◌, ◌∷◌, [], inl, inr, false, Some, None, Result, Ok, Err, IsTrue, OnOk, IfErr, refl, sym, ap, subst, ◌∙◌}
 use Rattle.std.proofs.lemmas.Bool.{cases_Bool}
 use Rattle.sqlite.specs.Held.{Held}
 use Rattle.sqlite.specs.State.{State, HasCleanDisk}
-use Rattle.sqlite.specs.Tree.{Trees}
 use Rattle.rbac_sets.specs.Asked.{asked_of}
 use Rattle.rbac_sets.specs.declared.command.Command.{Command}
 use Rattle.rbac_sets.specs.declared.refusal.Refusal.{Refusal}
 use Rattle.rbac_sets.specs.declared.refusal.Refusal.TheVariants.{Memory, Store, Closed}
 use Rattle.admin_mgr.specs.declared.plan.Report.{Report}
 use Rattle.admin_mgr.specs.After.{after}
-use Rattle.admin_mgr.specs.Asked.{asked_verdict, asked_after, GoesByAsked}
+use Rattle.admin_mgr.specs.Asked.{asked_verdict, GoesByAsked}
 use Rattle.admin_mgr.specs.Planned.{tally_of_report}
-use Rattle.admin_mgr.specs.RbacState.{RbacState}
 use Rattle.admin_mgr.specs.Verdict.{verdict}
 use Rattle.admin_mgr.proofs.Verdicts.AskedLaws.{commands_go_by_asked}
 use Rattle.review_mgr.specs.Answering.{Told, value}
@@ -21,10 +19,9 @@ use Rattle.review_mgr.specs.declared.query.Query.{Query}
 use Rattle.role_json.specs.Answer.{told_text}
 use Rattle.role_json.specs.Requested.{Change, Ask}
 use Rattle.role_tables.specs.Office.{Opened, Answers, event_of}
-use Rattle.role_tables.specs.Standing.{ForgetsNoFault, HoldsAsBefore, LeavesAsIn, LeavesEither, LeavesState, Stands}
+use Rattle.role_tables.specs.Standing.{ForgetsNoFault, HoldsAsBefore, LeavesAsIn, LeavesState, Stands}
 use Rattle.role_tables.specs.StoredState.{HoldsState}
-use Rattle.role_tables.proofs.Lives.Calls.{one_call}
-use Rattle.role_wire.specs.Keeping.{Keeps, Reaches, Breaks}
+use Rattle.role_wire.specs.Keeping.{Keeps, Reaches}
 use Rattle.role_wire.specs.Outcome.{accepted_text, outcome_of, state_after}
 use Rattle.role_wire.specs.Performing.{Performs, BreaksAt, Declines}
 
@@ -61,19 +58,19 @@ module _ {S : Type 0} (shown : Held S → State) where
     command_done report is = elim (cases_Bool old.is_closed) [
       | inl shut ↦ absurd (let no = sym is ∙ (closed shut).0 in cc)
       | inr works ↦
-        let told : Answers old command (Ok report) new = subst (λ r. Answers old command r new) is (answers works) in
-        let to = leads told.0 in
-        record {
-          outcome = rw (accepted told.0) (ap (λ tally. Ok (accepted_text (asked_of command) tally)) (sym (told.1 ∙ law.tally_is)));
-          reaches = record {
-            state = told.2 ∙ sym to;
-            is_closed = told.3 ∙ sym works;
-            keeps = record {
-              clean = clean;
-              stands = λ is_clean stands. subst (λ T. Stands (shown new.conn) T) (sym told.2) (subst (λ r. OnOk r (Stands (shown new.conn) (after old.facts command))) is (done works is_clean stands));
+          let told : Answers old command (Ok report) new = subst (λ r. Answers old command r new) is (answers works) in
+          let to = leads told.0 in
+          record {
+            outcome = rw (accepted told.0) (ap (λ tally. Ok (accepted_text (asked_of command) tally)) (sym (told.1 ∙ law.tally_is)));
+            reaches = record {
+              state = told.2 ∙ sym to;
+              is_closed = told.3 ∙ sym works;
+              keeps = record {
+                clean = clean;
+                stands = λ is_clean stands. subst (λ T. Stands (shown new.conn) T) (sym told.2) (subst (λ r. OnOk r (Stands (shown new.conn) (after old.facts command))) is (done works is_clean stands));
+              };
             };
-          };
-        }
+          }
     ]
 
     -- one for which the store was refused

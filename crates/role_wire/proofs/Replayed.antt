@@ -1,11 +1,10 @@
 -- The lines that an office answered, as functions of its state.
-use Rattle.std.proofs.Common.{◌≡◌, ◌⊎◌, inl, inr, ℕ, suc, List, [], ◌∷◌, ◌++◌, length, Bool, true, false, Option, refl, sym, ap, subst, ◌∙◌}
+use Rattle.std.proofs.Common.{◌≡◌, inl, inr, ℕ, suc, List, [], ◌∷◌, ◌++◌, length, false, Option, refl, sym, ap, subst, ◌∙◌}
 use Rattle.std.specs.Io.KnownBytes.{Appends}
 use Rattle.sqlite.specs.Held.{Held}
 use Rattle.sqlite.specs.State.{State}
 use Rattle.admin_mgr.specs.RbacState.{RbacState}
 use Rattle.role_tables.specs.Office.{Opened}
-use Rattle.role_tables.specs.Standing.{Stands}
 use Rattle.role_wire.specs.Keeping.{Keeps, Reaches, Breaks}
 use Rattle.role_wire.specs.Lines.{line_feed, with_line_feeds}
 use Rattle.role_wire.specs.OfficeLines.{AnswersLine, FailsLine}
@@ -61,8 +60,7 @@ module _ {S : Type 0} (shown : Held S → State) where
   answered old new (line ∷ lines) [] none = absurd none
   answered old new (line ∷ lines) (text ∷ texts) (between, is, later) =
       let (rest, reaches) = answered between new lines texts later in
-      let to : between.facts ≡ after_line old.facts line = is.reaches.state in
-      (
+      let to : between.facts ≡ after_line old.facts line = is.reaches.state in (
         ap (λ t. t ∷ texts) is.text_is ∙ ap (λ ts. answer_to old.facts line ∷ ts) (rest ∙ ap (λ s. answers_to s lines) to),
         reaches_then old between new (after_line old.facts line) (after_lines (after_line old.facts line) lines) is.reaches
             (subst (λ s. Reaches shown between (after_lines s lines) new) to reaches),
@@ -73,8 +71,7 @@ module _ {S : Type 0} (shown : Held S → State) where
       → IsAnswered old.facts input written now_written count × Reaches shown old (after_lines old.facts (asking_lines input)) new
   unfolding answer_lines
   replayed old new input written now_written count done =
-      let (texts, reaches) = answered old new (asking_lines input) done.texts done.are_answered in
-      (
+      let (texts, reaches) = answered old new (asking_lines input) done.texts done.are_answered in (
         record {
           lines_fit = done.lines_fit;
           text = subst (λ t. Appends written now_written (with_line_feeds t)) texts done.text;

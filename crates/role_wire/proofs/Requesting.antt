@@ -1,5 +1,5 @@
 -- Whole requests: a head and a call.
-use Rattle.std.proofs.Common.{◌≡◌, ◌≤◌, ◌+◌, ◌∙◌, ◌⊎◌, inl, inr, ℕ, List, [], ◌++◌, length, length-append, append_assoc, take, Option, Some, None, Result, Ok, Err, ap, sym, refl, arith, subst}
+use Rattle.std.proofs.Common.{◌≡◌, ◌≤◌, ◌+◌, ◌∙◌, ◌⊎◌, inl, inr, ℕ, List, [], ◌++◌, length, length-append, append_assoc, take, Option, Some, None, Ok, Err, ap, sym, refl, arith, subst}
 use Rattle.std.proofs.lemmas.List.{append-nil}
 use Rattle.std.specs.Io.KnownBytes.{Appends, Consumes}
 use Rattle.httparse.specs.Grammar.{RequestHead, print_request}
@@ -18,10 +18,9 @@ use Rattle.role_http.specs.ReplyBytes.{reply_bytes}
 use Rattle.role_http.specs.Status.{head_body}
 use Rattle.role_http.proofs.Heads.{HasHead-append, with_left-later, heads_are_unique, refused_have_no_head}
 use Rattle.role_tables.specs.Office.{Opened}
-use Rattle.role_wire.specs.Keeping.{Reaches}
 use Rattle.role_wire.specs.Made.{bytes_in}
-use Rattle.role_wire.specs.Reply.{Asks, Replies, TakesNoFurther, behind_head, called_for, reply_of, reply_to}
-use Rattle.role_wire.specs.Serving.{ComesOf, IsDone, IsRead, IsToldInPlace, LeavesUntold, StopsAt, Tells}
+use Rattle.role_wire.specs.Reply.{Asks, Replies, RepliesOnce, Reply, TakesNoFurther, called_for, reply_of, reply_to}
+use Rattle.role_wire.specs.Serving.{ComesOf, IsRead, IsToldInPlace, LeavesUntold, StopsAt, Tells}
 use Rattle.role_wire.specs.declared.lines.Cause.{Cause}
 use Rattle.role_wire.specs.declared.lines.Cause.TheVariants as cause
 use Rattle.role_wire.specs.declared.made.Made.{Made}
@@ -50,6 +49,16 @@ with_left-append taken more (Some ys) = append_assoc taken more ys
 
 length-head : (bytes : List ℕ) (head : RequestHead) → HasHead bytes head [] → length bytes ≡ length (print_request head)
 length-head bytes head has = ap length (has.0.1 ∙ append-nil (print_request head))
+
+-- a request with a head within the limits has one reply
+one_reply : (S : RbacState) (bytes : List ℕ) (head : RequestHead) (rest : List ℕ) → HasHead bytes head rest → (reply : Reply) → Replies S bytes reply → reply ≡ reply_to S head rest
+one_reply S bytes head rest has reply (inl (other, after, stands, is)) =
+    let same = heads_are_unique bytes other head after rest stands has in
+    is ∙ ap (λ h. reply_to S h after) same.0 ∙ ap (reply_to S head) same.1
+one_reply S bytes head rest has reply (inr none) = absurd (none.0 head rest has)
+
+pub replies_once : RepliesOnce
+replies_once S bytes head rest has first second one two = one_reply S bytes head rest has first one ∙ sym (one_reply S bytes head rest has second two)
 
 module _ {S : Type 0} (shown : Held S → State) where
   -- a reply that is in the making, of a request in these bytes
@@ -121,8 +130,7 @@ module _ {S : Type 0} (shown : Held S → State) where
       → told ≡ status → body ≡ head_body status → Replied office source mid told body office
   unfolding reply_to
   made_head office source mid status told body (bytes, first, inl (head, has, is)) same text =
-      let (later, all) = with_left-later bytes mid in
-      (
+      let (later, all) = with_left-later bytes mid in (
         bytes,
         first.0,
         within_head office.facts source mid bytes first,
@@ -165,7 +173,7 @@ module _ {S : Type 0} (shown : Held S → State) where
   pub sent : (old new : Opened S) (source end written now_written : Option (List ℕ)) (status told : ℕ) (body : List ℕ) → Replied old source end status body new → told ≡ status
       → Appends written now_written (reply_bytes status body)
       → (taken : List ℕ) × Consumes source end taken × TakesNoFurther old.facts (with_left taken end) taken
-          × ((text : List ℕ) × Tells shown old (with_left taken end) told text new × Appends written now_written (reply_bytes told text))
+      × ((text : List ℕ) × Tells shown old (with_left taken end) told text new × Appends written now_written (reply_bytes told text))
   sent old new source end written now_written status told body (taken, first, few, tells) same appended = (taken, first, few, (body, rw same tells, rw same appended))
 
   -- a reply that was written in part

@@ -1,19 +1,16 @@
 -- What comes of requests over HTTP: what is told of them.
-use Rattle.std.proofs.Common.{◌≡◌, ◌⊎◌, inl, inr, ℕ, List, Bool, true, false, None, Some, Option, Result, Ok, Err, refl, sym, ap, subst, ◌∙◌}
+use Rattle.std.proofs.Common.{◌≡◌, ◌⊎◌, inl, inr, ℕ, List, false, None, Some, Option, Result, Ok, Err, refl, sym, ap, subst}
 use Rattle.sqlite.specs.Held.{Held}
 use Rattle.sqlite.specs.State.{State}
-use Rattle.rbac_sets.specs.Asked.{Asked}
 use Rattle.rbac_sets.specs.declared.refusal.Refusal.{Refusal}
 use Rattle.rbac_sets.specs.declared.refusal.Refusal.TheVariants.{Memory, Store, Closed}
 use Rattle.admin_mgr.specs.Asked.{asked_verdict}
-use Rattle.admin_mgr.specs.RbacState.{RbacState}
-use Rattle.role_json.specs.Answer.{refusal_text}
-use Rattle.role_json.specs.Requested.{Requested, Change, Ask}
+use Rattle.role_json.specs.Requested.{Requested, Change}
 use Rattle.role_tables.specs.Office.{Opened}
 use Rattle.role_wire.specs.Keeping.{Reaches}
 use Rattle.role_wire.specs.Made.{IsRefusal, TellsRefusal, bytes_in, is_fixed}
 use Rattle.role_wire.specs.Outcome.{outcome_of, state_after, unless}
-use Rattle.role_wire.specs.Performing.{IsAccepted, IsCommand, IsQuestion, Performs, Declines}
+use Rattle.role_wire.specs.Performing.{IsCommand, IsQuestion, Performs, Declines}
 use Rattle.role_wire.specs.Reply.{reply_of}
 use Rattle.role_wire.specs.Serving.{IsTold, IsToldInPlace, IsDone, IsRead, ComesOf}
 use Rattle.role_wire.specs.declared.made.Made.{Made}

@@ -1,5 +1,5 @@
 -- What an office does for one request.
-use Rattle.std.specs.Prelude.{◌≡◌, ◌⊎◌, true, ℕ, List, None, Result, Ok, Err}
+use Rattle.std.specs.Prelude.{◌≡◌, ◌⊎◌, true, ℕ, List, None, Ok, Err}
 use Rattle.sqlite.specs.Held.{Held}
 use Rattle.sqlite.specs.State.{State}
 use Rattle.rbac_sets.specs.Asked.{Asked}

@@ -56,11 +56,7 @@ fn verdict_on(command: &Command, report: Report) -> Verdict
 }
 
 // Answers a question.
-fn answer<S: Alter>(
-    alloc: Global,
-    office: &Office<S>,
-    query: &Query,
-) -> Result<Verdict, Refusal>
+fn answer<S: Alter>(alloc: Global, office: &Office<S>, query: &Query) -> Result<Verdict, Refusal>
     ensures done { IfOk result (λ verdict. Performs (state S.Store) office.now (Ask query.now) (text_of verdict) office.now) }
     ensures refused { IfErr result (λ refusal. Declines (state S.Store) office.now (Ask query.now) refusal office.now) }
 {

@@ -11,10 +11,10 @@ ghost use Rattle.role_wire.specs.Outcome.{after_lines, asking_lines, outcome_of,
 ghost use Rattle.role_wire.specs.Replay.{IsAtBound, most_reads};
 ghost use Rattle.role_wire.specs.Replaying.{IsAnswered, IsHalted};
 
+use crate::lines::{AnswerLines, Cause, Count, Stop, Unanswered, answer_lines};
 use crate::performing::perform;
 use rbac_sets::{Refusal, Sink, Source};
 use role_json::{Request, Verdict, answer_text, read_request};
-use crate::lines::{AnswerLines, Cause, Count, Stop, Unanswered, answer_lines};
 use role_tables::Office;
 use sqlite::Alter;
 use std::alloc::Global;

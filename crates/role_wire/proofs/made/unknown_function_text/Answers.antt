@@ -1,4 +1,3 @@
-use Rattle.std.proofs.Common.{rules}
 use Rattle.role_http.specs.Status.{head_body}
 use Rattle.role_wire.proofs.made.unknown_function_text.Goals as goal
 

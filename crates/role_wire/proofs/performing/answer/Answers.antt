@@ -5,7 +5,7 @@ use Rattle.review_mgr.specs.Answering.{told, value}
 use Rattle.review_mgr.specs.Questions.{refused}
 use Rattle.role_json.specs.Answer.{text_of}
 use Rattle.role_json.specs.Requested.{Ask}
-use Rattle.role_wire.specs.Performing.{Declines, Performs}
+use Rattle.role_wire.specs.Performing.{Declines}
 use Rattle.role_wire.proofs.Performed.{question_answered, question_refused}
 use Rattle.role_wire.proofs.performing.answer.Goals as goal
 

@@ -8,7 +8,6 @@ use Rattle.role_wire.specs.Outcome.{outcome_of, state_after, told_as}
 use Rattle.role_wire.proofs.Judged.{judged_refusal}
 use Rattle.role_wire.proofs.replaying.judge.Goals as goal
 
-
 pub returns-in-Err-clause-answered : goal.returns-in-Err-clause-answered
 returns-in-Err-clause-answered g c =
     subst (λ r. IfOk r (λ verdict. (text_of verdict ≡ told_as (outcome_of c.args.office.now.facts (requested c.args.request.now))) × Reaches (state g.S.Store) c.args.office.now (state_after c.args.office.now.facts (requested c.args.request.now)) c.perform.new.office))

@@ -1,5 +1,4 @@
-use Rattle.std.proofs.Common.{◌≡◌, IfOk, IfErr, subst, sym}
-use Rattle.std.proofs.lemmas.Result.{err_from_is_err_and}
+use Rattle.std.proofs.Common.{IfOk, IfErr, subst, sym}
 use Rattle.sqlite.specs.Held.{state}
 use Rattle.role_json.specs.Answer.{text_of}
 use Rattle.role_json.specs.Requested.{requested}
@@ -11,12 +10,12 @@ use Rattle.role_wire.proofs.replaying.judge_line.Goals as goal
 pub returns-in-Ok-clause-answered : goal.returns-in-Ok-clause-answered
 returns-in-Ok-clause-answered g c =
     if_ok-then c.judge.result _ _ c.judge.ensures.answered (λ verdict told.
-      line_answered (state g.S.Store) c.args.office.now c.judge.new.office c.args.line.now (text_of verdict) (requested c.in-Ok.request) c.in-Ok.ensures.ok told.0 told.1)
+    line_answered (state g.S.Store) c.args.office.now c.judge.new.office c.args.line.now (text_of verdict) (requested c.in-Ok.request) c.in-Ok.ensures.ok told.0 told.1)
 
 pub returns-in-Ok-clause-failed : goal.returns-in-Ok-clause-failed
 returns-in-Ok-clause-failed g c =
     if_err-then c.judge.result _ _ c.judge.ensures.failed (λ unanswered failed.
-      line_failed (state g.S.Store) c.args.office.now c.judge.new.office c.args.line.now (requested c.in-Ok.request) unanswered c.in-Ok.ensures.ok failed)
+    line_failed (state g.S.Store) c.args.office.now c.judge.new.office c.args.line.now (requested c.in-Ok.request) unanswered c.in-Ok.ensures.ok failed)
 
 pub returns-in-Err-clause-answered : goal.returns-in-Err-clause-answered
 returns-in-Err-clause-answered g c =

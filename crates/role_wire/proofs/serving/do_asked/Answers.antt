@@ -1,4 +1,4 @@
-use Rattle.std.proofs.Common.{◌≡◌, inl, inr, refl}
+use Rattle.std.proofs.Common.{inl, inr}
 use Rattle.sqlite.specs.Held.{state}
 use Rattle.role_json.specs.Answer.{text_of}
 use Rattle.role_json.specs.Requested.{requested}
@@ -19,7 +19,7 @@ returns-in-Ok-clause-made g c =
 pub returns-in-Ok-clause-left : goal.returns-in-Ok-clause-left
 returns-in-Ok-clause-left g c =
     if_err-then c.tell.result _ _ c.tell.ensures.left (λ cause left.
-      (left.0, command_untold (state g.S.Store) c.args.office.now c.perform.new.office (requested c.args.request.now) (text_of c.in-Ok.verdict) c.in-Ok.ensures.done left.1))
+    (left.0, command_untold (state g.S.Store) c.args.office.now c.perform.new.office (requested c.args.request.now) (text_of c.in-Ok.verdict) c.in-Ok.ensures.done left.1))
 
 pub returns-in-Err-clause-made : goal.returns-in-Err-clause-made
 returns-in-Err-clause-made g c =

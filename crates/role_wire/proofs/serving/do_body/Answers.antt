@@ -1,4 +1,4 @@
-use Rattle.std.proofs.Common.{◌≡◌, Ok, subst, sym}
+use Rattle.std.proofs.Common.{subst, sym}
 use Rattle.sqlite.specs.Held.{state}
 use Rattle.role_json.specs.Request.{body_to}
 use Rattle.role_wire.specs.Serving.{ComesOf, IsDone, IsRead}
@@ -9,12 +9,12 @@ use Rattle.role_wire.proofs.serving.do_body.Goals as goal
 pub returns-in-Ok-clause-made : goal.returns-in-Ok-clause-made
 returns-in-Ok-clause-made g c =
     if_ok-then c.do_asked.result _ _ c.do_asked.ensures.made (λ made told.
-      subst (λ read. ComesOf (state g.S.Store) c.args.office.now read made c.do_asked.new.office) (sym c.in-Ok.ensures.ok) told)
+    subst (λ read. ComesOf (state g.S.Store) c.args.office.now read made c.do_asked.new.office) (sym c.in-Ok.ensures.ok) told)
 
 pub returns-in-Ok-clause-left : goal.returns-in-Ok-clause-left
 returns-in-Ok-clause-left g c =
     if_err-then c.do_asked.result _ _ c.do_asked.ensures.left (λ cause left.
-      (left.0, subst (λ read. IsDone (state g.S.Store) c.args.office.now (IsRead read) c.do_asked.new.office) (sym c.in-Ok.ensures.ok) left.1))
+    (left.0, subst (λ read. IsDone (state g.S.Store) c.args.office.now (IsRead read) c.do_asked.new.office) (sym c.in-Ok.ensures.ok) left.1))
 
 pub returns-in-Err-clause-made : goal.returns-in-Err-clause-made
 returns-in-Err-clause-made g c =

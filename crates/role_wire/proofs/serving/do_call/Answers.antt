@@ -1,16 +1,13 @@
 use Rattle.std.proofs.Common.{◌≡◌, ◌<◌, length, arith, subst, sym}
 use Rattle.sqlite.specs.Held.{state}
-use Rattle.role_http.specs.Answered.{with_left}
-use Rattle.role_wire.specs.Serving.{ComesOf, IsRead, LeavesUntold, IsDone}
-use Rattle.role_wire.specs.declared.lines.Cause.TheVariants as cause
+use Rattle.role_wire.specs.Serving.{ComesOf}
 use Rattle.role_wire.proofs.Calling.{called_whole, short_told, taken_within}
-use Rattle.role_wire.proofs.Results.{if_ok-then, if_err-then}
+use Rattle.role_wire.proofs.Results.{if_ok-then}
 use Rattle.role_wire.proofs.serving.do_call.Goals as goal
 
 pub returns-then-len-count-clause-made : goal.returns-then-len-count-clause-made
 returns-then-len-count-clause-made g c =
-    let short : length c.in-Ok.body.items < c.args.count = omega (arith, c.len.ensures, c.if-len-count.true) in
-    (
+    let short : length c.in-Ok.body.items < c.args.count = omega (arith, c.len.ensures, c.if-len-count.true) in (
       c.in-Ok.body.items,
       c.in-Ok.ensures.reads,
       taken_within c.in-Ok.body.items _ c.args.count c.in-Ok.ensures.within,

@@ -1,4 +1,3 @@
-use Rattle.std.proofs.Common.{◌≡◌, subst}
 use Rattle.sqlite.specs.Held.{state}
 use Rattle.role_wire.proofs.Requesting.{made_called, left_called, made_head, made_stopped, left_stopped}
 use Rattle.role_wire.proofs.Results.{if_ok-then, if_err-then}
@@ -7,12 +6,12 @@ use Rattle.role_wire.proofs.serving.do_request.Goals as goal
 pub returns-in-Ok-Ok-clause-made : goal.returns-in-Ok-Ok-clause-made
 returns-in-Ok-Ok-clause-made g c =
     if_ok-then c.do_call.result _ _ c.do_call.ensures.made (λ made told.
-      made_called (state g.S.Store) c.args.office.now c.do_call.new.office _ _ _ c.in-Ok-Ok.called c.in-Ok-Ok.count made (rw c.in-Ok-Ok.field-0-is at c.in-Ok-Ok.ensures.answers) told)
+    made_called (state g.S.Store) c.args.office.now c.do_call.new.office _ _ _ c.in-Ok-Ok.called c.in-Ok-Ok.count made (rw c.in-Ok-Ok.field-0-is at c.in-Ok-Ok.ensures.answers) told)
 
 pub returns-in-Ok-Ok-clause-left : goal.returns-in-Ok-Ok-clause-left
 returns-in-Ok-Ok-clause-left g c =
     if_err-then c.do_call.result _ _ c.do_call.ensures.left (λ why left.
-      left_called (state g.S.Store) why c.args.office.now c.do_call.new.office _ _ _ c.in-Ok-Ok.called c.in-Ok-Ok.count (rw c.in-Ok-Ok.field-0-is at c.in-Ok-Ok.ensures.answers) left)
+    left_called (state g.S.Store) why c.args.office.now c.do_call.new.office _ _ _ c.in-Ok-Ok.called c.in-Ok-Ok.count (rw c.in-Ok-Ok.field-0-is at c.in-Ok-Ok.ensures.answers) left)
 
 pub returns-in-Ok-Ok-clause-cause : goal.returns-in-Ok-Ok-clause-cause
 returns-in-Ok-Ok-clause-cause g c = rw (c.in-Ok-Ok.ensures.steady) at c.do_call.ensures.cause
