@@ -14,6 +14,8 @@ use rbac_sets::{Sink, Source, write_all};
 use role_wire::Stop;
 use std::io::{Cursor, Write};
 
+#[cfg(test)]
+mod tests;
 
 /// The status of a program that did what it was asked.
 const DONE: u8 = 0;
@@ -48,7 +50,7 @@ pub fn run<T: AllocGlobal, R: Source, W: Sink, E: Sink>(
         × (answered : ℕ) × IsAnswered first_state input (W.written out.old) (W.written out.new) answered }
     ensures stopped { result ≡ 1 → (stop : Stop)
         × (((taken : List ℕ) × Consumes (R.remaining source.old) (R.remaining source.new) taken × StopsOverNew stop taken (IsAtEnd (R.remaining source.new)) (W.written out.old) (W.written out.new))
-            ⊎ (IsUnmade stop × (source.new ≡ source.old) × (out.new ≡ out.old)))
+        ⊎ (IsUnmade stop × (source.new ≡ source.old) × (out.new ≡ out.old)))
         × (stop.cause ≡ Cause.Write → HasRisen (W.failed out.old) (W.failed out.new) ⊎ HasRisen (W.idle out.old) (W.idle out.new))
         × (stop.cause ≡ Cause.Read → HasRisen (R.failed source.old) (R.failed source.new) ⊎ IsAtBound (R.reads source.old) (R.reads source.new)) }
     ensures reads { R.reads source.new ≤ R.reads source.old + most_reads }
