@@ -1,3 +1,2 @@
-pub mod Machine
-pub mod Office
+pub mod InMemory
 pub mod Words

@@ -1,11 +1,8 @@
 //! The program `rbac` as a library: what it does for the words of a command line.
 #![tactic(auto)]
 
-pub use office::MemoryOffice;
-pub use program::{replay_memory, run};
+pub use memory::replay_memory;
+pub use program::run;
 
-pub mod answering;
-pub mod office;
+pub mod memory;
 pub mod program;
-#[cfg(test)]
-mod tests;

@@ -1,17 +1,17 @@
 //! What the program does for its words.
-ghost use Rattle.std.specs.Prelude.{◌≡◌, ◌⊎◌, ◌≤◌, ℕ, List, length, map, true, false, OnOk, IfOk, IfErr, IfSome};
-ghost use Rattle.std.specs.Io.KnownBytes.{Appends, Consumes, IsAtEnd};
-ghost use Rattle.role_wire.specs.Replay.{IsStopped, most_reads};
-ghost use Rattle.rbac_sets.specs.Stream.{HasFailed};
+ghost use Rattle.std.specs.Prelude.{◌≡◌, ◌⊎◌, ◌≤◌, ◌+◌, ℕ, List, map, false};
+ghost use Rattle.std.specs.Io.KnownBytes.{Consumes, IsAtEnd};
+ghost use Rattle.rbac_sets.specs.Stream.{HasRisen};
+ghost use Rattle.role_wire.specs.Replay.{IsAtBound, most_reads};
+ghost use Rattle.role_wire.specs.Replaying.{IsAnswered};
 ghost use Rattle.role_wire.specs.declared.lines.Cause.{Cause};
-ghost use Rattle.role_cli.specs.Machine.{IsAnswered, Answers, Fails};
+ghost use Rattle.role_wire.specs.declared.lines.Stop.{Stop};
+ghost use Rattle.role_cli.specs.InMemory.{IsUnmade, StopsOverNew, first_state};
 ghost use Rattle.role_cli.specs.Words.{asks_replay_in_memory};
-ghost use Rattle.role_cli.specs.Office.{OfficeState, empty_state};
 
-use crate::office::MemoryOffice;
+use crate::memory::replay_memory;
 use rbac_sets::{Sink, Source, write_all};
-use role_wire::{Count, Stop, replay};
-use std::alloc::Global;
+use role_wire::Stop;
 use std::io::{Cursor, Write};
 
 #[cfg(test)]
@@ -28,29 +28,6 @@ const REFUSED: u8 = 2;
 
 /// The most bytes of the line that names a stop.
 const LONGEST_STOP: usize = 96;
-
-/// Answers the lines of `source` in `sink`, from an office in memory without a user and a role on.
-///
-/// # Errors
-///
-/// As `replay` of `role_wire` stops; such an office is never closed and has no store.
-pub fn replay_memory<R: Source, W: Sink>(
-    alloc: Global,
-    source: &mut R,
-    sink: &mut W,
-) -> Result<Count, Stop>
-    ensures ok { IfOk result (λ count. (input : List ℕ) × Consumes (R.remaining source.old) (R.remaining source.new) input
-        × IsAnswered empty_state input (W.written sink.old) (W.written sink.new) count.answered) }
-    ensures end { OnOk result (IsAtEnd (R.remaining source.new)) }
-    ensures stopped { IfErr result (λ stop. (taken : List ℕ) × Consumes (R.remaining source.old) (R.remaining source.new) taken × (left : OfficeState)
-        × IsStopped Answers Fails empty_state left taken (IsAtEnd (R.remaining source.new)) (W.written sink.old) (W.written sink.new) stop.cause stop.answered) }
-    ensures write_cause { IfErr result (λ stop. stop.cause ≡ Cause.Write → W.takes_some ≡ true → HasFailed (W.failed sink.old) (W.failed sink.new)) }
-    ensures read_cause { IfErr result (λ stop. stop.cause ≡ Cause.Read → HasFailed (R.failed source.old) (R.failed source.new)
-        ⊎ IfSome (R.remaining source.old) (λ input. most_reads ≤ length input)) }
-{
-    let mut office = MemoryOffice::new(alloc);
-    replay(alloc, &mut office, source, sink)
-}
 
 /// Does what the program does for `words`, whose first is the program's name, and gives its exit
 /// status.
@@ -70,11 +47,13 @@ pub fn run<T: AllocGlobal, R: Source, W: Sink, E: Sink>(
     ensures refused { result ≡ 2 → (asks_replay_in_memory (map (λ word. word.now) words.entry.now) ≡ false) × (source.new ≡ source.old) × (out.new ≡ out.old) }
     ensures asked { asks_replay_in_memory (map (λ word. word.now) words.entry.now) ≡ false → result ≡ 2 }
     ensures done { result ≡ 0 → (input : List ℕ) × Consumes (R.remaining source.old) (R.remaining source.new) input × IsAtEnd (R.remaining source.new)
-        × (answered : ℕ) × IsAnswered empty_state input (W.written out.old) (W.written out.new) answered }
-    ensures stopped { result ≡ 1 → (taken : List ℕ) × Consumes (R.remaining source.old) (R.remaining source.new) taken × (left : OfficeState) × (cause : Cause) × (answered : ℕ)
-        × IsStopped Answers Fails empty_state left taken (IsAtEnd (R.remaining source.new)) (W.written out.old) (W.written out.new) cause answered
-        × (cause ≡ Cause.Write → W.takes_some ≡ true → HasFailed (W.failed out.old) (W.failed out.new))
-        × (cause ≡ Cause.Read → HasFailed (R.failed source.old) (R.failed source.new) ⊎ IfSome (R.remaining source.old) (λ input. most_reads ≤ length input)) }
+        × (answered : ℕ) × IsAnswered first_state input (W.written out.old) (W.written out.new) answered }
+    ensures stopped { result ≡ 1 → (stop : Stop)
+        × (((taken : List ℕ) × Consumes (R.remaining source.old) (R.remaining source.new) taken × StopsOverNew stop taken (IsAtEnd (R.remaining source.new)) (W.written out.old) (W.written out.new))
+        ⊎ (IsUnmade stop × (source.new ≡ source.old) × (out.new ≡ out.old)))
+        × (stop.cause ≡ Cause.Write → HasRisen (W.failed out.old) (W.failed out.new) ⊎ HasRisen (W.idle out.old) (W.idle out.new))
+        × (stop.cause ≡ Cause.Read → HasRisen (R.failed source.old) (R.failed source.new) ⊎ IsAtBound (R.reads source.old) (R.reads source.new)) }
+    ensures reads { R.reads source.new ≤ R.reads source.old + most_reads }
 {
     if !asks_replay_in_memory(words) {
         tell(err, b"rbac: give replay --memory\n");

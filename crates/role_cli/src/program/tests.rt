@@ -1,12 +1,13 @@
 use super::*;
 use rbac_sets::{Fault, MemorySink, MemorySource};
+use std::alloc::Global;
 use std::test::Fail;
 
 /// The words that ask for a replay over an office in memory.
 const WORDS: [&str; 3] = ["rbac", "replay", "--memory"];
 
 /// Lines, and what answers each of them.
-const LINES: [(&str, &str); 4] = [
+const LINES: [(&str, &str); 5] = [
     ("{\"fn\":\"addUser\",\"user\":\"ann\"}\n", "{\"ok\":true}\n"),
     (
         "{\"fn\":\"addRole\",\"role\":\"clerk\"}\n",
@@ -17,8 +18,12 @@ const LINES: [(&str, &str); 4] = [
         "{\"ok\":true}\n",
     ),
     (
-        "{\"fn\":\"assignedUsers\",\"role\":\"clerk\"}\n",
-        "{\"ok\":true,\"value\":[\"ann\"]}\n",
+        "{\"fn\":\"createSession\",\"user\":\"ann\",\"roles\":[\"clerk\"],\"session\":\"s1\"}\n",
+        "{\"ok\":true}\n",
+    ),
+    (
+        "{\"fn\":\"sessionRoles\",\"session\":\"s1\"}\n",
+        "{\"ok\":true,\"value\":[\"clerk\"]}\n",
     ),
 ];
 
@@ -44,13 +49,13 @@ impl Failing {
 }
 
 impl Sink for Failing {
-    ghost use Rattle.std.specs.Prelude.{None, false};
+    ghost use Rattle.std.specs.Prelude.{None};
 
     ghost written = { λ _. None };
 
     ghost failed = { λ sink. sink.failures };
 
-    ghost takes_some = { false };
+    ghost idle = { λ _. 0 };
 
     fn write(&mut self, piece: &[u8]) -> Result<usize, Fault> {
         let writes = self.writes.checked_sub(1);
@@ -94,7 +99,7 @@ fn answers(alloc: Global, bytes: usize) -> Result<String, Fail> {
 #[test]
 fn answers_the_lines_up_to_each_byte(rt: HostRuntime) -> Result<(), Fail> {
     let alloc = rt.alloc();
-    let whole = input(alloc, 4)?;
+    let whole = input(alloc, 5)?;
     let bytes = whole.as_bytes();
     for cut in 0..=bytes.len() {
         let mut source = MemorySource::new(&bytes[..cut]);
@@ -146,43 +151,14 @@ fn tells_a_stop(rt: HostRuntime) -> Result<(), Fail> {
 }
 
 #[test]
-fn does_a_line_whose_answer_is_not_taken(rt: HostRuntime) -> Result<(), Fail> {
-    let alloc = rt.alloc();
-    let whole = input(alloc, 4)?;
-    let asks =
-        b"{\"fn\":\"addUser\",\"user\":\"ann\"}\n{\"fn\":\"assignedUsers\",\"role\":\"clerk\"}";
-    for (writes, left) in [
-        (0, "{\"code\":4,\"error\":\"NoRole\"}"),
-        (1, "{\"ok\":true,\"value\":[]}"),
-        (2, "{\"ok\":true,\"value\":[\"ann\"]}"),
-        (3, "{\"ok\":true,\"value\":[\"ann\"]}"),
-        (4, "{\"ok\":true,\"value\":[\"ann\"]}"),
-    ] {
-        let mut office = MemoryOffice::new(alloc);
-        let mut source = MemorySource::new(whole.as_bytes());
-        let mut out = Failing::new(alloc, writes);
-        let replayed = replay(alloc, &mut office, &mut source, &mut out);
-        assert_eq!(rt; replayed.is_ok(), writes == 4);
-        let taken = answers(alloc, input(alloc, writes)?.len())?;
-        assert_eq!(rt; out.bytes.as_slice(), taken.as_bytes());
-        let mut source = MemorySource::new(asks);
-        let mut out = MemorySink::new(alloc);
-        assert!(rt; replay(alloc, &mut office, &mut source, &mut out).is_ok());
-        let want = format!(in alloc; "{{\"code\":3,\"error\":\"UserExists\"}}\n{left}\n")?;
-        assert_eq!(rt; out.as_slice(), want.as_bytes(), "at {writes}");
-    }
-    Ok(())
-}
-
-#[test]
 fn tells_a_write_that_fails(rt: HostRuntime) -> Result<(), Fail> {
     let alloc = rt.alloc();
-    let whole = input(alloc, 4)?;
+    let whole = input(alloc, 5)?;
     for (writes, status, told) in [
         (0, 1, "rbac: stop Write after 0\n"),
         (1, 1, "rbac: stop Write after 1\n"),
-        (3, 1, "rbac: stop Write after 3\n"),
-        (4, 0, ""),
+        (4, 1, "rbac: stop Write after 4\n"),
+        (5, 0, ""),
     ] {
         let mut source = MemorySource::new(whole.as_bytes());
         let mut out = Failing::new(alloc, writes);

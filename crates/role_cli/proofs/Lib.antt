@@ -1,3 +1,0 @@
-pub mod AnsweredLines
-pub mod FirstsInOrder
-pub mod Judging
