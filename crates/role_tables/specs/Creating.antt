@@ -14,7 +14,7 @@ use Rattle.role_tables.specs.OfficeTables.{StoredTable, Meta, making, Rows, code
 abbrev pub MayCreate : ℕ → State → Type 0
 MayCreate version s = (s.in_transaction ≡ false) × IsTrue (may_create version s.now.schema)
 
--- where an office may be made, one was made, and this state stands in it
+-- an office could be made and, where the disk has no fault, this state stands in it now
 abbrev pub MakesOffice : State → State → RbacState → Type 0
 MakesOffice old new S = MayCreate S.version old × (HasCleanDisk new → Stands new S)
 
@@ -41,7 +41,7 @@ pub record IsStage (version : ℕ) (want : StoredTable → Bool) (db : Database)
   pub unreferred : (table : StoredTable) → IsTrue (is_wanted version table) → is_referred db.schema (making table).name ≡ false
   pub counted : lacks_sequence db.schema ≡ false
 
--- none of them is made yet
+-- where it is open, no table of an office of this version is made yet, and each can be
 abbrev pub IsFirstStage : ℕ → State → Type 0
 IsFirstStage version s = IsTrue s.is_open → IsStage version no_table s.now no_rows
 

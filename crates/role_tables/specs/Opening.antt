@@ -132,7 +132,7 @@ pub record IsStateFound (found : Found) (S : RbacState) : Type 0 where
 abbrev pub ReadsState : State → State → RbacState → Type 0
 ReadsState old new S = IsStateFound (held_in old.now) S × IsUnchanged old new
 
--- what is refused where the five tables are looked for and meta_row is read
+-- memory was refused, or a call of the store, or one of the five tables is not there
 abbrev pub RefusesMetas : Found → Refusal → Type 0
 RefusesMetas found refusal = (refusal ≡ Memory) ⊎ ((refusal ≡ Store) ⊎ ((refusal ≡ NotAnOffice) × (HasFive found → ⊥)))
 
