@@ -1,16 +1,22 @@
 -- How the tables of an office are made, one after the other.
 use Rattle.std.specs.Prelude.{ℕ, ◌≡◌, ◌==◌, ◌||◌, Bool, false, List, [], ◌∷◌, None, IsTrue, codes}
+use Rattle.admin_mgr.specs.RbacState.{RbacState}
 use Rattle.sqlite.specs.Does.{lacks_sequence}
 use Rattle.sqlite.specs.Effect.{Database}
-use Rattle.sqlite.specs.State.{State}
+use Rattle.sqlite.specs.State.{State, HasCleanDisk}
 use Rattle.sqlite_schema.specs.Names.{table_named}
 use Rattle.role_tables.specs.TableByName.{is_referred}
 use Rattle.role_tables.specs.InSchema.{may_create}
+use Rattle.role_tables.specs.Standing.{Stands}
 use Rattle.role_tables.specs.OfficeTables.{StoredTable, Meta, making, Rows, code, changed_at, meta_row, cells, is_wanted, HoldsTables}
 
 -- an office of this version may be made: outside a transaction, where the tables can be made
 abbrev pub MayCreate : ℕ → State → Type 0
 MayCreate version s = (s.in_transaction ≡ false) × IsTrue (may_create version s.now.schema)
+
+-- an office could be made and, where the disk has no fault, this state stands in it now
+abbrev pub MakesOffice : State → State → RbacState → Type 0
+MakesOffice old new S = MayCreate S.version old × (HasCleanDisk new → Stands new S)
 
 -- these tables, and this one too
 abbrev pub with_table : StoredTable → (StoredTable → Bool) → StoredTable → Bool
@@ -34,6 +40,10 @@ pub record IsStage (version : ℕ) (want : StoredTable → Bool) (db : Database)
   pub unnamed : (table : StoredTable) → IsTrue (is_wanted version table) → want table ≡ false → table_named db.schema (making table).name ≡ None
   pub unreferred : (table : StoredTable) → IsTrue (is_wanted version table) → is_referred db.schema (making table).name ≡ false
   pub counted : lacks_sequence db.schema ≡ false
+
+-- where it is open, no table of an office of this version is made yet, and each can be
+abbrev pub IsFirstStage : ℕ → State → Type 0
+IsFirstStage version s = IsTrue s.is_open → IsStage version no_table s.now no_rows
 
 -- tables of the version that are not made yet
 abbrev pub AreNew : ℕ → (StoredTable → Bool) → Rows → List StoredTable → Type 0

@@ -1,6 +1,6 @@
 -- What is found of an office in a database, by the names of tables and columns, however the tables were made; and the
 -- first two of the checks that it has to pass.
-use Rattle.std.specs.Prelude.{ℕ, ◌≡◌, ◌⊎◌, ◌&&◌, ◌^◌, pos, nat_le, nat_lt, Bool, true, false, List, [], ◌∷◌, map, slice_get, Option, Some, IsTrue}
+use Rattle.std.specs.Prelude.{ℕ, ◌≡◌, ◌⊎◌, ◌&&◌, ◌^◌, pos, nat_le, nat_lt, Bool, true, false, List, [], ◌∷◌, map, slice_get, Option, Some, IsSome, IsTrue}
 use Rattle.std.specs.Option.{option_and_then, option_map}
 use Rattle.rbac_sets.specs.Name.{is_name}
 use Rattle.rbac_sets.specs.declared.row.Row.{Row}
@@ -14,6 +14,7 @@ use Rattle.sqlite.specs.Order.{column}
 use Rattle.sqlite.specs.Schema.{Schema}
 use Rattle.sqlite.specs.Table.{Table}
 use Rattle.sqlite.specs.Effect.{Database}
+use Rattle.sqlite.specs.State.{State}
 use Rattle.sqlite_schema.specs.Names.{table_named, column_named}
 use Rattle.role_tables.specs.TableByName.{Place, names_of, cells_at}
 use Rattle.role_tables.specs.OfficeTables.{StoredTable, Meta, Names, Pairs, Grants, Sets, Locks, making, places}
@@ -33,6 +34,10 @@ find_table schema name = option_and_then (slice_get schema.tables) (table_named 
 -- the values that the columns of the kind hold in the table of its name, where they are there
 abbrev pub held_in : Database → StoredTable → Option (List sql.Row)
 held_in db kind = option_and_then (λ table. option_map (λ found. map (cells_at table found) (db.trees table.tree)) (find_places table (names_of (places kind)))) (find_table db.schema (making kind).name)
+
+-- a table of the kind is there with its columns
+abbrev pub HasTable : State → StoredTable → Type 0
+HasTable s kind = IsSome (held_in s.now kind)
 
 -- what is found of each kind of table
 abbrev pub Found : Type 0

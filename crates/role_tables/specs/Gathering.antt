@@ -2,7 +2,7 @@
 use Rattle.std.specs.Prelude.{ℕ, ℤ, IsSome, ◌≡◌, ◌≢◌, ◌⊎◌, ◌&&◌, Bool, false, List, ◌++◌, map, Option, Some, None, IsTrue, IsPermutation}
 use Rattle.std.specs.List.{list_all, AllByRecursion}
 use Rattle.sqlite.specs.Order as sql
-use Rattle.sqlite.specs.State.{State}
+use Rattle.sqlite.specs.State.{State, IsUnchanged}
 use Rattle.role_tables.specs.OfficeTables.{StoredTable, Meta, Locks}
 use Rattle.role_tables.specs.Found.{Found, is_whole, has_names, row_in, held_in}
 use Rattle.role_tables.specs.Opening.{values, rows_in_all}
@@ -82,3 +82,11 @@ RefusesGathering version all refusal =
     ((refusal ≡ Damaged 1) × (all.is_whole ≡ false))
     ⊎ (((refusal ≡ Damaged 2) × IsTrue all.is_whole × (all.is_named ≡ false))
     ⊎ (IsTrue all.is_whole × IsTrue all.is_named × RefusesRows version all.rows.items refusal))
+
+-- the table was read, and nothing was changed
+abbrev pub ReadsTable : State → State → StoredTable → Gathering → Gathering → Type 0
+ReadsTable old new kind before after = GathersTable (held_in old.now kind) kind before after × IsUnchanged old new
+
+-- these tables were read, and nothing was changed
+abbrev pub ReadsTables : State → State → List StoredTable → Gathering → Gathering → Type 0
+ReadsTables old new tables before after = GathersTables (held_in old.now) tables before after × IsUnchanged old new

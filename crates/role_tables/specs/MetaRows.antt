@@ -3,9 +3,10 @@ use Rattle.std.specs.Prelude.{◌≡◌, ◌||◌, ◌&&◌, ℤ, false, List, l
 use Rattle.std.specs.List.{list_any, list_all}
 use Rattle.std.specs.Int.Signed.{lt_z}
 use Rattle.sqlite.specs.Order as sql
+use Rattle.sqlite.specs.State.{State, IsUnchanged}
 use Rattle.role_tables.specs.OfficeTables.{Meta}
-use Rattle.role_tables.specs.Found.{is_whole}
-use Rattle.role_tables.specs.Opening.{is_tagged, version_at, listed, versions, is_number, is_known_version, IsLeastUnknown, is_single}
+use Rattle.role_tables.specs.Found.{is_whole, held_in}
+use Rattle.role_tables.specs.Opening.{values, is_tagged, version_at, listed, versions, is_number, is_known_version, IsLeastUnknown, is_single}
 use Rattle.role_tables.specs.declared.meta_rows.Metas.{Metas}
 
 -- the least number so far that is no version, if there is one
@@ -36,3 +37,7 @@ pub record Sees (shown : List sql.Row) (metas : Metas) : Type 0 where
   pub whole : metas.is_whole ≡ list_all (is_whole Meta) shown
   pub one : metas.is_one ≡ is_single shown
   pub empty : metas.is_empty ≡ nat_eq (length shown) 0
+
+-- the rows of meta_row were seen, and nothing was changed
+abbrev pub SeesMetas : State → State → Metas → Type 0
+SeesMetas old new metas = Sees (values (held_in old.now) Meta) metas × IsUnchanged old new

@@ -1,11 +1,16 @@
 -- How an office of version 1 is taken into version 2.
-use Rattle.std.specs.Prelude.{ℕ, ◌≡◌, ◌⊎◌, ◌&&◌, pos, Bool, codes, IsTrue}
+use Rattle.std.specs.Prelude.{ℕ, ◌≡◌, ◌≢◌, ◌⊎◌, ◌&&◌, pos, true, Bool, codes, IsTrue, Result}
 use Rattle.rbac_sets.specs.declared.refusal.Refusal.{Refusal}
 use Rattle.rbac_sets.specs.declared.refusal.Refusal.TheVariants.{Memory, Store, Version}
+use Rattle.admin_mgr.specs.Good.{IsGood}
+use Rattle.admin_mgr.specs.Life.{taken_into_version_2}
+use Rattle.admin_mgr.specs.RbacState.{RbacState}
 use Rattle.sqlite.specs.State.{State}
+use Rattle.sqlite.specs.declared.error.Error.{Error}
 use Rattle.sqlite.specs.Schema.{Schema}
 use Rattle.role_tables.specs.Found.{Found}
-use Rattle.role_tables.specs.Opening.{IsSecond, RefusesFound}
+use Rattle.role_tables.specs.Opening.{IsSecond, IsStateFound, RefusesFound}
+use Rattle.role_tables.specs.Standing.{HoldsAsBefore, LeavesEither, LeavesOnly, Stands, TransactsTo, WhateverStands}
 use Rattle.role_tables.specs.TableByName.{without_row}
 use Rattle.role_tables.specs.OfficeTables.{StoredTable, Meta, Rows, changed_at, meta_row, cells, HoldsTables}
 use Rattle.role_tables.specs.InSchema.{is_free, may_count}
@@ -24,3 +29,23 @@ pub record TakesVersion (version : ℕ) (old new : State) : Type 0 where
 abbrev pub RefusesMigration : Found → Refusal → Type 0
 RefusesMigration found refusal =
     (refusal ≡ Store) ⊎ ((refusal ≡ Memory) ⊎ (((refusal ≡ Version (pos 2)) × IsSecond found) ⊎ (RefusesFound found refusal × (IsSecond found → ⊥))))
+
+-- the state of version 1 that stands was to be taken into version 2, in one transaction
+abbrev pub MigratesTables : State → State → Result (Unit {0}) Error → Type 0
+MigratesTables old new result = (from : RbacState) → from.version ≡ 1 → IsGood from → may_lock old.now.schema ≡ true → Stands old from → TransactsTo old new (taken_into_version_2 from) result
+
+-- a state of version 1 was found, and this is it in version 2
+abbrev pub IsMigratedFrom : Found → RbacState → Type 0
+IsMigratedFrom found made = (first : RbacState) × IsStateFound found first × (first.version ≡ 1) × (made ≡ taken_into_version_2 first)
+
+-- the state that stood was of version 1, and it stands in version 2 now
+abbrev pub Moves : State → State → RbacState → Type 0
+Moves old new made = WhateverStands old (λ S. (S.version ≡ 1) × (made ≡ taken_into_version_2 S) × Stands new (taken_into_version_2 S))
+
+-- the state that stood is held as before; where the store refused no call, a stop leaves it
+abbrev pub StaysRefused : State → State → Refusal → Type 0
+StaysRefused old new refusal = WhateverStands old (λ S. HoldsAsBefore old new × (refusal ≢ Store → LeavesOnly new S))
+
+-- a stop leaves the state that stood, in its version or in version 2
+abbrev pub LeavesEitherVersion : State → State → Type 0
+LeavesEitherVersion old new = WhateverStands old (λ S. LeavesEither new S (taken_into_version_2 S))

@@ -1,10 +1,12 @@
 -- What an office is, and what it answers.
 use Rattle.std.specs.Prelude.{◌≡◌, Bool, true, false, refl, Some, None, Result, Ok, Err}
+use Rattle.sqlite_trees.specs.declared.store.Store.{Ghosts}
 use Rattle.std.specs.Coded.{Coded, code_by, coded×, coded_bool}
 use Rattle.rbac_sets.specs.declared.command.Command.{Command}
 use Rattle.rbac_sets.specs.declared.refusal.Refusal.{Refusal}
 use Rattle.rbac_sets.specs.declared.refusal.Refusal.TheVariants.{Memory, Store, Closed}
-use Rattle.sqlite.specs.Held.{Held, held_code}
+use Rattle.sqlite.specs.Held.{Held, held_code, state}
+use Rattle.sqlite.specs.State.{HasCleanDisk}
 use Rattle.admin_mgr.specs.declared.plan.Report.{Report}
 use Rattle.admin_mgr.specs.RbacState.{RbacState, coded_state}
 use Rattle.admin_mgr.specs.Run.{tally}
@@ -12,6 +14,7 @@ use Rattle.admin_mgr.specs.After.{after}
 use Rattle.admin_mgr.specs.Verdict.{verdict}
 use Rattle.admin_mgr.specs.Life.{Event}
 use Rattle.admin_mgr.specs.Planned.{tally_of_report}
+use Rattle.role_tables.specs.Standing.{Stands}
 
 -- a connection with the state that stands in it, and whether the store has refused a call
 pub record Opened (S : Type 0) : Type 0 where
@@ -35,3 +38,7 @@ Answers old command (Err refusal) new = (verdict old.facts command ≡ Some refu
 abbrev pub event_of : Command → Result Report Refusal → Event
 event_of command (Ok report) = record { command = command; reply = Ok (tally_of_report report) }
 event_of command (Err refusal) = record { command = command; reply = Err refusal }
+
+-- it is true where the office was open, its state stood in the tables, and the disk has no fault
+abbrev pub WhereItStood : {S : Type 0} → Ghosts S → Opened S → Opened S → Type 0 → Type 0
+WhereItStood store old new Is = old.is_closed ≡ false → HasCleanDisk (state store new.conn) → Stands (state store old.conn) old.facts → Is

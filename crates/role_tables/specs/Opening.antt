@@ -5,15 +5,16 @@ use Rattle.std.specs.List.{list_any, list_all, flat_map, Contains}
 use Rattle.std.specs.Ordering.{int_eq}
 use Rattle.rbac_sets.specs.declared.row.Row.{Row}
 use Rattle.rbac_sets.specs.declared.refusal.Refusal.{Refusal}
-use Rattle.rbac_sets.specs.declared.refusal.Refusal.TheVariants.{Memory, NotAnOffice, Version, Damaged, TooMany}
+use Rattle.rbac_sets.specs.declared.refusal.Refusal.TheVariants.{Memory, NotAnOffice, Version, Damaged, TooMany, Store}
 use Rattle.sqlite.specs.declared.types.Value.{Value}
 use Rattle.sqlite.specs.declared.types.Value.TheVariants.{Int}
 use Rattle.sqlite.specs.Order as sql
 use Rattle.sqlite.specs.Order.{column}
+use Rattle.sqlite.specs.State.{State, IsUnchanged}
 use Rattle.admin_mgr.specs.RbacState.{RbacState}
 use Rattle.admin_mgr.specs.Checked.{RefusesRows, IsStateOf}
 use Rattle.role_tables.specs.OfficeTables.{StoredTable, Meta, Locks, is_wanted, row_tables}
-use Rattle.role_tables.specs.Found.{Found, is_text, text_of, is_whole, has_names, row_in}
+use Rattle.role_tables.specs.Found.{Found, is_text, text_of, is_whole, has_names, row_in, held_in}
 
 -- the values that were found, none where the table or a column isn't there
 abbrev pub values : Found → StoredTable → List sql.Row
@@ -126,3 +127,15 @@ pub record IsStateFound (found : Found) (S : RbacState) : Type 0 where
   pub rows : List Row
   pub same : IsPermutation (rows_found found) rows
   pub state : IsStateOf (version_in found) rows S
+
+-- the state was found, and nothing was changed
+abbrev pub ReadsState : State → State → RbacState → Type 0
+ReadsState old new S = IsStateFound (held_in old.now) S × IsUnchanged old new
+
+-- memory was refused, or a call of the store, or one of the five tables is not there
+abbrev pub RefusesMetas : Found → Refusal → Type 0
+RefusesMetas found refusal = (refusal ≡ Memory) ⊎ ((refusal ≡ Store) ⊎ ((refusal ≡ NotAnOffice) × (HasFive found → ⊥)))
+
+-- memory was refused, or a call of the store
+abbrev pub IsMemoryOrStore : Refusal → Type 0
+IsMemoryOrStore refusal = (refusal ≡ Memory) ⊎ (refusal ≡ Store)

@@ -5,7 +5,9 @@ use Rattle.sqlite.specs.Effect.{Database}
 use Rattle.sqlite.specs.State.{State, HasCleanDisk}
 use Rattle.sqlite.specs.declared.error.Error.{Error}
 use Rattle.admin_mgr.specs.RbacState.{RbacState}
+use Rattle.admin_mgr.specs.Good.{IsGood}
 use Rattle.admin_mgr.specs.Life.{Event, Leaves}
+use Rattle.admin_mgr.specs.Named.{AreNamed}
 use Rattle.role_tables.specs.StoredState.{HoldsState}
 
 -- what a stop leaves is a database of which this is true
@@ -26,6 +28,10 @@ pub record Rests (s : State) (Is : Database → Type 0) : Type 0 where
 -- the state stands in the tables, and a stop would leave it there
 abbrev pub Stands : State → RbacState → Type 0
 Stands s S = Rests s (λ db. HoldsState db S)
+
+-- it is true of whatever good state stands in the tables
+abbrev pub WhateverStands : State → (RbacState → Type 0) → Type 0
+WhateverStands s Is = (S : RbacState) → IsGood S → AreNamed S → Stands s S → Is S
 
 -- no fault is forgotten: a disk that is clean now was clean before
 abbrev pub ForgetsNoFault : State → State → Type 0
@@ -57,3 +63,7 @@ pub record Transacts (old new : State) (Is : Database → Type 0) (result : Resu
   pub done : OnOk result (Rests new Is)
   pub undone : OnErr result (HoldsAsBefore old new)
   pub left : (trees : Trees) → new.may_leave trees → old.may_leave trees ⊎ LeavesSuch Is trees
+
+-- a transaction that was to lead to the state
+abbrev pub TransactsTo : State → State → RbacState → Result (Unit {0}) Error → Type 0
+TransactsTo old new S result = Transacts old new (λ db. HoldsState db S) result

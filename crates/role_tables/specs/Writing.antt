@@ -1,12 +1,17 @@
 -- What changes of rows, inside a transaction, make of the tables.
-use Rattle.std.specs.Prelude.{ℕ, ◌≡◌, IsTrue, List}
+use Rattle.std.specs.Prelude.{ℕ, ◌≡◌, IsTrue, List, Result}
 use Rattle.std.specs.List.{AllByRecursion}
 use Rattle.rbac_sets.specs.Named.{row_of}
 use Rattle.rbac_sets.specs.declared.row.Row.{Row}
 use Rattle.rbac_sets.specs.declared.row.Change.{Change}
-use Rattle.admin_mgr.specs.RowsAfter.{rows_by}
+use Rattle.admin_mgr.specs.Changes.{Turns}
+use Rattle.admin_mgr.specs.Good.{IsGood}
+use Rattle.admin_mgr.specs.RbacState.{RbacState}
+use Rattle.admin_mgr.specs.RowsAfter.{rows_after, rows_by}
 use Rattle.sqlite.specs.State.{State}
+use Rattle.sqlite.specs.declared.error.Error.{Error}
 use Rattle.role_tables.specs.OfficeTables.{table_of, is_wanted, HoldsTables}
+use Rattle.role_tables.specs.Standing.{Stands, TransactsTo}
 use Rattle.role_tables.specs.StoredState.{stored, stored_rows}
 
 -- an office of this version has the table of the changed row
@@ -25,3 +30,11 @@ pub record TablesAfter (old new : State) (Kept : ℕ → Type 0) (after : List R
 -- they come to hold the rows as one change makes them
 abbrev pub ChangesTables : State → State → Change → Type 0
 ChangesTables old new change = TablesAfter old new (λ version. IsKept version change) (λ rows. rows_by rows change)
+
+-- they come to hold the rows as these changes make them
+abbrev pub ChangesAll : State → State → List Change → Type 0
+ChangesAll old new changes = TablesAfter old new (AreKept changes) (λ rows. rows_after rows changes)
+
+-- the changes that turn the state that stands into another were written in one transaction
+abbrev pub WritesChanges : State → State → List Change → Result (Unit {0}) Error → Type 0
+WritesChanges old new changes result = (from to : RbacState) → Turns from changes to → IsGood from → IsGood to → Stands old from → TransactsTo old new to result

@@ -1,11 +1,10 @@
 //! Making an office.
-ghost use Rattle.std.specs.Prelude.{◌≡◌, ◌⊎◌, ◌&&◌, false, true, not, IsTrue, IfErr, IfOk, OnOk};
+ghost use Rattle.std.specs.Prelude.{◌≡◌, ◌⊎◌, ◌&&◌, false, true, not, IfErr, IfOk, OnOk};
 ghost use Rattle.admin_mgr.specs.RbacState.{empty_state};
 ghost use Rattle.sqlite.specs.State.{HasCleanDisk, KeepsCommit, Survives};
 ghost use Rattle.sqlite.specs.Held.{state};
-ghost use Rattle.role_tables.specs.Creating.{IsStage, MayCreate, StageAfter, no_table, no_rows};
-ghost use Rattle.role_tables.specs.Standing.{HoldsAsBefore, LeavesBeforeOr, Stands, Transacts};
-ghost use Rattle.role_tables.specs.StoredState.{HoldsState};
+ghost use Rattle.role_tables.specs.Creating.{IsFirstStage, MakesOffice, MayCreate, StageAfter};
+ghost use Rattle.role_tables.specs.Standing.{HoldsAsBefore, LeavesBeforeOr, TransactsTo};
 
 use crate::office::Office;
 use crate::opening::Unopened;
@@ -35,7 +34,7 @@ fn create_office<S: Alter>(conn: &mut Connection<S>, version: u32) -> Result<(),
     requires known { (version ≡ 1) ⊎ (version ≡ 2) }
     requires autocommit { conn.old.in_transaction ≡ false }
     ensures ended { conn.new.in_transaction ≡ false }
-    ensures made { HasCleanDisk (state S.Store conn.new) → (IsTrue (state S.Store conn.old).is_open → IsStage version no_table (state S.Store conn.old).now no_rows) → Transacts (state S.Store conn.old) (state S.Store conn.new) (λ db. HoldsState db (empty_state version)) result }
+    ensures made { HasCleanDisk (state S.Store conn.new) → IsFirstStage version (state S.Store conn.old) → TransactsTo (state S.Store conn.old) (state S.Store conn.new) (empty_state version) result }
 {
     is_settled(conn);
     let mut tx = conn.transaction();
@@ -47,7 +46,7 @@ fn create_office<S: Alter>(conn: &mut Connection<S>, version: u32) -> Result<(),
 // Makes an empty office, whose state is this one.
 fn create_with<S: Alter>(conn: Connection<S>, first: State) -> Result<Office<S>, Unopened<S>>
     requires empty { first.facts ≡ empty_state first.facts.version }
-    ensures ok { IfOk result (λ o. (o.facts ≡ first.facts) × (o.is_closed ≡ false) × MayCreate first.facts.version (state S.Store conn) × (HasCleanDisk (state S.Store o.conn) → Stands (state S.Store o.conn) first.facts)) }
+    ensures ok { IfOk result (λ o. (o.facts ≡ first.facts) × (o.is_closed ≡ false) × MakesOffice (state S.Store conn) (state S.Store o.conn) first.facts) }
     ensures err { IfErr result (λ u. u.refusal ≡ Refusal.Store) }
     ensures untouched { IfErr result (λ u. (MayCreate first.facts.version (state S.Store conn) → ⊥) → u.conn ≡ conn) }
     ensures undone { IfErr result (λ u. HasCleanDisk (state S.Store u.conn) → HoldsAsBefore (state S.Store conn) (state S.Store u.conn)) }
@@ -82,7 +81,7 @@ fn create_with<S: Alter>(conn: Connection<S>, first: State) -> Result<Office<S>,
 /// refuses a call. The connection is handed back with what it held before; a stop then leaves what it
 /// could leave before, or the new office.
 pub fn create<S: Alter>(alloc: Global, conn: Connection<S>) -> Result<Office<S>, Unopened<S>>
-    ensures ok { IfOk result (λ o. (o.facts ≡ empty_state 2) × (o.is_closed ≡ false) × MayCreate 2 (state S.Store conn) × (HasCleanDisk (state S.Store o.conn) → Stands (state S.Store o.conn) (empty_state 2))) }
+    ensures ok { IfOk result (λ o. (o.facts ≡ empty_state 2) × (o.is_closed ≡ false) × MakesOffice (state S.Store conn) (state S.Store o.conn) (empty_state 2)) }
     ensures err { IfErr result (λ u. u.refusal ≡ Refusal.Store) }
     ensures untouched { IfErr result (λ u. (MayCreate 2 (state S.Store conn) → ⊥) → u.conn ≡ conn) }
     ensures undone { IfErr result (λ u. HasCleanDisk (state S.Store u.conn) → HoldsAsBefore (state S.Store conn) (state S.Store u.conn)) }
@@ -97,7 +96,7 @@ pub fn create<S: Alter>(alloc: Global, conn: Connection<S>) -> Result<Office<S>,
 ///
 /// As `create`, but that a table of locks may be there: an office of version 1 has none.
 pub fn create_v1<S: Alter>(alloc: Global, conn: Connection<S>) -> Result<Office<S>, Unopened<S>>
-    ensures ok { IfOk result (λ o. (o.facts ≡ empty_state 1) × (o.is_closed ≡ false) × MayCreate 1 (state S.Store conn) × (HasCleanDisk (state S.Store o.conn) → Stands (state S.Store o.conn) (empty_state 1))) }
+    ensures ok { IfOk result (λ o. (o.facts ≡ empty_state 1) × (o.is_closed ≡ false) × MakesOffice (state S.Store conn) (state S.Store o.conn) (empty_state 1)) }
     ensures err { IfErr result (λ u. u.refusal ≡ Refusal.Store) }
     ensures untouched { IfErr result (λ u. (MayCreate 1 (state S.Store conn) → ⊥) → u.conn ≡ conn) }
     ensures undone { IfErr result (λ u. HasCleanDisk (state S.Store u.conn) → HoldsAsBefore (state S.Store conn) (state S.Store u.conn)) }

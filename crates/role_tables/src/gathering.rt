@@ -1,10 +1,11 @@
 //! Reading the rows of tables, one at a time, however they were made.
 ghost use Rattle.std.specs.Prelude.{◌≡◌, ◌⊎◌, ◌∷◌, [], false, true, IsSome, IsTrue, IfOk, IfErr, OnOk};
-ghost use Rattle.sqlite.specs.State.{HasCleanDisk, IsUnchanged, KeepsCommit, Survives};
+ghost use Rattle.sqlite.specs.State.{HasCleanDisk, KeepsCommit, Survives};
 ghost use Rattle.sqlite.specs.Held.{state};
 ghost use Rattle.role_tables.specs.Texts.{read_text};
-ghost use Rattle.role_tables.specs.Found.{is_whole, has_names, row_in, RefusesRow, held_in};
-ghost use Rattle.role_tables.specs.Gathering.{IsOfRows, Gathers, GathersTable};
+ghost use Rattle.role_tables.specs.Found.{is_whole, has_names, row_in, RefusesRow, HasTable};
+ghost use Rattle.role_tables.specs.Gathering.{IsOfRows, Gathers, ReadsTable};
+ghost use Rattle.role_tables.specs.Opening.{IsMemoryOrStore};
 
 use crate::stored_table::StoredTable;
 use crate::values::{grant_of, lock_of, name_of, pair_of, set_of};
@@ -74,11 +75,12 @@ pub(crate) fn read_table<S: Alter>(
     into: &mut Gathering,
 ) -> Result<(), Refusal>
     requires { IsOfRows table }
-    ensures gathered { HasCleanDisk (state S.Store conn.new) → IsSome (held_in (state S.Store conn.old).now table) → OnOk result (GathersTable (held_in (state S.Store conn.old).now table) table into.old into.new × IsUnchanged (state S.Store conn.old) (state S.Store conn.new)) }
-    ensures refused { IfErr result (λ refusal. (refusal ≡ Refusal.Memory) ⊎ (refusal ≡ Refusal.Store)) }
+    ensures gathered { HasCleanDisk (state S.Store conn.new) → HasTable (state S.Store conn.old) table
+        → OnOk result (ReadsTable (state S.Store conn.old) (state S.Store conn.new) table into.old into.new) }
+    ensures refused { IfErr result IsMemoryOrStore }
     ensures mode { conn.old.in_transaction ≡ false → conn.new.in_transaction ≡ false }
-    ensures kept { HasCleanDisk (state S.Store conn.new) → IsSome (held_in (state S.Store conn.old).now table) → KeepsCommit (state S.Store conn.old) (state S.Store conn.new) }
-    ensures survives { Survives (state S.Store conn.old) (state S.Store conn.new) (λ _. IsSome (held_in (state S.Store conn.old).now table) → ⊥) }
+    ensures kept { HasCleanDisk (state S.Store conn.new) → HasTable (state S.Store conn.old) table → KeepsCommit (state S.Store conn.old) (state S.Store conn.new) }
+    ensures survives { Survives (state S.Store conn.old) (state S.Store conn.new) (λ _. HasTable (state S.Store conn.old) table → ⊥) }
 {
     let Ok(mut rows) = conn.query(table.read_text(), &[]) else {
         return Err(Refusal::Store);

@@ -3,13 +3,12 @@ ghost use Rattle.std.specs.Prelude.{◌≡◌, ◌⊎◌, ◌&&◌, [], false, t
 ghost use Rattle.sqlite.specs.State.{HasCleanDisk, IsUnchanged, KeepsCommit, Survives};
 ghost use Rattle.sqlite.specs.Held.{state};
 ghost use Rattle.admin_mgr.specs.Checked.{IsStateOf};
-ghost use Rattle.role_tables.specs.OfficeTables.{Meta};
 ghost use Rattle.role_tables.specs.Found.{held_in};
 ghost use Rattle.role_tables.specs.Migrating.{RefusesMigration};
-ghost use Rattle.role_tables.specs.Opening.{values, HasFive, IsStateFound, RefusesFound, IsSecond};
-ghost use Rattle.role_tables.specs.MetaRows.{Sees};
+ghost use Rattle.role_tables.specs.Opening.{HasFive, IsMemoryOrStore, IsSecond, ReadsState, RefusesFound, RefusesMetas};
+ghost use Rattle.role_tables.specs.MetaRows.{SeesMetas};
 ghost use Rattle.role_tables.specs.Standing.{HoldsAsBefore};
-ghost use Rattle.role_tables.specs.Gathering.{AreOfRows, GathersTables, HasTables, IsVersionSeen, RefusesVersion, RefusesGathering};
+ghost use Rattle.role_tables.specs.Gathering.{AreOfRows, ReadsTables, HasTables, IsVersionSeen, RefusesVersion, RefusesGathering};
 
 use crate::gathering::{Gathering, read_table};
 use crate::meta_rows::{Metas, read_metas};
@@ -25,8 +24,8 @@ use std::alloc::Global;
 // What stands in `meta_row`, where the five tables are there.
 fn find_metas<S: Alter>(conn: &mut Connection<S>) -> Result<Metas, Refusal>
     ensures five { IfOk result (λ _. HasFive (held_in (state S.Store conn.old).now)) }
-    ensures seen { HasCleanDisk (state S.Store conn.new) → IfOk result (λ metas. Sees (values (held_in (state S.Store conn.old).now) Meta) metas × IsUnchanged (state S.Store conn.old) (state S.Store conn.new)) }
-    ensures refused { IfErr result (λ refusal. (refusal ≡ Refusal.Memory) ⊎ ((refusal ≡ Refusal.Store) ⊎ ((refusal ≡ Refusal.NotAnOffice) × (HasFive (held_in (state S.Store conn.old).now) → ⊥)))) }
+    ensures seen { HasCleanDisk (state S.Store conn.new) → IfOk result (SeesMetas (state S.Store conn.old) (state S.Store conn.new)) }
+    ensures refused { IfErr result (RefusesMetas (held_in (state S.Store conn.old).now)) }
     ensures mode { conn.old.in_transaction ≡ false → conn.new.in_transaction ≡ false }
     ensures kept { HasCleanDisk (state S.Store conn.new) → KeepsCommit (state S.Store conn.old) (state S.Store conn.new) }
     ensures survives { Survives (state S.Store conn.old) (state S.Store conn.new) (λ _. ⊥) }
@@ -96,8 +95,9 @@ fn read_tables<S: Alter>(
     into: &mut Gathering,
 ) -> Result<(), Refusal>
     requires { AreOfRows tables.now }
-    ensures gathered { HasCleanDisk (state S.Store conn.new) → HasTables (state S.Store conn.old) tables.now → OnOk result (GathersTables (held_in (state S.Store conn.old).now) tables.now into.old into.new × IsUnchanged (state S.Store conn.old) (state S.Store conn.new)) }
-    ensures refused { IfErr result (λ refusal. (refusal ≡ Refusal.Memory) ⊎ (refusal ≡ Refusal.Store)) }
+    ensures gathered { HasCleanDisk (state S.Store conn.new) → HasTables (state S.Store conn.old) tables.now
+        → OnOk result (ReadsTables (state S.Store conn.old) (state S.Store conn.new) tables.now into.old into.new) }
+    ensures refused { IfErr result IsMemoryOrStore }
     ensures mode { conn.old.in_transaction ≡ false → conn.new.in_transaction ≡ false }
     ensures kept { HasCleanDisk (state S.Store conn.new) → HasTables (state S.Store conn.old) tables.now → KeepsCommit (state S.Store conn.old) (state S.Store conn.new) }
     ensures survives { Survives (state S.Store conn.old) (state S.Store conn.new) (λ _. HasTables (state S.Store conn.old) tables.now → ⊥) }
@@ -125,7 +125,7 @@ fn judge_rows(alloc: Global, version: u32, all: Gathering) -> Result<State, Refu
 
 // The state that is found in the database.
 fn find_state<S: Alter>(alloc: Global, conn: &mut Connection<S>) -> Result<State, Refusal>
-    ensures ok { HasCleanDisk (state S.Store conn.new) → IfOk result (λ made. IsStateFound (held_in (state S.Store conn.old).now) made.facts × IsUnchanged (state S.Store conn.old) (state S.Store conn.new)) }
+    ensures ok { HasCleanDisk (state S.Store conn.new) → IfOk result (λ made. ReadsState (state S.Store conn.old) (state S.Store conn.new) made.facts) }
     ensures err { HasCleanDisk (state S.Store conn.new) → IfErr result (λ refusal. (refusal ≡ Refusal.Store) ⊎ RefusesFound (held_in (state S.Store conn.old).now) refusal) }
     ensures mode { conn.old.in_transaction ≡ false → conn.new.in_transaction ≡ false }
     ensures kept { HasCleanDisk (state S.Store conn.new) → KeepsCommit (state S.Store conn.old) (state S.Store conn.new) }
@@ -143,7 +143,7 @@ pub(crate) fn read_state<S: Alter>(
     alloc: Global,
     conn: &mut Connection<S>,
 ) -> Result<State, Refusal>
-    ensures ok { HasCleanDisk (state S.Store conn.new) → IfOk result (λ made. IsStateFound (held_in (state S.Store conn.old).now) made.facts × IsUnchanged (state S.Store conn.old) (state S.Store conn.new)) }
+    ensures ok { HasCleanDisk (state S.Store conn.new) → IfOk result (λ made. ReadsState (state S.Store conn.old) (state S.Store conn.new) made.facts) }
     ensures err { HasCleanDisk (state S.Store conn.new) → IfErr result (λ refusal. (refusal ≡ Refusal.Store) ⊎ RefusesFound (held_in (state S.Store conn.old).now) refusal) }
     ensures mode { conn.old.in_transaction ≡ false → conn.new.in_transaction ≡ false }
     ensures undone { conn.old.in_transaction ≡ false → HasCleanDisk (state S.Store conn.new) → HoldsAsBefore (state S.Store conn.old) (state S.Store conn.new) }

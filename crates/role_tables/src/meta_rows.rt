@@ -1,12 +1,12 @@
 //! Reading the rows of `meta_row`, one at a time, however it was made.
 ghost use Rattle.std.specs.Prelude.{◌≡◌, ◌⊎◌, ◌||◌, ◌&&◌, false, true, [], IsSome, IsTrue, IfOk, IfErr, is_none};
 ghost use Rattle.sqlite_value.specs.Order.{column};
-ghost use Rattle.sqlite.specs.State.{HasCleanDisk, IsUnchanged, KeepsCommit, Survives};
+ghost use Rattle.sqlite.specs.State.{HasCleanDisk, KeepsCommit, Survives};
 ghost use Rattle.sqlite.specs.Held.{state};
 ghost use Rattle.role_tables.specs.OfficeTables.{Meta};
-ghost use Rattle.role_tables.specs.Found.{is_whole, is_whole_number, held_in};
-ghost use Rattle.role_tables.specs.Opening.{values, is_tagged, version_at, is_known_version};
-ghost use Rattle.role_tables.specs.MetaRows.{lesser, SeesMore, Sees};
+ghost use Rattle.role_tables.specs.Found.{is_whole, is_whole_number, HasTable};
+ghost use Rattle.role_tables.specs.Opening.{is_tagged, version_at, is_known_version, IsMemoryOrStore};
+ghost use Rattle.role_tables.specs.MetaRows.{lesser, SeesMore, SeesMetas};
 
 use crate::values::is_text_at;
 use rbac_sets::Refusal;
@@ -107,11 +107,11 @@ fn see(row: &sqlite::Row, into: &mut Metas)
 
 /// Reads the table to its end.
 pub(crate) fn read_metas<S: Alter>(conn: &mut Connection<S>) -> Result<Metas, Refusal>
-    ensures seen { HasCleanDisk (state S.Store conn.new) → IsSome (held_in (state S.Store conn.old).now Meta) → IfOk result (λ metas. Sees (values (held_in (state S.Store conn.old).now) Meta) metas × IsUnchanged (state S.Store conn.old) (state S.Store conn.new)) }
-    ensures refused { IfErr result (λ refusal. (refusal ≡ Refusal.Memory) ⊎ (refusal ≡ Refusal.Store)) }
+    ensures seen { HasCleanDisk (state S.Store conn.new) → HasTable (state S.Store conn.old) Meta → IfOk result (SeesMetas (state S.Store conn.old) (state S.Store conn.new)) }
+    ensures refused { IfErr result IsMemoryOrStore }
     ensures mode { conn.old.in_transaction ≡ false → conn.new.in_transaction ≡ false }
-    ensures kept { HasCleanDisk (state S.Store conn.new) → IsSome (held_in (state S.Store conn.old).now Meta) → KeepsCommit (state S.Store conn.old) (state S.Store conn.new) }
-    ensures survives { Survives (state S.Store conn.old) (state S.Store conn.new) (λ _. IsSome (held_in (state S.Store conn.old).now Meta) → ⊥) }
+    ensures kept { HasCleanDisk (state S.Store conn.new) → HasTable (state S.Store conn.old) Meta → KeepsCommit (state S.Store conn.old) (state S.Store conn.new) }
+    ensures survives { Survives (state S.Store conn.old) (state S.Store conn.new) (λ _. HasTable (state S.Store conn.old) Meta → ⊥) }
 {
     let mut seen = Metas {
         is_tagged: false,

@@ -2,15 +2,10 @@
 ghost use Rattle.std.specs.Prelude.{◌≡◌, ◌≢◌, ◌⊎◌, false, true, IfErr, IfOk, OnOk};
 ghost use Rattle.sqlite.specs.State.{HasCleanDisk, KeepsCommit, Survives};
 ghost use Rattle.sqlite.specs.Held.{state};
-ghost use Rattle.admin_mgr.specs.Good.{IsGood};
-ghost use Rattle.admin_mgr.specs.Life.{taken_into_version_2};
-ghost use Rattle.admin_mgr.specs.Named.{AreNamed};
-ghost use Rattle.admin_mgr.specs.RbacState.{RbacState};
 ghost use Rattle.role_tables.specs.Found.{held_in};
-ghost use Rattle.role_tables.specs.Migrating.{may_lock, RefusesMigration};
-ghost use Rattle.role_tables.specs.Opening.{IsSecond, IsStateFound};
-ghost use Rattle.role_tables.specs.Standing.{HoldsAsBefore, LeavesEither, LeavesOnly, Stands, Transacts};
-ghost use Rattle.role_tables.specs.StoredState.{HoldsState};
+ghost use Rattle.role_tables.specs.Migrating.{IsMigratedFrom, LeavesEitherVersion, MigratesTables, Moves, RefusesMigration, StaysRefused};
+ghost use Rattle.role_tables.specs.Opening.{IsSecond};
+ghost use Rattle.role_tables.specs.Standing.{HoldsAsBefore};
 
 use crate::judging::{read_state, refuse_second};
 use crate::office::Office;
@@ -28,7 +23,7 @@ fn migrate_tables<S: Alter>(conn: &mut Connection<S>) -> Result<(), Error>
     requires { conn.old.in_transaction ≡ false }
     ensures ended { conn.new.in_transaction ≡ false }
     ensures clean { HasCleanDisk (state S.Store conn.new) → HasCleanDisk (state S.Store conn.old) }
-    ensures written { HasCleanDisk (state S.Store conn.new) → (from : RbacState) → from.version ≡ 1 → IsGood from → may_lock (state S.Store conn.old).now.schema ≡ true → Stands (state S.Store conn.old) from → Transacts (state S.Store conn.old) (state S.Store conn.new) (λ db. HoldsState db (taken_into_version_2 from)) result }
+    ensures written { HasCleanDisk (state S.Store conn.new) → MigratesTables (state S.Store conn.old) (state S.Store conn.new) result }
 {
     is_settled(conn);
     let mut tx = conn.transaction();
@@ -43,12 +38,12 @@ fn migrate_first<S: Alter>(alloc: Global, conn: &mut Connection<S>) -> Result<St
     requires { conn.old.in_transaction ≡ false }
     ensures ended { conn.new.in_transaction ≡ false }
     ensures clean { HasCleanDisk (state S.Store conn.new) → HasCleanDisk (state S.Store conn.old) }
-    ensures found { HasCleanDisk (state S.Store conn.new) → IfOk result (λ made. (first : RbacState) × IsStateFound (held_in (state S.Store conn.old).now) first × (first.version ≡ 1) × (made.facts ≡ taken_into_version_2 first)) }
+    ensures found { HasCleanDisk (state S.Store conn.new) → IfOk result (λ made. IsMigratedFrom (held_in (state S.Store conn.old).now) made.facts) }
     ensures err { HasCleanDisk (state S.Store conn.new) → (IsSecond (held_in (state S.Store conn.old).now) → ⊥) → IfErr result (RefusesMigration (held_in (state S.Store conn.old).now)) }
     ensures undone { HasCleanDisk (state S.Store conn.new) → IfErr result (λ refusal. refusal ≢ Refusal.Store → HoldsAsBefore (state S.Store conn.old) (state S.Store conn.new)) }
-    ensures moved { HasCleanDisk (state S.Store conn.new) → IfOk result (λ made. (before : RbacState) → IsGood before → AreNamed before → Stands (state S.Store conn.old) before → (before.version ≡ 1) × (made.facts ≡ taken_into_version_2 before) × Stands (state S.Store conn.new) (taken_into_version_2 before)) }
-    ensures unmoved { HasCleanDisk (state S.Store conn.new) → IfErr result (λ refusal. (before : RbacState) → IsGood before → AreNamed before → Stands (state S.Store conn.old) before → HoldsAsBefore (state S.Store conn.old) (state S.Store conn.new) × (refusal ≢ Refusal.Store → LeavesOnly (state S.Store conn.new) before)) }
-    ensures stop { HasCleanDisk (state S.Store conn.new) → (before : RbacState) → IsGood before → AreNamed before → Stands (state S.Store conn.old) before → LeavesEither (state S.Store conn.new) before (taken_into_version_2 before) }
+    ensures moved { HasCleanDisk (state S.Store conn.new) → IfOk result (λ made. Moves (state S.Store conn.old) (state S.Store conn.new) made.facts) }
+    ensures unmoved { HasCleanDisk (state S.Store conn.new) → IfErr result (StaysRefused (state S.Store conn.old) (state S.Store conn.new)) }
+    ensures stop { HasCleanDisk (state S.Store conn.new) → LeavesEitherVersion (state S.Store conn.old) (state S.Store conn.new) }
 {
     let first = read_state(alloc, conn)?;
     if first.version() != 1 {
@@ -67,12 +62,12 @@ fn migrate_first<S: Alter>(alloc: Global, conn: &mut Connection<S>) -> Result<St
 fn migrate_state<S: Alter>(alloc: Global, conn: &mut Connection<S>) -> Result<State, Refusal>
     requires { conn.old.in_transaction ≡ false }
     ensures ended { conn.new.in_transaction ≡ false }
-    ensures found { HasCleanDisk (state S.Store conn.new) → IfOk result (λ made. (first : RbacState) × IsStateFound (held_in (state S.Store conn.old).now) first × (first.version ≡ 1) × (made.facts ≡ taken_into_version_2 first)) }
+    ensures found { HasCleanDisk (state S.Store conn.new) → IfOk result (λ made. IsMigratedFrom (held_in (state S.Store conn.old).now) made.facts) }
     ensures err { HasCleanDisk (state S.Store conn.new) → IfErr result (RefusesMigration (held_in (state S.Store conn.old).now)) }
     ensures undone { HasCleanDisk (state S.Store conn.new) → IfErr result (λ refusal. refusal ≢ Refusal.Store → HoldsAsBefore (state S.Store conn.old) (state S.Store conn.new)) }
-    ensures moved { HasCleanDisk (state S.Store conn.new) → IfOk result (λ made. (before : RbacState) → IsGood before → AreNamed before → Stands (state S.Store conn.old) before → (before.version ≡ 1) × (made.facts ≡ taken_into_version_2 before) × Stands (state S.Store conn.new) (taken_into_version_2 before)) }
-    ensures unmoved { HasCleanDisk (state S.Store conn.new) → IfErr result (λ refusal. (before : RbacState) → IsGood before → AreNamed before → Stands (state S.Store conn.old) before → HoldsAsBefore (state S.Store conn.old) (state S.Store conn.new) × (refusal ≢ Refusal.Store → LeavesOnly (state S.Store conn.new) before)) }
-    ensures stop { HasCleanDisk (state S.Store conn.new) → (before : RbacState) → IsGood before → AreNamed before → Stands (state S.Store conn.old) before → LeavesEither (state S.Store conn.new) before (taken_into_version_2 before) }
+    ensures moved { HasCleanDisk (state S.Store conn.new) → IfOk result (λ made. Moves (state S.Store conn.old) (state S.Store conn.new) made.facts) }
+    ensures unmoved { HasCleanDisk (state S.Store conn.new) → IfErr result (StaysRefused (state S.Store conn.old) (state S.Store conn.new)) }
+    ensures stop { HasCleanDisk (state S.Store conn.new) → LeavesEitherVersion (state S.Store conn.old) (state S.Store conn.new) }
 {
     refuse_second(conn)?;
     migrate_first(alloc, conn)
@@ -92,13 +87,14 @@ fn migrate_state<S: Alter>(alloc: Global, conn: &mut Connection<S>) -> Result<St
 /// After any refusal but `Store` nothing is changed; after `Store` a stop leaves the office in version 1
 /// or in version 2.
 pub fn migrate<S: Alter>(alloc: Global, conn: Connection<S>) -> Result<Office<S>, Unopened<S>>
-    ensures ok { IfOk result (λ o. (o.is_closed ≡ false) × ((state S.Store conn).in_transaction ≡ false) × (HasCleanDisk (state S.Store o.conn) → (first : RbacState) × IsStateFound (held_in (state S.Store conn).now) first × (first.version ≡ 1) × (o.facts ≡ taken_into_version_2 first))) }
+    ensures ok { IfOk result (λ o. (o.is_closed ≡ false) × ((state S.Store conn).in_transaction ≡ false)
+        × (HasCleanDisk (state S.Store o.conn) → IsMigratedFrom (held_in (state S.Store conn).now) o.facts)) }
     ensures err { IfErr result (λ u. HasCleanDisk (state S.Store u.conn) → RefusesMigration (held_in (state S.Store conn).now) u.refusal) }
     ensures inside { IfErr result (λ u. (state S.Store conn).in_transaction ≡ true → (u.refusal ≡ Refusal.Store) × (u.conn ≡ conn)) }
     ensures undone { IfErr result (λ u. HasCleanDisk (state S.Store u.conn) → u.refusal ≢ Refusal.Store → HoldsAsBefore (state S.Store conn) (state S.Store u.conn)) }
-    ensures moved { IfOk result (λ o. HasCleanDisk (state S.Store o.conn) → (before : RbacState) → IsGood before → AreNamed before → Stands (state S.Store conn) before → (before.version ≡ 1) × (o.facts ≡ taken_into_version_2 before) × Stands (state S.Store o.conn) (taken_into_version_2 before)) }
-    ensures unmoved { IfErr result (λ u. HasCleanDisk (state S.Store u.conn) → (before : RbacState) → IsGood before → AreNamed before → Stands (state S.Store conn) before → HoldsAsBefore (state S.Store conn) (state S.Store u.conn) × (u.refusal ≢ Refusal.Store → LeavesOnly (state S.Store u.conn) before)) }
-    ensures stop { IfErr result (λ u. HasCleanDisk (state S.Store u.conn) → (before : RbacState) → IsGood before → AreNamed before → Stands (state S.Store conn) before → LeavesEither (state S.Store u.conn) before (taken_into_version_2 before)) }
+    ensures moved { IfOk result (λ o. HasCleanDisk (state S.Store o.conn) → Moves (state S.Store conn) (state S.Store o.conn) o.facts) }
+    ensures unmoved { IfErr result (λ u. HasCleanDisk (state S.Store u.conn) → StaysRefused (state S.Store conn) (state S.Store u.conn) u.refusal) }
+    ensures stop { IfErr result (λ u. HasCleanDisk (state S.Store u.conn) → LeavesEitherVersion (state S.Store conn) (state S.Store u.conn)) }
 {
     let mut conn = conn;
     if !conn.is_autocommit() {

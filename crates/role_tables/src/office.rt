@@ -1,11 +1,10 @@
 //! An office over its tables.
 ghost use Rattle.std.specs.Prelude.{◌≡◌, ◌∷◌, [], false, IsTrue, is_err, Err, OnOk, IfOk, IfErr};
-ghost use Rattle.sqlite.specs.State.{HasCleanDisk};
 ghost use Rattle.sqlite.specs.Held.{state};
 ghost use Rattle.admin_mgr.specs.After.{after};
 ghost use Rattle.admin_mgr.specs.Good.{IsGood};
 ghost use Rattle.admin_mgr.specs.Named.{AreNamed};
-ghost use Rattle.role_tables.specs.Office.{Answers, event_of};
+ghost use Rattle.role_tables.specs.Office.{Answers, WhereItStood, event_of};
 ghost use Rattle.role_tables.specs.Standing.{ForgetsNoFault, HoldsAsBefore, LeavesAsIn, Stands};
 
 use crate::writing::write_changes;
@@ -72,9 +71,9 @@ impl<S: Alter> Office<S> {
         ensures closed { IsTrue self.old.is_closed → (result ≡ Err Refusal.Closed) × (self.new ≡ self.old) }
         ensures answers { self.old.is_closed ≡ false → Answers self.old command.now result self.new }
         ensures clean { ForgetsNoFault (state S.Store self.old.conn) (state S.Store self.new.conn) }
-        ensures done { self.old.is_closed ≡ false → HasCleanDisk (state S.Store self.new.conn) → Stands (state S.Store self.old.conn) self.old.facts → OnOk result (Stands (state S.Store self.new.conn) (after self.old.facts command.now)) }
-        ensures undone { self.old.is_closed ≡ false → HasCleanDisk (state S.Store self.new.conn) → Stands (state S.Store self.old.conn) self.old.facts → IfErr result (λ _. HoldsAsBefore (state S.Store self.old.conn) (state S.Store self.new.conn)) }
-        ensures stop { self.old.is_closed ≡ false → HasCleanDisk (state S.Store self.new.conn) → Stands (state S.Store self.old.conn) self.old.facts → LeavesAsIn (state S.Store self.new.conn) self.old.facts (event_of command.now result ∷ []) }
+        ensures done { WhereItStood S.Store self.old self.new (OnOk result (Stands (state S.Store self.new.conn) (after self.old.facts command.now))) }
+        ensures undone { WhereItStood S.Store self.old self.new (IfErr result (λ _. HoldsAsBefore (state S.Store self.old.conn) (state S.Store self.new.conn))) }
+        ensures stop { WhereItStood S.Store self.old self.new (LeavesAsIn (state S.Store self.new.conn) self.old.facts (event_of command.now result ∷ [])) }
     {
         if self.is_closed {
             return Err(Refusal::Closed);

@@ -1,13 +1,10 @@
 //! Opening an office.
 ghost use Rattle.std.specs.Prelude.{◌≡◌, ◌⊎◌, false, true, IfErr, IfOk, MatchResult};
-ghost use Rattle.sqlite.specs.State.{HasCleanDisk, IsUnchanged, Survives};
+ghost use Rattle.sqlite.specs.State.{HasCleanDisk, Survives};
 ghost use Rattle.sqlite.specs.Held.{state};
-ghost use Rattle.admin_mgr.specs.Good.{IsGood};
-ghost use Rattle.admin_mgr.specs.Named.{AreNamed};
-ghost use Rattle.admin_mgr.specs.RbacState.{RbacState};
 ghost use Rattle.role_tables.specs.Found.{held_in};
-ghost use Rattle.role_tables.specs.Opening.{IsStateFound, RefusesFound};
-ghost use Rattle.role_tables.specs.Standing.{HoldsAsBefore, LeavesOnly, Stands};
+ghost use Rattle.role_tables.specs.Opening.{IsMemoryOrStore, ReadsState, RefusesFound};
+ghost use Rattle.role_tables.specs.Standing.{HoldsAsBefore, LeavesOnly, Stands, WhateverStands};
 
 use crate::judging::read_state;
 use crate::office::Office;
@@ -37,13 +34,14 @@ pub struct Unopened<S: Alter> {
 /// doesn't fit, or `meta_row` has a second row; `Damaged(2)` where a text is no name; then what
 /// `State::of_rows` refuses the rows for. `Memory` may stand in place of any of these.
 pub fn open<S: Alter>(alloc: Global, conn: Connection<S>) -> Result<Office<S>, Unopened<S>>
-    ensures ok { IfOk result (λ o. (o.is_closed ≡ false) × ((state S.Store conn).in_transaction ≡ false) × (HasCleanDisk (state S.Store o.conn) → IsStateFound (held_in (state S.Store conn).now) o.facts × IsUnchanged (state S.Store conn) (state S.Store o.conn))) }
+    ensures ok { IfOk result (λ o. (o.is_closed ≡ false) × ((state S.Store conn).in_transaction ≡ false)
+        × (HasCleanDisk (state S.Store o.conn) → ReadsState (state S.Store conn) (state S.Store o.conn) o.facts)) }
     ensures err { IfErr result (λ u. HasCleanDisk (state S.Store u.conn) → (u.refusal ≡ Refusal.Store) ⊎ RefusesFound (held_in (state S.Store conn).now) u.refusal) }
     ensures inside { IfErr result (λ u. (state S.Store conn).in_transaction ≡ true → (u.refusal ≡ Refusal.Store) × (u.conn ≡ conn)) }
     ensures undone { IfErr result (λ u. HasCleanDisk (state S.Store u.conn) → HoldsAsBefore (state S.Store conn) (state S.Store u.conn)) }
     ensures survives { MatchResult result (λ o. Survives (state S.Store conn) (state S.Store o.conn) (λ _. ⊥)) (λ u. Survives (state S.Store conn) (state S.Store u.conn) (λ _. ⊥)) }
-    ensures again { IfOk result (λ o. HasCleanDisk (state S.Store o.conn) → (before : RbacState) → IsGood before → AreNamed before → Stands (state S.Store conn) before → (o.facts ≡ before) × Stands (state S.Store o.conn) before) }
-    ensures refused { IfErr result (λ u. HasCleanDisk (state S.Store u.conn) → (before : RbacState) → IsGood before → AreNamed before → Stands (state S.Store conn) before → ((u.refusal ≡ Refusal.Memory) ⊎ (u.refusal ≡ Refusal.Store)) × LeavesOnly (state S.Store u.conn) before) }
+    ensures again { IfOk result (λ o. HasCleanDisk (state S.Store o.conn) → WhateverStands (state S.Store conn) (λ before. (o.facts ≡ before) × Stands (state S.Store o.conn) before)) }
+    ensures refused { IfErr result (λ u. HasCleanDisk (state S.Store u.conn) → WhateverStands (state S.Store conn) (λ before. IsMemoryOrStore u.refusal × LeavesOnly (state S.Store u.conn) before)) }
 {
     let mut conn = conn;
     if !conn.is_autocommit() {

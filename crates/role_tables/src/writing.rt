@@ -1,14 +1,9 @@
 //! The changes of a plan, written in one transaction.
 ghost use Rattle.std.specs.Prelude.{◌≡◌, false, OnOk};
-ghost use Rattle.admin_mgr.specs.Changes.{Turns};
-ghost use Rattle.admin_mgr.specs.Good.{IsGood};
-ghost use Rattle.admin_mgr.specs.RbacState.{RbacState};
-ghost use Rattle.admin_mgr.specs.RowsAfter.{rows_after};
 ghost use Rattle.sqlite.specs.State.{HasCleanDisk, KeepsCommit, Survives};
 ghost use Rattle.sqlite.specs.Held.{state};
-ghost use Rattle.role_tables.specs.Standing.{ForgetsNoFault, Stands, Transacts};
-ghost use Rattle.role_tables.specs.StoredState.{HoldsState};
-ghost use Rattle.role_tables.specs.Writing.{AreKept, TablesAfter};
+ghost use Rattle.role_tables.specs.Standing.{ForgetsNoFault};
+ghost use Rattle.role_tables.specs.Writing.{ChangesAll, WritesChanges};
 
 use crate::statements::{is_settled, make_change};
 use rbac_sets::Change;
@@ -17,7 +12,7 @@ use sqlite::{Alter, Connection, Error, Transaction};
 // Makes the changes, one after the other.
 fn make_changes<S: Alter>(tx: &mut Transaction<'_, S>, changes: &[Change]) -> Result<(), Error>
     ensures same_reference { tx.new.conn.ghost_name ≡ tx.old.conn.ghost_name }
-    ensures changed { HasCleanDisk (state S.Store tx.new.conn.now) → OnOk result (TablesAfter (state S.Store tx.old.conn.now) (state S.Store tx.new.conn.now) (AreKept changes.now) (λ rows. rows_after rows changes.now)) }
+    ensures changed { HasCleanDisk (state S.Store tx.new.conn.now) → OnOk result (ChangesAll (state S.Store tx.old.conn.now) (state S.Store tx.new.conn.now) changes.now) }
     ensures kept { HasCleanDisk (state S.Store tx.new.conn.now) → KeepsCommit (state S.Store tx.old.conn.now) (state S.Store tx.new.conn.now) }
     ensures survives { Survives (state S.Store tx.old.conn.now) (state S.Store tx.new.conn.now) (λ _. ⊥) }
 {
@@ -35,7 +30,7 @@ pub(crate) fn write_changes<S: Alter>(
     requires { conn.old.in_transaction ≡ false }
     ensures ended { conn.new.in_transaction ≡ false }
     ensures clean { ForgetsNoFault (state S.Store conn.old) (state S.Store conn.new) }
-    ensures written { HasCleanDisk (state S.Store conn.new) → (from to : RbacState) → Turns from changes.now to → IsGood from → IsGood to → Stands (state S.Store conn.old) from → Transacts (state S.Store conn.old) (state S.Store conn.new) (λ db. HoldsState db to) result }
+    ensures written { HasCleanDisk (state S.Store conn.new) → WritesChanges (state S.Store conn.old) (state S.Store conn.new) changes.now result }
 {
     is_settled(conn);
     let mut tx = conn.transaction();

@@ -20,9 +20,11 @@ returns-in-Ok-clause-ok g c =
     let same : c.create_office.new.conn ≡ c.new.result.conn = search rules in (
       facts,
       c.new.ensures.2,
-      (autocommit, may),
-      subst (λ h. HasCleanDisk (state g.S.Store h) → Stands (state g.S.Store h) c.args.first.facts) same
-          (λ clean. subst (Stands (state g.S.Store c.create_office.new.conn)) empty (c.in-Ok.ensures.made clean stage).done),
+      (
+        (autocommit, may),
+        subst (λ h. HasCleanDisk (state g.S.Store h) → Stands (state g.S.Store h) c.args.first.facts) same
+            (λ clean. subst (Stands (state g.S.Store c.create_office.new.conn)) empty (c.in-Ok.ensures.made clean stage).done),
+      ),
     )
 
 pub returns-in-Err-clause-undone : goal.returns-in-Err-clause-undone
