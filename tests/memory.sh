@@ -1,7 +1,8 @@
 #!/bin/sh
 # Refuses each allocation of the program in turn, over the lines of some rows. A run then either ends
 # with status 1, a line on standard error and a prefix of the row's answers, or it gives the row's
-# answers and status 0. It never gives another answer.
+# answers and status 0. It never gives another answer. Memory that is refused to the store is told as a stop
+# by the store.
 
 . "$(dirname "$0")/common"
 
@@ -29,7 +30,7 @@ check_run() {
         echo "standard error has not one line"
     else
         case $(cat "$work/stderr") in
-        "rbac: stop Memory after $lines") ;;
+        "rbac: stop Memory after $lines" | "rbac: stop Store after $lines") ;;
         "rbac: stop "*) echo "another stop was told: $(cat "$work/stderr")" ;;
         "rbac: "*) ;;
         *) echo "standard error does not begin with rbac" ;;
