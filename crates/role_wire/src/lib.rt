@@ -13,3 +13,5 @@ mod made;
 mod performing;
 pub mod replaying;
 pub mod serving;
+#[cfg(test)]
+mod tests;
