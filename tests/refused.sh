@@ -1,35 +1,46 @@
 #!/bin/sh
-# Refuses each allocation of a test in turn: one of `admin_mgr` that has commands done on a state, and
-# where memory is refused compares the state with the one before, has other commands done, and then the
-# same one again. However the refusal falls, the test has to pass.
+# Refuses each allocation of a test in turn. However the refusal falls, the test has to pass. One is of
+# `admin_mgr`: it has commands done on a state, and where memory is refused compares the state with the one
+# before, has other commands done, and then the same one again. Two are of `role_wire`: lines are replayed and a
+# request is served on an office in memory.
 
-# The built tests of the crate, which `rt ci` leaves there, are the program.
+# The built tests of the crates, which `rt ci` leaves there, are the programs.
 RBAC_PROGRAM=$(dirname "$0")/../crates/admin_mgr/out/admin_mgr_tests
 . "$(dirname "$0")/common"
 
-# More allocations than the test makes, and fewer: some 800 are made by its 52 commands, and what is
-# shown of the state between them.
+# More allocations than a test makes.
 most=100000
-least=700
 
-test=tests::refused::refused_memory_changes_nothing
+# refuse_each CRATE TEST LEAST: the test has to make so many allocations at least.
+refuse_each() {
+    program=$tests/../crates/$1/out/$1_tests
+    if [ ! -x "$program" ]; then
+        fail "there is no program $program"
+        return
+    fi
+    number=0
+    while [ "$number" -lt "$most" ]; do
+        number=$((number + 1))
+        if ! refusing "$number" "$program" "$2" >"$work/output" 2>&1; then
+            fail "$2, allocation $number refused: $(tail -n 1 "$work/output")"
+            return
+        fi
+        [ -e "$work/refused" ] || break
+    done
+    if [ "$number" -eq "$most" ]; then
+        fail "$2 asks for more than $most allocations"
+    elif [ "$number" -lt "$3" ]; then
+        fail "$2 asked for $((number - 1)) allocations alone"
+    else
+        echo "$2: $((number - 1)) allocations refused in turn"
+        pass
+    fi
+}
 
 make_shim
-number=0
-while [ "$number" -lt "$most" ]; do
-    number=$((number + 1))
-    if ! refusing "$number" "$program" "$test" >"$work/output" 2>&1; then
-        fail "allocation $number refused: $(tail -n 1 "$work/output")"
-        finish
-    fi
-    [ -e "$work/refused" ] || break
-done
-if [ "$number" -eq "$most" ]; then
-    fail "the test asks for more than $most allocations"
-elif [ "$number" -lt "$least" ]; then
-    fail "the test asked for $((number - 1)) allocations alone"
-else
-    echo "$((number - 1)) allocations refused in turn"
-    pass
-fi
+# Some 800 are made by the 52 commands and what is shown of the state between them.
+refuse_each admin_mgr tests::refused::refused_memory_changes_nothing 700
+# Most are made for the office.
+refuse_each role_wire tests::refused::refused_memory_stops_a_replay 700
+refuse_each role_wire tests::refused::refused_memory_is_told_or_stops_a_request 700
 finish

@@ -6,6 +6,8 @@ use role_tables::{Office, create};
 use sqlite::{Connection, MemStore};
 use std::alloc::Global;
 
+mod refused;
+
 const LINES: &str = r#"{"fn":"addUser","user":"ann"}
 {"role":"clerk","fn":"addRole"}
 
