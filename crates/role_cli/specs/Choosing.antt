@@ -38,6 +38,7 @@ ChoosesOf name rows (Report f) = (name ≡ codes "report") × IsValueOf (codes "
 ChoosesOf name rows (Check f) = (name ≡ codes "check") × IsValueOf (codes "FILE") rows f
 ChoosesOf name rows (Migrate f) = (name ≡ codes "migrate") × IsValueOf (codes "FILE") rows f
 
+-- what the words choose, by the subcommand that they meet
 abbrev pub Chooses : Option (Text × List Row) → Choice → Type 0
 Chooses None c = ⊥
 Chooses (Some m) c = ChoosesOf m.0 m.1 c
@@ -51,6 +52,7 @@ abbrev pub ReplaysBothOrNeither : Option (Text × List Row) → Type 0
 ReplaysBothOrNeither None = ⊥
 ReplaysBothOrNeither (Some m) = (m.0 ≡ codes "replay") × HasBothOrNeither m.1
 
+-- the words are no command line, or ask for help
 abbrev pub IsFault : Unchosen → Type 0
 IsFault (unchosen.Fault e) = ⊤
 IsFault unchosen.Either = ⊥
@@ -80,6 +82,7 @@ pub record IsWhole (name : Text) (rows : List Row) : Type 0 where
   pub port : bytes_eq name (codes "serve") ≡ true → IsGiven port_parser (codes "port") rows
   pub limit : bytes_eq name (codes "serve") ≡ true → IsGiven limit_parser (codes "limit") rows
 
+-- a subcommand is met, and it is whole
 abbrev pub IsEntered : Option (Text × List Row) → Type 0
 IsEntered None = ⊥
 IsEntered (Some m) = IsWhole m.0 m.1

@@ -7,6 +7,7 @@ ghost use Rattle.role_cli.specs.CommandLine.{csv, file, first_six, first_three, 
 use clap::{Arg, ArgAction, Command, value_parser};
 use std::alloc::{AllocError, Global};
 
+// The path of an office, which has to be there.
 fn file_arg<'a>(alloc: Global) -> Arg<'a>
     ensures rule { rule_of result ≡ file }
     ensures own { result.global ≡ false }
@@ -16,6 +17,7 @@ fn file_arg<'a>(alloc: Global) -> Arg<'a>
         .action(ArgAction::Set)
 }
 
+// The path of an office, which may be left out.
 fn maybe_file_arg<'a>(alloc: Global) -> Arg<'a>
     ensures rule { rule_of result ≡ maybe_file }
     ensures own { result.global ≡ false }
@@ -23,6 +25,7 @@ fn maybe_file_arg<'a>(alloc: Global) -> Arg<'a>
     Arg::new(alloc, "FILE").action(ArgAction::Set)
 }
 
+// The path of a CSV file, which has to be there.
 fn csv_arg<'a>(alloc: Global) -> Arg<'a>
     ensures rule { rule_of result ≡ csv }
     ensures own { result.global ≡ false }
@@ -30,6 +33,7 @@ fn csv_arg<'a>(alloc: Global) -> Arg<'a>
     Arg::new(alloc, "CSV").required(true).action(ArgAction::Set)
 }
 
+// The flag for an office in memory.
 fn memory_arg<'a>(alloc: Global) -> Arg<'a>
     ensures rule { rule_of result ≡ in_memory }
     ensures own { result.global ≡ false }
@@ -39,6 +43,7 @@ fn memory_arg<'a>(alloc: Global) -> Arg<'a>
         .action(ArgAction::SetTrue)
 }
 
+// The port, from 1 to 65,535.
 fn port_arg<'a>(alloc: Global) -> Arg<'a>
     ensures rule { rule_of result ≡ port }
     ensures own { result.global ≡ false }
@@ -50,6 +55,7 @@ fn port_arg<'a>(alloc: Global) -> Arg<'a>
         .value_parser(value_parser!(u16).range(1..))
 }
 
+// The number of connections, from 1 to 1,000,000.
 fn limit_arg<'a>(alloc: Global) -> Arg<'a>
     ensures rule { rule_of result ≡ limit }
     ensures own { result.global ≡ false }
@@ -69,6 +75,7 @@ fn file_command<'a>(alloc: Global, name: &'static str) -> Result<Command<'a>, Al
     Command::new(alloc, name).arg(file_arg(alloc))
 }
 
+// `replay`, with FILE or `--memory`. That one of them is there is judged later.
 fn replay_command<'a>(alloc: Global) -> Result<Command<'a>, AllocError>
     ensures app { IfOk result (λ c. app_of c ≡ replay) }
     ensures own { IfOk result (λ c. (out-Command c).has_globals ≡ false) }
@@ -78,6 +85,7 @@ fn replay_command<'a>(alloc: Global) -> Result<Command<'a>, AllocError>
         .arg(memory_arg(alloc))
 }
 
+// `serve`, with FILE, `--port` and `--limit`.
 fn serve_command<'a>(alloc: Global) -> Result<Command<'a>, AllocError>
     ensures app { IfOk result (λ c. app_of c ≡ serve) }
     ensures own { IfOk result (λ c. (out-Command c).has_globals ≡ false) }
@@ -88,6 +96,7 @@ fn serve_command<'a>(alloc: Global) -> Result<Command<'a>, AllocError>
         .arg(limit_arg(alloc))
 }
 
+// `import`, with FILE and CSV.
 fn import_command<'a>(alloc: Global) -> Result<Command<'a>, AllocError>
     ensures app { IfOk result (λ c. app_of c ≡ import_of) }
     ensures own { IfOk result (λ c. (out-Command c).has_globals ≡ false) }
@@ -121,6 +130,7 @@ fn first_six<'a>(alloc: Global) -> Result<Command<'a>, AllocError>
         .subcommand(report)
 }
 
+// The program with all its subcommands, of which one has to be there.
 pub(crate) fn program_command<'a>(alloc: Global) -> Result<Command<'a>, AllocError>
     ensures { IfOk result (λ c. app_of c ≡ program) }
 {
