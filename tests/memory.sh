@@ -70,5 +70,6 @@ check_row() {
 }
 
 check_row first-run
+check_row access
 check_row bad-requests
 finish

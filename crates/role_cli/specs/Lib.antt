@@ -1,2 +1,4 @@
+pub mod Choosing
+pub mod CommandLine
 pub mod InMemory
 pub mod Words

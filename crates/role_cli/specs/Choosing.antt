@@ -1,0 +1,88 @@
+-- What the words of a command line choose.
+use Rattle.std.specs.Prelude.{⊤, ◌≡◌, ◌≤◌, ◌||◌, ◌⊎◌, ℕ, Bool, List, true, false, codes, Option, Some, None, IsSome, String, string_bytes}
+use Rattle.std.specs.Str.{bytes_eq}
+use Rattle.std.specs.Str.Parse.{digits_value, without_leading_plus}
+use Rattle.clap.specs.Words.{Accepts, Row, Text, first_of, one_of, read_as, reading_of}
+use Rattle.clap.specs.declared.builder.ValueParser.{ValueParser}
+use Rattle.role_cli.specs.CommandLine.{limit_parser, port_parser, text_parser}
+use Rattle.role_cli.specs.declared.choice.Choice.{Choice}
+use Rattle.role_cli.specs.declared.choice.Choice.TheVariants.{Init, Replay, Serve, Import, Export, Report, Check, Migrate}
+use Rattle.role_cli.specs.declared.choice.Place.TheVariants.{File, Memory}
+use Rattle.role_cli.specs.declared.choice.Unchosen.{Unchosen}
+use Rattle.role_cli.specs.declared.choice.Unchosen.TheVariants as unchosen
+
+-- the word is there, and it writes the number
+abbrev pub IsWordOf : Option Text → ℕ → Type 0
+IsWordOf None n = ⊥
+IsWordOf (Some t) n = digits_value 10 (without_leading_plus t) ≡ n
+
+-- the text is the first value of the argument
+abbrev pub IsValueOf : {A : Type 0} → Text → List Row → String A → Type 0
+IsValueOf id rows s = first_of id rows ≡ Some (string_bytes s)
+
+-- the flag `--memory` is there
+abbrev pub IsInMemory : List Row → Type 0
+IsInMemory rows = first_of (codes "memory") rows ≡ Some (codes "true")
+
+-- what the subcommand and its matches choose
+abbrev pub ChoosesOf : Text → List Row → Choice → Type 0
+ChoosesOf name rows (Init f) = (name ≡ codes "init") × IsValueOf (codes "FILE") rows f
+ChoosesOf name rows (Replay (File f)) = (name ≡ codes "replay") × IsValueOf (codes "FILE") rows f × ¬ (IsInMemory rows)
+ChoosesOf name rows (Replay Memory) = (name ≡ codes "replay") × (first_of (codes "FILE") rows ≡ None) × IsInMemory rows
+ChoosesOf name rows (Serve f p n) = (name ≡ codes "serve") × IsValueOf (codes "FILE") rows f
+    × IsWordOf (one_of (codes "port") rows) p × (1 ≤ p) × (p ≤ 65535)
+    × IsWordOf (one_of (codes "limit") rows) n × (1 ≤ n) × (n ≤ 1000000)
+ChoosesOf name rows (Import f c) = (name ≡ codes "import") × IsValueOf (codes "FILE") rows f × IsValueOf (codes "CSV") rows c
+ChoosesOf name rows (Export f) = (name ≡ codes "export") × IsValueOf (codes "FILE") rows f
+ChoosesOf name rows (Report f) = (name ≡ codes "report") × IsValueOf (codes "FILE") rows f
+ChoosesOf name rows (Check f) = (name ≡ codes "check") × IsValueOf (codes "FILE") rows f
+ChoosesOf name rows (Migrate f) = (name ≡ codes "migrate") × IsValueOf (codes "FILE") rows f
+
+-- what the words choose, by the subcommand that they meet
+abbrev pub Chooses : Option (Text × List Row) → Choice → Type 0
+Chooses None c = ⊥
+Chooses (Some m) c = ChoosesOf m.0 m.1 c
+
+-- FILE and `--memory` are both there, or neither is
+abbrev pub HasBothOrNeither : List Row → Type 0
+HasBothOrNeither rows = (IsSome (first_of (codes "FILE") rows) × IsInMemory rows) ⊎ ((first_of (codes "FILE") rows ≡ None) × ¬ (IsInMemory rows))
+
+-- `replay` has both or neither
+abbrev pub ReplaysBothOrNeither : Option (Text × List Row) → Type 0
+ReplaysBothOrNeither None = ⊥
+ReplaysBothOrNeither (Some m) = (m.0 ≡ codes "replay") × HasBothOrNeither m.1
+
+-- the words are no command line, or ask for help
+abbrev pub IsFault : Unchosen → Type 0
+IsFault (unchosen.Fault e) = ⊤
+IsFault unchosen.Either = ⊥
+IsFault unchosen.Memory = ⊥
+
+-- ---- what each subcommand has where the words are taken
+
+-- the argument has a first value, which its parser takes and by which it is read
+abbrev pub IsGiven : ValueParser → Text → List Row → Type 0
+IsGiven p id rows =
+    (t : Text) × (first_of id rows ≡ Some t) × (one_of id rows ≡ Some (read_as (reading_of p) t)) × Accepts false p t
+
+-- the subcommands of which FILE alone is required
+abbrev pub is_of_file : Text → Bool
+is_of_file name = bytes_eq name (codes "init") || (bytes_eq name (codes "export") || (bytes_eq name (codes "report")
+    || (bytes_eq name (codes "check") || bytes_eq name (codes "migrate"))))
+
+-- the subcommands that require FILE
+abbrev pub requires_file : Text → Bool
+requires_file name = is_of_file name || (bytes_eq name (codes "serve") || bytes_eq name (codes "import"))
+
+-- the subcommand is one of the program's, and has what it requires
+pub record IsWhole (name : Text) (rows : List Row) : Type 0 where
+  pub known : (requires_file name || bytes_eq name (codes "replay")) ≡ true
+  pub file : requires_file name ≡ true → IsGiven text_parser (codes "FILE") rows
+  pub csv : bytes_eq name (codes "import") ≡ true → IsGiven text_parser (codes "CSV") rows
+  pub port : bytes_eq name (codes "serve") ≡ true → IsGiven port_parser (codes "port") rows
+  pub limit : bytes_eq name (codes "serve") ≡ true → IsGiven limit_parser (codes "limit") rows
+
+-- a subcommand is met, and it is whole
+abbrev pub IsEntered : Option (Text × List Row) → Type 0
+IsEntered None = ⊥
+IsEntered (Some m) = IsWhole m.0 m.1
