@@ -13,9 +13,13 @@ use Rattle.role_json.specs.declared.answer.Verdict.{Verdict}
 use Rattle.role_json.specs.declared.answer.Verdict.TheVariants.{Refused}
 use Rattle.role_tables.specs.Office.{Opened}
 use Rattle.role_wire.specs.Keeping.{Breaks, Reaches}
-use Rattle.role_wire.specs.Outcome.{answer_to, after_line, state_after}
+use Rattle.role_wire.specs.Outcome.{answer_to, after_line, outcome_of, state_after, told_as}
 
 module _ {S : Type 0} (shown : Held S → State) where
+  -- the office answers what was asked by this text
+  abbrev pub AnswersRequest : Opened S → Requested → List ℕ → Opened S → Type 0
+  AnswersRequest old asked text new = (text ≡ told_as (outcome_of old.facts asked)) × Reaches shown old (state_after old.facts asked) new
+
   -- the office answers the line by this text
   pub record AnswersLine (old : Opened S) (line text : List ℕ) (new : Opened S) : Type 0 where
     pub text_is : text ≡ answer_to old.facts line

@@ -1,19 +1,20 @@
 -- What a request over HTTP is told, and what that leaves of the office.
 use Rattle.std.specs.Prelude.{◌≡◌, ◌⊎◌, ◌++◌, ℕ, ◌≤◌, true, List, [], length, Option, Result, Ok}
-use Rattle.std.specs.Io.KnownBytes.{Appends}
+use Rattle.std.specs.Io.KnownBytes.{Appends, Consumes}
 use Rattle.sqlite.specs.Held.{Held}
 use Rattle.sqlite.specs.State.{State}
 use Rattle.rbac_sets.specs.declared.refusal.Refusal.{Refusal}
 use Rattle.rbac_sets.specs.declared.refusal.Refusal.TheVariants.{Memory, Store, Closed}
 use Rattle.role_json.specs.Answer.{refusal_text}
 use Rattle.role_json.specs.Requested.{Requested}
+use Rattle.role_http.specs.Answered.{with_left}
 use Rattle.role_http.specs.ReplyBytes.{reply_bytes}
 use Rattle.role_tables.specs.Office.{Opened}
 use Rattle.role_wire.specs.Keeping.{Reaches}
 use Rattle.role_wire.specs.Made.{bytes_in}
 use Rattle.role_wire.specs.Outcome.{state_after}
 use Rattle.role_wire.specs.Performing.{IsAccepted, BreaksAt}
-use Rattle.role_wire.specs.Reply.{Reply, Replies, Asks, reply_of}
+use Rattle.role_wire.specs.Reply.{Reply, Replies, Asks, TakesNoFurther, reply_of}
 use Rattle.role_wire.specs.declared.lines.Cause.{Cause}
 use Rattle.role_wire.specs.declared.lines.Cause.TheVariants as cause
 use Rattle.role_wire.specs.declared.made.Made.{Made}
@@ -65,3 +66,13 @@ module _ {S : Type 0} (shown : Held S → State) where
   StopsAt cause.Write old bytes new written now_written = (status : ℕ) × (body : List ℕ) × Tells old bytes status body new
       × ((part rest : List ℕ) × (reply_bytes status body ≡ part ++ rest) × (1 ≤ length rest) × Appends written now_written part)
   StopsAt why old bytes new written now_written = LeavesUntold why old (Asks bytes) new × Appends written now_written []
+
+  -- a request was taken from what a source had left, no byte past it, and what it is told was written
+  abbrev pub ServesRequest : Opened S → Opened S → (left now_left written now_written : Option (List ℕ)) → ℕ → Type 0
+  ServesRequest old new left now_left written now_written status = (taken : List ℕ) × Consumes left now_left taken × TakesNoFurther old.facts (with_left taken now_left) taken
+      × ((body : List ℕ) × Tells old (with_left taken now_left) status body new × Appends written now_written (reply_bytes status body))
+
+  -- bytes of a request were taken, none past it, and then this stopped it
+  abbrev pub StopsRequest : Cause → Opened S → Opened S → (left now_left written now_written : Option (List ℕ)) → Type 0
+  StopsRequest why old new left now_left written now_written = (taken : List ℕ) × Consumes left now_left taken × TakesNoFurther old.facts (with_left taken now_left) taken
+      × StopsAt why old (with_left taken now_left) new written now_written

@@ -6,7 +6,7 @@ ghost use Rattle.rbac_sets.specs.Stream.{HasRisen};
 ghost use Rattle.role_json.specs.Answer.{text_of};
 ghost use Rattle.role_json.specs.Requested.{requested};
 ghost use Rattle.role_wire.specs.Keeping.{Reaches};
-ghost use Rattle.role_wire.specs.OfficeLines.{AnswersLine, FailsLine, FailsRequest, told_of, told_unread};
+ghost use Rattle.role_wire.specs.OfficeLines.{AnswersLine, AnswersRequest, FailsLine, FailsRequest, told_of, told_unread};
 ghost use Rattle.role_wire.specs.Outcome.{after_lines, asking_lines, outcome_of, state_after, told_as};
 ghost use Rattle.role_wire.specs.Replay.{IsAtBound, most_reads};
 ghost use Rattle.role_wire.specs.Replaying.{IsAnswered, IsHalted};
@@ -108,7 +108,7 @@ fn judge<S: Alter>(
     office: &mut Office<S>,
     request: &Request,
 ) -> Result<Verdict, Unanswered>
-    ensures answered { IfOk result (λ verdict. (text_of verdict ≡ told_as (outcome_of office.old.facts (requested request.now))) × Reaches (state S.Store) office.old (state_after office.old.facts (requested request.now)) office.new) }
+    ensures answered { IfOk result (λ verdict. AnswersRequest (state S.Store) office.old (requested request.now) (text_of verdict) office.new) }
     ensures failed { IfErr result (λ unanswered. FailsRequest (state S.Store) office.old (requested request.now) unanswered office.new) }
 {
     match perform(alloc, office, request) {

@@ -11,7 +11,7 @@ ghost use Rattle.role_http.specs.Route.{routes};
 ghost use Rattle.role_wire.specs.Made.{IsRefusal, IsReplied, bytes_in};
 ghost use Rattle.role_wire.specs.Performing.{IsCommand, IsQuestion};
 ghost use Rattle.role_wire.specs.Reply.{Asks, TakesNoFurther, called_for};
-ghost use Rattle.role_wire.specs.Serving.{ComesOf, IsDone, IsRead, LeavesUntold, StopsAt, Tells};
+ghost use Rattle.role_wire.specs.Serving.{ComesOf, IsDone, IsRead, LeavesUntold, ServesRequest, StopsRequest, Tells};
 
 use crate::lines::{Cause, Stop};
 use crate::made::{Body, Made, no_memory, refused, refused_head};
@@ -57,13 +57,10 @@ pub fn serve_one<S: Alter, R: Source, W: Sink>(
     source: &mut R,
     sink: &mut W,
 ) -> Result<Served, Stop>
-    ensures served { IfOk result (λ served. (taken : List ℕ) × Consumes (R.remaining source.old) (R.remaining source.new) taken
-        × TakesNoFurther office.old.facts (with_left taken (R.remaining source.new)) taken
-        × ((body : List ℕ) × Tells (state S.Store) office.old (with_left taken (R.remaining source.new)) served.status body office.new
-        × Appends (W.written sink.old) (W.written sink.new) (reply_bytes served.status body))) }
-    ensures stopped { IfErr result (λ stop. (stop.answered ≡ 0) × ((taken : List ℕ) × Consumes (R.remaining source.old) (R.remaining source.new) taken
-        × TakesNoFurther office.old.facts (with_left taken (R.remaining source.new)) taken
-        × StopsAt (state S.Store) stop.cause office.old (with_left taken (R.remaining source.new)) office.new (W.written sink.old) (W.written sink.new))) }
+    ensures served { IfOk result (λ served. ServesRequest (state S.Store) office.old office.new
+        (R.remaining source.old) (R.remaining source.new) (W.written sink.old) (W.written sink.new) served.status) }
+    ensures stopped { IfErr result (λ stop. (stop.answered ≡ 0) × StopsRequest (state S.Store) stop.cause office.old office.new
+        (R.remaining source.old) (R.remaining source.new) (W.written sink.old) (W.written sink.new)) }
     ensures read_cause { IfErr result (λ stop. stop.cause ≡ Cause.Read → HasRisen (R.failed source.old) (R.failed source.new)) }
     ensures write_cause { IfErr result (λ stop. stop.cause ≡ Cause.Write → HasRisen (W.failed sink.old) (W.failed sink.new) ⊎ HasRisen (W.idle sink.old) (W.idle sink.new)) }
 {
@@ -86,13 +83,10 @@ pub fn serve_with<S: Alter, R: Source, W: Sink>(
     sink: &mut W,
 ) -> Result<Served, Stop>
     requires route { router.now ≡ routes }
-    ensures served { IfOk result (λ served. (taken : List ℕ) × Consumes (R.remaining source.old) (R.remaining source.new) taken
-        × TakesNoFurther office.old.facts (with_left taken (R.remaining source.new)) taken
-        × ((body : List ℕ) × Tells (state S.Store) office.old (with_left taken (R.remaining source.new)) served.status body office.new
-        × Appends (W.written sink.old) (W.written sink.new) (reply_bytes served.status body))) }
-    ensures stopped { IfErr result (λ stop. (stop.answered ≡ 0) × ((taken : List ℕ) × Consumes (R.remaining source.old) (R.remaining source.new) taken
-        × TakesNoFurther office.old.facts (with_left taken (R.remaining source.new)) taken
-        × StopsAt (state S.Store) stop.cause office.old (with_left taken (R.remaining source.new)) office.new (W.written sink.old) (W.written sink.new))) }
+    ensures served { IfOk result (λ served. ServesRequest (state S.Store) office.old office.new
+        (R.remaining source.old) (R.remaining source.new) (W.written sink.old) (W.written sink.new) served.status) }
+    ensures stopped { IfErr result (λ stop. (stop.answered ≡ 0) × StopsRequest (state S.Store) stop.cause office.old office.new
+        (R.remaining source.old) (R.remaining source.new) (W.written sink.old) (W.written sink.new)) }
     ensures read_cause { IfErr result (λ stop. stop.cause ≡ Cause.Read → HasRisen (R.failed source.old) (R.failed source.new)) }
     ensures write_cause { IfErr result (λ stop. stop.cause ≡ Cause.Write → HasRisen (W.failed sink.old) (W.failed sink.new) ⊎ HasRisen (W.idle sink.old) (W.idle sink.new)) }
 {
