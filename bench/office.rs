@@ -61,7 +61,9 @@ pub enum Refusal {
     NotAuthorized,
     AlreadyActive,
     NotActive,
-    TooMany,
+    /// More than the limit of this kind.
+    TooMany(&'static str),
+    NoOperation,
     UserLocked,
 }
 
