@@ -63,6 +63,8 @@ pub enum Refusal {
     NotActive,
     /// More than the limit of this kind.
     TooMany(&'static str),
+    /// This is met by questions alone, which some of the programs have not.
+    #[allow(dead_code)]
     NoOperation,
     UserLocked,
 }

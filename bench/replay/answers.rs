@@ -1,5 +1,5 @@
-//! The texts of answers: JSON without spaces, keys in byte order. serde_json escapes no more than `"` and `\`
-//! in a name, since a name has no control character.
+//! The texts of answers: JSON without spaces, keys in byte order. serde_json escapes no more than
+//! `"` and `\` in a name, since a name has no control character.
 
 use serde::Serialize;
 use std::io::Write;
@@ -29,10 +29,12 @@ pub fn write_told(text: &mut Vec<u8>, told: Told) {
 
 /// The answer to an import.
 pub fn write_report(text: &mut Vec<u8>, report: &Report) {
-    let record = |it: &(u32, Refusal)| format!("{{\"code\":{},\"record\":{}}}", name_of(&it.1).0, it.0);
+    let record =
+        |it: &(u32, Refusal)| format!("{{\"code\":{},\"record\":{}}}", name_of(&it.1).0, it.0);
     let refused: Vec<String> = report.refused.iter().map(record).collect();
     let (already, assigned, refused) = (report.already, report.assigned, refused.join(","));
-    let value = format!("{{\"already\":{already},\"assigned\":{assigned},\"refused\":[{refused}]}}");
+    let value =
+        format!("{{\"already\":{already},\"assigned\":{assigned},\"refused\":[{refused}]}}");
     writeln!(text, "{{\"ok\":true,\"value\":{value}}}").expect("a vector takes all bytes");
 }
 

@@ -141,7 +141,8 @@ macro_rules! functions {
 
 /// The functions in byte order of their names, but for the import.
 const FUNCTIONS: &[Function] = functions! {
-    "addActiveRole" ("user", "session", "role") Command |it| AddActiveRole(it.user(), it.session(), it.role());
+    "addActiveRole" ("user", "session", "role") Command
+        |it| AddActiveRole(it.user(), it.session(), it.role());
     "addAscendant" ("asc", "desc") Command |it| AddAscendant(it.asc(), it.desc());
     "addDescendant" ("asc", "desc") Command |it| AddDescendant(it.asc(), it.desc());
     "addDsdRoleMember" ("set", "role") Command |it| AddMember(Dynamic, it.set(), it.role());
@@ -169,7 +170,8 @@ const FUNCTIONS: &[Function] = functions! {
     "deleteDsdSet" ("set") Command |it| DeleteSet(Dynamic, it.set());
     "deleteInheritance" ("asc", "desc") Command |it| DeleteInheritance(it.asc(), it.desc());
     "deletePermObj" ("object") Command |it| DeletePermObj(it.object());
-    "deletePermission" ("object", "operation") Command |it| DeletePermission(it.object(), it.operation());
+    "deletePermission" ("object", "operation") Command
+        |it| DeletePermission(it.object(), it.operation());
     "deleteRole" ("role") Command |it| DeleteRole(it.role());
     "deleteSession" ("user", "session") Command |it| DeleteSession(it.user(), it.session());
     "deleteSsdRoleMember" ("set", "role") Command |it| DeleteMember(Static, it.set(), it.role());
@@ -183,7 +185,8 @@ const FUNCTIONS: &[Function] = functions! {
     "grantPermission" ("object", "operation", "role") Command
         |it| GrantPermission(it.object(), it.operation(), it.role());
     "lockUserAccount" ("user") Command |it| LockUserAccount(it.user());
-    "permissionRoles" ("object", "operation") Question |it| PermissionRoles(it.object(), it.operation());
+    "permissionRoles" ("object", "operation") Question
+        |it| PermissionRoles(it.object(), it.operation());
     "revokePermission" ("object", "operation", "role") Command
         |it| RevokePermission(it.object(), it.operation(), it.role());
     "roleOperationsOnObject" ("role", "object") Question
