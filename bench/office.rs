@@ -61,7 +61,11 @@ pub enum Refusal {
     NotAuthorized,
     AlreadyActive,
     NotActive,
-    TooMany,
+    /// More than the limit of this kind.
+    TooMany(&'static str),
+    /// This is met by questions alone, which some of the programs have not.
+    #[allow(dead_code)]
+    NoOperation,
     UserLocked,
 }
 

@@ -17,12 +17,12 @@ impl Office {
         match command {
             Command::AddUser(user) => refuse! {
                 has_name(&self.users, user) => UserExists,
-                self.users.len() >= limit::USERS => TooMany,
+                self.users.len() >= limit::USERS => TooMany("user"),
             },
             Command::DeleteUser(user) => refuse! { !has_name(&self.users, user) => NoUser },
             Command::AddRole(role) => refuse! {
                 has_name(&self.roles, role) => RoleExists,
-                self.roles.len() >= limit::ROLES => TooMany,
+                self.roles.len() >= limit::ROLES => TooMany("role"),
             },
             Command::DeleteRole(role) => refuse! {
                 !has_name(&self.roles, role) => NoRole,
@@ -30,7 +30,7 @@ impl Office {
             },
             Command::AddPermObj(object) => refuse! {
                 has_name(&self.objects, object) => ObjectExists,
-                self.objects.len() >= limit::OBJECTS => TooMany,
+                self.objects.len() >= limit::OBJECTS => TooMany("object"),
             },
             Command::DeletePermObj(object) => refuse! {
                 !has_name(&self.objects, object) => NoObject,
@@ -39,7 +39,7 @@ impl Office {
             Command::AddPermission(object, operation) => refuse! {
                 !has_name(&self.objects, object) => NoObject,
                 has_pair(&self.permissions, object, operation) => PermissionExists,
-                self.permissions.len() >= limit::PERMISSIONS => TooMany,
+                self.permissions.len() >= limit::PERMISSIONS => TooMany("permission"),
             },
             Command::DeletePermission(object, operation) => refuse! {
                 !has_name(&self.objects, object) => NoObject,
@@ -50,7 +50,7 @@ impl Office {
                 !has_pair(&self.permissions, object, operation) => NoPermission,
                 !has_name(&self.roles, role) => NoRole,
                 has_triple(&self.grants, object, operation, role) => AlreadyGranted,
-                self.grants.len() >= limit::GRANTS => TooMany,
+                self.grants.len() >= limit::GRANTS => TooMany("grant"),
             },
             Command::RevokePermission(object, operation, role) => refuse! {
                 !has_name(&self.objects, object) => NoObject,
@@ -73,14 +73,14 @@ impl Office {
             Command::AddAscendant(asc, desc) => refuse! {
                 !has_name(&self.roles, desc) => NoRole,
                 has_name(&self.roles, asc) => RoleExists,
-                self.roles.len() >= limit::ROLES => TooMany,
-                self.edges.len() >= limit::EDGES => TooMany,
+                self.roles.len() >= limit::ROLES => TooMany("role"),
+                self.edges.len() >= limit::EDGES => TooMany("edge"),
             },
             Command::AddDescendant(asc, desc) => refuse! {
                 !has_name(&self.roles, asc) => NoRole,
                 has_name(&self.roles, desc) => RoleExists,
-                self.roles.len() >= limit::ROLES => TooMany,
-                self.edges.len() >= limit::EDGES => TooMany,
+                self.roles.len() >= limit::ROLES => TooMany("role"),
+                self.edges.len() >= limit::EDGES => TooMany("edge"),
             },
             Command::CreateSet(kind, set, roles, n) => self.judge_set(*kind, set, roles, *n),
             Command::AddMember(kind, set, role) => self.judge_member(*kind, set, role),
@@ -116,7 +116,7 @@ impl Office {
             Command::LockUserAccount(user) => refuse! { !has_name(&self.users, user) => NoUser },
             Command::UnlockUserAccount(user) => refuse! { !has_name(&self.users, user) => NoUser },
             Command::ImportAssignments(records) => refuse! {
-                records.len() > limit::RECORDS => TooMany,
+                records.len() > limit::RECORDS => TooMany("record"),
             },
         }
     }
@@ -131,7 +131,8 @@ impl Office {
         with_first(&self.sets(kind).members, set)
     }
 
-    fn number(&self, kind: Separation, set: &str) -> Option<u32> {
+    /// The cardinality of a set.
+    pub fn number(&self, kind: Separation, set: &str) -> Option<u32> {
         let cardinalities = &self.sets(kind).cardinalities;
         let at = cardinalities.partition_point(|entry| entry.0.as_str() < set);
         cardinalities.get(at).filter(|entry| entry.0 == set).map(|entry| entry.1)
@@ -157,7 +158,7 @@ impl Office {
             !has_name(&self.users, user) => NoUser,
             !has_name(&self.roles, role) => NoRole,
             has_pair(&self.assignments, user, role) || has_pair(added, user, role) => AlreadyAssigned,
-            self.assignments.len() + added.len() >= limit::ASSIGNMENTS => TooMany,
+            self.assignments.len() + added.len() >= limit::ASSIGNMENTS => TooMany("assignment"),
         }
     }
 
@@ -206,7 +207,7 @@ impl Office {
             !has_name(&self.roles, desc) => NoRole,
             has_pair(&self.edges, asc, desc) => EdgeExists,
             self.geq(desc, asc) => Cycle,
-            self.edges.len() >= limit::EDGES => TooMany,
+            self.edges.len() >= limit::EDGES => TooMany("edge"),
         }
     }
 
@@ -244,6 +245,13 @@ impl Office {
         }
     }
 
+    fn kind_of_sets(kind: Separation) -> &'static str {
+        match kind {
+            Separation::Static => "ssdSet",
+            Separation::Dynamic => "dsdSet",
+        }
+    }
+
     /// Whether all that hold roles, the users or the sessions, pass the test.
     fn all_holders(&self, kind: Separation, test: impl Fn(&[Pair]) -> bool) -> bool {
         match kind {
@@ -267,8 +275,8 @@ impl Office {
             !roles.iter().all(|role| has_name(&self.roles, role)) => NoRole,
             self.number(kind, set).is_some() => SetExists,
             cardinality < 2 || cardinality as usize > roles.len() => BadCardinality,
-            self.sets(kind).cardinalities.len() >= limit::SETS => TooMany,
-            roles.len() > limit::MEMBERS => TooMany,
+            self.sets(kind).cardinalities.len() >= limit::SETS => TooMany(Self::kind_of_sets(kind)),
+            roles.len() > limit::MEMBERS => TooMany("member"),
             !self.all_holders(kind, |held| {
                 let reached = roles.iter().filter(|role| self.is_reached(held, role));
                 reached.count() < cardinality as usize
@@ -284,7 +292,7 @@ impl Office {
         refuse! {
             !has_name(&self.roles, role) => NoRole,
             has_pair(&self.sets(kind).members, set, role) => MemberExists,
-            members.len() >= limit::MEMBERS => TooMany,
+            members.len() >= limit::MEMBERS => TooMany("member"),
             !self.all_holders(kind, |held| {
                 !self.is_reached(held, role) || {
                     let reached = members.iter().filter(|it| self.is_reached(held, &it.1));
@@ -342,7 +350,7 @@ impl Office {
             !has_pair(&self.sessions, session, user) => NotOwner,
             has_pair(&self.active, session, role) => AlreadyActive,
             !self.is_reached(with_first(&self.assignments, user), role) => NotAuthorized,
-            with_first(&self.active, session).len() >= limit::ACTIVE_ROLES => TooMany,
+            with_first(&self.active, session).len() >= limit::ACTIVE_ROLES => TooMany("activeRole"),
         }
     }
 }
@@ -360,7 +368,7 @@ fn refuse_session(
         !with_first(&office.sessions, session).is_empty() => SessionExists,
         !roles.iter().all(|role| office.is_reached(held, role)) => NotAuthorized,
         has_name(&office.locked, user) => UserLocked,
-        office.sessions.len() >= limit::SESSIONS => TooMany,
-        roles.len() > limit::ACTIVE_ROLES => TooMany,
+        office.sessions.len() >= limit::SESSIONS => TooMany("session"),
+        roles.len() > limit::ACTIVE_ROLES => TooMany("activeRole"),
     }
 }
