@@ -3,7 +3,7 @@ ghost use Rattle.std.specs.Prelude.{◌≡◌, ◌≤◌, ◌<◌, ℕ, List, Op
 ghost use Rattle.std.specs.Io.KnownBytes.{ReadConsumes};
 ghost use Rattle.rbac_sets.specs.Stream.{failures_after, one_more, reader_of, failed_reads, reads_of_reader};
 
-use std::io;
+use std::io::{self, ErrorKind};
 use thiserror::Error;
 
 /// A read or a write failed. Why is not told: `failures` of the source or sink counts it.
@@ -85,7 +85,10 @@ impl Source for MemorySource<'_> {
     }
 }
 
-/// A source over any reader of std.
+/// The most times that one read of a reader is tried, where a signal interrupts each try.
+const MOST_TRIES: u32 = 1_000_000_000;
+
+/// A source over any reader of std. A read that a signal interrupts is tried again.
 #[derive(Drop)]
 pub struct Reader<R> {
     inner: R,
@@ -119,13 +122,15 @@ impl<R: io::Read> Source for Reader<R> {
 
     fn read(&mut self, buffer: &mut [u8]) -> Result<usize, Fault> {
         self.reads = self.reads.saturating_add(1);
-        match self.inner.read(buffer) {
-            Ok(count) => Ok(count),
-            Err(_) => {
-                self.failures = self.failures.saturating_add(1);
-                Err(Fault)
+        for _ in 0..MOST_TRIES {
+            match self.inner.read(buffer) {
+                Ok(count) => return Ok(count),
+                Err(error) if error.kind() == ErrorKind::Interrupted => {}
+                Err(_) => break,
             }
         }
+        self.failures = self.failures.saturating_add(1);
+        Err(Fault)
     }
 
     fn failures(&self) -> u64 {
