@@ -4,11 +4,13 @@ use Rattle.sqlite.specs.Held.{state}
 use Rattle.sqlite.specs.Steps.{over_memory}
 use Rattle.sqlite_trees.specs.declared.memory.MemStore.{MemStore}
 use Rattle.admin_mgr.specs.RbacState.{RbacState, empty_state}
+use Rattle.rbac_sets.specs.declared.refusal.Refusal.TheVariants.{Memory, Store}
 use Rattle.role_tables.specs.Office.{Opened}
 use Rattle.role_tables.specs.Standing.{Stands}
 use Rattle.role_wire.specs.Replaying.{IsHalted}
-use Rattle.role_wire.specs.declared.lines.Cause.TheVariants.{Memory, Store}
-use Rattle.role_wire.specs.declared.lines.Stop.{Stop}
+use Rattle.role_wire.specs.declared.lines.Cause.TheVariants.{Read, Write}
+use Rattle.role_cli.specs.declared.failure.Failure.{Failure}
+use Rattle.role_cli.specs.declared.failure.Failure.TheVariants.{Refused, Stopped}
 
 -- the state of a new office: that of version 2, with no user and no role
 abbrev pub first_state : RbacState
@@ -21,10 +23,22 @@ pub record IsNewOffice (office : Opened MemStore) : Type 0 where
   pub stands : Stands (state over_memory office.conn) first_state
 
 -- the replay stopped over an office that was new, once these bytes were read
-abbrev pub StopsOverNew : Stop → List ℕ → Type 0 → Option (List ℕ) → Option (List ℕ) → Type 0
-StopsOverNew stop taken at_end written now_written =
+abbrev pub FailsOverNew : Failure → List ℕ → Type 0 → Option (List ℕ) → Option (List ℕ) → Type 0
+FailsOverNew (Stopped stop) taken at_end written now_written =
     (first left : Opened MemStore) × IsNewOffice first × IsHalted (state over_memory) first left taken at_end written now_written stop.cause stop.answered
+FailsOverNew _ taken at_end written now_written = ⊥
 
 -- no office could be made, for want of memory
-abbrev pub IsUnmade : Stop → Type 0
-IsUnmade stop = ((stop.cause ≡ Memory) ⊎ (stop.cause ≡ Store)) × (stop.answered ≡ 0)
+abbrev pub IsUnmade : Failure → Type 0
+IsUnmade (Refused refusal) = (refusal ≡ Memory) ⊎ (refusal ≡ Store)
+IsUnmade _ = ⊥
+
+-- a write was the cause of the stop
+abbrev pub IsWriteFault : Failure → Type 0
+IsWriteFault (Stopped stop) = stop.cause ≡ Write
+IsWriteFault _ = ⊥
+
+-- a read was the cause of the stop
+abbrev pub IsReadFault : Failure → Type 0
+IsReadFault (Stopped stop) = stop.cause ≡ Read
+IsReadFault _ = ⊥

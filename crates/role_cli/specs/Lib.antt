@@ -1,4 +1,4 @@
 pub mod Choosing
 pub mod CommandLine
+pub mod Doing
 pub mod InMemory
-pub mod Words

@@ -9,9 +9,6 @@ use clap::error::ErrorKind;
 use clap::{ArgMatches, Error};
 use std::alloc::{AllocError, Global};
 
-#[cfg(test)]
-mod tests;
-
 /// The office of a replay.
 #[derive(Drop)]
 pub enum Place {

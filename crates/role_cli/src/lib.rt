@@ -2,10 +2,14 @@
 #![tactic(auto)]
 
 pub use choice::{Choice, Place, Unchosen, choose};
-pub use memory::replay_memory;
 pub use program::run;
+pub use serving::serve_on;
 
 pub mod choice;
 mod command_line;
-pub mod memory;
+mod failure;
+mod files;
+mod memory;
 pub mod program;
+pub mod serving;
+mod work;

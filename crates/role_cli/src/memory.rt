@@ -4,11 +4,12 @@ ghost use Rattle.std.specs.Io.KnownBytes.{Consumes, IsAtEnd};
 ghost use Rattle.rbac_sets.specs.Stream.{HasRisen};
 ghost use Rattle.role_wire.specs.Replay.{IsAtBound, most_reads};
 ghost use Rattle.role_wire.specs.Replaying.{IsAnswered};
-ghost use Rattle.role_cli.specs.InMemory.{IsNewOffice, IsUnmade, StopsOverNew, first_state};
+ghost use Rattle.role_cli.specs.InMemory.{FailsOverNew, IsNewOffice, IsReadFault, IsUnmade, IsWriteFault, first_state};
 
-use rbac_sets::{Sink, Source};
+use crate::failure::Failure;
+use rbac_sets::{Refusal, Sink, Source};
 use role_tables::{Office, create};
-use role_wire::{Cause, Count, Stop, replay};
+use role_wire::{Count, replay};
 use sqlite::{Connection, MemStore};
 use std::alloc::Global;
 
@@ -17,45 +18,41 @@ use std::alloc::Global;
 ///
 /// # Errors
 ///
-/// As `replay` stops, and before it with no answer where memory doesn't suffice for an office:
-/// `Memory`, or `Store` where its tables could not be made. Nothing was read or written then. The
-/// office is never closed before.
-pub fn replay_memory<R: Source, W: Sink>(
+/// `Stopped` as `replay` stops. `Refused` before it, where memory doesn't suffice for an office:
+/// with `Memory`, or with `Store` where its tables could not be made. Nothing was read or written
+/// then.
+pub(crate) fn replay_memory<R: Source, W: Sink>(
     alloc: Global,
     source: &mut R,
     sink: &mut W,
-) -> Result<Count, Stop>
+) -> Result<Count, Failure>
     ensures ok { IfOk result (λ count. (input : List ℕ) × Consumes (R.remaining source.old) (R.remaining source.new) input
         × IsAnswered first_state input (W.written sink.old) (W.written sink.new) count.answered) }
     ensures end { OnOk result (IsAtEnd (R.remaining source.new)) }
-    ensures stopped { IfErr result (λ stop.
-        ((taken : List ℕ) × Consumes (R.remaining source.old) (R.remaining source.new) taken × StopsOverNew stop taken (IsAtEnd (R.remaining source.new)) (W.written sink.old) (W.written sink.new))
-        ⊎ (IsUnmade stop × (source.new ≡ source.old) × (sink.new ≡ sink.old))) }
-    ensures write_cause { IfErr result (λ stop. stop.cause ≡ Cause.Write → HasRisen (W.failed sink.old) (W.failed sink.new) ⊎ HasRisen (W.idle sink.old) (W.idle sink.new)) }
-    ensures read_cause { IfErr result (λ stop. stop.cause ≡ Cause.Read → HasRisen (R.failed source.old) (R.failed source.new) ⊎ IsAtBound (R.reads source.old) (R.reads source.new)) }
+    ensures stopped { IfErr result (λ failure.
+        ((taken : List ℕ) × Consumes (R.remaining source.old) (R.remaining source.new) taken × FailsOverNew failure taken (IsAtEnd (R.remaining source.new)) (W.written sink.old) (W.written sink.new))
+        ⊎ (IsUnmade failure × (source.new ≡ source.old) × (sink.new ≡ sink.old))) }
+    ensures write_cause { IfErr result (λ failure. IsWriteFault failure → HasRisen (W.failed sink.old) (W.failed sink.new) ⊎ HasRisen (W.idle sink.old) (W.idle sink.new)) }
+    ensures read_cause { IfErr result (λ failure. IsReadFault failure → HasRisen (R.failed source.old) (R.failed source.new) ⊎ IsAtBound (R.reads source.old) (R.reads source.new)) }
     ensures reads { R.reads source.new ≤ R.reads source.old + most_reads }
 {
     let mut office = new_office(alloc)?;
-    replay(alloc, &mut office, source, sink)
+    match replay(alloc, &mut office, source, sink) {
+        Ok(count) => Ok(count),
+        Err(stop) => Err(Failure::Stopped(stop)),
+    }
 }
 
 // A new office over a store in memory.
-fn new_office(alloc: Global) -> Result<Office<MemStore>, Stop>
+fn new_office(alloc: Global) -> Result<Office<MemStore>, Failure>
     ensures ok { IfOk result IsNewOffice }
     ensures err { IfErr result IsUnmade }
 {
     let Ok(conn) = Connection::open_in_memory(alloc) else {
-        return Err(unmade(Cause::Memory));
+        return Err(Failure::Refused(Refusal::Memory));
     };
     match create(alloc, conn) {
         Ok(office) => Ok(office),
-        Err(_) => Err(unmade(Cause::Store)),
+        Err(_) => Err(Failure::Refused(Refusal::Store)),
     }
-}
-
-// A stop before anything was answered.
-fn unmade(cause: Cause) -> Stop
-    ensures { (result.cause ≡ cause) × (result.answered ≡ 0) }
-{
-    Stop { cause, answered: 0 }
 }

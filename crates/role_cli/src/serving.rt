@@ -1,0 +1,127 @@
+//! One connection of a server after another.
+ghost use Rattle.std.specs.Prelude.{◌≡◌, ◌⊎◌};
+
+use crate::failure::Failure;
+use matchit::Router;
+use rbac_sets::{Reader, Refusal, Sink, Writer, write_all};
+use role_http::one_route;
+use role_tables::Office;
+use role_wire::{Served, serve_with};
+use sqlite::Alter;
+use std::alloc::Global;
+use std::io::{BufReader, Cursor, Write};
+use std::net::{TcpListener, TcpStream};
+use std::time::Duration;
+
+/// How many seconds a read or a write of one connection may wait.
+const PATIENCE: u64 = 5;
+
+/// The most bytes of the line that names the port.
+const LONGEST_PORT: usize = 32;
+
+/// The status after which the office is closed.
+const OFFICE_CLOSED: u16 = 500;
+
+/// Serves as many connections of the listener as `limit` says, one after the other, each by
+/// `serve_one` of `role_wire`, and gives the exit status. A read or a write of a connection waits at
+/// most five seconds. Where a connection is stopped, it counts as served, and the next is taken.
+///
+/// The status is 0 where all were served. It is 1, and `err` has a line that says why, after an
+/// answer with the status 500, since the office is closed then, where a connection can't be
+/// accepted, and where memory for the router was refused before the first. A fault of `err` changes
+/// nothing.
+pub fn serve_on<S: Alter, E: Sink>(
+    alloc: Global,
+    office: &mut Office<S>,
+    listener: &TcpListener,
+    limit: u32,
+    err: &mut E,
+) -> u8
+    ensures { (result ≡ 0) ⊎ (result ≡ 1) }
+{
+    match serve_all(alloc, office, listener, limit) {
+        Ok(()) => 0,
+        Err(failure) => {
+            failure.tell(alloc, err);
+            1
+        }
+    }
+}
+
+/// Listens on the port of 127.0.0.1, says so in `out`, and serves as `serve_on` does.
+///
+/// # Errors
+///
+/// `NotListening` where the port can't be listened on, `Store` where `out` doesn't take the line;
+/// nothing was served then. Else as `serve_on` ends with 1.
+pub(crate) fn serve<S: Alter, W: Sink>(
+    rt: &HostRuntime,
+    office: &mut Office<S>,
+    port: u16,
+    limit: u32,
+    out: &mut W,
+) -> Result<(), Failure> {
+    let Ok(listener) = TcpListener::bind(rt, ("127.0.0.1", port)) else {
+        return Err(Failure::NotListening);
+    };
+    say_port(out, port)?;
+    serve_all(rt.alloc(), office, &listener, limit)
+}
+
+// Writes where the server listens.
+fn say_port<W: Sink>(out: &mut W, port: u16) -> Result<(), Failure> {
+    let mut line = Cursor::new([0u8; LONGEST_PORT]);
+    if writeln!(line, "listening on 127.0.0.1:{port}").is_err() {
+        return Err(Failure::Refused(Refusal::Store));
+    }
+    let length = (line.position() as usize).min(LONGEST_PORT);
+    match write_all(out, &line.get_ref()[..length]) {
+        Ok(()) => Ok(()),
+        Err(_) => Err(Failure::Refused(Refusal::Store)),
+    }
+}
+
+// Serves so many connections.
+fn serve_all<S: Alter>(
+    alloc: Global,
+    office: &mut Office<S>,
+    listener: &TcpListener,
+    limit: u32,
+) -> Result<(), Failure> {
+    let router = match one_route(alloc) {
+        Ok(router) => router,
+        Err(refusal) => return Err(Failure::Refused(refusal)),
+    };
+    for _ in 0..limit {
+        let Ok((stream, _)) = listener.accept() else {
+            return Err(Failure::NotAccepting);
+        };
+        if serve_stream(alloc, &router, office, &stream) == Some(OFFICE_CLOSED) {
+            return Err(Failure::Closed);
+        }
+    }
+    Ok(())
+}
+
+// The status with which one connection was answered, if it was.
+fn serve_stream<S: Alter>(
+    alloc: Global,
+    router: &Router<()>,
+    office: &mut Office<S>,
+    stream: &TcpStream,
+) -> Option<u16>
+    requires route { router.now ≡ routes }
+{
+    let patience = Duration::from_secs(PATIENCE);
+    let _ = stream.set_read_timeout(Some(patience));
+    let _ = stream.set_write_timeout(Some(patience));
+    let Ok(buffered) = BufReader::new(alloc, stream) else {
+        return None;
+    };
+    let mut source = Reader::new(buffered);
+    let mut sink = Writer::new(stream);
+    match serve_with(alloc, router, office, &mut source, &mut sink) {
+        Ok(Served { status }) => Some(status),
+        Err(_) => None,
+    }
+}
