@@ -28,7 +28,7 @@ lay_out() {
     mkdir "$work/$1/crates/office_tests" || return
     cd "$work/$1/crates/office_tests" || return
     cp -r "$tests/office" src || return
-    cp "$tests/../crates/admin_mgr/src/tests/naming.rt" src || return
+    cp "$tests/../crates/memory_calls/src/state/naming.rt" src || return
     find src -name '*.rt.test' | while read -r source; do
         mv "$source" "${source%.test}" || return
     done

@@ -5,7 +5,7 @@
 # request is served on an office in memory.
 
 # The built tests of the crates, which `rt ci` leaves there, are the programs.
-RBAC_PROGRAM=$(dirname "$0")/../crates/admin_mgr/out/admin_mgr_tests
+RBAC_PROGRAM=$(dirname "$0")/../crates/memory_calls/out/memory_calls_tests
 . "$(dirname "$0")/common"
 
 # More allocations than a test makes.
@@ -39,7 +39,7 @@ refuse_each() {
 
 make_shim
 # Some 800 are made by the 52 commands and what is shown of the state between them.
-refuse_each admin_mgr tests::refused::refused_memory_changes_nothing 700
+refuse_each memory_calls state::refused::refused_memory_changes_nothing 700
 # Most are made for the office.
 refuse_each role_wire tests::refused::refused_memory_stops_a_replay 700
 refuse_each role_wire tests::refused::refused_memory_is_told_or_stops_a_request 700

@@ -29,7 +29,7 @@ lay_out() {
     mkdir "$work/crates/tables_tests" || return
     cd "$work/crates/tables_tests" || return
     cp -r "$tests/tables" src && rm src/by_sqlite.py || return
-    cp "$tests/../crates/admin_mgr/src/tests/naming.rt" src || return
+    cp "$tests/../crates/memory_calls/src/state/naming.rt" src || return
     for reader in $readers; do
         cp "$tests/office/$reader.rt.test" src || return
     done

@@ -29,7 +29,7 @@ lay_out() {
     mkdir "$work/crates/wire_tests" || return
     cd "$work/crates/wire_tests" || return
     cp -r "$tests/wire" src || return
-    cp "$tests/../crates/admin_mgr/src/tests/naming.rt" src || return
+    cp "$tests/../crates/memory_calls/src/state/naming.rt" src || return
     for reader in $readers; do
         cp "$tests/$reader.rt.test" src || return
     done

@@ -24,5 +24,3 @@ mod planning;
 mod relations;
 mod separation_of_duty;
 pub mod state;
-#[cfg(test)]
-mod tests;

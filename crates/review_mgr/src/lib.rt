@@ -18,5 +18,3 @@ mod lookup;
 pub mod query;
 pub mod report;
 pub mod review;
-#[cfg(test)]
-mod tests;

@@ -23,7 +23,5 @@ pub mod opening;
 mod schema;
 mod statements;
 mod stored_table;
-#[cfg(test)]
-mod tests;
 mod values;
 mod writing;

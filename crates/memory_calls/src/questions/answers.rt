@@ -1,9 +1,9 @@
 //! Each review function, and the access decision.
 use super::small_office::{are, are_pairs, small_office};
-use crate::check_access;
-use crate::review::*;
 use admin_mgr::State;
 use rbac_sets::{Name, Refusal};
+use review_mgr::check_access;
+use review_mgr::review::*;
 use std::alloc::Global;
 use std::test::Fail;
 

@@ -1,5 +1,5 @@
 //! States of stored rows.
-use crate::State;
+use admin_mgr::State;
 use rbac_sets::{Name, Refusal, Row};
 use std::alloc::Global;
 use std::test::Fail;

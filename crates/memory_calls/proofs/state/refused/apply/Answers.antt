@@ -1,7 +1,7 @@
 use Rattle.std.proofs.Common.{sym, subst}
 use Rattle.admin_mgr.specs.Planned.{LeadsTo}
 use Rattle.admin_mgr.specs.After.{after}
-use Rattle.admin_mgr.proofs.tests.refused.apply.Goals as goal
+use Rattle.memory_calls.proofs.state.refused.apply.Goals as goal
 
 -- The plan leads to the state after the command, also once room was made.
 pub commit-requires-clause-planned : goal.commit-requires-clause-planned

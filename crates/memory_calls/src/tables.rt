@@ -1,6 +1,6 @@
 //! Each call that takes memory, over a store in memory: what it answers with memory enough. `Office::apply`
 //! is called by the tests from outside.
-use crate::{Office, create, create_v1, migrate, open};
+use role_tables::{Office, create, create_v1, migrate, open};
 use sqlite::{Connection, MemStore};
 use std::alloc::Global;
 

@@ -3,7 +3,7 @@
 //! The test passes where memory is ample. `tests/refused.sh` runs it with each allocation refused in
 //! turn, one in a run.
 use super::naming::read_command;
-use crate::State;
+use admin_mgr::State;
 use rbac_sets::{Command, CountSet, GrantSet, Name, NameSet, PairSet, Refusal};
 use std::alloc::{AllocError, Global};
 use std::process::Abort;

@@ -1,8 +1,8 @@
 //! Questions with an answer of each form.
 use super::small_office::{are, are_pairs, small_office};
-use crate::{Answer, Query, ask};
 use admin_mgr::State;
 use rbac_sets::{Name, Refusal};
+use review_mgr::{Answer, Query, ask};
 use std::alloc::Global;
 use std::test::Fail;
 

@@ -1,8 +1,7 @@
 //! Verdicts that name a set, and what is told of an import.
 use super::naming::read_command;
 use super::refused::obey;
-use crate::judge::judge;
-use crate::{Report, State};
+use admin_mgr::{Report, State};
 use rbac_sets::{Command, Refusal};
 use std::alloc::Global;
 use std::test::Fail;
@@ -36,15 +35,6 @@ fn named_set(refusal: &Refusal) -> &str {
     }
 }
 
-// Whether the verdict on the command names the set pay.
-fn is_judged(alloc: Global, state: &State, command: &Command) -> Result<bool, Refusal> {
-    let verdict = judge(alloc, state, command)?;
-    match &verdict {
-        Some(refusal) => Ok(named_set(refusal) == "pay"),
-        None => Ok(false),
-    }
-}
-
 // Whether its plan is refused with the set pay.
 fn is_refused(alloc: Global, state: &State, command: &Command) -> bool {
     match state.plan(alloc, command) {
@@ -56,7 +46,7 @@ fn is_refused(alloc: Global, state: &State, command: &Command) -> bool {
 // Whether Ann may not become an approver for the set pay.
 fn is_kept_out(alloc: Global, state: &State) -> Result<bool, Refusal> {
     let command = read_command(alloc, "assignUser ann approver")?;
-    Ok(is_judged(alloc, state, &command)? && is_refused(alloc, state, &command))
+    Ok(is_refused(alloc, state, &command))
 }
 
 #[test]

@@ -1,8 +1,8 @@
 //! The role report, byte for byte.
 use super::small_office::small_office;
-use crate::report_roles;
 use admin_mgr::State;
 use rbac_sets::{MemorySink, Refusal};
+use review_mgr::report_roles;
 use std::alloc::Global;
 use std::test::Fail;
 
