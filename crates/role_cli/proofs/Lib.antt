@@ -1,3 +1,4 @@
+mod Results
 pub mod Getters
 pub mod GivenValues
 pub mod Subcommands

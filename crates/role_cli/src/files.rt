@@ -83,7 +83,9 @@ fn what_stands(rt: &HostRuntime, path: &str) -> Result<Before, Failure> {
 fn found(rt: &HostRuntime, path: &str) -> Result<(), Failure> {
     match length_of(rt, path) {
         Err(_) => Err(Failure::Refused(Refusal::Store)),
-        Ok(0 | 1) if !has_log(rt, path) => Err(Failure::Refused(Refusal::NotAnOffice)),
+        Ok(length) if length <= 1 && !has_log(rt, path) => {
+            Err(Failure::Refused(Refusal::NotAnOffice))
+        }
         Ok(_) => Ok(()),
     }
 }

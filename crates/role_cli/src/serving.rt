@@ -1,5 +1,6 @@
 //! One connection of a server after another.
 ghost use Rattle.std.specs.Prelude.{◌≡◌, ◌⊎◌};
+ghost use Rattle.role_http.specs.Route.{routes};
 
 use crate::failure::Failure;
 use matchit::Router;

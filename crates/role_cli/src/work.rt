@@ -177,6 +177,6 @@ fn import_pairs<S: Alter>(
 {
     let report = office.apply(alloc, command)?;
     let mut line = answer_text(alloc, &Verdict::Imported(report))?;
-    line.push('\n')?;
+    line.push_str("\n")?;
     Ok(line)
 }
