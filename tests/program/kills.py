@@ -12,7 +12,7 @@ from machine.state import State
 from machine.texts import rows
 
 from .bench import PROGRAM, SECONDS
-from .offices import NO_OFFICE, STORE, Office, rows_of, told_of
+from .offices import NO_OFFICE, STORE, Office, rows_of, same_rows, told_of
 from .web import Server, post, reply
 
 # How often `init` is killed, after so many milliseconds more each time.
@@ -40,7 +40,7 @@ def rows_beside_log(bench, path):
 
 def is_left_with(bench, path, state):
     """After a kill, the file and its log have this state, and the next run leaves the one file."""
-    bench.same("the rows after the kill", rows_beside_log(bench, path), rows(state))
+    same_rows(bench, "the rows after the kill", rows_beside_log(bench, path), rows(state))
     done = bench.run(["check", path])
     bench.same("check after the kill", (done.out, done.err, done.status), (b"good\n", b"", 0))
     bench.same("which files are left", os.listdir(bench.folder), [os.path.basename(path)])
@@ -108,6 +108,22 @@ def check_killed_server(bench):
             office.model.answer(b'{"fn":"addUser",' + body[1:])
         server.process.kill()
         server.process.wait(SECONDS)
+    is_left_with(bench, office.path, office.model.state)
+
+
+def check_killed_after_another(bench):
+    """A run that was refused, since a server has the file, takes nothing away of what that server writes then."""
+    office = Office(bench)
+    with Server(bench, office.path, 10) as server:
+        for word in ("check", "init", "replay"):
+            done = bench.run([word, office.path])
+            wanted = (b"", b"rbac: " + STORE + b"\n", 1)
+            bench.same(f"{word} beside a server", (done.out, done.err, done.status), wanted)
+        answer = server.ask(post("addUser", b'{"user":"ann"}'))
+        bench.same("a request after them", answer, reply(200, b'{"ok":true}'))
+        server.process.kill()
+        server.process.wait(SECONDS)
+    office.model.answer(b'{"fn":"addUser","user":"ann"}')
     is_left_with(bench, office.path, office.model.state)
 
 

@@ -71,7 +71,13 @@ def told_of(bench, path, state):
     bench.ends(["check", path], b"good\n", keeps=True)
     bench.ends(["report", path], report(state), keeps=True)
     bench.ends(["export", path], export(state), keeps=True)
-    bench.same(f"the rows of {path}", read_rows(path), rows(state))
+    same_rows(bench, f"the rows of {os.path.basename(path)}", read_rows(path), rows(state))
+
+
+def same_rows(bench, what, given, wanted):
+    """Counts whether the rows of all tables are those that are wanted, and shows the tables that differ."""
+    tables = [table for table in {**wanted, **given} if given.get(table) != wanted.get(table)]
+    bench.same(what, {table: given.get(table) for table in tables}, {table: wanted.get(table) for table in tables})
 
 
 def small_office(bench, name="office"):
