@@ -100,5 +100,5 @@ class Bench:
         self.judge(what or " ".join(["rbac", *map(os.path.basename, words), redirected]).strip(), faults)
 
     def refuses(self, words, line, **more):
-        """Counts whether the program ends with status 1 and this line alone on standard error, and keeps all files."""
+        """Counts whether the program ends with status 1, says this line on standard error, and keeps all files."""
         self.ends(words, err=b"rbac: " + line + b"\n", status=1, keeps=True, **more)

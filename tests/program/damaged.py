@@ -1,7 +1,7 @@
 """Offices whose rows were changed: the check that fails is named, and the file stays as it is."""
 
 from .no_offices import refused_by_all
-from .offices import INTO_VERSION_1, changed, damaged, small_office, told_of, version_refused
+from .offices import changed, damaged, small_office, told_of, version_refused
 
 # What is changed of the small office, by the check that fails then. An office of either version fails it.
 DAMAGES = {
