@@ -1,0 +1,104 @@
+"""Runs the program, and compares what it says, how it ends and which files it leaves."""
+
+import os
+import stat
+import subprocess
+from dataclasses import dataclass
+from pathlib import Path
+
+TESTS = Path(__file__).resolve().parent.parent
+PROGRAM = os.path.abspath(os.environ.get("RBAC_PROGRAM", TESTS / "../crates/rbac/out/rbac"))
+SECONDS = 60
+
+
+@dataclass(frozen=True)
+class Done:
+    """What a run said on its two outputs, and its status."""
+
+    out: bytes
+    err: bytes
+    status: int
+
+
+def shown(text):
+    """The beginning of something, as a failure names it."""
+    words = repr(text)
+    return words if len(words) <= 300 else f"{words[:300]}.. ({len(words)} signs)"
+
+
+def sort_of(path):
+    """The bytes of a file; what else stands at a path is told by a word."""
+    mode = path.lstat().st_mode
+    if stat.S_ISREG(mode):
+        return path.read_bytes()
+    return f"link to {os.readlink(path)}" if stat.S_ISLNK(mode) else stat.filemode(mode)[0]
+
+
+class Bench:
+    """A folder to work in, the count of what was as it should be, and the faults that were found."""
+
+    def __init__(self, folder):
+        self.folder = folder
+        self.passed = 0
+        self.faults = []
+
+    def path(self, name):
+        """The path of a file in the folder, as a text."""
+        return str(self.folder / name)
+
+    def contents(self):
+        """What stands in the folder, by its name."""
+        return {path.name: sort_of(path) for path in self.folder.iterdir()}
+
+    def write(self, name, content):
+        """Writes a file, and gives its path."""
+        (self.folder / name).write_bytes(content)
+        return self.path(name)
+
+    def judge(self, what, faults):
+        """Counts what was looked at: it passed where there are no faults."""
+        if faults:
+            self.faults.append(f"{what}: " + "; ".join(faults))
+        else:
+            self.passed += 1
+
+    def same(self, what, given, wanted):
+        """Counts whether what is given is what is wanted."""
+        self.judge(what, [] if given == wanted else [f"{shown(given)} and not {shown(wanted)}"])
+
+    def run(self, words, given=b"", redirected=""):
+        """Runs the program with these words and this input. The shell redirects its streams as it is told."""
+        command = [PROGRAM, *words]
+        if redirected:
+            command = ["sh", "-c", f'exec "$@" {redirected}', "sh", *command]
+        done = subprocess.run(
+            command, input=given, cwd=self.folder, capture_output=True, timeout=SECONDS, check=False
+        )
+        return Done(done.stdout, done.stderr, done.returncode)
+
+    def ends(self, words, out=b"", err=b"", status=0, given=b"", redirected="", makes=(), keeps=False, what=""):
+        """Runs the program, and counts whether all is as it should be.
+
+        That is both outputs and the status to the byte, and the folder: it holds what it held before and
+        what the run makes, and with `keeps` each file has the bytes that it had.
+        """
+        before = self.contents()
+        done = self.run(words, given, redirected)
+        after = self.contents()
+        faults = [
+            f"{name} {shown(got)} and not {shown(wanted)}"
+            for name, got, wanted in [
+                ("standard output is", done.out, out),
+                ("standard error is", done.err, err),
+                ("the status is", done.status, status),
+                ("the folder has", sorted(after), sorted({*before, *makes})),
+            ]
+            if got != wanted
+        ]
+        if keeps:
+            faults += [f"{name} has changed" for name in before if after.get(name) != before[name]]
+        self.judge(what or " ".join(["rbac", *map(os.path.basename, words), redirected]).strip(), faults)
+
+    def refuses(self, words, line, **more):
+        """Counts whether the program ends with status 1, says this line on standard error, and keeps all files."""
+        self.ends(words, err=b"rbac: " + line + b"\n", status=1, keeps=True, **more)

@@ -1,0 +1,164 @@
+"""Assignments from CSV files, the export and the role report."""
+
+import json
+
+from machine.assignments import MOST_BYTES, MOST_RECORDS, export
+from machine.drawing import ODD_ASSIGNMENTS, Draws
+from machine.texts import report
+
+from .offices import STORE, Office, small_office
+
+# Two users and two roles that may not be had together, of which ann has one.
+SEPARATED = b"""\
+{"fn":"addUser","user":"ann"}
+{"fn":"addUser","user":"bob"}
+{"fn":"addRole","role":"approver"}
+{"fn":"addRole","role":"clerk"}
+{"fn":"createSsdSet","cardinality":2,"roles":["approver","clerk"],"set":"pay"}
+{"fn":"assignUser","role":"clerk","user":"ann"}
+"""
+RECORDS = b"\xef\xbb\xbfuser,role\r\nbob,clerk\r\nann,clerk\r\nann,approver\r\n"
+
+# Texts that are refused as a whole, and how.
+REFUSED = {
+    "no bytes": (b"", b'{"code":36,"error":"BadCsv","record":0}'),
+    "a semicolon in the header": (b"user;role\n", b'{"code":36,"error":"BadCsv","record":0}'),
+    "a record of one field": (b"user,role\na,b\nc\n", b'{"code":36,"error":"BadCsv","record":2}'),
+    "a field that is not UTF-8": (b"user,role\nann,\xc3\n", b'{"code":36,"error":"BadCsv","record":1}'),
+    "a header that is not UTF-8": (b"user,rol\xe9\n", b'{"code":36,"error":"BadCsv","record":0}'),
+    "a user that is no name": (b"user,role\nann,clerk\n,clerk\n", b'{"code":1,"error":"BadName"}'),
+    "a role that is no name": (b"user,role\nann," + b"r" * 65 + b"\n", b'{"code":1,"error":"BadName"}'),
+    "a zero byte": (b"user,role\nann,a\x00b\n", b'{"code":1,"error":"BadName"}'),
+    "a database": (b"SQLite format 3\x00" * 64, b'{"code":36,"error":"BadCsv","record":0}'),
+    "a record too many": (
+        b"user,role\n" + b"ann,clerk\n" * (MOST_RECORDS + 1),
+        b'{"code":32,"error":"TooMany","kind":"record"}',
+    ),
+    "a byte too many": (
+        b"user,role\nann,clerk\n".ljust(MOST_BYTES + 1, b"\n"),
+        b'{"code":32,"error":"TooMany","kind":"byte"}',
+    ),
+    "a record and a byte too many": (
+        (b"user,role\n" + b"ann,clerk\n" * (MOST_RECORDS + 1)).ljust(MOST_BYTES + 1, b"\n"),
+        b'{"code":32,"error":"TooMany","kind":"byte"}',
+    ),
+    "far too many bytes": (b"x" * (2 * MOST_BYTES), b'{"code":32,"error":"TooMany","kind":"byte"}'),
+}
+
+
+def imports(office, text, name="records.csv"):
+    """Imports a text, and compares what is said with what the model says of it."""
+    bench = office.bench
+    path = bench.write(name, text)
+    line = json.dumps({"fn": "importAssignments", "csv": text.decode()}).encode()
+    answer = office.model.answer(line)
+    words = ["import", office.path, path]
+    if b'"ok"' in answer:
+        bench.ends(words, answer + b"\n", what=f"import of {text[:60]!r}")
+    else:
+        bench.refuses(words, answer, what=f"import of {text[:60]!r}")
+
+
+def check_import(bench):
+    """An import tells what it assigned, what was there already and what was refused, and so it does again."""
+    office = Office(bench)
+    office.replay([SEPARATED])
+    office.model.answer(b'{"fn":"assignUser","role":"clerk","user":"bob"}')
+    words = ["import", office.path, bench.write("records.csv", RECORDS)]
+    told = b'{"ok":true,"value":{"already":%d,"assigned":%d,"refused":[{"code":24,"record":3}]}}\n'
+    bench.ends(words, told % (1, 1))
+    office.told()
+    bench.ends(words, told % (2, 0), keeps=True)
+    office.told()
+
+
+def check_refused_texts(bench):
+    """A text that is refused is named on standard error, and nothing is assigned."""
+    office = small_office(bench)
+    for name, (text, line) in REFUSED.items():
+        path = bench.write("records.csv", text)
+        bench.refuses(["import", office.path, path], line, what=f"import of {name}")
+    office.told()
+
+
+def check_odd_texts(bench):
+    """Texts that need care are read, or refused, as by the model."""
+    office = small_office(bench)
+    for text in ODD_ASSIGNMENTS:
+        imports(office, text.encode())
+    office.told()
+
+
+def check_drawn_texts(bench):
+    """Drawn texts are imported as by the model."""
+    draws = Draws(77)
+    office = Office(bench)
+    office.replay([draws.draw()[1] + b"\n" for _ in range(200)])
+    for _ in range(25):
+        imports(office, draws.draw_csv().encode())
+    office.told()
+
+
+def check_most(bench):
+    """As many records and bytes as there may be are imported."""
+    office = small_office(bench)
+    records = b"user,role\n" + b"ann,clerk\n" * MOST_RECORDS
+    path = bench.write("records.csv", records.ljust(MOST_BYTES, b"\n"))
+    told = b'{"ok":true,"value":{"already":%d,"assigned":1,"refused":[]}}\n' % (MOST_RECORDS - 1)
+    bench.ends(["import", office.path, path], told)
+    office.model.answer(b'{"fn":"assignUser","role":"clerk","user":"ann"}')
+    office.told()
+
+
+def check_unreadable(bench):
+    """A CSV file that can't be read stops the import before it began; the office is opened before."""
+    office = small_office(bench)
+    away, folder = bench.path("away.csv"), str(bench.folder)
+    stop = b"stop Read after 0"
+    bench.refuses(["import", office.path, away], stop)
+    bench.refuses(["import", office.path, folder], stop)
+    bench.refuses(["import", office.path, ""], stop)
+    bench.refuses(["import", bench.path("away"), away], STORE)
+    bench.refuses(["import", office.path, "/dev/null"], b'{"code":36,"error":"BadCsv","record":0}')
+
+
+def check_small_export(bench):
+    """The export and the report of the small office, and of an empty one, are as they are written here."""
+    office = small_office(bench)
+    bench.ends(["export", office.path], b"user,role\nann,boss\nbob,clerk\n", keeps=True)
+    heading = b"    assigned  authorized     granted   permitted     juniors     seniors  role\n"
+    lines = [
+        b"           1           1           1           2           1           0  boss\n",
+        b"           1           2           1           1           0           1  clerk\n",
+        b"           0           0           0           0           0           0  temp\n",
+    ]
+    bench.ends(["report", office.path], heading + b"".join(lines), keeps=True)
+    empty = Office(bench, "empty")
+    bench.ends(["export", empty.path], b"user,role\n", keeps=True)
+    bench.ends(["report", empty.path], heading, keeps=True)
+
+
+def check_export_again(bench):
+    """What one office exports another one with its users and roles imports, and exports alike."""
+    draws = Draws(78)
+    office = Office(bench)
+    office.replay([draws.draw()[1] + b"\n" for _ in range(300)])
+    state = office.model.state
+    other = Office(bench, "other")
+    names = [{"fn": "addUser", "user": user} for user in sorted(state.users)]
+    names += [{"fn": "addRole", "role": role} for role in sorted(state.roles)]
+    other.replay([json.dumps(line).encode() + b"\n" for line in names])
+    imports(other, bench.run(["export", office.path]).out)
+    bench.ends(["export", other.path], export(state))
+    bench.same("the same assignments", other.model.state.assignments, state.assignments)
+
+
+def check_long_report(bench):
+    """The report of an office with many roles, one below the other, is that of the model."""
+    office = Office(bench)
+    lines = [{"fn": "addRole", "role": "r100"}]
+    lines += [{"fn": "addDescendant", "asc": f"r{one}", "desc": f"r{one + 1}"} for one in range(100, 160)]
+    lines += [{"fn": "addUser", "user": "ann"}, {"fn": "assignUser", "user": "ann", "role": "r130"}]
+    office.replay([json.dumps(line).encode() + b"\n" for line in lines])
+    bench.ends(["report", office.path], report(office.model.state), keeps=True)
+    office.told()

@@ -1,0 +1,212 @@
+"""Requests that are done, connections that come to nothing, and how a server ends."""
+
+import json
+import socket
+import struct
+import time
+
+from machine.assignments import MOST_BYTES
+from machine.commands import COMMANDS
+from machine.drawing import draw_script
+from machine.questions import QUESTIONS
+
+from .heads import ANN, CURL, LENGTH
+from .importing import RECORDS, SEPARATED
+from .offices import STORE, Office, small_office
+from .web import HOST, Server, connect, free_port, head, post, read_all, reply
+
+DONE = b'{"ok":true}'
+ADD_ANN = b'{"fn":"addUser","user":"ann"}'
+
+# How long a client may say nothing, and how far from that it may be let go.
+PATIENCE = 5
+LEAST, MOST = PATIENCE - 1, PATIENCE + 10
+
+
+def check_add_user(bench):
+    """A user is added by a request as a client writes it, once; the file has the user afterwards."""
+    office = Office(bench)
+    with Server(bench, office.path, 2) as server:
+        answer = (
+            b"HTTP/1.1 200 OK\r\nContent-Type: application/json\r\n"
+            b'Content-Length: 11\r\nConnection: close\r\n\r\n{"ok":true}'
+        )
+        bench.same("the first request", server.ask(CURL), answer)
+        answer = (
+            b"HTTP/1.1 409 Conflict\r\nContent-Type: application/json\r\n"
+            b'Content-Length: 31\r\nConnection: close\r\n\r\n{"code":3,"error":"UserExists"}'
+        )
+        bench.same("the second request", server.ask(CURL), answer)
+        server.ends()
+    office.model.answer(ADD_ANN)
+    office.told()
+
+
+def check_limit(bench):
+    """A server ends after so many connections, those that come to nothing counted, and listens no more."""
+    office = Office(bench)
+    with Server(bench, office.path, 3) as server:
+        bench.same("a question", server.ask(post("ssdRoleSets", b"")), reply(200, b'{"ok":true,"value":[]}'))
+        connect(server.port).close()
+        bench.same("nobody has ended it", server.process.poll(), None)
+        bench.same("a command", server.ask(post("addUser", ANN)), reply(200, DONE))
+        server.ends()
+        with socket.socket() as client:
+            bench.same("a further connection is refused", client.connect_ex((HOST, server.port)) != 0, True)
+    office.model.answer(ADD_ANN)
+    office.told()
+
+
+def check_forms(bench):
+    """Requests are done however they are written: HTTP/1.0, other cases, 64 fields, slow clients."""
+    office = Office(bench)
+    add = "POST /v1/addUser HTTP/1.1"
+    requests = {
+        "HTTP/1.0": head("POST /v1/addUser HTTP/1.0", "Content-Length: 12") + b'{"user":"a"}',
+        "other cases": head(add, "cOnTeNt-LeNgTh: 12") + b'{"user":"b"}',
+        "two equal lengths": head(add, "Content-Length: 12", "Content-Length: 12") + b'{"user":"c"}',
+        "64 fields": head(add, "Content-Length: 12", *["X: y"] * 62) + b'{"user":"d"}',
+        "expecting": head(add, "Expect: 100-continue", "Content-Length: 12") + b'{"user":"e"}',
+        "another function named": post("addUser", b'{"fn":"fly","user":"f"}'),
+        "more behind the body": post("addUser", b'{"user":"g"}') + CURL,
+        "the longest body": post("addUser", b'{"user":"h"}'.ljust(65_536)),
+    }
+    with Server(bench, office.path, len(requests) + 1) as server:
+        for (name, request), user in zip(requests.items(), "abcdefgh"):
+            bench.same(f"a request with {name}", server.ask(request), reply(200, DONE))
+            office.model.answer(b'{"fn":"addUser","user":"%s"}' % user.encode())
+        bench.same("a request in pieces", ask_slowly(server, CURL), reply(200, DONE))
+        office.model.answer(ADD_ANN)
+        server.ends()
+    office.told()
+
+
+def ask_slowly(server, request):
+    """The answer to a request that is sent in pieces."""
+    with connect(server.port) as client:
+        client.setsockopt(socket.IPPROTO_TCP, socket.TCP_NODELAY, 1)
+        for start in range(0, len(request), 40):
+            client.sendall(request[start : start + 40])
+            time.sleep(0.02)
+        return read_all(client)
+
+
+def check_import(bench):
+    """An import over HTTP has the text itself as its body, up to the most bytes that there may be."""
+    office = Office(bench)
+    office.replay([SEPARATED])
+    with Server(bench, office.path, 2) as server:
+        told = b'{"ok":true,"value":{"already":%d,"assigned":%d,"refused":[{"code":24,"record":3}]}}'
+        request = head("POST /v1/importAssignments HTTP/1.1", "Content-Length: 50") + RECORDS
+        bench.same("an import", server.ask(request), reply(200, told % (1, 1)))
+        request = post("importAssignments", RECORDS.ljust(MOST_BYTES, b"\n"))
+        bench.same("the longest import", server.ask(request), reply(200, told % (2, 0)))
+        server.ends()
+    office.model.answer(b'{"fn":"assignUser","role":"clerk","user":"bob"}')
+    office.told()
+
+
+def request_of(line):
+    """A drawn line as a request over HTTP, or None where it names no function or has no text to import."""
+    try:
+        value = json.loads(line.decode())
+        function = value["fn"]
+        body = value["csv"].encode() if function == "importAssignments" else line
+    except (ValueError, KeyError, TypeError, AttributeError):
+        return None
+    if not isinstance(function, str) or function not in {**COMMANDS, **QUESTIONS}:
+        return None
+    return post(function, body)
+
+
+def status_of(answer):
+    """The status with which an answer comes."""
+    told = json.loads(answer)
+    if "ok" in told:
+        return 200
+    return 400 if told["code"] in (1, 34, 36) else 409
+
+
+def check_drawn_requests(bench):
+    """Drawn requests in two lives of a server are answered as by the model."""
+    for seed in (4_001, 4_002):
+        office = Office(bench, f"drawn-{seed}")
+        lines = [line for _, line, answer in draw_script(seed, 360) if answer]
+        asked = [(line, request_of(line)) for line in lines]
+        asked = [(line, request) for line, request in asked if request]
+        half = len(asked) // 2
+        for some in (asked[:half], asked[half:]):
+            with Server(bench, office.path, len(some)) as server:
+                for line, request in some:
+                    answer = office.model.answer(line)
+                    wanted = reply(status_of(answer), answer)
+                    bench.same(f"the request {request!r}", server.ask(request), wanted)
+                server.ends()
+            office.told()
+
+
+def check_silent_client(bench):
+    """A client that says nothing is let go without an answer, and the next one is served."""
+    silent_before(bench, b"")
+
+
+def check_stopped_client(bench):
+    """So is one that stops in the middle of its body, and nothing is done for it."""
+    silent_before(bench, head("POST /v1/addUser HTTP/1.1", LENGTH) + b'{"user"')
+
+
+def silent_before(bench, said):
+    """A client stops after it said something, and another one asks."""
+    office = Office(bench)
+    with Server(bench, office.path, 2) as server, connect(server.port) as silent:
+        silent.sendall(said)
+        start = time.monotonic()
+        bench.same("the next client", server.ask(CURL), reply(200, DONE))
+        waited = time.monotonic() - start
+        bench.same(f"the next client waited {waited:.1f} seconds", LEAST <= waited <= MOST, True)
+        bench.same("the silent client", read_all(silent), b"")
+        server.ends()
+    office.model.answer(ADD_ANN)
+    office.told()
+
+
+def check_resets(bench):
+    """Clients that reset the connection, or don't wait for their answers, harm nobody."""
+    office = Office(bench)
+    with Server(bench, office.path, 9) as server:
+        for said in (b"", CURL[:20], CURL[:-1], post("ssdRoleSets", b"")):
+            for _ in range(2):
+                with connect(server.port) as client:
+                    client.setsockopt(socket.SOL_SOCKET, socket.SO_LINGER, struct.pack("ii", 1, 0))
+                    client.sendall(said)
+        bench.same("the next client", server.ask(CURL), reply(200, DONE))
+        server.ends()
+    office.model.answer(ADD_ANN)
+    office.told()
+
+
+def check_port_in_use(bench):
+    """A port that someone listens on is told, and the file stays; an office that is none is told before."""
+    office = small_office(bench)
+    with socket.socket() as other:
+        port = free_port()
+        other.bind((HOST, port))
+        other.listen()
+        words = ["--port", str(port), "--limit", "1"]
+        bench.refuses(["serve", office.path, *words], b"cannot listen", what="serve on a port in use")
+        bench.refuses(["serve", bench.path("away"), *words], STORE, what="serve of no file on a port in use")
+    office.told()
+
+
+def check_file_in_use(bench):
+    """While a server has the file, the other subcommands are refused, and what is answered stays in it."""
+    office = Office(bench)
+    with Server(bench, office.path, 1) as server:
+        for words in (["check"], ["replay"], ["export"], ["report"], ["migrate"], ["init"]):
+            done = bench.run([*words, office.path], ADD_ANN)
+            wanted = (b"", b"rbac: " + STORE + b"\n", 1)
+            bench.same(f"{words} beside a server", (done.out, done.err, done.status), wanted)
+        bench.same("a request", server.ask(CURL), reply(200, DONE))
+        server.ends()
+    office.model.answer(ADD_ANN)
+    office.told()

@@ -1,0 +1,128 @@
+"""A server of an office, and clients of it."""
+
+import os
+import random
+import socket
+import subprocess
+
+from .bench import PROGRAM, SECONDS
+
+HOST = "127.0.0.1"
+
+# Ports that the system gives to no client by itself.
+PORTS = (20_000, 32_000)
+
+PHRASES = {
+    200: "OK",
+    400: "Bad Request",
+    404: "Not Found",
+    405: "Method Not Allowed",
+    409: "Conflict",
+    411: "Length Required",
+    413: "Payload Too Large",
+    431: "Request Header Fields Too Large",
+    500: "Internal Server Error",
+    501: "Not Implemented",
+}
+
+BAD_REQUEST = b'{"code":34,"error":"BadRequest"}'
+NO_FUNCTION = b'{"code":35,"error":"UnknownFunction"}'
+
+
+def free_port():
+    """A port on which nobody listens."""
+    draws = random.Random(os.urandom(8))
+    while True:
+        port = draws.randrange(*PORTS)
+        with socket.socket() as probe:
+            try:
+                probe.bind((HOST, port))
+            except OSError:
+                continue
+            return port
+
+
+def reply(status, body):
+    """All bytes of an answer."""
+    lines = [
+        f"HTTP/1.1 {status} {PHRASES[status]}",
+        "Content-Type: application/json",
+        f"Content-Length: {len(body)}",
+        "Connection: close",
+    ]
+    if status == 405:
+        lines.append("Allow: POST")
+    return "".join(line + "\r\n" for line in [*lines, ""]).encode() + body
+
+
+def head(first, *fields):
+    """The head of a request with these lines."""
+    return "".join(line + "\r\n" for line in [first, "Host: a", *fields, ""]).encode()
+
+
+def post(function, body):
+    """A request for a function."""
+    return head(f"POST /v1/{function} HTTP/1.1", f"Content-Length: {len(body)}") + body
+
+
+def connect(port):
+    """A connection to the server."""
+    client = socket.create_connection((HOST, port), SECONDS)
+    client.settimeout(SECONDS)
+    return client
+
+
+def read_all(client):
+    """What the server says until it ends the connection."""
+    pieces = []
+    while True:
+        try:
+            piece = client.recv(65_536)
+        except ConnectionResetError:
+            break
+        if not piece:
+            break
+        pieces.append(piece)
+    return b"".join(pieces)
+
+
+class Server:
+    """The program as it serves an office. It is killed at the end where it has not ended by itself."""
+
+    def __init__(self, bench, path, limit):
+        self.bench = bench
+        self.port = free_port()
+        self.process = subprocess.Popen(
+            [PROGRAM, "serve", path, "--port", str(self.port), "--limit", str(limit)],
+            stdin=subprocess.DEVNULL,
+            stdout=subprocess.PIPE,
+            stderr=subprocess.PIPE,
+            cwd=bench.folder,
+        )
+
+    def __enter__(self):
+        line = f"listening on {HOST}:{self.port}\n".encode()
+        self.bench.same("the line of serve", self.process.stdout.readline(), line)
+        return self
+
+    def __exit__(self, *_):
+        self.process.kill()
+        self.process.wait()
+        self.process.stdout.close()
+        self.process.stderr.close()
+
+    def ask(self, request, cut=False):
+        """The answer to a request. With `cut` nothing more can come after it."""
+        with connect(self.port) as client:
+            try:
+                client.sendall(request)
+                if cut:
+                    client.shutdown(socket.SHUT_WR)
+            except OSError:
+                pass
+            return read_all(client)
+
+    def ends(self, err=b"", status=0):
+        """The server has ended by itself, and said nothing more than this."""
+        out, said = self.process.communicate(timeout=SECONDS)
+        self.bench.same("the end of serve", (out, said, self.process.returncode), (b"", err, status))
