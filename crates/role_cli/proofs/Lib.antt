@@ -1,3 +1,4 @@
+mod Choices
 mod Results
 pub mod Getters
 pub mod GivenValues

@@ -1,7 +1,13 @@
 -- What follows of a result at Ok.
-use Rattle.std.proofs.Common.{Result, Ok, Err}
+use Rattle.std.proofs.Common.{Result, Ok, Err, sym}
+use Rattle.std.proofs.lemmas.Bool.{true≢false}
+use Rattle.std.specs.Prelude.{IsOk}
 use Rattle.std.specs.Result.{OnOk}
 
 pub on_ok-then : {T E : Type 0} (r : Result T E) (P Q : Type 0) → OnOk r P → (P → Q) → OnOk r Q
 on_ok-then (Ok t) P Q holds step = step holds
 on_ok-then (Err e) P Q holds step = tt
+
+pub on_ok-holds : {T E : Type 0} (r : Result T E) (P : Type 0) → IsOk r → OnOk r P → P
+on_ok-holds (Ok t) P is_ok holds = holds
+on_ok-holds (Err e) P is_ok holds = absurd (true≢false (sym is_ok))

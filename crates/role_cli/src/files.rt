@@ -68,13 +68,13 @@ pub(crate) fn over_file<R: Source, W: Sink>(
     }
 }
 
-// What stands at the path. A link that leads nowhere is refused, since its log would lie elsewhere.
+// What stands at the path. What is no file is refused, and a link that leads nowhere.
 fn what_stands(rt: &HostRuntime, path: &str) -> Result<Before, Failure> {
     match length_of(rt, path) {
-        Ok(0) => Ok(Before::EmptyFile),
-        Ok(_) => Ok(Before::Bytes),
-        Err(_) if fs::symlink_metadata(rt, path).is_ok() => Err(Failure::Refused(Refusal::Store)),
-        Err(_) => Ok(Before::Nothing),
+        Some(0) => Ok(Before::EmptyFile),
+        Some(_) => Ok(Before::Bytes),
+        None if fs::symlink_metadata(rt, path).is_ok() => Err(Failure::Refused(Refusal::Store)),
+        None => Ok(Before::Nothing),
     }
 }
 
@@ -82,24 +82,28 @@ fn what_stands(rt: &HostRuntime, path: &str) -> Result<Before, Failure> {
 // has bytes, or a log beside it has.
 fn found(rt: &HostRuntime, path: &str) -> Result<(), Failure> {
     match length_of(rt, path) {
-        Err(_) => Err(Failure::Refused(Refusal::Store)),
-        Ok(length) if length <= 1 && !has_log(rt, path) => {
+        None => Err(Failure::Refused(Refusal::Store)),
+        Some(length) if length <= 1 && !has_log(rt, path) => {
             Err(Failure::Refused(Refusal::NotAnOffice))
         }
-        Ok(_) => Ok(()),
+        Some(_) => Ok(()),
     }
 }
 
 // Whether a log with bytes stands beside the file.
 fn has_log(rt: &HostRuntime, path: &str) -> bool {
     match beside(rt, path, "-wal") {
-        Ok(log) => matches!(length_of(rt, log.as_str()), Ok(length) if length > 0),
+        Ok(log) => matches!(length_of(rt, log.as_str()), Some(length) if length > 0),
         Err(_) => false,
     }
 }
 
-fn length_of(rt: &HostRuntime, path: &str) -> io::Result<u64> {
-    Ok(fs::metadata(rt, path)?.len())
+// How many bytes the file has, if one is there: a folder, a pipe or a device is none.
+fn length_of(rt: &HostRuntime, path: &str) -> Option<u64> {
+    match fs::metadata(rt, path) {
+        Ok(found) if found.is_file() => Some(found.len()),
+        _ => None,
+    }
 }
 
 // The path of the file with this ending. As `sqlite` opens it, it lies where a link leads.
@@ -119,7 +123,7 @@ fn connect(rt: &HostRuntime, path: &str, before: Before) -> Option<Connection<Fi
             None
         }
         Err((_, None)) => {
-            if before == Before::Nothing && matches!(length_of(rt, path), Ok(0)) {
+            if before == Before::Nothing && length_of(rt, path) == Some(0) {
                 let _ = fs::remove_file(rt, path);
             }
             None
@@ -186,13 +190,13 @@ fn is_begun(rt: &HostRuntime, path: &str) -> bool {
         return false;
     };
     let short_log = length_of(rt, log.as_str()).unwrap_or(0) < SHORTEST_LOG;
-    short_log && matches!(length_of(rt, path), Ok(length) if length <= BEGUN)
+    short_log && matches!(length_of(rt, path), Some(length) if length <= BEGUN)
 }
 
 // Takes an empty log away.
 fn remove_empty_log(rt: &HostRuntime, path: &str) {
     if let Ok(log) = beside(rt, path, "-wal")
-        && matches!(length_of(rt, log.as_str()), Ok(0))
+        && length_of(rt, log.as_str()) == Some(0)
     {
         let _ = fs::remove_file(rt, log.as_str());
     }

@@ -10,7 +10,7 @@ use crate::choice::{Choice, Place, Unchosen, choose};
 use crate::failure::{Failure, tell, tell_no_memory};
 use crate::files::{make_in_file, over_file};
 use crate::memory::replay_memory;
-use rbac_sets::{Refusal, Sink, Source, write_all};
+use rbac_sets::{Sink, Source};
 use std::alloc::Global;
 
 /// The status of a program that did what it was asked.
@@ -70,13 +70,13 @@ fn done<R: Source, W: Sink>(
             Err(failure) => Err(failure),
         },
         Choice::Init(file) => make_in_file(rt, file.as_str(), choice, source, out),
-        Choice::Replay(Place::File(file))
-        | Choice::Serve(file, _, _)
-        | Choice::Import(file, _)
-        | Choice::Export(file)
-        | Choice::Report(file)
-        | Choice::Check(file)
-        | Choice::Migrate(file) => over_file(rt, file.as_str(), choice, source, out),
+        Choice::Replay(Place::File(file)) => over_file(rt, file.as_str(), choice, source, out),
+        Choice::Serve(file, _, _) => over_file(rt, file.as_str(), choice, source, out),
+        Choice::Import(file, _) => over_file(rt, file.as_str(), choice, source, out),
+        Choice::Export(file) => over_file(rt, file.as_str(), choice, source, out),
+        Choice::Report(file) => over_file(rt, file.as_str(), choice, source, out),
+        Choice::Check(file) => over_file(rt, file.as_str(), choice, source, out),
+        Choice::Migrate(file) => over_file(rt, file.as_str(), choice, source, out),
     }
 }
 
@@ -107,11 +107,6 @@ fn explain<W: Sink, E: Sink>(alloc: Global, error: &clap::Error, out: &mut W, er
         tell(err, text.as_bytes());
         return REFUSED;
     }
-    match write_all(out, text.as_bytes()) {
-        Ok(()) => DONE,
-        Err(_) => {
-            Failure::Refused(Refusal::Store).tell(alloc, err);
-            STOPPED
-        }
-    }
+    tell(out, text.as_bytes());
+    DONE
 }
