@@ -3,11 +3,17 @@
 from .no_offices import refused_by_all
 from .offices import changed, damaged, small_office, told_of, version_refused
 
+
+def loose(table):
+    """The statements that make a table anew without its checks: a database that breaks one isn't opened at all."""
+    return [f"CREATE TABLE loose AS SELECT * FROM {table}", f"DROP TABLE {table}", f"ALTER TABLE loose RENAME TO {table}"]
+
+
 # What is changed of the small office, by the check that fails then. An office of either version fails it.
 DAMAGES = {
-    "a kind of names that is not known": (1, ["INSERT INTO name_row VALUES (9, 'q')"]),
-    "a kind of pairs that is not known": (1, ["INSERT INTO pair_row VALUES (0, 'ann', 'boss')"]),
-    "a kind of sets that is not known": (1, ["INSERT INTO set_row VALUES (3, 'pay', 2)"]),
+    "a kind of names that is not known": (1, [*loose("name_row"), "INSERT INTO name_row VALUES (9, 'q')"]),
+    "a kind of pairs that is not known": (1, [*loose("pair_row"), "INSERT INTO pair_row VALUES (0, 'ann', 'boss')"]),
+    "a kind of sets that is not known": (1, [*loose("set_row"), "INSERT INTO set_row VALUES (3, 'pay', 2)"]),
     "a cardinality that is too great": (1, ["UPDATE set_row SET n = 4294967296 WHERE kind = 1"]),
     "a second row of the version": (1, ["INSERT INTO meta_row VALUES ('x', 1)"]),
     "an empty name": (2, ["INSERT INTO name_row VALUES (1, '')"]),
@@ -28,7 +34,7 @@ DAMAGES = {
     "a closure pair too few": (6, ["DELETE FROM pair_row WHERE kind = 4"]),
     "a closure pair too many": (6, ["INSERT INTO pair_row VALUES (4, 'boss', 'temp')"]),
     "a cardinality over the number of members": (7, ["UPDATE set_row SET n = 3 WHERE kind = 1"]),
-    "a cardinality under two": (7, ["UPDATE set_row SET n = 1 WHERE kind = 2"]),
+    "a cardinality under two": (7, [*loose("set_row"), "UPDATE set_row SET n = 1 WHERE kind = 2"]),
     "an activated role that is not authorized": (8, ["DELETE FROM pair_row WHERE kind = 2 AND a = 'ann'"]),
     "a static separation set that is violated": (9, ["INSERT INTO pair_row VALUES (2, 'bob', 'temp')"]),
     "a dynamic separation set that is violated": (
