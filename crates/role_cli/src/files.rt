@@ -171,7 +171,7 @@ fn close(rt: &HostRuntime, path: &str, conn: Connection<FileStore<File>>, before
 // locked. Where more than a beginning was written, it stays: the next opening reads it.
 fn put_back(rt: &HostRuntime, path: &str, before: Before) {
     match before {
-        Before::Bytes => remove_empty_log(rt, path),
+        Before::Bytes => remove_begun_log(rt, path),
         _ if !is_begun(rt, path) => {}
         Before::Nothing => {
             remove_beside(rt, path);
@@ -193,10 +193,10 @@ fn is_begun(rt: &HostRuntime, path: &str) -> bool {
     short_log && matches!(length_of(rt, path), Some(length) if length <= BEGUN)
 }
 
-// Takes an empty log away.
-fn remove_empty_log(rt: &HostRuntime, path: &str) {
+// Takes a log away that holds no page.
+fn remove_begun_log(rt: &HostRuntime, path: &str) {
     if let Ok(log) = beside(rt, path, "-wal")
-        && length_of(rt, log.as_str()) == Some(0)
+        && matches!(length_of(rt, log.as_str()), Some(length) if length < SHORTEST_LOG)
     {
         let _ = fs::remove_file(rt, log.as_str());
     }
