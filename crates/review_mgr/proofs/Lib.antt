@@ -4,3 +4,4 @@ pub mod Columns
 pub mod Gathering
 pub mod Reached
 pub mod Refusing
+pub mod RunsAndGrants

@@ -1,4 +1,5 @@
 pub mod Answering
+pub mod Meeting
 pub mod QuestionLaws
 pub mod Questions
 pub mod Report

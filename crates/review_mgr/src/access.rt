@@ -7,7 +7,8 @@ ghost use Rattle.review_mgr.specs.declared.query.Query.TheVariants.{CheckAccess}
 ghost use Rattle.review_mgr.specs.Questions.{has_operation, refused};
 ghost use Rattle.review_mgr.specs.Review.{has_access, is_grant_of};
 
-use crate::lookup::{activated_in, has_operation, has_session, is_granted};
+use crate::lookup::{activated_in, has_operation, has_session};
+use crate::meeting::is_granted;
 use admin_mgr::State;
 use rbac_sets::{Name, Refusal};
 
@@ -16,8 +17,9 @@ use rbac_sets::{Name, Refusal};
 /// such a role.
 ///
 /// It takes no memory. The activated roles of the session and the grants of the permission are found
-/// by binary search, and then each of the one is looked at with each of the other. Where there are
-/// some, the session, the object and the operation are there; else these are looked for.
+/// by binary search. One or two grants are then looked for below each of these roles; more of them are
+/// gone through once beside what lies below each. Where there are activated roles and grants, the
+/// session, the object and the operation are there; else these are looked for.
 ///
 /// # Errors
 ///

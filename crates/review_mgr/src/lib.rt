@@ -15,6 +15,7 @@ pub mod asking;
 mod gather;
 pub mod laws;
 mod lookup;
+mod meeting;
 pub mod query;
 pub mod report;
 pub mod review;

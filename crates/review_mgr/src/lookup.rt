@@ -1,7 +1,7 @@
 //! What is there, and what is reached from a role.
 ghost use Rattle.std.specs.Prelude.{◌≡◌};
 ghost use Rattle.std.specs.List.{list_any};
-ghost use Rattle.rbac_sets.specs.Sets.{Pair, Triple, any, pair_cmp, same_name};
+ghost use Rattle.rbac_sets.specs.Sets.{Pair, any, pair_cmp, same_name};
 ghost use Rattle.rbac_sets.specs.SortedSet.{set_of};
 ghost use Rattle.admin_mgr.specs.RbacState.{has_session, has_set};
 ghost use Rattle.admin_mgr.specs.Held.{is_reached, run_of};
@@ -84,15 +84,4 @@ pub(crate) fn is_reached(order: &RoleOrder, held: &[(Name, Name)], role: &Name) 
     ensures { result ≡ is_reached order.now.edges held.now role.now }
 {
     held.iter().any(|pair| order.geq(&pair.1, role))
-}
-
-// Whether the role of one of the grants is reached so.
-pub(crate) fn is_granted(
-    order: &RoleOrder,
-    held: &[(Name, Name)],
-    grants: &[(Name, Name, Name)],
-) -> bool
-    ensures { result ≡ list_any (λ (grant : Triple). is_reached order.now.edges held.now grant.2) grants.now }
-{
-    grants.iter().any(|grant| is_reached(order, held, &grant.2))
 }
