@@ -1,6 +1,6 @@
 //! Lines and a request of which tests/refused.sh of the repository refuses each allocation in turn: these tests
 //! pass however a refusal falls.
-use super::replaying::{DONE, empty_office};
+use super::replaying::{DONE, REQUEST, empty_office};
 use rbac_sets::{MemorySink, MemorySource};
 use role_tables::Office;
 use role_wire::{Cause, Served, Stop, replay, serve_one};
@@ -21,8 +21,6 @@ const WRITTEN: [&str; 5] = [
     "{\"ok\":true}\n{\"ok\":true}\n{\"ok\":true}\n",
     "{\"ok\":true}\n{\"ok\":true}\n{\"ok\":true}\n{\"ok\":true,\"value\":[\"ann\"]}\n",
 ];
-
-const REQUEST: &str = "POST /v1/addUser HTTP/1.1\r\nContent-Length: 14\r\n\r\n{\"user\":\"ann\"}";
 
 const NO_MEMORY: &str = "HTTP/1.1 503 Service Unavailable\r\nContent-Type: application/json\r\n\
     Content-Length: 28\r\nConnection: close\r\n\r\n{\"code\":40,\"error\":\"Memory\"}";

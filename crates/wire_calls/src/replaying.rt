@@ -6,7 +6,7 @@ use role_wire::{replay, serve_one, serve_with};
 use sqlite::{Connection, MemStore};
 use std::alloc::Global;
 
-const LINES: &str = r#"{"fn":"addUser","user":"ann"}
+pub(super) const LINES: &str = r#"{"fn":"addUser","user":"ann"}
 {"role":"clerk","fn":"addRole"}
 
 {"fn":"importAssignments","csv":"user,role\nann,clerk\nbob,clerk\n"}
@@ -15,7 +15,7 @@ const LINES: &str = r#"{"fn":"addUser","user":"ann"}
 []
 {"fn":"permissionRoles","object":"safe","operation":"open"}"#;
 
-const ANSWERS: &str = r#"{"ok":true}
+pub(super) const ANSWERS: &str = r#"{"ok":true}
 {"ok":true}
 {"ok":true,"value":{"already":0,"assigned":1,"refused":[{"code":2,"record":2}]}}
 {"ok":true,"value":["ann"]}
@@ -26,6 +26,9 @@ const ANSWERS: &str = r#"{"ok":true}
 
 const REQUESTS: &str = "POST /v1/addUser HTTP/1.1\r\nContent-Length: 14\r\n\r\n{\"user\":\"ann\"}\
     POST /v1/addUser HTTP/1.1\r\nContent-Length: 14\r\n\r\n{\"user\":\"ann\"}behind";
+
+pub(super) const REQUEST: &str =
+    "POST /v1/addUser HTTP/1.1\r\nContent-Length: 14\r\n\r\n{\"user\":\"ann\"}";
 
 pub(super) const DONE: &str =
     "HTTP/1.1 200 OK\r\nContent-Type: application/json\r\nContent-Length: 11\r\n\
