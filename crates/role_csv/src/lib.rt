@@ -6,6 +6,4 @@ pub use writing::write_assignments;
 
 pub mod reading;
 mod records;
-#[cfg(test)]
-mod tests;
 pub mod writing;

@@ -12,5 +12,3 @@ mod fields;
 pub mod function;
 mod queries;
 pub mod request;
-#[cfg(test)]
-mod tests;

@@ -13,5 +13,3 @@ mod made;
 mod performing;
 pub mod replaying;
 pub mod serving;
-#[cfg(test)]
-mod tests;
