@@ -1,5 +1,5 @@
 -- Roles with those below them, gathered as a list in order.
-use Rattle.std.proofs.Common.{◌≡◌, ℕ, ◌+◌, ◌<◌, ◌≤◌, inl, inr, Bool, ◌||◌, List, [], ◌∷◌, ◌++◌, length, take, get_or, refl, sym, ◌∙◌, ap, subst}
+use Rattle.std.proofs.Common.{◌≡◌, ℕ, ◌+◌, ◌<◌, ◌≤◌, inl, inr, Bool, ◌||◌, ◌≢◌, ◌↔◌, List, [], ◌∷◌, ◌++◌, length, take, get_or, refl, sym, ◌∙◌, ap, subst}
 use Rattle.std.specs.Prelude.{IsTrue, Result, Ok, Err, IfOk}
 use Rattle.std.specs.List.{list_any}
 use Rattle.std.specs.List.Sorted.{IsStrictlySortedBy}
@@ -7,7 +7,7 @@ use Rattle.std.proofs.lemmas.List.{take_more}
 use Rattle.std.proofs.Math.Bool.{or_assoc}
 use Rattle.std.proofs.lemmas.Bool.{and_parts, and_from, or_cases, or_left, or_right}
 use Rattle.std.specs.Cmp.{both_ways}
-use Rattle.rbac_sets.specs.Sets.{Bytes, Pair, Pairs, name_cmp, same_name, contains, from_list, insert, members, retain, any}
+use Rattle.rbac_sets.specs.Sets.{Bytes, Names, Pair, Pairs, name_cmp, same_name, contains, from_list, insert, members, retain, any}
 use Rattle.rbac_sets.specs.NameOrder.{name_total, name_exact, pair_total, pair_exact}
 use Rattle.rbac_sets.proofs.SetLaws.{any-Decides, contains-empty, contains-insert, contains-retain, or_turned, same_members, tie_Decides}
 use Rattle.rbac_sets.proofs.Members.{members-retain}
@@ -78,6 +78,19 @@ below-are edges pairs closed role q =
             ∙ and_from _ _ ((closed role q).1 (λ e. other (sym e), (geq-Decides edges role q).0 h)) ((tie_Decides name_total name_exact role role).1 refl),
         (tie_Decides name_total name_exact q q).1 refl,
       ))
+    ])
+
+-- the role, and the roles above it
+pub above-are : (edges : Pairs) (above : Names) (role : Bytes) → ((p : Bytes) → IsTrue (contains above p) ↔ ((p ≢ role) × Geq edges p role))
+    → (p : Bytes) → (same_name p role || contains above p) ≡ geq edges p role
+above-are edges above role are p = both_ways _ _
+    (λ h. (geq-Decides edges p role).1 (elim (or_cases (same_name p role) _ h) [
+      | inl one ↦ subst (λ z. Geq edges z role) (sym ((tie_Decides name_total name_exact p role).0 one)) here
+      | inr other ↦ ((are p).0 other).1
+    ]))
+    (λ h. elim (same_or_other p role) [
+      | inl one ↦ or_left _ _ ((tie_Decides name_total name_exact p role).1 one)
+      | inr other ↦ or_right _ _ ((are p).1 (other, (geq-Decides edges p role).0 h))
     ])
 
 -- with both put, what is there is what was there and what the role reaches

@@ -123,10 +123,11 @@ pub(crate) fn users_above(
     ensures ok { IfOk result (λ names. names.items ≡ members (image {Q = name_cmp} (λ (pair : Pair). pair.0) (retain (set_of pair_cmp assignments.now) (λ pair. geq order.now.edges pair.1 role.now)))) }
     ensures cause { IfErr result (λ refusal. refusal ≡ Refusal.Memory) }
 {
+    let above = order.seniors(alloc, role)?;
     gather(
         alloc,
         assignments.as_slice(),
-        |pair| order.geq(&pair.1, role),
+        |pair| is_same(&pair.1, role) || above.contains(&pair.1),
         |pair| &pair.0,
     )
 }
@@ -148,6 +149,17 @@ fn put_below(
         put(alloc, names, &pair.1)?;
     }
     Ok(())
+}
+
+// The role and those below it.
+fn roles_below(alloc: Global, order: &RoleOrder, role: &Name) -> Result<Vec<Name>, Refusal>
+    ensures sorted { IfOk result (λ names. IsStrictlySortedBy name_cmp names.items) }
+    ensures below { IfOk result (λ names. (q : Bytes) → contains (from_list {R = name_cmp} names.items) q ≡ geq order.now.edges role.now q) }
+    ensures cause { IfErr result (λ refusal. refusal ≡ Refusal.Memory) }
+{
+    let mut names = Vec::new(alloc);
+    put_below(alloc, order, &mut names, role)?;
+    Ok(names)
 }
 
 // The roles that are reached from the second names of the pairs: these names and what is below them.
@@ -185,10 +197,11 @@ pub(crate) fn permissions_below(
     ensures ok { IfOk result (λ pairs. pairs.items ≡ members (image {Q = pair_cmp} permission_of (retain (set_of triple_cmp grants.now) (λ grant. geq order.now.edges role.now grant.2)))) }
     ensures cause { IfErr result (λ refusal. refusal ≡ Refusal.Memory) }
 {
+    let roles = roles_below(alloc, order, role)?;
     gather(
         alloc,
         grants.as_slice(),
-        |grant| order.geq(role, &grant.2),
+        |grant| has_name(&roles, &grant.2),
         |grant| (&grant.0, &grant.1),
     )
 }
