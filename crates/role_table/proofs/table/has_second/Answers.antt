@@ -1,0 +1,18 @@
+use Rattle.std.proofs.Common.{rules, ◌∙◌}
+use Rattle.std.proofs.lemmas.Fn.{always_returns_same}
+use Rattle.rbac_sets.specs.Sets.{Pair}
+use Rattle.rbac_sets.proofs.SetLaws.{contains-from_list}
+use Rattle.rbac_sets.proofs.InOrder.{search_finds, search_parts, contains-search}
+use Rattle.role_order.specs.Checked.{second_cmp}
+use Rattle.role_table.proofs.Rows.{second_total}
+use Rattle.role_table.proofs.table.has_second.Goals as goal
+
+pub returns : goal.returns
+returns c =
+    let facts = c.binary_search_by.ensures in
+    let run = c.args.run.now in
+    let wanted : Pair = (c.args.second.now, c.args.second.now) in
+    let by_order = facts.position (λ (pair : Pair). second_cmp pair wanted) (always_returns_same _ _ _ (λ a r h called. (search rules, search rules))) in
+    c.is_ok.ensures.value
+    ∙ contains-search second_total run wanted _ (search_finds second_total run wanted _ facts.bound by_order) (search_parts second_total run wanted c.requires _ facts.bound by_order)
+    ∙ contains-from_list second_total run wanted

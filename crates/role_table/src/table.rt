@@ -1,0 +1,135 @@
+//! The table of the order of roles.
+ghost use Rattle.std.specs.Prelude.{◌≡◌, ◌||◌, IsTrue, false, get_or, map, Some, IfOk, IfErr};
+ghost use Rattle.std.specs.List.{list_any, slice_get};
+ghost use Rattle.std.specs.List.Sorted.{IsStrictlySortedBy};
+ghost use Rattle.rbac_sets.specs.Sets.{Pair, name_cmp, same_name, contains, from_list};
+ghost use Rattle.role_order.specs.Order.{geq};
+ghost use Rattle.role_order.specs.Checked.{second_cmp};
+ghost use Rattle.role_table.specs.Table.{table_of, entry, count_above, TellsOrder, number_in};
+
+use rbac_sets::{Name, Refusal};
+use role_order::RoleOrder;
+use std::alloc::Global;
+use std::marker::Model;
+
+/// For each two of some roles, whether the first is the second or above it, by their numbers: a
+/// role's number is its place among the roles.
+///
+/// It is as large as the square of the number of roles. A contract sees the rows of the table.
+#[derive(Drop)]
+pub struct RoleTable {
+    rows: Vec<Vec<bool>>,
+}
+
+impl Model for RoleTable {
+    ghost use Rattle.std.specs.Prelude.{map};
+    ghost use Rattle.std.specs.Coded.{coded_list, coded_bool};
+    ghost use Rattle.role_table.specs.Table.{Table};
+
+    ghost Value = { Table };
+
+    ghost coded = { coded_list (coded_list coded_bool) };
+
+    ghost view = { λ table. map (λ row. row.items) table.rows.items };
+}
+
+impl RoleTable {
+    /// The table of these roles, which may be any.
+    ///
+    /// # Errors
+    ///
+    /// `Memory` where memory for the table was refused.
+    pub fn new(alloc: Global, order: &RoleOrder, roles: &[Name]) -> Result<RoleTable, Refusal>
+        ensures ok { IfOk result (λ table. table ≡ table_of order.now.edges roles.now) }
+        ensures tells { IfOk result (λ table. TellsOrder order.now.edges roles.now table) }
+        ensures cause { IfErr result (λ refusal. refusal ≡ Refusal.Memory) }
+    {
+        let mut rows = Vec::new(alloc);
+        rows.reserve(roles.len())?;
+        for role in roles {
+            rows.push(row_of(alloc, order, roles, role)?)?;
+        }
+        Ok(RoleTable { rows })
+    }
+
+    /// Whether the role of the first number is the role of the second number, or above it. Where one
+    /// of them is no role's number, it is `false`.
+    ///
+    /// It takes no memory.
+    pub fn geq(&self, above: usize, below: usize) -> bool
+        ensures { result ≡ entry self.now above below }
+    {
+        above < self.rows.len() && is_set(&self.rows[above], below)
+    }
+
+    /// How many of the roles are the role of this number, or above it.
+    ///
+    /// It takes no memory.
+    pub fn count_above(&self, below: usize) -> usize
+        ensures { result ≡ count_above self.now below }
+    {
+        self.rows.iter().filter(|row| is_set(row, below)).count()
+    }
+}
+
+/// The number of a name among names in byte order: its place, where it is one of them, and else how
+/// many of them are below it.
+///
+/// It takes no memory.
+pub fn number(names: &[Name], name: &Name) -> usize
+    requires { IsStrictlySortedBy name_cmp names.now }
+    ensures number { result ≡ number_in names.now name.now }
+    ensures place { IsTrue (contains (from_list {R = name_cmp} names.now) name.now) → slice_get names.now result ≡ Some name.now }
+{
+    names.partition_point(|other| other.cmp(name).is_lt())
+}
+
+// The row of a role: for each of the roles, whether the role is that one, or above it.
+fn row_of(
+    alloc: Global,
+    order: &RoleOrder,
+    roles: &[Name],
+    role: &Name,
+) -> Result<Vec<bool>, Refusal>
+    ensures ok { IfOk result (λ row. row.items ≡ map (λ below. geq order.now.edges role.now below) roles.now) }
+    ensures cause { IfErr result (λ refusal. refusal ≡ Refusal.Memory) }
+{
+    let run = order.pairs().with_first(role);
+    let mut row = Vec::new(alloc);
+    row.reserve(roles.len())?;
+    for other in roles {
+        row.push(is_at_or_above(run, role, other))?;
+    }
+    Ok(row)
+}
+
+// Whether the role is the other one, or above it: whether its run of the closure has a pair with it.
+fn is_at_or_above(run: &[(Name, Name)], role: &Name, other: &Name) -> bool
+    requires { IsStrictlySortedBy second_cmp run.now }
+    ensures { result ≡ (same_name other.now role.now || list_any (λ (pair : Pair). same_name other.now pair.1) run.now) }
+{
+    is_same(other, role) || has_second(run, other)
+}
+
+// Whether the row has an entry of this number, and it is `true`.
+fn is_set(row: &[bool], number: usize) -> bool
+    ensures { result ≡ get_or row.now number false }
+{
+    number < row.len() && row[number]
+}
+
+// Whether the two names are one.
+#[tactic(auto, using(rbac_sets::proofs::SetLaws::same_bytes))]
+fn is_same(a: &Name, b: &Name) -> bool
+    ensures { result ≡ same_name a.now b.now }
+{
+    a == b
+}
+
+// Whether one of the pairs, which are in the order of their second names, has this second name.
+fn has_second(run: &[(Name, Name)], second: &Name) -> bool
+    requires { IsStrictlySortedBy second_cmp run.now }
+    ensures { result ≡ list_any (λ (pair : Pair). same_name second.now pair.1) run.now }
+{
+    run.binary_search_by(|pair| pair.1.cmp(second)).is_ok()
+}
