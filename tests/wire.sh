@@ -1,7 +1,8 @@
 #!/bin/sh
 # Runs the tests of the folder wire: lines and requests over HTTP, answered by offices, by the public functions
-# of the crates. They are laid with copies of the crates into a workspace of their own, where `rt try` builds
-# them with checks and without proof, and runs each. Nothing need be proved or built before.
+# of the crates; and the examples that the crates' pages begin with. They are laid with copies of the crates into
+# a workspace of their own, where `rt try` builds them with checks and without proof, and runs each. Nothing need
+# be proved or built before.
 
 set -u
 tests=$(cd "$(dirname "$0")" && pwd) || exit 1
@@ -17,6 +18,18 @@ most=300
 work=$(mktemp -d) || exit 1
 trap 'rm -rf "$work"' EXIT
 trap 'exit 1' HUP INT TERM
+
+# lay_example CRATE: the example of the crate's page, where it has one, as a test.
+lay_example() {
+    example=src/example_of_$1.rt
+    sed -n '/^\/\/! ```$/,/^\/\/! ```$/p' "$tests/../crates/$1/src/lib.rt" |
+        sed '/^\/\/! ```$/d; s|^//! \{0,1\}||; s/^fn /#[test]\n&/' >"$example"
+    if [ -s "$example" ]; then
+        printf '#[cfg(test)]\nmod example_of_%s;\n' "$1" >>src/lib.rt
+    else
+        rm "$example"
+    fi
+}
 
 # lay_out: a workspace with the tests as a crate over the others.
 lay_out() {
@@ -35,6 +48,9 @@ lay_out() {
     done
     find src -name '*.rt.test' | while read -r source; do
         mv "$source" "${source%.test}" || return
+    done
+    for crate in $crates; do
+        lay_example "$crate" || return
     done
 }
 
@@ -60,7 +76,7 @@ if [ "$status" -ne 0 ]; then
     echo "FAILED: status $status"
     [ "$failed" -gt 0 ] || failed=1
 fi
-there=$(grep -rh '^#\[test\]$' "$tests/wire" | wc -l)
+there=$(grep -rh '^#\[test\]$' "$work/crates/wire_tests/src" | wc -l)
 if [ "$failed" -eq 0 ] && [ "$words" -eq 0 ] && [ "$passed" -ne "$there" ]; then
     failed=1
     echo "FAILED: of $there tests $passed were run"

@@ -5,6 +5,28 @@
 //! without a copy of it: the verdict is the first of the command's refusals that holds. The plan of
 //! an accepted command names the rows that go and those that come; once room was made for them,
 //! `State::commit` changes them in place and can't fail. `State::of_rows` is the state of stored rows.
+//!
+//! # Example
+//!
+//! ```
+//! use admin_mgr::State;
+//! use rbac_sets::{Command, Name};
+//! use std::test::Fail;
+//!
+//! fn a_command_is_planned_and_committed(rt: HostRuntime) -> Result<(), Fail> {
+//!     let alloc = rt.alloc();
+//!     let mut state = State::empty(alloc);
+//!     let user = Name::new(alloc, "ann")?;
+//!     let command = Command::AddUser { user };
+//!     let plan = state.plan(alloc, &command)?;
+//!     state.make_room(&plan)?;
+//!     state.commit(plan);
+//!     assert_eq!(rt; state.users().len(), 1);
+//!     // The user is there now, so that the same command is refused.
+//!     assert!(rt; matches!(state.plan(alloc, &command), Err(refusal) if refusal.code() == 3));
+//!     Ok(())
+//! }
+//! ```
 #![tactic(auto)]
 
 pub use plan::{Plan, Report};

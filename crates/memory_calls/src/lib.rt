@@ -4,6 +4,8 @@
 #![tactic(auto)]
 
 #[cfg(test)]
+mod order;
+#[cfg(test)]
 mod questions;
 #[cfg(test)]
 mod state;

@@ -3,6 +3,24 @@
 //!
 //! Every other crate of the office speaks in these words. The sets are those of the standard
 //! (USERS, ROLES, UA, PA and so on), kept in byte order.
+//!
+//! # Example
+//!
+//! ```
+//! use rbac_sets::{Name, NameSet};
+//! use std::test::Fail;
+//!
+//! fn a_set_is_in_byte_order(rt: HostRuntime) -> Result<(), Fail> {
+//!     let alloc = rt.alloc();
+//!     let mut users = NameSet::new(alloc);
+//!     users.reserve(2)?;
+//!     users.insert_reserved(Name::new(alloc, "bob")?);
+//!     users.insert_reserved(Name::new(alloc, "ann")?);
+//!     assert_eq!(rt; users.len(), 2);
+//!     assert!(rt; users.iter().map(Name::as_str).eq(["ann", "bob"]));
+//!     Ok(())
+//! }
+//! ```
 #![tactic(auto)]
 
 pub use command::Command;

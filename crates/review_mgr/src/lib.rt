@@ -3,6 +3,30 @@
 //! No question changes the state. A question about what isn't there is refused; else the answer is
 //! the set that the standard defines, as a list in byte order. The role report tells the numbers of
 //! each role.
+//!
+//! # Example
+//!
+//! ```
+//! use admin_mgr::State;
+//! use rbac_sets::{MemorySink, Name, Refusal};
+//! use review_mgr::{check_access, report_roles};
+//! use std::test::Fail;
+//!
+//! fn nothing_is_there_yet(rt: HostRuntime) -> Result<(), Fail> {
+//!     let alloc = rt.alloc();
+//!     let state = State::empty(alloc);
+//!     let session = Name::new(alloc, "s1")?;
+//!     let operation = Name::new(alloc, "open")?;
+//!     let object = Name::new(alloc, "safe")?;
+//!     let access = check_access(&state, &session, &operation, &object);
+//!     assert!(rt; matches!(access, Err(Refusal::NoSession)));
+//!     // The report of an office without roles is its heading.
+//!     let mut report = MemorySink::new(alloc);
+//!     report_roles(alloc, &state, &mut report)?;
+//!     assert!(rt; report.as_slice().ends_with(b"seniors  role\n"));
+//!     Ok(())
+//! }
+//! ```
 #![tactic(auto)]
 
 pub use access::check_access;

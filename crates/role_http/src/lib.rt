@@ -19,6 +19,4 @@ pub mod laws;
 pub mod reply;
 pub mod route;
 pub mod status;
-#[cfg(test)]
-mod tests;
 pub mod unread;

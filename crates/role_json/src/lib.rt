@@ -1,5 +1,23 @@
 //! Requests and answers as texts of JSON: what a line or a body asks for, and the text that tells
 //! what came of it.
+//!
+//! # Example
+//!
+//! ```
+//! use rbac_sets::Command;
+//! use role_json::{Request, Verdict, answer_text, read_request};
+//! use std::test::Fail;
+//!
+//! fn a_line_is_read_and_answered(rt: HostRuntime) -> Result<(), Fail> {
+//!     let alloc = rt.alloc();
+//!     let request = read_request(alloc, br#"{"fn":"addUser","user":"ann"}"#)?;
+//!     assert!(rt; matches!(request,
+//!         Request::Change(Command::AddUser { user }) if user.as_str() == "ann"));
+//!     let text = answer_text(alloc, &Verdict::Done)?;
+//!     assert_eq!(rt; text.as_str(), r#"{"ok":true}"#);
+//!     Ok(())
+//! }
+//! ```
 #![tactic(auto)]
 
 pub use answer::{Verdict, answer_text};
@@ -12,5 +30,3 @@ mod fields;
 pub mod function;
 mod queries;
 pub mod request;
-#[cfg(test)]
-mod tests;

@@ -17,5 +17,3 @@ mod naming;
 pub mod order;
 pub mod plan;
 mod removal;
-#[cfg(test)]
-mod tests;

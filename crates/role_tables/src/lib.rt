@@ -5,6 +5,30 @@
 //! rows go into one transaction, and then into the state. However it is stopped, the tables hold the
 //! state before the command or the state after it. Everything is over any store of `sqlite`, a file
 //! or memory.
+//!
+//! # Example
+//!
+//! ```
+//! use rbac_sets::{Command, Name};
+//! use role_tables::{create, open};
+//! use sqlite::Connection;
+//! use std::test::Fail;
+//!
+//! fn an_opening_finds_what_was_done(rt: HostRuntime) -> Result<(), Fail> {
+//!     let alloc = rt.alloc();
+//!     let conn = Connection::open_in_memory(alloc)?;
+//!     let Ok(mut office) = create(alloc, conn) else {
+//!         return Err("not made")?;
+//!     };
+//!     let user = Name::new(alloc, "ann")?;
+//!     office.apply(alloc, &Command::AddUser { user })?;
+//!     let Ok(again) = open(alloc, office.into_connection()) else {
+//!         return Err("not opened")?;
+//!     };
+//!     assert_eq!(rt; again.state()?.users().len(), 1);
+//!     Ok(())
+//! }
+//! ```
 #![tactic(auto)]
 
 pub use creating::{create, create_v1};

@@ -1,4 +1,27 @@
 //! What clients see: requests as lines and over HTTP, and assignments as CSV, over an office in its file.
+//!
+//! # Example
+//!
+//! ```
+//! use rbac_sets::{MemorySink, MemorySource};
+//! use role_tables::create;
+//! use role_wire::replay;
+//! use sqlite::Connection;
+//! use std::test::Fail;
+//!
+//! fn each_line_is_answered(rt: HostRuntime) -> Result<(), Fail> {
+//!     let alloc = rt.alloc();
+//!     let Ok(mut office) = create(alloc, Connection::open_in_memory(alloc)?) else {
+//!         return Err("not made")?;
+//!     };
+//!     let mut source = MemorySource::new(br#"{"fn":"addUser","user":"ann"}"#);
+//!     let mut sink = MemorySink::new(alloc);
+//!     let count = replay(alloc, &mut office, &mut source, &mut sink)?;
+//!     assert_eq!(rt; count.answered, 1);
+//!     assert!(rt; sink.as_slice() == b"{\"ok\":true}\n".as_slice());
+//!     Ok(())
+//! }
+//! ```
 #![tactic(auto)]
 
 pub use lines::{Cause, Count, Stop};
@@ -13,5 +36,3 @@ mod made;
 mod performing;
 pub mod replaying;
 pub mod serving;
-#[cfg(test)]
-mod tests;

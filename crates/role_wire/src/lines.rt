@@ -12,9 +12,6 @@ use std::alloc::Global;
 use std::fmt;
 use std::fmt::{Display, Formatter, Write};
 
-#[cfg(test)]
-mod tests;
-
 /// The most bytes of a line, its LF not counted.
 pub const LONGEST_LINE: usize = 65_536;
 

@@ -1,7 +1,7 @@
 //! Requests as bytes: what heads are answered, what is read of bodies, and replies byte for byte.
-use crate::{answer_head, one_route, read_bytes, refused_body, status_of, write_reply};
 use http::StatusCode;
 use rbac_sets::{MemorySink, MemorySource, Refusal};
+use role_http::{answer_head, one_route, read_bytes, refused_body, status_of, write_reply};
 use role_json::Function;
 use std::alloc::Global;
 use std::test::Fail;

@@ -1,7 +1,7 @@
 use Rattle.std.proofs.Common.{sym, subst}
 use Rattle.admin_mgr.specs.Planned.{LeadsTo}
 use Rattle.admin_mgr.specs.After.{after}
-use Rattle.role_csv.proofs.tests.writing.apply.Goals as goal
+use Rattle.wire_calls.proofs.assignments.apply.Goals as goal
 
 -- The plan leads to the state after the command, also once room was made.
 pub commit-requires-clause-planned : goal.commit-requires-clause-planned

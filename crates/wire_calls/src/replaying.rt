@@ -1,14 +1,12 @@
 //! Lines and requests over an office in memory, with memory enough: all that is written.
-use crate::{replay, serve_one, serve_with};
 use rbac_sets::{MemorySink, MemorySource, Source};
 use role_http::one_route;
 use role_tables::{Office, create};
+use role_wire::{replay, serve_one, serve_with};
 use sqlite::{Connection, MemStore};
 use std::alloc::Global;
 
-mod refused;
-
-const LINES: &str = r#"{"fn":"addUser","user":"ann"}
+pub(super) const LINES: &str = r#"{"fn":"addUser","user":"ann"}
 {"role":"clerk","fn":"addRole"}
 
 {"fn":"importAssignments","csv":"user,role\nann,clerk\nbob,clerk\n"}
@@ -17,7 +15,7 @@ const LINES: &str = r#"{"fn":"addUser","user":"ann"}
 []
 {"fn":"permissionRoles","object":"safe","operation":"open"}"#;
 
-const ANSWERS: &str = r#"{"ok":true}
+pub(super) const ANSWERS: &str = r#"{"ok":true}
 {"ok":true}
 {"ok":true,"value":{"already":0,"assigned":1,"refused":[{"code":2,"record":2}]}}
 {"ok":true,"value":["ann"]}
@@ -29,7 +27,11 @@ const ANSWERS: &str = r#"{"ok":true}
 const REQUESTS: &str = "POST /v1/addUser HTTP/1.1\r\nContent-Length: 14\r\n\r\n{\"user\":\"ann\"}\
     POST /v1/addUser HTTP/1.1\r\nContent-Length: 14\r\n\r\n{\"user\":\"ann\"}behind";
 
-const DONE: &str = "HTTP/1.1 200 OK\r\nContent-Type: application/json\r\nContent-Length: 11\r\n\
+pub(super) const REQUEST: &str =
+    "POST /v1/addUser HTTP/1.1\r\nContent-Length: 14\r\n\r\n{\"user\":\"ann\"}";
+
+pub(super) const DONE: &str =
+    "HTTP/1.1 200 OK\r\nContent-Type: application/json\r\nContent-Length: 11\r\n\
     Connection: close\r\n\r\n{\"ok\":true}";
 
 const CONFLICT: &str =
@@ -37,7 +39,7 @@ const CONFLICT: &str =
     Connection: close\r\n\r\n{\"code\":3,\"error\":\"UserExists\"}";
 
 // An empty office in memory.
-fn empty_office(alloc: Global) -> Option<Office<MemStore>> {
+pub(super) fn empty_office(alloc: Global) -> Option<Office<MemStore>> {
     let Ok(conn) = Connection::open_in_memory(alloc) else {
         return None;
     };

@@ -1,9 +1,9 @@
 //! What lines and bodies ask for, and the texts that answer. Each of the 51 functions is read in
 //! tests/office of the repository.
-use super::*;
 use admin_mgr::Report;
 use rbac_sets::{Command, Kind, Name, Refusal};
 use review_mgr::{Answer, Query};
+use role_json::{Function, Request, Verdict, answer_text, body_to, read_body, read_request};
 use std::alloc::{AllocError, Global};
 use std::test::Fail;
 

@@ -1,9 +1,9 @@
 //! Lines and a request of which tests/refused.sh of the repository refuses each allocation in turn: these tests
 //! pass however a refusal falls.
-use super::empty_office;
-use crate::{Cause, Served, Stop, replay, serve_one};
+use super::replaying::{DONE, REQUEST, empty_office};
 use rbac_sets::{MemorySink, MemorySource};
 use role_tables::Office;
+use role_wire::{Cause, Served, Stop, replay, serve_one};
 use sqlite::MemStore;
 use std::alloc::Global;
 
@@ -21,8 +21,6 @@ const WRITTEN: [&str; 5] = [
     "{\"ok\":true}\n{\"ok\":true}\n{\"ok\":true}\n",
     "{\"ok\":true}\n{\"ok\":true}\n{\"ok\":true}\n{\"ok\":true,\"value\":[\"ann\"]}\n",
 ];
-
-const REQUEST: &str = "POST /v1/addUser HTTP/1.1\r\nContent-Length: 14\r\n\r\n{\"user\":\"ann\"}";
 
 const NO_MEMORY: &str = "HTTP/1.1 503 Service Unavailable\r\nContent-Type: application/json\r\n\
     Content-Length: 28\r\nConnection: close\r\n\r\n{\"code\":40,\"error\":\"Memory\"}";
@@ -78,9 +76,7 @@ fn is_replied(alloc: Global, office: &mut Office<MemStore>) -> bool {
     let mut source = MemorySource::new(REQUEST.as_bytes());
     let mut sink = MemorySink::new(alloc);
     match serve_one(alloc, office, &mut source, &mut sink) {
-        Ok(Served { status: 200 }) => {
-            has_done(office, 1) && sink.as_slice() == super::DONE.as_bytes()
-        }
+        Ok(Served { status: 200 }) => { has_done(office, 1) && sink.as_slice() == DONE.as_bytes() }
         Ok(Served { status: 503 }) => {
             has_done(office, 0) && sink.as_slice() == NO_MEMORY.as_bytes()
         }

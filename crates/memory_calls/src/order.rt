@@ -2,8 +2,8 @@
 //! repository.
 ghost use Rattle.role_order.specs.Planned.{Fits};
 
-use crate::{OrderPlan, RoleOrder};
 use rbac_sets::{Name, NameSet, PairSet, Refusal};
+use role_order::{OrderPlan, RoleOrder};
 use std::alloc::Global;
 use std::test::Fail;
 

@@ -1,0 +1,43 @@
+//! A server on a port of this machine, and its one client.
+use super::replaying::{DONE, REQUEST, empty_office};
+use rbac_sets::MemorySink;
+use role_cli::serve_on;
+use role_tables::Office;
+use sqlite::MemStore;
+use std::io;
+use std::io::Write;
+use std::net::{TcpListener, TcpStream};
+use std::test::Fail;
+use std::time::Duration;
+
+// A client whose request is sent, and which waits at most five seconds for its reply.
+fn asking(rt: &HostRuntime, listener: &TcpListener) -> io::Result<TcpStream> {
+    let client = TcpStream::connect(rt, listener.local_addr()?)?;
+    client.set_read_timeout(Some(Duration::from_secs(5)))?;
+    (&client).write_all(REQUEST.as_bytes())?;
+    Ok(client)
+}
+
+// Whether one connection is served, and its client gets this reply.
+fn is_replied(rt: &HostRuntime, office: &mut Office<MemStore>, reply: &str) -> io::Result<bool> {
+    let listener = TcpListener::bind(rt, ("127.0.0.1", 0))?;
+    let client = asking(rt, &listener)?;
+    let mut err = MemorySink::new(rt.alloc());
+    let status = serve_on(rt.alloc(), office, &listener, 1, &mut err);
+    let text = io::read_to_string(rt.alloc(), client)?;
+    Ok(status == 0 && err.as_slice().is_empty() && text.as_str() == reply)
+}
+
+// Whether the request of a client is done.
+fn is_served(rt: &HostRuntime) -> io::Result<bool> {
+    match empty_office(rt.alloc()) {
+        Some(mut office) => is_replied(rt, &mut office, DONE),
+        None => Ok(false),
+    }
+}
+
+#[test]
+fn a_client_is_replied(rt: HostRuntime) -> Result<(), Fail> {
+    assert!(&rt; is_served(&rt)?);
+    Ok(())
+}
