@@ -1,6 +1,8 @@
 //! The table of the order of roles.
-ghost use Rattle.std.specs.Prelude.{◌≡◌, ◌||◌, IsTrue, false, get_or, map, Some, IfOk, IfErr};
-ghost use Rattle.std.specs.List.{list_any, slice_get};
+ghost use Rattle.std.specs.Prelude.{◌≡◌, ◌<◌, ◌≤◌, ◌||◌, length, IsTrue, false, get_or, map, Some, IfOk, IfErr};
+ghost use Rattle.std.specs.List.{AllWithin, list_any, slice_get};
+ghost use Rattle.std.specs.declared.cmp.Ordering.TheVariants.{Less, Greater};
+ghost use Rattle.std.specs.Ordering.{is_lt};
 ghost use Rattle.std.specs.List.Sorted.{IsStrictlySortedBy};
 ghost use Rattle.rbac_sets.specs.Sets.{Pair, name_cmp, same_name, contains, from_list};
 ghost use Rattle.role_order.specs.Order.{geq};
@@ -84,7 +86,9 @@ pub fn number(names: &[Name], name: &Name) -> usize
     names.partition_point(|other| other.cmp(name).is_lt())
 }
 
-// The row of a role: for each of the roles, whether the role is that one, or above it.
+// The row of a role: for each of the roles, whether the role is that one, or above it. Where the roles
+// are in byte order, as the run is, it goes once through both: what is looked for is the next of the
+// run, or stands before it.
 fn row_of(
     alloc: Global,
     order: &RoleOrder,
@@ -97,18 +101,25 @@ fn row_of(
     let run = order.pairs().with_first(role);
     let mut row = Vec::new(alloc);
     row.reserve(roles.len())?;
+    let mut next = 0;
     for other in roles {
-        row.push(is_at_or_above(run, role, other))?;
+        if is_second_at(run, next, other) {
+            row.push(true)?;
+            next += 1;
+        } else {
+            row.push(is_at_or_above(run, role, next, other))?;
+        }
     }
     Ok(row)
 }
 
-// Whether the role is the other one, or above it: whether its run of the closure has a pair with it.
-fn is_at_or_above(run: &[(Name, Name)], role: &Name, other: &Name) -> bool
+// Whether the role is the other one, or above it: whether its run of the closure has a pair with it,
+// which is looked for at the place `next` first.
+fn is_at_or_above(run: &[(Name, Name)], role: &Name, next: usize, other: &Name) -> bool
     requires { IsStrictlySortedBy second_cmp run.now }
     ensures { result ≡ (same_name other.now role.now || list_any (λ (pair : Pair). same_name other.now pair.1) run.now) }
 {
-    is_same(other, role) || has_second(run, other)
+    is_same(other, role) || has_second(run, next, other)
 }
 
 // Whether the row has an entry of this number, and it is `true`.
@@ -126,10 +137,44 @@ fn is_same(a: &Name, b: &Name) -> bool
     a == b
 }
 
-// Whether one of the pairs, which are in the order of their second names, has this second name.
-fn has_second(run: &[(Name, Name)], second: &Name) -> bool
+// Whether the first name is below the second in byte order.
+fn is_below(a: &Name, b: &Name) -> bool
+    ensures { result ≡ is_lt (name_cmp a.now b.now) }
+{
+    a.cmp(b).is_lt()
+}
+
+// Whether the pair at this place has the second name.
+fn is_second_at(run: &[(Name, Name)], at: usize, second: &Name) -> bool
+    ensures { IsTrue result → (at < length run.now) × IsTrue (list_any (λ (pair : Pair). same_name second.now pair.1) run.now) }
+{
+    at < run.len() && is_same(second, &run[at].1)
+}
+
+// Whether one of the pairs, which are in the order of their second names, has this second name. It is
+// not searched for where it would stand at the place `at`.
+fn has_second(run: &[(Name, Name)], at: usize, second: &Name) -> bool
     requires { IsStrictlySortedBy second_cmp run.now }
     ensures { result ≡ list_any (λ (pair : Pair). same_name second.now pair.1) run.now }
 {
+    if is_above_before(run, at, second) && is_below_from(run, at, second) {
+        return false;
+    }
     run.binary_search_by(|pair| pair.1.cmp(second)).is_ok()
+}
+
+// Whether the name is above the second names before this place.
+fn is_above_before(run: &[(Name, Name)], at: usize, second: &Name) -> bool
+    requires { IsStrictlySortedBy second_cmp run.now }
+    ensures { IsTrue result → (at ≤ length run.now) × AllWithin (λ (pair : Pair). name_cmp pair.1 second.now ≡ Less) run.now 0 at }
+{
+    at == 0 || (at <= run.len() && is_below(&run[at - 1].1, second))
+}
+
+// Whether the name is below the second names from this place on.
+fn is_below_from(run: &[(Name, Name)], at: usize, second: &Name) -> bool
+    requires { IsStrictlySortedBy second_cmp run.now }
+    ensures { IsTrue result → AllWithin (λ (pair : Pair). name_cmp pair.1 second.now ≡ Greater) run.now at (length run.now) }
+{
+    at >= run.len() || is_below(second, &run[at].1)
 }

@@ -1,10 +1,10 @@
-use Rattle.std.proofs.Common.{rules, ◌∙◌}
+use Rattle.std.proofs.Common.{sym, refl, rules, ◌∙◌}
 use Rattle.std.proofs.lemmas.Fn.{always_returns_same}
 use Rattle.rbac_sets.specs.Sets.{Pair}
 use Rattle.rbac_sets.proofs.SetLaws.{contains-from_list}
 use Rattle.rbac_sets.proofs.InOrder.{search_finds, search_parts, contains-search}
 use Rattle.role_order.specs.Checked.{second_cmp}
-use Rattle.role_table.proofs.Rows.{second_total}
+use Rattle.role_table.proofs.Rows.{none_at_gap, second_total}
 use Rattle.role_table.proofs.table.has_second.Goals as goal
 
 pub returns : goal.returns
@@ -16,3 +16,8 @@ returns c =
     c.is_ok.ensures.value
     ∙ contains-search second_total run wanted _ (search_finds second_total run wanted _ facts.bound by_order) (search_parts second_total run wanted c.requires _ facts.bound by_order)
     ∙ contains-from_list second_total run wanted
+
+pub returns-then-is_below_from : goal.returns-then-is_below_from
+returns-then-is_below_from c =
+    let before = c.if-is_above_before.ensures refl in
+    sym (none_at_gap c.args.run.now c.args.second.now c.args.at before.0 before.1 (c.if-is_below_from.ensures refl))
