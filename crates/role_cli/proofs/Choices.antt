@@ -1,20 +1,14 @@
 -- Choices of an office in a file.
-use Rattle.std.specs.Prelude.{◌≡◌, ℕ, Bool, true, false, List, Option}
+use Rattle.std.specs.Prelude.{◌≡◌, ℕ, false, List, Option}
 use Rattle.std.proofs.lemmas.Bool.{true≢false}
-use Rattle.admin_mgr.specs.RbacState.{RbacState}
-use Rattle.role_cli.specs.Doing.{IsDone, IsDoneOver}
+use Rattle.role_cli.specs.Doing.{IsDone, IsDoneOverSome, is_in_memory}
 use Rattle.role_cli.specs.declared.choice.Choice.{Choice}
 use Rattle.role_cli.specs.declared.choice.Choice.TheVariants as choice
 use Rattle.role_cli.specs.declared.choice.Place.TheVariants as place
 
--- it is a replay over a new office in memory
-abbrev pub is_in_memory : Choice → Bool
-is_in_memory (choice.Replay place.Memory) = true
-is_in_memory _ = false
-
 -- what was done over the office of a file was done
 pub of_file : (c : Choice) (remaining now_remaining written now_written : Option (List ℕ)) → is_in_memory c ≡ false
-    → ((s : RbacState) × IsDoneOver s c remaining now_remaining written now_written) → IsDone c remaining now_remaining written now_written
+    → IsDoneOverSome c remaining now_remaining written now_written → IsDone c remaining now_remaining written now_written
 of_file (choice.Replay place.Memory) _ _ _ _ is_not done = absurd (true≢false is_not)
 of_file (choice.Replay (place.File f)) _ _ _ _ is_not done = done
 of_file (choice.Init f) _ _ _ _ is_not done = done

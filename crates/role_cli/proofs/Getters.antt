@@ -1,8 +1,8 @@
 -- What the getters give of a given argument.
 use Rattle.std.proofs.Common.{◌≡◌, ◌∙◌, ◌<◌, ◌≤◌, ◌^◌, ℕ, List, [], Option, Some, None, Result, Ok, Err, refl, sym, subst, ap}
-use Rattle.std.specs.Prelude.{IfOk, option_map, pos, unwrap_or}
+use Rattle.std.specs.Prelude.{IfErr, IfOk, option_map, pos, unwrap_or}
 use Rattle.std.specs.Str.Parse.{ParsesUnsigned}
-use Rattle.clap.specs.Words.{ReadsOne, Row, Text, one_of, without_minus, FailsBy, Kinds, first_of}
+use Rattle.clap.specs.Words.{ReadsOne, Row, Text, one_of, without_minus, FailsBy, HasKind, Kinds, first_of}
 use Rattle.clap.specs.declared.builder.ValueParser.{ValueParser}
 use Rattle.clap.specs.declared.builder.ValueParser.TheVariants as parser
 use Rattle.clap.specs.declared.error.Error.{Error}
@@ -13,6 +13,10 @@ use Rattle.role_cli.specs.Choosing.{IsWordOf}
 pub none_at_ok : {T : Type 0} (kinds : Kinds) (r : Result T Error) → FailsBy kinds r → IfOk r (λ _. kinds ≡ [])
 none_at_ok kinds (Ok x) h = h
 none_at_ok kinds (Err e) h = tt
+
+pub kind_at_err : {T : Type 0} (kinds : Kinds) (r : Result T Error) → FailsBy kinds r → IfErr r (HasKind kinds)
+kind_at_err kinds (Ok x) h = tt
+kind_at_err kinds (Err e) h = h
 
 -- a number that `get_one` reads of a given argument is there, in its range, and the one that its word writes
 pub reads_number : (E : Type 0) (G : List ℕ → Result ℕ E → Type 0) (k low high : ℕ) (id : Text) (rows : List Row) (r : Option ℕ)

@@ -1,9 +1,11 @@
 -- What the words of a command line choose.
-use Rattle.std.specs.Prelude.{⊤, ◌≡◌, ◌≤◌, ◌||◌, ◌⊎◌, ℕ, Bool, List, true, false, codes, Option, Some, None, IsSome, String, string_bytes}
+use Rattle.std.specs.Prelude.{⊤, ◌≡◌, ◌≢◌, ◌≤◌, ◌||◌, ◌⊎◌, ℕ, Bool, List, true, false, codes, Option, Some, None, IsSome, String, string_bytes}
 use Rattle.std.specs.Str.{bytes_eq}
 use Rattle.std.specs.Str.Parse.{digits_value, without_leading_plus}
-use Rattle.clap.specs.Words.{Accepts, Row, Text, first_of, one_of, read_as, reading_of}
+use Rattle.clap.specs.Words.{Accepts, App, IsAmong, Kinds, Row, Text, fault_of, first_of, kind_of, one_of, read_as, reading_of, takes}
 use Rattle.clap.specs.declared.builder.ValueParser.{ValueParser}
+use Rattle.clap.specs.declared.error.kind.ErrorKind.{ErrorKind}
+use Rattle.clap.specs.declared.error.kind.ErrorKind.TheVariants as kind
 use Rattle.role_cli.specs.CommandLine.{limit_parser, port_parser, text_parser}
 use Rattle.role_cli.specs.declared.choice.Choice.{Choice}
 use Rattle.role_cli.specs.declared.choice.Choice.TheVariants.{Init, Replay, Serve, Import, Export, Report, Check, Migrate}
@@ -57,6 +59,24 @@ abbrev pub IsFault : Unchosen → Type 0
 IsFault (unchosen.Fault e) = ⊤
 IsFault unchosen.Either = ⊥
 IsFault unchosen.Memory = ⊥
+
+-- an error of this kind was taken for a fault, which is no want of memory
+abbrev pub IsOfKind : ErrorKind → Unchosen → Type 0
+IsOfKind k (unchosen.Fault e) = (kind_of e ≡ k) × (k ≢ kind.OutOfMemory)
+IsOfKind k _ = ⊤
+
+-- a fault has one of these kinds
+abbrev pub IsFaultBy : Kinds → Unchosen → Type 0
+IsFaultBy kinds (unchosen.Fault e) = IsAmong (kind_of e) kinds
+IsFaultBy kinds _ = ⊤
+
+-- the kind of what is no mistake
+abbrev pub IsHelp : ErrorKind → Type 0
+IsHelp k = (k ≡ kind.DisplayHelp) ⊎ (k ≡ kind.DisplayVersion)
+
+-- `clap` does not promise to take the words, and help is among what it may make of them
+abbrev pub AsksHelp : App → List Text → Type 0
+AsksHelp app words = (takes app words ≡ false) × ((k : ErrorKind) × IsHelp k × IsAmong k (fault_of app words))
 
 -- ---- what each subcommand has where the words are taken
 

@@ -1,5 +1,6 @@
 -- A replay over a new office in memory.
 use Rattle.std.specs.Prelude.{◌≡◌, ◌⊎◌, ℕ, false, List, Option}
+use Rattle.std.specs.Io.KnownBytes.{Consumes, IsAtEnd}
 use Rattle.sqlite.specs.Held.{state}
 use Rattle.sqlite.specs.Steps.{over_memory}
 use Rattle.sqlite_trees.specs.declared.memory.MemStore.{MemStore}
@@ -33,6 +34,12 @@ abbrev pub IsUnmade : Failure → Type 0
 IsUnmade (Refused refusal) = (refusal ≡ Memory) ⊎ (refusal ≡ Store)
 IsUnmade _ = ⊥
 
+-- a replay in memory failed: it stopped over a new office, or none could be made and nothing was touched
+abbrev pub FailsInMemory : Failure → Type 0 → Option (List ℕ) → Option (List ℕ) → Option (List ℕ) → Option (List ℕ) → Type 0
+FailsInMemory failure untouched remaining now_remaining written now_written =
+    ((taken : List ℕ) × Consumes remaining now_remaining taken × FailsOverNew failure taken (IsAtEnd now_remaining) written now_written)
+    ⊎ (IsUnmade failure × untouched)
+
 -- a write was the cause of the stop
 abbrev pub IsWriteFault : Failure → Type 0
 IsWriteFault (Stopped stop) = stop.cause ≡ Write
@@ -42,3 +49,7 @@ IsWriteFault _ = ⊥
 abbrev pub IsReadFault : Failure → Type 0
 IsReadFault (Stopped stop) = stop.cause ≡ Read
 IsReadFault _ = ⊥
+
+-- a fault of writing, and one of reading, is told only where one was
+abbrev pub IsCaused : Failure → Type 0 → Type 0 → Type 0
+IsCaused failure write_failed read_failed = (IsWriteFault failure → write_failed) × (IsReadFault failure → read_failed)

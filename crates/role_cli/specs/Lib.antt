@@ -2,3 +2,4 @@ pub mod Choosing
 pub mod CommandLine
 pub mod Doing
 pub mod InMemory
+pub mod Serving

@@ -1,7 +1,7 @@
 //! What the words of a command line choose.
 ghost use Rattle.std.specs.Prelude.{◌≡◌, ◌≢◌, ◌⊎◌, ◌↔◌, ◌≤◌, [], IsTrue, true, false, IfOk, IfErr, Some, None, map, codes, option_map};
-ghost use Rattle.clap.specs.Words.{HasMatchesOf, first_of, found_of, one_of, rows_of, subcommand_rows_of, kind_of, subcommand_of, takes, fault_of};
-ghost use Rattle.role_cli.specs.Choosing.{Chooses, ChoosesOf, HasBothOrNeither, IsEntered, IsFault, IsGiven, IsInMemory, IsValueOf, IsWhole, IsWordOf, ReplaysBothOrNeither};
+ghost use Rattle.clap.specs.Words.{HasMatchesOf, first_of, found_of, one_of, rows_of, subcommand_rows_of, kind_of, subcommand_of, takes, fault_of, HasKind};
+ghost use Rattle.role_cli.specs.Choosing.{Chooses, ChoosesOf, HasBothOrNeither, IsEntered, IsFault, IsFaultBy, IsGiven, IsInMemory, IsOfKind, IsValueOf, IsWhole, IsWordOf, ReplaysBothOrNeither};
 ghost use Rattle.role_cli.specs.CommandLine.{limit_parser, port_parser, program, text_parser};
 
 use crate::command_line::program_command;
@@ -61,6 +61,7 @@ pub enum Unchosen {
 pub fn choose<'a>(alloc: Global, words: &'a [&'a str]) -> Result<Choice, Unchosen>
     ensures ok { IfOk result (Chooses (subcommand_of program (map (λ s. s.now) words.entry.now))) }
     ensures fault { IfErr result (λ e. IsFault e → takes program (map (λ s. s.now) words.entry.now) ≡ false) }
+    ensures kind { IfErr result (IsFaultBy (fault_of program (map (λ s. s.now) words.entry.now))) }
     ensures either { IfErr result (λ e. e ≡ Unchosen.Either → ReplaysBothOrNeither (subcommand_of program (map (λ s. s.now) words.entry.now))) }
 {
     match matches(alloc, words) {
@@ -74,6 +75,7 @@ fn matches<'a>(alloc: Global, words: &'a [&'a str]) -> Result<ArgMatches<'a>, Er
     ensures ok { IfOk result (HasMatchesOf program (map (λ s. s.now) words.entry.now)) }
     ensures none { IfOk result (λ _. fault_of program (map (λ s. s.now) words.entry.now) ≡ []) }
     ensures err { IfErr result (λ e. takes program (map (λ s. s.now) words.entry.now) ≡ true → kind_of e ≡ ErrorKind.OutOfMemory) }
+    ensures kind { IfErr result (HasKind (fault_of program (map (λ s. s.now) words.entry.now))) }
 {
     let command = program_command(alloc)?;
     command.try_get_matches_from(words)
@@ -217,6 +219,7 @@ fn chosen(alloc: Global, matches: &ArgMatches) -> Result<Choice, Unchosen>
 fn refused(error: Error) -> Unchosen
     ensures memory { kind_of error ≡ ErrorKind.OutOfMemory → result ≡ Unchosen.Memory }
     ensures fault { result ≢ Unchosen.Either }
+    ensures kind { IsOfKind (kind_of error) result }
 {
     if error.kind() == ErrorKind::OutOfMemory {
         Unchosen::Memory

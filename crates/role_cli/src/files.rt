@@ -1,7 +1,7 @@
 //! Offices in files: the one module that names the store of files.
-ghost use Rattle.std.specs.Prelude.{OnOk};
-ghost use Rattle.admin_mgr.specs.RbacState.{RbacState};
-ghost use Rattle.role_cli.specs.Doing.{IsDoneOver};
+ghost use Rattle.std.specs.Prelude.{◌≤◌, ◌+◌, OnOk};
+ghost use Rattle.role_wire.specs.Replay.{most_reads};
+ghost use Rattle.role_cli.specs.Doing.{IsDoneOverSome};
 
 use crate::choice::Choice;
 use crate::failure::Failure;
@@ -37,7 +37,8 @@ pub(crate) fn make_in_file<R: Source, W: Sink>(
     source: &mut R,
     out: &mut W,
 ) -> Result<(), Failure>
-    ensures { OnOk result ((s : RbacState) × IsDoneOver s choice.now (R.remaining source.old) (R.remaining source.new) (W.written out.old) (W.written out.new)) }
+    ensures done { OnOk result (IsDoneOverSome choice.now (R.remaining source.old) (R.remaining source.new) (W.written out.old) (W.written out.new)) }
+    ensures reads { R.reads source.new ≤ R.reads source.old + most_reads }
 {
     let before = what_stands(rt, path)?;
     match connect(rt, path, before) {
@@ -59,7 +60,8 @@ pub(crate) fn over_file<R: Source, W: Sink>(
     source: &mut R,
     out: &mut W,
 ) -> Result<(), Failure>
-    ensures { OnOk result ((s : RbacState) × IsDoneOver s choice.now (R.remaining source.old) (R.remaining source.new) (W.written out.old) (W.written out.new)) }
+    ensures done { OnOk result (IsDoneOverSome choice.now (R.remaining source.old) (R.remaining source.new) (W.written out.old) (W.written out.new)) }
+    ensures reads { R.reads source.new ≤ R.reads source.old + most_reads }
 {
     found(rt, path)?;
     match connect(rt, path, Before::Bytes) {
@@ -141,7 +143,8 @@ fn over_files<R: Source, W: Sink>(
     source: &mut R,
     out: &mut W,
 ) -> Result<(), Failure>
-    ensures { OnOk result ((s : RbacState) × IsDoneOver s choice.now (R.remaining source.old) (R.remaining source.new) (W.written out.old) (W.written out.new)) }
+    ensures done { OnOk result (IsDoneOverSome choice.now (R.remaining source.old) (R.remaining source.new) (W.written out.old) (W.written out.new)) }
+    ensures reads { R.reads source.new ≤ R.reads source.old + most_reads }
 {
     let (done, conn) = over(rt, conn, choice, source, out);
     let undone = if done.is_err() { before } else { Before::Bytes };

@@ -4,7 +4,7 @@ ghost use Rattle.std.specs.Io.KnownBytes.{Consumes, IsAtEnd};
 ghost use Rattle.rbac_sets.specs.Stream.{HasRisen};
 ghost use Rattle.role_wire.specs.Replay.{IsAtBound, most_reads};
 ghost use Rattle.role_wire.specs.Replaying.{IsAnswered};
-ghost use Rattle.role_cli.specs.InMemory.{FailsOverNew, IsNewOffice, IsReadFault, IsUnmade, IsWriteFault, first_state};
+ghost use Rattle.role_cli.specs.InMemory.{FailsInMemory, IsCaused, IsNewOffice, IsUnmade, first_state};
 
 use crate::failure::Failure;
 use rbac_sets::{Refusal, Sink, Source};
@@ -29,11 +29,11 @@ pub(crate) fn replay_memory<R: Source, W: Sink>(
     ensures ok { IfOk result (λ count. (input : List ℕ) × Consumes (R.remaining source.old) (R.remaining source.new) input
         × IsAnswered first_state input (W.written sink.old) (W.written sink.new) count.answered) }
     ensures end { OnOk result (IsAtEnd (R.remaining source.new)) }
-    ensures stopped { IfErr result (λ failure.
-        ((taken : List ℕ) × Consumes (R.remaining source.old) (R.remaining source.new) taken × FailsOverNew failure taken (IsAtEnd (R.remaining source.new)) (W.written sink.old) (W.written sink.new))
-        ⊎ (IsUnmade failure × (source.new ≡ source.old) × (sink.new ≡ sink.old))) }
-    ensures write_cause { IfErr result (λ failure. IsWriteFault failure → HasRisen (W.failed sink.old) (W.failed sink.new) ⊎ HasRisen (W.idle sink.old) (W.idle sink.new)) }
-    ensures read_cause { IfErr result (λ failure. IsReadFault failure → HasRisen (R.failed source.old) (R.failed source.new) ⊎ IsAtBound (R.reads source.old) (R.reads source.new)) }
+    ensures stopped { IfErr result (λ failure. FailsInMemory failure ((source.new ≡ source.old) × (sink.new ≡ sink.old))
+        (R.remaining source.old) (R.remaining source.new) (W.written sink.old) (W.written sink.new)) }
+    ensures caused { IfErr result (λ failure. IsCaused failure
+        (HasRisen (W.failed sink.old) (W.failed sink.new) ⊎ HasRisen (W.idle sink.old) (W.idle sink.new))
+        (HasRisen (R.failed source.old) (R.failed source.new) ⊎ IsAtBound (R.reads source.old) (R.reads source.new))) }
     ensures reads { R.reads source.new ≤ R.reads source.old + most_reads }
 {
     let mut office = new_office(alloc)?;

@@ -1,9 +1,12 @@
 //! What the program does for its words.
-ghost use Rattle.std.specs.Prelude.{◌≡◌, ◌⊎◌, ◌↔◌, map, false, OnOk, IsOk};
-ghost use Rattle.clap.specs.Words.{subcommand_of, takes};
+ghost use Rattle.std.specs.Prelude.{◌≡◌, ◌⊎◌, ◌↔◌, ◌≤◌, ◌+◌, map, true, false, OnOk, IfErr, IsErr, IsOk};
+ghost use Rattle.clap.specs.Words.{kind_of, subcommand_of, takes};
+ghost use Rattle.rbac_sets.specs.Stream.{HasRisen};
+ghost use Rattle.role_wire.specs.Replay.{IsAtBound, most_reads};
 ghost use Rattle.role_cli.specs.CommandLine.{program};
-ghost use Rattle.role_cli.specs.Doing.{IsDone};
-ghost use Rattle.role_cli.specs.Choosing.{Chooses};
+ghost use Rattle.role_cli.specs.Doing.{IsDone, is_in_memory};
+ghost use Rattle.role_cli.specs.Choosing.{AsksHelp, Chooses, IsHelp, ReplaysBothOrNeither};
+ghost use Rattle.role_cli.specs.InMemory.{FailsInMemory, IsCaused};
 ghost use Rattle.role_cli.specs.declared.choice.Choice.{Choice};
 
 use crate::choice::{Choice, Place, Unchosen, choose};
@@ -37,9 +40,18 @@ pub fn run<R: Source, W: Sink, E: Sink>(
     err: &mut E,
 ) -> u8
     ensures status { (result ≡ 0) ⊎ ((result ≡ 1) ⊎ (result ≡ 2)) }
-    ensures done { result ≡ 0 → (takes program (map (λ s. s.now) words.entry.now) ≡ false)
-        ⊎ ((choice : Choice) × Chooses (subcommand_of program (map (λ s. s.now) words.entry.now)) choice × IsDone choice (R.remaining source.old) (R.remaining source.new) (W.written out.old) (W.written out.new)) }
+    ensures done { result ≡ 0 → AsksHelp program (map (λ s. s.now) words.entry.now)
+        ⊎ ((choice : Choice) × Chooses (subcommand_of program (map (λ s. s.now) words.entry.now)) choice
+        × IsDone choice (R.remaining source.old) (R.remaining source.new) (W.written out.old) (W.written out.new)) }
     ensures refused { result ≡ 2 → (source.new ≡ source.old) × (out.new ≡ out.old) }
+    ensures unchosen { result ≡ 2 → (takes program (map (λ s. s.now) words.entry.now) ≡ false) ⊎ ReplaysBothOrNeither (subcommand_of program (map (λ s. s.now) words.entry.now)) }
+    ensures stopped { result ≡ 1 → ((source.new ≡ source.old) × (out.new ≡ out.old))
+        ⊎ ((choice : Choice) × Chooses (subcommand_of program (map (λ s. s.now) words.entry.now)) choice × (is_in_memory choice ≡ true → (failure : Failure)
+        × FailsInMemory failure ((source.new ≡ source.old) × (out.new ≡ out.old)) (R.remaining source.old) (R.remaining source.new) (W.written out.old) (W.written out.new)
+        × IsCaused failure
+        (HasRisen (W.failed out.old) (W.failed out.new) ⊎ HasRisen (W.idle out.old) (W.idle out.new))
+        (HasRisen (R.failed source.old) (R.failed source.new) ⊎ IsAtBound (R.reads source.old) (R.reads source.new)))) }
+    ensures reads { R.reads source.new ≤ R.reads source.old + most_reads }
 {
     match choose(rt.alloc(), words) {
         Ok(choice) => status_of(rt.alloc(), done(rt, &choice, source, out), err),
@@ -62,7 +74,13 @@ fn done<R: Source, W: Sink>(
     source: &mut R,
     out: &mut W,
 ) -> Result<(), Failure>
-    ensures { OnOk result (IsDone choice.now (R.remaining source.old) (R.remaining source.new) (W.written out.old) (W.written out.new)) }
+    ensures done { OnOk result (IsDone choice.now (R.remaining source.old) (R.remaining source.new) (W.written out.old) (W.written out.new)) }
+    ensures stopped { is_in_memory choice.now ≡ true → IfErr result (λ failure. FailsInMemory failure ((source.new ≡ source.old) × (out.new ≡ out.old))
+        (R.remaining source.old) (R.remaining source.new) (W.written out.old) (W.written out.new)) }
+    ensures caused { is_in_memory choice.now ≡ true → IfErr result (λ failure. IsCaused failure
+        (HasRisen (W.failed out.old) (W.failed out.new) ⊎ HasRisen (W.idle out.old) (W.idle out.new))
+        (HasRisen (R.failed source.old) (R.failed source.new) ⊎ IsAtBound (R.reads source.old) (R.reads source.new))) }
+    ensures reads { R.reads source.new ≤ R.reads source.old + most_reads }
 {
     match choice {
         Choice::Replay(Place::Memory) => match replay_memory(rt.alloc(), source, out) {
@@ -83,6 +101,7 @@ fn done<R: Source, W: Sink>(
 // The status, where a failure is told.
 fn status_of<E: Sink>(alloc: Global, done: Result<(), Failure>, err: &mut E) -> u8
     ensures done { (result ≡ 0) ↔ IsOk done }
+    ensures stopped { result ≡ 1 → IsErr done }
     ensures status { (result ≡ 0) ⊎ (result ≡ 1) }
 {
     match done {
@@ -97,7 +116,8 @@ fn status_of<E: Sink>(alloc: Global, done: Result<(), Failure>, err: &mut E) -> 
 // Writes what `clap` says: help to `out`, all else to `err`.
 fn explain<W: Sink, E: Sink>(alloc: Global, error: &clap::Error, out: &mut W, err: &mut E) -> u8
     ensures status { (result ≡ 0) ⊎ ((result ≡ 1) ⊎ (result ≡ 2)) }
-    ensures refused { result ≡ 2 → out.new ≡ out.old }
+    ensures help { result ≡ 0 → IsHelp (kind_of error.now) }
+    ensures refused { (result ≡ 2) ⊎ (result ≡ 1) → out.new ≡ out.old }
 {
     let Ok(text) = format!(in alloc; "{error}") else {
         tell_no_memory(err);

@@ -1,24 +1,26 @@
 //! One connection of a server after another.
-ghost use Rattle.std.specs.Prelude.{◌≡◌, ◌⊎◌};
+ghost use Rattle.std.specs.Prelude.{◌≡◌, ◌⊎◌, List, OnOk, IfOk, string_bytes};
+ghost use Rattle.std.specs.Io.KnownBytes.{Appends};
+ghost use Rattle.sqlite.specs.Held.{state};
 ghost use Rattle.role_http.specs.Route.{routes};
+ghost use Rattle.role_tables.specs.Office.{Opened};
+ghost use Rattle.role_cli.specs.Doing.{listening_line};
+ghost use Rattle.role_cli.specs.Serving.{AreServed, IsServed};
 
 use crate::failure::Failure;
 use matchit::Router;
-use rbac_sets::{Reader, Refusal, Sink, Writer, write_all};
+use rbac_sets::{Reader, Refusal, Sink, Source, Writer, write_all};
 use role_http::one_route;
 use role_tables::Office;
 use role_wire::{Served, serve_with};
 use sqlite::Alter;
-use std::alloc::Global;
-use std::io::{BufReader, Cursor, Write};
+use std::alloc::{AllocError, Global};
+use std::io::BufReader;
 use std::net::{TcpListener, TcpStream};
 use std::time::Duration;
 
 /// How many seconds a read or a write of one connection may wait.
 const PATIENCE: u64 = 5;
-
-/// The most bytes of the line that names the port.
-const LONGEST_PORT: usize = 32;
 
 /// The status after which the office is closed.
 const OFFICE_CLOSED: u16 = 500;
@@ -38,7 +40,8 @@ pub fn serve_on<S: Alter, E: Sink>(
     limit: u32,
     err: &mut E,
 ) -> u8
-    ensures { (result ≡ 0) ⊎ (result ≡ 1) }
+    ensures status { (result ≡ 0) ⊎ (result ≡ 1) }
+    ensures left { (offices : List (Opened S)) × AreServed (state S.Store) office.old offices office.new }
 {
     match serve_all(alloc, office, listener, limit) {
         Ok(()) => 0,
@@ -53,33 +56,44 @@ pub fn serve_on<S: Alter, E: Sink>(
 ///
 /// # Errors
 ///
-/// `NotListening` where the port can't be listened on, `Store` where `out` doesn't take the line;
-/// nothing was served then. Else as `serve_on` ends with 1.
+/// `NotListening` where the port can't be listened on, `Memory` where memory for the line was refused,
+/// `Store` where `out` doesn't take it; nothing was served then. Else as `serve_on` ends with 1.
 pub(crate) fn serve<S: Alter, W: Sink>(
     rt: &HostRuntime,
     office: &mut Office<S>,
     port: u16,
     limit: u32,
     out: &mut W,
-) -> Result<(), Failure> {
+) -> Result<(), Failure>
+    ensures said { OnOk result (Appends (W.written out.old) (W.written out.new) (listening_line port)) }
+    ensures left { (offices : List (Opened S)) × AreServed (state S.Store) office.old offices office.new }
+{
     let Ok(listener) = TcpListener::bind(rt, ("127.0.0.1", port)) else {
         return Err(Failure::NotListening);
     };
-    say_port(out, port)?;
+    say_port(rt.alloc(), out, port)?;
     serve_all(rt.alloc(), office, &listener, limit)
 }
 
 // Writes where the server listens.
-fn say_port<W: Sink>(out: &mut W, port: u16) -> Result<(), Failure> {
-    let mut line = Cursor::new([0u8; LONGEST_PORT]);
-    if writeln!(line, "listening on 127.0.0.1:{port}").is_err() {
-        return Err(Failure::Refused(Refusal::Store));
-    }
-    let length = (line.position() as usize).min(LONGEST_PORT);
-    match write_all(out, &line.get_ref()[..length]) {
+fn say_port<W: Sink>(alloc: Global, out: &mut W, port: u16) -> Result<(), Failure>
+    ensures { OnOk result (Appends (W.written out.old) (W.written out.new) (listening_line port)) }
+{
+    let line = match port_line(alloc, port) {
+        Ok(line) => line,
+        Err(_) => return Err(Failure::Refused(Refusal::Memory)),
+    };
+    match write_all(out, line.as_bytes()) {
         Ok(()) => Ok(()),
         Err(_) => Err(Failure::Refused(Refusal::Store)),
     }
+}
+
+// The line that says where the server listens.
+fn port_line(alloc: Global, port: u16) -> Result<String, AllocError>
+    ensures { IfOk result (λ line. string_bytes line ≡ listening_line port) }
+{
+    format!(in alloc; "listening on 127.0.0.1:{port}\n")
 }
 
 // Serves so many connections.
@@ -88,7 +102,9 @@ fn serve_all<S: Alter>(
     office: &mut Office<S>,
     listener: &TcpListener,
     limit: u32,
-) -> Result<(), Failure> {
+) -> Result<(), Failure>
+    ensures { (offices : List (Opened S)) × AreServed (state S.Store) office.old offices office.new }
+{
     let router = match one_route(alloc) {
         Ok(router) => router,
         Err(refusal) => return Err(Failure::Refused(refusal)),
@@ -112,6 +128,7 @@ fn serve_stream<S: Alter>(
     stream: &TcpStream,
 ) -> Option<u16>
     requires route { router.now ≡ routes }
+    ensures { IsServed (state S.Store) office.old office.new }
 {
     let patience = Duration::from_secs(PATIENCE);
     let _ = stream.set_read_timeout(Some(patience));
@@ -121,7 +138,21 @@ fn serve_stream<S: Alter>(
     };
     let mut source = Reader::new(buffered);
     let mut sink = Writer::new(stream);
-    match serve_with(alloc, router, office, &mut source, &mut sink) {
+    answered(alloc, router, office, &mut source, &mut sink)
+}
+
+// The status with which one request was answered, if it was.
+fn answered<S: Alter, R: Source, W: Sink>(
+    alloc: Global,
+    router: &Router<()>,
+    office: &mut Office<S>,
+    source: &mut R,
+    sink: &mut W,
+) -> Option<u16>
+    requires route { router.now ≡ routes }
+    ensures { IsServed (state S.Store) office.old office.new }
+{
+    match serve_with(alloc, router, office, source, sink) {
         Ok(Served { status }) => Some(status),
         Err(_) => None,
     }

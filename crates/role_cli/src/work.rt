@@ -1,10 +1,10 @@
 //! What is done over the office of an open connection, whatever its store.
-ghost use Rattle.std.specs.Prelude.{◌≡◌, ◌++◌, ◌∷◌, [], ℕ, List, false, IfOk, OnOk, codes, string_bytes};
+ghost use Rattle.std.specs.Prelude.{◌≡◌, ◌≤◌, ◌+◌, ◌++◌, ◌∷◌, [], ℕ, List, false, IfOk, OnOk, codes, string_bytes};
 ghost use Rattle.std.specs.Io.KnownBytes.{Appends};
-ghost use Rattle.admin_mgr.specs.RbacState.{RbacState};
 ghost use Rattle.review_mgr.specs.Report.{report};
 ghost use Rattle.role_csv.specs.Export.{exported};
-ghost use Rattle.role_cli.specs.Doing.{IsDoneOver, IsImportLine, StartsWell};
+ghost use Rattle.role_wire.specs.Replay.{most_reads};
+ghost use Rattle.role_cli.specs.Doing.{IsDoneOver, IsDoneOverSome, IsImportLine, StartsWell};
 
 use crate::choice::Choice;
 use crate::failure::Failure;
@@ -35,7 +35,8 @@ pub(crate) fn over<S: Alter, R: Source, W: Sink>(
     source: &mut R,
     out: &mut W,
 ) -> (Result<(), Failure>, Connection<S>)
-    ensures { OnOk result.0 ((s : RbacState) × IsDoneOver s choice.now (R.remaining source.old) (R.remaining source.new) (W.written out.old) (W.written out.new)) }
+    ensures done { OnOk result.0 (IsDoneOverSome choice.now (R.remaining source.old) (R.remaining source.new) (W.written out.old) (W.written out.new)) }
+    ensures reads { R.reads source.new ≤ R.reads source.old + most_reads }
 {
     match office_of(rt.alloc(), conn, choice) {
         Ok(mut office) => {
@@ -72,7 +73,8 @@ fn over_office<S: Alter, R: Source, W: Sink>(
 ) -> Result<(), Failure>
     requires open { office.old.is_closed ≡ false }
     requires made { StartsWell choice.now office.old.facts }
-    ensures { OnOk result (IsDoneOver office.old.facts choice.now (R.remaining source.old) (R.remaining source.new) (W.written out.old) (W.written out.new)) }
+    ensures done { OnOk result (IsDoneOver office.old.facts choice.now (R.remaining source.old) (R.remaining source.new) (W.written out.old) (W.written out.new)) }
+    ensures reads { R.reads source.new ≤ R.reads source.old + most_reads }
 {
     match choice {
         Choice::Init(_) | Choice::Migrate(_) => Ok(()),

@@ -3,6 +3,7 @@ use Rattle.clap.specs.Words.{takes}
 use Rattle.role_cli.specs.CommandLine.{program}
 use Rattle.role_cli.specs.Choosing.{IsFault}
 use Rattle.role_cli.specs.declared.choice.Unchosen.TheVariants.{Memory}
+use Rattle.role_cli.proofs.Faults.{fault_by}
 use Rattle.role_cli.proofs.Subcommands.{entered}
 use Rattle.role_cli.proofs.choice.choose.Goals as goal
 
@@ -17,3 +18,6 @@ returns-in-Err-clause-fault c fault = go (takes program (map (λ (s : Bor (List 
         let bad : IsFault Memory = subst IsFault (c.refused.ensures.memory (c.in-Err.ensures.err t)) fault in
         absurd bad
     go false t = refl
+
+pub returns-in-Err-clause-kind : goal.returns-in-Err-clause-kind
+returns-in-Err-clause-kind c = fault_by _ c.before.in-Err.error c.refused.result c.in-Err.ensures.kind c.refused.ensures.kind

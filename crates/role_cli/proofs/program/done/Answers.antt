@@ -4,14 +4,16 @@ use Rattle.role_cli.proofs.Results.{on_ok-then}
 use Rattle.role_cli.proofs.program.done.Goals as goal
 
 -- What was done over the office of a file was done.
-pub returns-in-Init : goal.returns-in-Init
-returns-in-Init g c = on_ok-then c.make_in_file.result _ _ c.make_in_file.ensures (of_file _ _ _ _ _ (rw c.in-Init.is))
+pub returns-in-Init-clause-done : goal.returns-in-Init-clause-done
+returns-in-Init-clause-done g c = on_ok-then c.make_in_file.result _ _ c.make_in_file.ensures.done (of_file _ _ _ _ _ (rw c.in-Init.is))
 
-pub returns-in-Replay-File : goal.returns-in-Replay-File
-returns-in-Replay-File g c = on_ok-then c.over_file.result _ _ c.over_file.ensures (of_file _ _ _ _ _ (search rules))
+pub returns-in-Replay-File-clause-done : goal.returns-in-Replay-File-clause-done
+returns-in-Replay-File-clause-done g c = on_ok-then c.over_file.result _ _ c.over_file.ensures.done (of_file _ _ _ _ _ (search rules))
 
-pub returns-in-Export : goal.returns-in-Export
-returns-in-Export g c = on_ok-then c.over_file-in-Export.result _ _ c.over_file-in-Export.ensures (of_file _ _ _ _ _ (rw c.in-Export.is))
+pub returns-in-Export-clause-done : goal.returns-in-Export-clause-done
+returns-in-Export-clause-done g c =
+    on_ok-then c.over_file-in-Export.result _ _ c.over_file-in-Export.ensures.done (of_file _ _ _ _ _ (rw c.in-Export.is))
 
-pub returns-in-Report : goal.returns-in-Report
-returns-in-Report g c = on_ok-then c.over_file-in-Report.result _ _ c.over_file-in-Report.ensures (of_file _ _ _ _ _ (rw c.in-Report.is))
+pub returns-in-Report-clause-done : goal.returns-in-Report-clause-done
+returns-in-Report-clause-done g c =
+    on_ok-then c.over_file-in-Report.result _ _ c.over_file-in-Report.ensures.done (of_file _ _ _ _ _ (rw c.in-Report.is))

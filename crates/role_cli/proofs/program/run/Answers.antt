@@ -1,8 +1,18 @@
 use Rattle.std.proofs.Common.{inr}
-use Rattle.role_cli.proofs.Results.{on_ok-holds}
+use Rattle.role_cli.proofs.Results.{if_err-both, on_ok-holds}
 use Rattle.role_cli.proofs.program.run.Goals as goal
 
 -- The choice is the one that was made, and the status 0 tells that it was done.
 pub returns-in-Ok-clause-done : goal.returns-in-Ok-clause-done
 returns-in-Ok-clause-done g c zero =
-    inr (c.in-Ok.choice, c.in-Ok.ensures.ok, on_ok-holds c.done.result _ (c.status_of.ensures.done.0 zero) c.done.ensures)
+    inr (c.in-Ok.choice, c.in-Ok.ensures.ok, on_ok-holds c.done.result _ (c.status_of.ensures.done.0 zero) c.done.ensures.done)
+
+-- The status 1 tells that it failed.
+pub returns-in-Ok-clause-stopped : goal.returns-in-Ok-clause-stopped
+returns-in-Ok-clause-stopped g c one =
+    inr (
+      c.in-Ok.choice,
+      c.in-Ok.ensures.ok,
+      λ in_memory.
+          if_err-both c.done.result _ _ (c.status_of.ensures.stopped one) (c.done.ensures.stopped in_memory) (c.done.ensures.caused in_memory),
+    )
