@@ -17,9 +17,9 @@ use Rattle.role_order.specs.Runs.{run_of}
 use Rattle.role_order.proofs.Leading.{first_step}
 use Rattle.role_order.proofs.Deciding.{geq-Decides, at_or_above-are, juniors-same, not_own_senior}
 use Rattle.role_order.proofs.Runs.{run-count}
-use Rattle.role_table.specs.Table.{Table, count_above, entry, number_in, table_of}
-use Rattle.role_table.proofs.Entries.{tells-table_of}
-use Rattle.role_table.proofs.Numbers.{slice_get-number_in}
+use Rattle.order_table.specs.Table.{Table, count_above, entry, number_in, table_of}
+use Rattle.order_table.proofs.Entries.{tells-table_of}
+use Rattle.order_table.proofs.Numbers.{slice_get-number_in}
 use Rattle.review_mgr.specs.Numbering.{assigned_runs, granted_runs, grant_numbers}
 use Rattle.review_mgr.proofs.Counts.{count-numbers, count-runs}
 

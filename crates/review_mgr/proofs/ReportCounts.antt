@@ -4,7 +4,7 @@ use Rattle.std.specs.Prelude.{IsTrue, count_by, nat_eq}
 use Rattle.std.specs.List.{list_any}
 use Rattle.rbac_sets.specs.Sets.{Bytes, Triple, contains, count, len, members, same_name, firsts}
 use Rattle.role_order.specs.Order.{geq, seniors}
-use Rattle.role_table.specs.Table.{count_above, entry, number_in}
+use Rattle.order_table.specs.Table.{count_above, entry, number_in}
 use Rattle.admin_mgr.specs.RbacState.{RbacState}
 use Rattle.admin_mgr.specs.Good.{IsGood}
 use Rattle.admin_mgr.specs.Authorization.{authorized_permissions, authorized_users}

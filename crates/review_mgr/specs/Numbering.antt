@@ -3,7 +3,7 @@ use Rattle.std.specs.Prelude.{◌≡◌, ℕ, List, filter, map}
 use Rattle.std.specs.Ordering.{eq_by_cmp}
 use Rattle.rbac_sets.specs.Sets.{Bytes, Names, Pair, Pairs, Triple, Triples, pair_cmp, members}
 use Rattle.role_order.specs.Runs.{run_of}
-use Rattle.role_table.specs.Table.{number_in, table_of}
+use Rattle.order_table.specs.Table.{number_in, table_of}
 use Rattle.admin_mgr.specs.RbacState.{RbacState}
 use Rattle.review_mgr.specs.declared.report.numbering.Numbers.{Numbers}
 

@@ -4,7 +4,7 @@ ghost use Rattle.std.specs.Io.KnownBytes.{Appends};
 ghost use Rattle.rbac_sets.specs.Sets.{Triple, contains, count, len, members, same_name};
 ghost use Rattle.rbac_sets.specs.Stream.{HasRisen};
 ghost use Rattle.role_order.specs.Order.{juniors, seniors};
-ghost use Rattle.role_table.specs.Table.{number_in};
+ghost use Rattle.order_table.specs.Table.{number_in};
 ghost use Rattle.admin_mgr.specs.Authorization.{authorized_permissions, authorized_users};
 ghost use Rattle.review_mgr.specs.Numbering.{IsNumbering};
 ghost use Rattle.review_mgr.specs.Report.{column, counts_of, line_of, report};
@@ -13,8 +13,8 @@ ghost use Rattle.review_mgr.specs.Review.{assigned_users};
 use admin_mgr::State;
 use counting::{count_number, count_runs_above, count_runs_below, count_runs_with};
 use numbering::Numbers;
+use order_table::number;
 use rbac_sets::{Fault, Name, Refusal, Sink, write_all};
-use role_table::number;
 use std::alloc::Global;
 
 mod counting;
@@ -138,8 +138,8 @@ fn line_of(alloc: Global, state: &State, numbers: &Numbers, role: &Name) -> Resu
 ///
 /// # Errors
 ///
-/// `Store` where a write to the sink failed, or took no byte. `Memory` where memory for a line was
-/// refused. What was written then is the start of the report.
+/// `Store` where a write to the sink failed, or took no byte. `Memory` where memory for the numbers of
+/// the roles or for a line was refused. What was written then is the start of the report.
 pub fn report_roles<W: Sink>(alloc: Global, state: &State, sink: &mut W) -> Result<(), Refusal>
     ensures ok { OnOk result (Appends (W.written sink.old) (W.written sink.new) (report state.now.facts)) }
     ensures part { OnErr result ((part rest : List ℕ) × (report state.now.facts ≡ part ++ rest) × Appends (W.written sink.old) (W.written sink.new) part) }

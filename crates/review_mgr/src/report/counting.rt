@@ -1,9 +1,9 @@
 //! Counting by the numbers of roles. A run has the roles of one user, or of one permission.
 ghost use Rattle.std.specs.Prelude.{◌≡◌, nat_eq, count_by};
 ghost use Rattle.std.specs.List.{list_any};
-ghost use Rattle.role_table.specs.Table.{entry};
+ghost use Rattle.order_table.specs.Table.{entry};
 
-use role_table::RoleTable;
+use order_table::OrderTable;
 
 // Whether one of the roles is the role of this number.
 fn has_number(numbers: &[usize], role: usize) -> bool
@@ -13,14 +13,14 @@ fn has_number(numbers: &[usize], role: usize) -> bool
 }
 
 // Whether one of the roles is the role of this number, or above it.
-fn has_above(table: &RoleTable, numbers: &[usize], role: usize) -> bool
+fn has_above(table: &OrderTable, numbers: &[usize], role: usize) -> bool
     ensures { result ≡ list_any (λ number. entry table.now number role) numbers.now }
 {
     numbers.iter().any(|number| table.geq(*number, role))
 }
 
 // Whether one of the roles is the role of this number, or below it.
-fn has_below(table: &RoleTable, numbers: &[usize], role: usize) -> bool
+fn has_below(table: &OrderTable, numbers: &[usize], role: usize) -> bool
     ensures { result ≡ list_any (λ number. entry table.now role number) numbers.now }
 {
     numbers.iter().any(|number| table.geq(role, *number))
@@ -41,7 +41,7 @@ pub(super) fn count_runs_with(runs: &[Vec<usize>], role: usize) -> u64
 }
 
 // How many of the runs have the role, or one above it.
-pub(super) fn count_runs_above(table: &RoleTable, runs: &[Vec<usize>], role: usize) -> u64
+pub(super) fn count_runs_above(table: &OrderTable, runs: &[Vec<usize>], role: usize) -> u64
     ensures { result ≡ count_by (λ run. list_any (λ number. entry table.now number role) run.items) runs.now }
 {
     runs.iter()
@@ -50,7 +50,7 @@ pub(super) fn count_runs_above(table: &RoleTable, runs: &[Vec<usize>], role: usi
 }
 
 // How many of the runs have the role, or one below it.
-pub(super) fn count_runs_below(table: &RoleTable, runs: &[Vec<usize>], role: usize) -> u64
+pub(super) fn count_runs_below(table: &OrderTable, runs: &[Vec<usize>], role: usize) -> u64
     ensures { result ≡ count_by (λ run. list_any (λ number. entry table.now role number) run.items) runs.now }
 {
     runs.iter()

@@ -5,18 +5,18 @@ ghost use Rattle.std.specs.Ordering.{eq_by_cmp};
 ghost use Rattle.rbac_sets.specs.Sets.{Pair, Triple, name_cmp, pair_cmp, triple_cmp, members};
 ghost use Rattle.rbac_sets.specs.SortedSet.{set_of};
 ghost use Rattle.role_order.specs.Runs.{run_of};
-ghost use Rattle.role_table.specs.Table.{number_in};
+ghost use Rattle.order_table.specs.Table.{number_in};
 
 use admin_mgr::State;
+use order_table::{OrderTable, number};
 use rbac_sets::{GrantSet, Name, PairSet, Refusal};
-use role_table::{RoleTable, number};
 use std::alloc::Global;
 
 // What the report counts: a role's number is its place among the roles in byte order.
 #[derive(Drop)]
 pub(super) struct Numbers {
     // which role is above which
-    pub(super) table: RoleTable,
+    pub(super) table: OrderTable,
     // of each user, the roles that it is assigned
     pub(super) assigned: Vec<Vec<usize>>,
     // of each permission, the roles that it is granted to
@@ -34,7 +34,7 @@ impl Numbers {
         ensures cause { IfErr result (λ refusal. refusal ≡ Refusal.Memory) }
     {
         let roles = state.roles().as_slice();
-        let table = RoleTable::new(alloc, state.order(), roles)?;
+        let table = OrderTable::new(alloc, state.order(), roles)?;
         let users = state.users().as_slice();
         let assigned = assigned_numbers(alloc, roles, users, state.assignments())?;
         let permissions = state.permissions().as_slice();

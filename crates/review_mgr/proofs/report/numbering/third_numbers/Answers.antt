@@ -1,5 +1,5 @@
 use Rattle.rbac_sets.specs.Sets.{Triple}
-use Rattle.role_table.specs.Table.{number_in}
+use Rattle.order_table.specs.Table.{number_in}
 use Rattle.review_mgr.proofs.Mapped.{mapped_more}
 use Rattle.review_mgr.proofs.report.numbering.third_numbers.Goals as goal
 

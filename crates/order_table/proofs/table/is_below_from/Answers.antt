@@ -3,8 +3,8 @@ use Rattle.std.proofs.Common.{rules, ◌≡◌, ◌<◌, length, sym, subst, ◌
 use Rattle.std.specs.declared.cmp.Ordering.TheVariants.{Less}
 use Rattle.rbac_sets.specs.Sets.{Pair, name_cmp}
 use Rattle.rbac_sets.proofs.InOrder.{less_of}
-use Rattle.role_table.proofs.Rows.{all_from}
-use Rattle.role_table.proofs.table.is_below_from.Goals as goal
+use Rattle.order_table.proofs.Rows.{all_from}
+use Rattle.order_table.proofs.table.is_below_from.Goals as goal
 
 pub returns-else-at-run : goal.returns-else-at-run
 returns-else-at-run c t =

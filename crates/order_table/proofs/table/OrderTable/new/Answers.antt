@@ -2,9 +2,9 @@ use Rattle.std.proofs.Common.{map, sym, ap, subst, ◌∙◌}
 use Rattle.std.proofs.lemmas.List.{take_all}
 use Rattle.rbac_sets.specs.Sets.{Bytes}
 use Rattle.role_order.specs.Order.{geq}
-use Rattle.role_table.specs.Table.{TellsOrder}
-use Rattle.role_table.proofs.Entries.{tells-table_of, table_more}
-use Rattle.role_table.proofs.table.RoleTable.new.Goals as goal
+use Rattle.order_table.specs.Table.{TellsOrder}
+use Rattle.order_table.proofs.Entries.{tells-table_of, table_more}
+use Rattle.order_table.proofs.table.OrderTable.new.Goals as goal
 
 pub loop-role-preserved : goal.loop-role-preserved
 loop-role-preserved c =

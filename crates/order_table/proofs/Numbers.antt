@@ -10,7 +10,7 @@ use Rattle.std.proofs.lemmas.Bool.{or_cases, true≢false}
 use Rattle.rbac_sets.specs.Sets.{Bytes, name_cmp, same_name, contains, from_list}
 use Rattle.rbac_sets.specs.NameOrder.{name_total, name_exact}
 use Rattle.rbac_sets.proofs.SetLaws.{contains-from_list, tie_Decides}
-use Rattle.role_table.specs.Table.{number_in}
+use Rattle.order_table.specs.Table.{number_in}
 
 -- where the items that pass stand first, they are as many as stand before the others
 pub length-parted : {K : Type 0} (p : K → Bool) (xs : List K) (i : ℕ) → i ≤ length xs → AllWithin (λ x. p x ≡ true) xs 0 i → AllWithin (λ x. p x ≡ false) xs i (length xs) → length (filter p xs) ≡ i

@@ -4,11 +4,11 @@ use Rattle.rbac_sets.specs.Sets.{pair_cmp}
 use Rattle.rbac_sets.specs.SortedSet.{set_of}
 use Rattle.role_order.specs.Checked.{second_cmp}
 use Rattle.role_order.proofs.Runs.{run-rises}
-use Rattle.role_table.proofs.Rows.{row_more}
+use Rattle.order_table.proofs.Rows.{row_more}
 use Rattle.std.proofs.Common.{refl, true}
 use Rattle.std.proofs.lemmas.Bool.{or_right}
-use Rattle.role_table.proofs.table.row_of.Goals as goal
-use Rattle.role_table.proofs.table.row_of.Goals.{then-is_second_at+in_ok-push, else-is_second_at+in_ok-push-2}
+use Rattle.order_table.proofs.table.row_of.Goals as goal
+use Rattle.order_table.proofs.table.row_of.Goals.{then-is_second_at+in_ok-push, else-is_second_at+in_ok-push-2}
 
 pub is_at_or_above-requires : goal.is_at_or_above-requires
 is_at_or_above-requires c = subst (IsStrictlySortedBy second_cmp) (sym c.with_first-run.ensures) (run-rises (set_of pair_cmp c.pairs.result.now) c.args.role.now)

@@ -1,7 +1,7 @@
 use Rattle.std.proofs.Common.{◌≡◌, map, take}
 use Rattle.rbac_sets.specs.Sets.{Bytes}
 use Rattle.role_order.specs.Order.{geq}
-use Rattle.role_table.proofs.table.row_of.Given as goal
+use Rattle.order_table.proofs.table.row_of.Given as goal
 
 -- the entries of the roles so far
 abbrev pub invariant-loop-other : goal.invariant-loop-other

@@ -3,8 +3,8 @@ use Rattle.std.proofs.Common.{rules, ◌≡◌, ◌<◌, ◌≤◌, length, sym,
 use Rattle.std.specs.declared.cmp.Ordering.TheVariants.{Less}
 use Rattle.rbac_sets.specs.Sets.{Pair, name_cmp}
 use Rattle.rbac_sets.proofs.InOrder.{less_of}
-use Rattle.role_table.proofs.Rows.{all_before}
-use Rattle.role_table.proofs.table.is_above_before.Goals as goal
+use Rattle.order_table.proofs.Rows.{all_before}
+use Rattle.order_table.proofs.table.is_above_before.Goals as goal
 
 pub returns-then-at-run : goal.returns-then-at-run
 returns-then-at-run c t =

@@ -4,8 +4,8 @@ use Rattle.rbac_sets.specs.Sets.{Pair}
 use Rattle.rbac_sets.proofs.SetLaws.{contains-from_list}
 use Rattle.rbac_sets.proofs.InOrder.{search_finds, search_parts, contains-search}
 use Rattle.role_order.specs.Checked.{second_cmp}
-use Rattle.role_table.proofs.Rows.{none_at_gap, second_total}
-use Rattle.role_table.proofs.table.has_second.Goals as goal
+use Rattle.order_table.proofs.Rows.{none_at_gap, second_total}
+use Rattle.order_table.proofs.table.has_second.Goals as goal
 
 pub returns : goal.returns
 returns c =

@@ -1,7 +1,7 @@
 use Rattle.std.proofs.Common.{◌≡◌, map, take}
 use Rattle.rbac_sets.specs.Sets.{Bytes}
 use Rattle.role_order.specs.Order.{geq}
-use Rattle.role_table.proofs.table.RoleTable.new.Given as goal
+use Rattle.order_table.proofs.table.OrderTable.new.Given as goal
 
 -- the rows of the roles so far
 abbrev pub invariant-loop-role : goal.invariant-loop-role

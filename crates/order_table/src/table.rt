@@ -7,7 +7,7 @@ ghost use Rattle.std.specs.List.Sorted.{IsStrictlySortedBy};
 ghost use Rattle.rbac_sets.specs.Sets.{Pair, name_cmp, same_name, contains, from_list};
 ghost use Rattle.role_order.specs.Order.{geq};
 ghost use Rattle.role_order.specs.Checked.{second_cmp};
-ghost use Rattle.role_table.specs.Table.{table_of, entry, count_above, TellsOrder, number_in};
+ghost use Rattle.order_table.specs.Table.{table_of, entry, count_above, TellsOrder, number_in};
 
 use rbac_sets::{Name, Refusal};
 use role_order::RoleOrder;
@@ -19,14 +19,14 @@ use std::marker::Model;
 ///
 /// It is as large as the square of the number of roles. A contract sees the rows of the table.
 #[derive(Drop)]
-pub struct RoleTable {
+pub struct OrderTable {
     rows: Vec<Vec<bool>>,
 }
 
-impl Model for RoleTable {
+impl Model for OrderTable {
     ghost use Rattle.std.specs.Prelude.{map};
     ghost use Rattle.std.specs.Coded.{coded_list, coded_bool};
-    ghost use Rattle.role_table.specs.Table.{Table};
+    ghost use Rattle.order_table.specs.Table.{Table};
 
     ghost Value = { Table };
 
@@ -35,13 +35,13 @@ impl Model for RoleTable {
     ghost view = { λ table. map (λ row. row.items) table.rows.items };
 }
 
-impl RoleTable {
+impl OrderTable {
     /// The table of these roles, which may be any.
     ///
     /// # Errors
     ///
     /// `Memory` where memory for the table was refused.
-    pub fn new(alloc: Global, order: &RoleOrder, roles: &[Name]) -> Result<RoleTable, Refusal>
+    pub fn new(alloc: Global, order: &RoleOrder, roles: &[Name]) -> Result<OrderTable, Refusal>
         ensures ok { IfOk result (λ table. table ≡ table_of order.now.edges roles.now) }
         ensures tells { IfOk result (λ table. TellsOrder order.now.edges roles.now table) }
         ensures cause { IfErr result (λ refusal. refusal ≡ Refusal.Memory) }
@@ -51,7 +51,7 @@ impl RoleTable {
         for role in roles {
             rows.push(row_of(alloc, order, roles, role)?)?;
         }
-        Ok(RoleTable { rows })
+        Ok(OrderTable { rows })
     }
 
     /// Whether the role of the first number is the role of the second number, or above it. Where one

@@ -4,7 +4,7 @@ use Rattle.std.proofs.lemmas.List.{get_or-map, map_more, map-append}
 use Rattle.std.proofs.lemmas.Option.{slice_get_within, get_or_from_slice_get}
 use Rattle.rbac_sets.specs.Sets.{Bytes, Pairs}
 use Rattle.role_order.specs.Order.{geq}
-use Rattle.role_table.specs.Table.{TellsOrder, table_of}
+use Rattle.order_table.specs.Table.{TellsOrder, table_of}
 
 -- the table of the roles tells their order
 pub tells-table_of : (edges : Pairs) (roles : List Bytes) → TellsOrder edges roles (table_of edges roles)

@@ -6,6 +6,6 @@
 //! roles takes their numbers once, and then reads the table.
 #![tactic(auto)]
 
-pub use table::{RoleTable, number};
+pub use table::{OrderTable, number};
 
 pub mod table;
