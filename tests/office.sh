@@ -5,7 +5,7 @@
 
 set -u
 tests=$(cd "$(dirname "$0")" && pwd) || exit 1
-crates='rbac_sets role_order admin_mgr review_mgr role_csv role_json'
+crates='rbac_sets role_order order_table admin_mgr review_mgr role_csv role_json'
 
 # The seconds that one test may take.
 most=300

@@ -5,7 +5,7 @@
 
 set -u
 tests=$(cd "$(dirname "$0")" && pwd) || exit 1
-crates='rbac_sets role_order admin_mgr review_mgr role_tables'
+crates='rbac_sets role_order order_table admin_mgr review_mgr role_tables'
 
 # What reads and shows scripts, of the tests of an office.
 readers='answers asking beginnings script showing drawn/drawing'

@@ -6,7 +6,7 @@
 
 set -u
 tests=$(cd "$(dirname "$0")" && pwd) || exit 1
-crates='rbac_sets role_order admin_mgr review_mgr role_tables role_csv role_json role_http role_wire'
+crates='rbac_sets role_order order_table admin_mgr review_mgr role_tables role_csv role_json role_http role_wire'
 
 # What reads and shows scripts, a sink that takes little, and offices in files.
 readers='office/answers office/asking office/beginnings office/narrow office/script office/showing tables/files

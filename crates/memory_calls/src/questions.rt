@@ -4,3 +4,4 @@ mod answers;
 mod asking;
 mod report;
 mod small_office;
+mod table;

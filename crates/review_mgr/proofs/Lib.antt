@@ -1,7 +1,11 @@
 pub mod AccessByRuns
 pub mod Below
 pub mod Columns
+pub mod Counts
 pub mod Gathering
+pub mod Mapped
+pub mod Numbered
 pub mod Reached
 pub mod Refusing
+pub mod ReportCounts
 pub mod RunsAndGrants

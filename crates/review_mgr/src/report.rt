@@ -1,18 +1,24 @@
 //! The role report.
-ghost use Rattle.std.specs.Prelude.{Err, count_by, ◌≡◌, ◌⊎◌, ◌++◌, ℕ, List, ◌≤◌, length, true, string_bytes, IfOk, IfErr, OnOk, OnErr};
+ghost use Rattle.std.specs.Prelude.{Err, IsTrue, ◌≡◌, ◌⊎◌, ◌++◌, ℕ, List, ◌≤◌, length, true, string_bytes, IfOk, IfErr, OnOk, OnErr};
 ghost use Rattle.std.specs.Io.KnownBytes.{Appends};
-ghost use Rattle.rbac_sets.specs.Sets.{Triple, count, len, same_name};
+ghost use Rattle.rbac_sets.specs.Sets.{Triple, contains, count, len, members, same_name};
 ghost use Rattle.rbac_sets.specs.Stream.{HasRisen};
 ghost use Rattle.role_order.specs.Order.{juniors, seniors};
+ghost use Rattle.order_table.specs.Table.{number_in};
 ghost use Rattle.admin_mgr.specs.Authorization.{authorized_permissions, authorized_users};
+ghost use Rattle.review_mgr.specs.Numbering.{IsNumbering};
 ghost use Rattle.review_mgr.specs.Report.{column, counts_of, line_of, report};
 ghost use Rattle.review_mgr.specs.Review.{assigned_users};
 
-use crate::gather::{firsts_of, permissions_below, users_above};
-use crate::lookup::is_same;
 use admin_mgr::State;
+use counting::{count_number, count_runs_above, count_runs_below, count_runs_with};
+use numbering::Numbers;
+use order_table::number;
 use rbac_sets::{Fault, Name, Refusal, Sink, write_all};
 use std::alloc::Global;
+
+mod counting;
+mod numbering;
 
 /// The heading of the role report.
 const HEADING: &str =
@@ -26,70 +32,69 @@ fn column(alloc: Global, number: u64) -> Result<String, Refusal>
     Ok(format!(in alloc; "{number:>12}")?)
 }
 
-// How many users are assigned to the role.
-#[tactic(auto, unfolding(crate::specs::Review::assigned_users))]
-fn count_assigned(alloc: Global, state: &State, role: &Name) -> Result<u64, Refusal>
-    ensures ok { IfOk result (λ number. number ≡ len (assigned_users state.now.facts role.now)) }
-    ensures cause { IfErr result (λ refusal. refusal ≡ Refusal.Memory) }
+// The number of the role.
+fn number_of(state: &State, role: &Name) -> usize
+    ensures { result ≡ number_in (members state.now.facts.roles) role.now }
 {
-    let users = firsts_of(alloc, state.assignments(), role)?;
-    Ok(users.len() as u64)
+    number(state.roles().as_slice(), role)
+}
+
+// How many users are assigned to the role.
+fn count_assigned(state: &State, numbers: &Numbers, role: &Name) -> u64
+    requires numbering { IsNumbering state.now.facts numbers.now }
+    requires role { IsTrue (contains state.now.facts.roles role.now) }
+    ensures { result ≡ len (assigned_users state.now.facts role.now) }
+{
+    state.is_good();
+    count_runs_with(&numbers.assigned, number_of(state, role))
 }
 
 // How many users are authorized for the role.
-#[tactic(auto, unfolding(admin_mgr::specs::Authorization::authorized_users))]
-fn count_authorized(alloc: Global, state: &State, role: &Name) -> Result<u64, Refusal>
-    ensures ok { IfOk result (λ number. number ≡ len (authorized_users state.now.facts role.now)) }
-    ensures cause { IfErr result (λ refusal. refusal ≡ Refusal.Memory) }
+fn count_authorized(state: &State, numbers: &Numbers, role: &Name) -> u64
+    requires numbering { IsNumbering state.now.facts numbers.now }
+    requires role { IsTrue (contains state.now.facts.roles role.now) }
+    ensures { result ≡ len (authorized_users state.now.facts role.now) }
 {
-    let users = users_above(alloc, state.order(), state.assignments(), role)?;
-    Ok(users.len() as u64)
+    state.is_good();
+    count_runs_above(&numbers.table, &numbers.assigned, number_of(state, role))
 }
 
 // How many permissions are granted to the role directly.
-#[tactic(auto, unfolding(rbac_sets::specs::Sets::count))]
-fn count_granted(state: &State, role: &Name) -> u64
+fn count_granted(state: &State, numbers: &Numbers, role: &Name) -> u64
+    requires numbering { IsNumbering state.now.facts numbers.now }
+    requires role { IsTrue (contains state.now.facts.roles role.now) }
     ensures { result ≡ count (λ (grant : Triple). same_name grant.2 role.now) state.now.facts.grants }
 {
-    granted_in(state.grants().as_slice(), role)
-}
-
-// How many of the grants are to the role.
-fn granted_in(grants: &[(Name, Name, Name)], role: &Name) -> u64
-    ensures { result ≡ count_by (λ (grant : Triple). same_name grant.2 role.now) grants.now }
-{
-    grants
-        .iter()
-        .filter(|grant| is_same(&grant.2, role))
-        .count() as u64
+    state.is_good();
+    count_number(&numbers.grants, number_of(state, role))
 }
 
 // How many permissions the role has.
-#[tactic(auto, unfolding(admin_mgr::specs::Authorization::authorized_permissions))]
-fn count_permitted(alloc: Global, state: &State, role: &Name) -> Result<u64, Refusal>
-    ensures ok { IfOk result (λ number. number ≡ len (authorized_permissions state.now.facts role.now)) }
-    ensures cause { IfErr result (λ refusal. refusal ≡ Refusal.Memory) }
+fn count_permitted(state: &State, numbers: &Numbers, role: &Name) -> u64
+    requires numbering { IsNumbering state.now.facts numbers.now }
+    requires role { IsTrue (contains state.now.facts.roles role.now) }
+    ensures { result ≡ len (authorized_permissions state.now.facts role.now) }
 {
-    let permissions = permissions_below(alloc, state.order(), state.grants(), role)?;
-    Ok(permissions.len() as u64)
+    state.is_good();
+    count_runs_below(&numbers.table, &numbers.granted, number_of(state, role))
 }
 
 // How many descendants the role has.
-fn count_juniors(alloc: Global, state: &State, role: &Name) -> Result<u64, Refusal>
-    ensures ok { IfOk result (λ number. number ≡ len (juniors state.now.facts.edges role.now)) }
-    ensures cause { IfErr result (λ refusal. refusal ≡ Refusal.Memory) }
+fn count_juniors(state: &State, role: &Name) -> u64
+    ensures { result ≡ len (juniors state.now.facts.edges role.now) }
 {
-    let names = state.order().juniors(alloc, role)?;
-    Ok(names.len() as u64)
+    state.order().pairs().with_first(role).len() as u64
 }
 
-// How many ascendants the role has.
-fn count_seniors(alloc: Global, state: &State, role: &Name) -> Result<u64, Refusal>
-    ensures ok { IfOk result (λ number. number ≡ len (seniors state.now.facts.edges role.now)) }
-    ensures cause { IfErr result (λ refusal. refusal ≡ Refusal.Memory) }
+// How many ascendants the role has. The table tells how many are above it, with the role itself.
+fn count_seniors(state: &State, numbers: &Numbers, role: &Name) -> u64
+    requires numbering { IsNumbering state.now.facts numbers.now }
+    requires role { IsTrue (contains state.now.facts.roles role.now) }
+    ensures { result ≡ len (seniors state.now.facts.edges role.now) }
 {
-    let names = state.order().seniors(alloc, role)?;
-    Ok(names.len() as u64)
+    state.is_good();
+    let above = numbers.table.count_above(number_of(state, role));
+    (above - 1) as u64
 }
 
 // The line of a role with these numbers.
@@ -109,17 +114,19 @@ fn text_of(alloc: Global, counts: &[u64], role: &Name) -> Result<String, Refusal
 
 // The line of a role.
 #[tactic(auto, unfolding(crate::specs::Report::line_of))]
-fn line_of(alloc: Global, state: &State, role: &Name) -> Result<String, Refusal>
+fn line_of(alloc: Global, state: &State, numbers: &Numbers, role: &Name) -> Result<String, Refusal>
+    requires numbering { IsNumbering state.now.facts numbers.now }
+    requires role { IsTrue (contains state.now.facts.roles role.now) }
     ensures ok { IfOk result (λ text. string_bytes text ≡ line_of state.now.facts role.now) }
     ensures cause { IfErr result (λ refusal. refusal ≡ Refusal.Memory) }
 {
     let counts = [
-        count_assigned(alloc, state, role)?,
-        count_authorized(alloc, state, role)?,
-        count_granted(state, role),
-        count_permitted(alloc, state, role)?,
-        count_juniors(alloc, state, role)?,
-        count_seniors(alloc, state, role)?,
+        count_assigned(state, numbers, role),
+        count_authorized(state, numbers, role),
+        count_granted(state, numbers, role),
+        count_permitted(state, numbers, role),
+        count_juniors(state, role),
+        count_seniors(state, numbers, role),
     ];
     text_of(alloc, &counts, role)
 }
@@ -131,17 +138,18 @@ fn line_of(alloc: Global, state: &State, role: &Name) -> Result<String, Refusal>
 ///
 /// # Errors
 ///
-/// `Store` where a write to the sink failed, or took no byte. `Memory` where memory for a line was
-/// refused. What was written then is the start of the report.
+/// `Store` where a write to the sink failed, or took no byte. `Memory` where memory for the numbers of
+/// the roles or for a line was refused. What was written then is the start of the report.
 pub fn report_roles<W: Sink>(alloc: Global, state: &State, sink: &mut W) -> Result<(), Refusal>
     ensures ok { OnOk result (Appends (W.written sink.old) (W.written sink.new) (report state.now.facts)) }
     ensures part { OnErr result ((part rest : List ℕ) × (report state.now.facts ≡ part ++ rest) × Appends (W.written sink.old) (W.written sink.new) part) }
     ensures cause { IfErr result (λ refusal. (refusal ≡ Refusal.Memory) ⊎ (refusal ≡ Refusal.Store)) }
     ensures store { result ≡ Err Refusal.Store → HasRisen (W.failed sink.old) (W.failed sink.new) ⊎ HasRisen (W.idle sink.old) (W.idle sink.new) }
 {
+    let numbers = Numbers::new(alloc, state)?;
     write_text(sink, HEADING)?;
     for role in state.roles().as_slice() {
-        let line = line_of(alloc, state, role)?;
+        let line = line_of(alloc, state, &numbers, role)?;
         write_text(sink, line.as_str())?;
     }
     Ok(())

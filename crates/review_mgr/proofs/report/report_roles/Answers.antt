@@ -1,16 +1,21 @@
 use Rattle.std.proofs.Common.{◌≡◌, inl, inr, [], sym, ap, subst, refl, ◌∙◌, ◌++◌, take, drop, suc, arith, append_assoc}
 use Rattle.std.proofs.lemmas.List.{append-nil}
 use Rattle.rbac_sets.specs.Sets.{members}
+use Rattle.rbac_sets.specs.NameOrder.{name_total, name_exact}
 use Rattle.std.specs.Io.KnownBytes.{Appends}
 use Rattle.rbac_sets.proofs.Known.{Appends-none, Appends-more}
 use Rattle.rbac_sets.proofs.Counting.{risen_since}
+use Rattle.role_order.proofs.Walks.{member_at}
 use Rattle.review_mgr.specs.Report.{heading, line_of, lines_of, report}
 use Rattle.review_mgr.proofs.Columns.{begun, report-split, report-step, report-whole, on_err, lines-more}
 use Rattle.review_mgr.proofs.report.report_roles.Goals as goal
 
+pub returns-in_err-numbers-clause-part : goal.returns-in_err-numbers-clause-part
+returns-in_err-numbers-clause-part g c = on_err _ c.from_residual.result ([], report c.args.state.now.facts, refl, Appends-none (g.W.Sink.written c.args.sink.now))
+
 pub returns-in_err-write_text-clause-part : goal.returns-in_err-write_text-clause-part
 unfolding report
-returns-in_err-write_text-clause-part g c = on_err _ c.from_residual.result
+returns-in_err-write_text-clause-part g c = on_err _ c.from_residual-in_err-write_text.result
     (begun (g.W.Sink.written c.args.sink.now) (g.W.Sink.written c.args.sink.now) (g.W.Sink.written c.write_text.new.sink) (report c.args.state.now.facts) [] heading (lines_of c.args.state.now.facts (members c.args.state.now.facts.roles))
     (Appends-none (g.W.Sink.written c.args.sink.now)) c.in_err-write_text.ensures.part refl)
 
@@ -20,6 +25,11 @@ loop-role-init g c = record {
   failures = c.write_text.ensures.failures;
   idle = c.write_text.ensures.idle;
 }
+
+pub line_of-requires-clause-role : goal.line_of-requires-clause-role
+line_of-requires-clause-role g c =
+    member_at name_total name_exact c.args.state.now.facts.roles c.as_slice-role-items.result.now (c.as_slice-role-items.ensures ∙ ap members c.roles.ensures)
+    c.loop-role.role-index c.role-item.result c.loop-role-test.true c.role-item.is
 
 pub loop-role-preserved : goal.loop-role-preserved
 loop-role-preserved g c =

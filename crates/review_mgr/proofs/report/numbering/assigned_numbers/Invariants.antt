@@ -1,0 +1,10 @@
+use Rattle.std.proofs.Common.{◌≡◌, map, take}
+use Rattle.rbac_sets.specs.Sets.{Bytes, Pair, pair_cmp}
+use Rattle.rbac_sets.specs.SortedSet.{set_of}
+use Rattle.role_order.specs.Runs.{run_of}
+use Rattle.order_table.specs.Table.{number_in}
+use Rattle.review_mgr.proofs.report.numbering.assigned_numbers.Given as goal
+
+abbrev pub invariant-loop-user : goal.invariant-loop-user
+invariant-loop-user l =
+    map (λ run. run.items) l.runs.items ≡ map (λ (user : Bytes). map (λ (pair : Pair). number_in l.roles pair.1) (run_of (set_of pair_cmp l.assignments) user)) (take l.user-index l.users)

@@ -1,0 +1,7 @@
+use Rattle.std.proofs.Common.{◌≡◌, map, take}
+use Rattle.rbac_sets.specs.Sets.{Triple}
+use Rattle.order_table.specs.Table.{number_in}
+use Rattle.review_mgr.proofs.report.numbering.third_numbers.Given as goal
+
+abbrev pub invariant-loop-grant : goal.invariant-loop-grant
+invariant-loop-grant l = l.numbers.items ≡ map (λ (grant : Triple). number_in l.roles grant.2) (take l.grant-index l.grants)

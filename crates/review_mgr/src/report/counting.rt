@@ -1,0 +1,59 @@
+//! Counting by the numbers of roles. A run has the roles of one user, or of one permission.
+ghost use Rattle.std.specs.Prelude.{◌≡◌, nat_eq, count_by};
+ghost use Rattle.std.specs.List.{list_any};
+ghost use Rattle.order_table.specs.Table.{entry};
+
+use order_table::OrderTable;
+
+// Whether one of the roles is the role of this number.
+fn has_number(numbers: &[usize], role: usize) -> bool
+    ensures { result ≡ list_any (λ number. nat_eq number role) numbers.now }
+{
+    numbers.iter().any(|number| *number == role)
+}
+
+// Whether one of the roles is the role of this number, or above it.
+fn has_above(table: &OrderTable, numbers: &[usize], role: usize) -> bool
+    ensures { result ≡ list_any (λ number. entry table.now number role) numbers.now }
+{
+    numbers.iter().any(|number| table.geq(*number, role))
+}
+
+// Whether one of the roles is the role of this number, or below it.
+fn has_below(table: &OrderTable, numbers: &[usize], role: usize) -> bool
+    ensures { result ≡ list_any (λ number. entry table.now role number) numbers.now }
+{
+    numbers.iter().any(|number| table.geq(role, *number))
+}
+
+// How many of the numbers are that of the role.
+pub(super) fn count_number(numbers: &[usize], role: usize) -> u64
+    ensures { result ≡ count_by (λ number. nat_eq number role) numbers.now }
+{
+    numbers.iter().filter(|number| **number == role).count() as u64
+}
+
+// How many of the runs have the role.
+pub(super) fn count_runs_with(runs: &[Vec<usize>], role: usize) -> u64
+    ensures { result ≡ count_by (λ run. list_any (λ number. nat_eq number role) run.items) runs.now }
+{
+    runs.iter().filter(|run| has_number(run, role)).count() as u64
+}
+
+// How many of the runs have the role, or one above it.
+pub(super) fn count_runs_above(table: &OrderTable, runs: &[Vec<usize>], role: usize) -> u64
+    ensures { result ≡ count_by (λ run. list_any (λ number. entry table.now number role) run.items) runs.now }
+{
+    runs.iter()
+        .filter(|run| has_above(table, run, role))
+        .count() as u64
+}
+
+// How many of the runs have the role, or one below it.
+pub(super) fn count_runs_below(table: &OrderTable, runs: &[Vec<usize>], role: usize) -> u64
+    ensures { result ≡ count_by (λ run. list_any (λ number. entry table.now role number) run.items) runs.now }
+{
+    runs.iter()
+        .filter(|run| has_below(table, run, role))
+        .count() as u64
+}
