@@ -1,0 +1,207 @@
+"""The page of the API: its examples are answered so, and it says what the sources say, no more and no less."""
+
+import json
+import re
+
+from program.web import PHRASES, Server, post
+
+from . import markdown, shell, sources, verdicts
+
+PAGE = markdown.page("API.md")
+COMMANDS = markdown.parts(markdown.section(PAGE, "## 2. Commands"))
+QUESTIONS = markdown.parts(markdown.section(PAGE, "## 3. Questions"))
+PARTS = {**COMMANDS, **QUESTIONS}
+REFUSALS = markdown.section(PAGE, "## 4. Refusals")
+STATUSES = markdown.section(PAGE, "## 5. HTTP statuses")
+EXITS = markdown.section(PAGE, "## 6. Exit statuses")
+
+# How the page begins to say of which type the value at a key is.
+TYPES = {"text": "a text: ", "list": "a list of texts: ", "number": "a whole number "}
+
+
+def word_of(code, kind):
+    """A refusal in one word: its code, and its kind if there is one."""
+    return f"{code}:{kind}" if kind else code
+
+
+def refused_words(text):
+    """The refusals that a part lists: each its code, its name and its kind, or an empty text."""
+    return re.findall(r"(?:^|; )(\d+) (\w+)(?: `(\w+)`)?", text)
+
+
+def all_pairs():
+    """All request lines of the page with their answers."""
+    return [pair for block in markdown.blocks(PAGE, "json") for pair in markdown.pairs(block)]
+
+
+def check_examples(bench):
+    """Each request line of the page gets the answer that stands below it, all lines one after the other."""
+    asked = all_pairs()
+    done = bench.run(["replay", "--memory"], "".join(f"{line}\n" for line, _ in asked).encode())
+    bench.same("the end of the examples", (done.err, done.status), (b"", 0))
+    answers = done.out.decode().splitlines()
+    bench.same("the number of answers", len(answers), len(asked))
+    for (line, answer), given in zip(asked, answers):
+        bench.same(f"the answer to {line}", given, answer)
+
+
+def check_commands(bench):
+    """The commands of the page print what stands below them: a server that is asked by curl, and an import."""
+    served, imported = markdown.blocks(PAGE, "console")
+    (records,) = markdown.blocks(PAGE, "csv")
+    bench.same("the page names the file of its assignments", "The file `assignments.csv`" in PAGE, True)
+    bench.write("assignments.csv", "".join(f"{line}\n" for line in records).encode())
+    asked = sum(command.startswith("curl ") for command, _ in shell.runs(served))
+    bench.same("as many calls as the server serves", f"--limit {asked} " in served[1], True)
+    with shell.Shell(bench) as reader:
+        for command, shown in shell.runs(served):
+            # Of an answer that is shown with its head no line feed ends the body.
+            reader.shows(command, shown.removesuffix("\n") if " -i " in command else shown)
+        reader.waits()
+        reader.console(imported)
+
+
+def check_bodies(bench):
+    """Each request line of the page gets the same answer as a body over HTTP."""
+    asked = [(json.loads(line), answer) for line, answer in all_pairs()]
+    path = bench.path("office")
+    bench.ends(["init", path], makes=["office"])
+    with Server(bench, path, len(asked)) as server:
+        for request, answer in asked:
+            function = request.pop("fn")
+            body = request["csv"] if function == "importAssignments" else json.dumps(request)
+            _, _, told = server.ask(post(function, body.encode())).decode().partition("\r\n\r\n")
+            bench.same(f"the answer to {function} of {body}", told, answer)
+        server.ends()
+
+
+def check_functions(bench):
+    """Each command and each question has its part, and nothing else has one."""
+    known = list(sources.functions().values())
+    commands, questions = sources.command_keys(), sources.question_keys()
+    bench.same("the commands", list(COMMANDS), [name for name in known if name in commands])
+    bench.same("the questions", list(QUESTIONS), [name for name in known if name in questions])
+    bench.same("all functions", [*COMMANDS, *QUESTIONS], known)
+
+
+def check_standard_names(bench):
+    """Each part begins with the name that the function has in the standard, if it is there."""
+    for name, named in sources.standard_names().items():
+        bench.same(f"{name} in the standard", PARTS[name].text.split(":")[0], named or "No function of the standard")
+
+
+def check_keys(bench):
+    """Each part speaks of the keys of its function and of no other, and the table of keys has their types."""
+    keys = {**sources.command_keys(), **sources.question_keys()}
+    types = {key: sort for named in keys.values() for key, sort in named}
+    for name, named in keys.items():
+        spoken = set(re.findall(r"`(\w+)`", PARTS[name].text))
+        bench.same(f"the keys of {name}", spoken, {key for key, _ in named})
+    (table,) = markdown.tables(markdown.section(PAGE, "### Names and keys"))
+    told = {key: says for cell, says in table for key in re.findall(r"`(\w+)`", cell)}
+    bench.same("the keys", set(told), set(types))
+    for key, says in told.items():
+        bench.same(f"the type of {key}", says.startswith(TYPES[types[key]]), True)
+
+
+def check_refused(bench):
+    """Each part lists what refuses its function, in the order in which that is judged, with its name."""
+    keys = {**sources.command_keys(), **sources.question_keys()}
+    names = {str(code): name for code, (name, _) in sources.refusals().items()}
+    for function, part in PARTS.items():
+        listed = refused_words(part.refused)
+        codes = [word_of(code, kind) for code, _, kind in listed]
+        bench.same(f"what refuses {function}", codes, verdicts.refusals()[function])
+        wanted = [names[code] for code, _, _ in listed]
+        bench.same(f"the names of what refuses {function}", [name for _, name, _ in listed], wanted)
+        bench.same(f"whether nothing refuses {function}", part.refused == "by nothing", not listed)
+        spoken = set(re.findall(r"`(\w+)`", part.refused))
+        known = {key for key, _ in keys[function]} | {kind for _, _, kind in listed if kind}
+        bench.same(f"what is spoken of where {function} is refused", spoken - known, set())
+
+
+def check_shown(bench):
+    """Each part has an accepted request of its function with its keys alone, and a value of the right sort."""
+    keys = {**sources.command_keys(), **sources.question_keys()}
+    told = sources.values()
+    for function, part in PARTS.items():
+        shown = [(json.loads(line), json.loads(answer)) for line, answer in part.lines]
+        good = [(line, answer) for line, answer in shown if line["fn"] == function and "ok" in answer]
+        bench.same(f"an accepted {function} is there", bool(good), True)
+        for line, answer in good:
+            bench.same(f"the keys of {line}", list(line), ["fn", *(key for key, _ in keys[function])])
+            bench.same(f"the sort of {answer}", sort_of(answer), told[function])
+
+
+def sort_of(answer):
+    """What sort of an answer it is."""
+    value = answer.get("value")
+    if isinstance(value, bool) or value is None:
+        return "Done" if value is None else "Access"
+    if isinstance(value, (int, dict)):
+        return "Count" if isinstance(value, int) else "Imported"
+    return "Permissions" if isinstance(value[0], list) else "Names"
+
+
+def check_ends(bench):
+    """Each command that docs/MODEL.md says to end sessions is said to do so."""
+    rows = re.findall(r"^\| (\w+)\(.*; ends \|$", markdown.page("MODEL.md"), re.M)
+    bench.same("commands that end sessions are found", bool(rows), True)
+    for function in [*rows, "deleteUser"]:
+        bench.same(f"{function} ends sessions", bool(re.search(r"[Ee]nds .*session", PARTS[function].text)), True)
+
+
+def check_refusals(bench):
+    """The table of refusals has each code with its name and its further key, in order, and says what to do."""
+    (table,) = markdown.tables(REFUSALS)
+    listed = [(int(code), (name, key.strip("`"))) for code, name, key, _, _ in table]
+    bench.same("the refusals", listed, sorted(sources.refusals().items()))
+    for code, _, _, means, do in table:
+        bench.same(f"what is said of {code}", bool(means and do), True)
+    for key in {key for _, (_, key) in listed if key}:
+        bench.same(f"the key {key}", f"`{key}`" in REFUSALS.partition("|")[0], True)
+
+
+def check_limits(bench):
+    """The tables of sizes and limits have the numbers of the sources."""
+    sizes, limits = markdown.tables(markdown.section(PAGE, "### Sizes and limits"))
+    bench.same("the sizes", {row[0]: number(row[1]) for row in sizes}, sources.sizes())
+    told = {row[0].strip("`"): (number(row[1]), number(row[2])) for row in limits}
+    bench.same("the limits", list(told.items()), list(sources.limits().items()))
+    bench.same("the seconds of a wait", f"at most {sources.patience()} seconds" in PAGE, True)
+
+
+def number(text):
+    """The number that a cell has."""
+    return int(text.replace(",", ""))
+
+
+def codes_in(cell):
+    """The codes that a cell lists, where a `to` stands between the ends of a row of them."""
+    codes = set()
+    for piece in filter(None, cell.split(", ")):
+        first, _, last = piece.partition(" to ")
+        codes |= set(range(int(first), int(last or first) + 1))
+    return codes
+
+
+def check_statuses(bench):
+    """The table of statuses has each status with its phrase, and with the codes that it tells."""
+    (table,) = markdown.tables(STATUSES)
+    listed = {int(cell.split()[0]): (cell.partition(" ")[2], codes_in(codes)) for cell, codes, _ in table}
+    bench.same("the statuses", set(listed), sources.statuses())
+    told = verdicts.codes_by_status()
+    for status, (phrase, codes) in listed.items():
+        bench.same(f"the phrase of {status}", phrase, {**PHRASES, 503: "Service Unavailable"}[status])
+        wanted = set() if status == 200 else told.get(status, {34})
+        bench.same(f"the codes of {status}", codes, wanted)
+
+
+def check_exits(bench):
+    """The tables of exit statuses have each status, each constant line of standard error, and each cause of a stop."""
+    exits, causes = markdown.tables(EXITS)
+    bench.same("the exit statuses", {int(row[0]) for row in exits}, sources.exits())
+    lines = {row[1].strip("`") for row in exits if re.fullmatch(r"`rbac: [a-z][^`]*`", row[1])}
+    bench.same("the lines", lines - {"rbac: stop CAUSE after K"}, sources.error_lines())
+    bench.same("the line of a stop", "rbac: stop CAUSE after K" in lines, True)
+    bench.same("the causes", {row[0].strip("`").split()[0] for row in causes}, sources.causes())
