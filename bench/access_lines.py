@@ -6,7 +6,7 @@
 `policy.csv`    the same policy for Casbin
 `rows.csv`      the same policy as rows of tables: assignments, edges, grants, closure pairs, activations
 `questions.csv` the same questions
-`limits.lines`  an office at the limits of version 2, and the questions that cost most there
+`limits-*.lines` offices at the limits of version 2, and the questions that cost most there
 """
 
 import random
@@ -81,27 +81,90 @@ def table_rows(grants):
     yield from (f"active,s{user},r{user % ROLES}" for user in range(USERS))
 
 
-def limit_lines():
-    """A chain of all roles. One permission is granted to all but the lowest 32, which one session has."""
-    roles = [f"role{number:04}" for number in range(1_024)]
+def limit_lines(roles, edges, asked, sessions):
+    """An office of these roles and inheritances, with 2,000 objects, 5,000 permissions, 20,000 grants and 1,000
+    sessions. The first permissions are granted to the lists of roles of `asked`, and in the sessions the lists of
+    roles of `sessions` are activated by turns. The other grants are spread."""
     yield from (f"- addRole {role}" for role in roles)
-    yield from (f"- addInheritance {a} {b}" for a, b in reversed(list(zip(roles, roles[1:]))))
+    yield from (f"- addInheritance {asc} {desc}" for asc, desc in edges)
     yield from (f"- addPermObj object{number:04}" for number in range(2_000))
-    permissions = [(f"object{it % 2_000:04}", f"operation{it // 2_000}") for it in range(5_000)]
-    yield from (f"- addPermission {thing} {operation}" for thing, operation in permissions)
-    asked, others = permissions[0], permissions[1:]
-    yield from (f"- grantPermission {asked[0]} {asked[1]} {role}" for role in roles[:-32])
-    for number in range(20_000 - 992):
-        thing, operation = others[number % len(others)]
-        yield f"- grantPermission {thing} {operation} {roles[(7 * number + number // len(others)) % 1_024]}"
-    for number in range(1_000):
+    permissions = [f"object{it % 2_000:04} operation{it // 2_000}" for it in range(5_000)]
+    yield from (f"- addPermission {permission}" for permission in permissions)
+    for permission, granted in zip(permissions, asked):
+        yield from (f"- grantPermission {permission} {role}" for role in granted)
+    others = permissions[len(asked) :]
+    for number in range(20_000 - sum(map(len, asked))):
+        role = roles[(7 * number + number // len(others)) % len(roles)]
+        yield f"- grantPermission {others[number % len(others)]} {role}"
+    assigned = highest(sessions[0], edges)
+    for number in range(500):
         yield f"- addUser user{number:04}"
-        yield f"- assignUser user{number:04} {roles[-32]}"
-        yield f"- createSession user{number:04} session{number:04} {' '.join(roles[-32:])}"
-    yield f"? session0500 {asked[1]} {asked[0]} 0"
-    yield "! refused-after-all 20"
-    yield f"? session0500 {others[0][1]} {others[0][0]} 0"
-    yield "! refused-of-few 1000"
+        yield from (f"- assignUser user{number:04} {role}" for role in assigned)
+    for number in range(1_000):
+        active = " ".join(sessions[number % len(sessions)])
+        yield f"- createSession user{number // 2:04} session{number:04} {active}"
+
+
+def highest(active, edges):
+    """Those of some roles that have no ascendant among them."""
+    under = {desc for asc, desc in edges if asc in active}
+    return [role for role in active if role not in under]
+
+
+def question(session, permission, wanted, label, rounds):
+    """A question of a session for the permission with this number, asked so many times."""
+    yield f"? session{session:04} operation{permission // 2_000} object{permission % 2_000:04} {wanted}"
+    yield f"! {label} {rounds}"
+
+
+def chain(roles):
+    """The inheritances of a chain, each from a role to the next one, the last one first."""
+    return list(reversed(list(zip(roles, roles[1:]))))
+
+
+def one_chain():
+    """A chain of all roles. One permission is granted to all but the lowest 32, which the sessions have."""
+    roles = [f"role{number:04}" for number in range(1_024)]
+    yield from limit_lines(roles, chain(roles), [roles[:-32]], [roles[-32:]])
+    yield from question(500, 0, 0, "refused-after-all", 20)
+    yield from question(500, 1, 0, "refused-of-few", 1_000)
+
+
+def two_chains(first, second):
+    """Two chains. The sessions have the 32 highest roles of one, or the highest two, and one permission is granted
+    to all of the other."""
+    yield from limit_lines(sorted(first + second), chain(first) + chain(second), [second], [first[:32], first[:2]])
+
+
+def chains_apart():
+    """Two chains, the names of the one all before those of the other."""
+    yield from two_chains([f"a{number:04}" for number in range(512)], [f"b{number:04}" for number in range(512)])
+    yield from question(500, 0, 0, "two-chains-apart", 100)
+
+
+def chains_by_turns():
+    """Two chains, whose names stand by turns in byte order."""
+    roles = [f"role{number:04}" for number in range(1_024)]
+    yield from two_chains(roles[0::2], roles[1::2])
+    yield from question(500, 0, 0, "two-chains-by-turns", 100)
+    yield from question(501, 0, 0, "few-roles-many-grants", 100)
+
+
+def side_by_side():
+    """32 roles side by side, each above one that is above 500 others; the last one is above the last of all names
+    too. One permission is granted to 490 roles whose names stand between these 500, and another to those and to
+    the last one, so that none but the last role of a session has it, by the last role below it."""
+    tops, middle, last = [f"a{number:04}" for number in range(32)], "b", "z"
+    names = [f"role{number:04}" for number in range(990)]
+    between = names[1:980:2]
+    under = sorted(set(names) - set(between))
+    edges = [(middle, role) for role in under] + [(top, middle) for top in tops] + [(tops[-1], last)]
+    yield from limit_lines(sorted([*tops, middle, *names, last]), edges, [between, [*between, last]], [tops])
+    yield from question(500, 0, 0, "side-by-side-refused", 100)
+    yield from question(500, 1, 1, "allowed-at-the-last", 100)
+
+
+LIMITS = {"chain": one_chain, "apart": chains_apart, "turns": chains_by_turns, "wide": side_by_side}
 
 
 def main():
@@ -113,7 +176,8 @@ def main():
     write(f"{folder}/rows.csv", table_rows(grants))
     rows = (f"{user},{operation},{thing},{want}" for user, operation, thing, want in questions)
     write(f"{folder}/questions.csv", rows)
-    write(f"{folder}/limits.lines", limit_lines())
+    for name, lines in LIMITS.items():
+        write(f"{folder}/limits-{name}.lines", lines())
 
 
 if __name__ == "__main__":

@@ -12,6 +12,7 @@ mod assignments;
 mod office;
 #[path = "replay/questions.rs"]
 mod questions;
+#[allow(dead_code)]
 #[path = "replay/requests.rs"]
 mod requests;
 

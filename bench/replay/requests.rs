@@ -121,7 +121,7 @@ pub fn is_name(text: &str) -> bool {
 }
 
 /// A function with the keys of its arguments in their order, and what it asks for.
-struct Function {
+pub struct Function {
     name: &'static str,
     keys: &'static [&'static str],
     asked: Reads,
@@ -210,7 +210,14 @@ const FUNCTIONS: &[Function] = functions! {
 const IMPORT: Function =
     Function { name: "importAssignments", keys: &["csv"], asked: Reads::Import };
 
-fn function_named(name: &str) -> Result<&'static Function, Untold> {
+impl Function {
+    /// Whether it has a text of assignments for its argument.
+    pub fn takes_csv(&self) -> bool {
+        matches!(self.asked, Reads::Import)
+    }
+}
+
+pub fn function_named(name: &str) -> Result<&'static Function, Untold> {
     match FUNCTIONS.binary_search_by(|it| it.name.cmp(name)) {
         Ok(at) => Ok(&FUNCTIONS[at]),
         Err(_) if name == IMPORT.name => Ok(&IMPORT),
@@ -223,7 +230,24 @@ pub fn read_request(line: &[u8]) -> Result<Asked, Untold> {
         return Err(Untold::BadRequest);
     };
     let name = object.get("fn").and_then(Value::as_str).ok_or(Untold::BadRequest)?;
-    let function = function_named(name)?;
+    read_arguments(function_named(name)?, object)
+}
+
+/// What the body of a request asks for, by whose head this function is called.
+pub fn read_body(function: &Function, body: &[u8]) -> Result<Asked, Untold> {
+    if function.takes_csv() {
+        return Ok(Asked::Command(ImportAssignments(read_assignments(body)?)));
+    }
+    let value = match body {
+        [] => Value::Null,
+        _ => serde_json::from_slice(body).map_err(|_| Untold::BadRequest)?,
+    };
+    let object = if let Value::Object(object) = value { object } else { Map::new() };
+    read_arguments(function, object)
+}
+
+/// What a function is asked for with the arguments at its keys.
+fn read_arguments(function: &Function, object: Map<String, Value>) -> Result<Asked, Untold> {
     let mut fields = Fields(object);
     if !function.keys.iter().all(|key| fields.has(key)) {
         return Err(Untold::BadRequest);
