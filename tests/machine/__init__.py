@@ -9,6 +9,7 @@ rows of the tables of a state. Nothing in it is made to be fast.
     requests    what a request line asks for, or why it is none
     names       what a name is
     assignments assignments as CSV, read and written
+    opening     which state stands in the tables of a database, or why none does
     texts       answers, the role report and the rows of the tables
     replaying   the answers to the lines of an input
     drawing     requests that are drawn, most of them to be accepted

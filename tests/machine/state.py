@@ -64,7 +64,10 @@ ERRORS = {
     35: "UnknownFunction",
     36: "BadCsv",
     37: "UserLocked",
+    41: "Store",
+    50: "NotAnOffice",
     51: "Version",
+    52: "Damaged",
 }
 
 

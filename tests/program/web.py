@@ -23,6 +23,7 @@ PHRASES = {
     431: "Request Header Fields Too Large",
     500: "Internal Server Error",
     501: "Not Implemented",
+    503: "Service Unavailable",
 }
 
 BAD_REQUEST = b'{"code":34,"error":"BadRequest"}'

@@ -1,0 +1,10 @@
+"""Inputs and clients that mean no good: long ones, deep ones, of random bytes, slow ones.
+
+    measure.c   runs a program and writes down how much memory it had at most
+    measured    runs of the program with the memory and the seconds that they took, and what these may be
+    texts       lines and texts that are drawn: random bytes, deep JSON
+    lines       replays of such lines, and inputs of 100 MB
+    lasting     long replays and servers of many requests: the memory doesn't grow with them
+    heads       heads of requests: of random bytes, of each length, split at each byte
+    clients     clients that send or read slowly, or not at all
+"""

@@ -1,0 +1,156 @@
+"""Clients that send or read slowly, or not at all: each waits as long as is stated, and the next one is served."""
+
+import json
+import time
+
+from program.heads import ANN, CURL, LENGTH
+from program.offices import Office, change
+from program.serving import LEAST, MOST, PATIENCE
+from program.web import BAD_REQUEST, Server, connect, head, post, read_all, reply
+
+DONE = b'{"ok":true}'
+ADD_ANN = b'{"fn":"addUser","user":"ann"}'
+
+# A slow client sends a byte every so many seconds, which is less than it may wait.
+SLOW = 3
+
+# So many users have one role: the reply that names them has 2.5 MB, the longest that there is.
+USERS = 20_000
+
+
+def waited_for(bench, what, start, least, most):
+    """Counts whether so many seconds have passed."""
+    seconds = time.monotonic() - start
+    bench.same(f"{what}: {seconds:.1f} s", least <= seconds <= most, True)
+
+
+def serve_next(bench, server, office, what, start, least, most):
+    """Counts whether the next client is served, and how long it had to wait."""
+    bench.same(f"the client after {what}", server.ask(CURL), reply(200, DONE))
+    waited_for(bench, f"the client after {what} waited", start, least, most)
+    office.model.answer(ADD_ANN)
+    server.ends()
+    office.told()
+
+
+def drip(bench, count):
+    """A client that sends a byte now and then is waited for, until it stops: five seconds behind its last byte."""
+    office = Office(bench)
+    with Server(bench, office.path, 2) as server, connect(server.port) as slow:
+        start = time.monotonic()
+        for byte in CURL[:count]:
+            slow.sendall(bytes([byte]))
+            time.sleep(SLOW)
+        least = SLOW * (count - 1) + LEAST
+        serve_next(bench, server, office, f"{count} bytes of a slow one", start, least, least - LEAST + MOST)
+        bench.same("the slow client", read_all(slow), b"")
+    return {"slow clients": 1}
+
+
+def send_slowly(bench):
+    """A client that takes long, but never as long as it may wait, is answered."""
+    office = Office(bench)
+    parts = [CURL[:1], CURL[1:40], CURL[40:-14], CURL[-14:-1], CURL[-1:]]
+    with Server(bench, office.path, 1) as server, connect(server.port) as slow:
+        for part in parts:
+            slow.sendall(part)
+            time.sleep(SLOW if part != parts[-1] else 0)
+        bench.same("a slow client", read_all(slow), reply(200, DONE))
+        server.ends()
+    office.model.answer(ADD_ANN)
+    office.told()
+    return {"slow clients": 1}
+
+
+def say_nothing(bench, count):
+    """Clients that say nothing hold up the next one for five seconds each."""
+    office = Office(bench)
+    with Server(bench, office.path, count + 1) as server:
+        silent = [connect(server.port) for _ in range(count)]
+        start = time.monotonic()
+        serve_next(bench, server, office, f"{count} silent ones", start, count * LEAST, count * PATIENCE + 10)
+        for client in silent:
+            bench.same("a silent client", read_all(client), b"")
+            client.close()
+    return {"silent clients": count}
+
+
+def crowded_office(bench):
+    """An office with many users who all have one role, and the reply that names them."""
+    office = Office(bench)
+    users = [f"{number:05d}".ljust(64, '"') for number in range(USERS)]
+    rows = ", ".join(f"(1, '{user}')" for user in users)
+    pairs = ", ".join(f"(2, '{user}', 'clerk')" for user in users)
+    statements = [f"INSERT INTO name_row VALUES (2, 'clerk'), {rows}", f"INSERT INTO pair_row VALUES {pairs}"]
+    change(office.path, statements)
+    text = json.dumps({"ok": True, "value": users}, separators=(",", ":")).encode()
+    return office, reply(200, text)
+
+
+def ask_for_users(port):
+    """A client that has asked for all users of the role."""
+    client = connect(port)
+    client.sendall(post("assignedUsers", b'{"role":"clerk"}'))
+    return client
+
+
+def read_nothing(bench):
+    """A client that doesn't read its reply holds up the next one for as long as a write may wait, at most."""
+    office, wanted = crowded_office(bench)
+    with Server(bench, office.path, 2) as server, ask_for_users(server.port) as silent:
+        start = time.monotonic()
+        refused = reply(409, b'{"code":32,"error":"TooMany","kind":"user"}')
+        bench.same("the client after one that doesn't read", server.ask(CURL), refused)
+        waited_for(bench, "the client after one that doesn't read waited", start, 0, MOST)
+        found = read_all(silent)
+        bench.same("what it could have read", (wanted.startswith(found), len(found) > 0), (True, True))
+        server.ends()
+    bench.ends(["check", office.path], b"good\n", keeps=True)
+    return {"clients that don't read": 1}
+
+
+def read_slowly(bench):
+    """A client that reads its long reply slowly gets all of it."""
+    office, wanted = crowded_office(bench)
+    with Server(bench, office.path, 1) as server, ask_for_users(server.port) as slow:
+        time.sleep(SLOW)
+        found = b""
+        while piece := slow.recv(50_000):
+            found += piece
+            time.sleep(0.05)
+        bench.same("the whole reply", found, wanted)
+        server.ends()
+    return {"clients that read slowly": 1}
+
+
+def leave_amid_reply(bench, count):
+    """Clients that go away without their long replies harm nobody."""
+    office, _ = crowded_office(bench)
+    with Server(bench, office.path, count + 1) as server:
+        for _ in range(count):
+            ask_for_users(server.port).close()
+        bench.same("the next client", server.ask(post("addUser", b"{}")), reply(400, BAD_REQUEST))
+        server.ends()
+    return {"clients that go away": count}
+
+
+def stop_in_body(bench):
+    """A client that announces the longest import and sends half of it is let go, and nothing is imported."""
+    office = Office(bench)
+    long = head("POST /v1/importAssignments HTTP/1.1", "Content-Length: 2097152") + b"user,role\n" * 100_000
+    with Server(bench, office.path, 2) as server, connect(server.port) as slow:
+        slow.sendall(long)
+        start = time.monotonic()
+        serve_next(bench, server, office, "one that stops amid a long body", start, LEAST, MOST)
+        bench.same("the client that stopped", read_all(slow), b"")
+    short = head("POST /v1/addUser HTTP/1.1", LENGTH) + ANN[:-1]
+    with Server(bench, office.path, 1) as server:
+        bench.same("a body that is cut", server.ask(short, cut=True), reply(400, BAD_REQUEST))
+        server.ends()
+    return {"slow clients": 1}
+
+
+def jobs(is_long):
+    """The clients; by `--long` slower ones."""
+    found = [(say_nothing, 6 if is_long else 2), (read_nothing,), (read_slowly,), (leave_amid_reply, 20)]
+    return found + [(send_slowly,), (stop_in_body,)] + [(drip, count) for count in ((3, 30) if is_long else (3,))]

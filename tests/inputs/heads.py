@@ -1,0 +1,166 @@
+"""Heads of requests over HTTP: of random bytes, of each length that there may be, split at each byte."""
+
+import json
+import random
+import socket
+import time
+
+from machine.texts import json_text
+from program.heads import CURL
+from program.offices import Office
+from program.web import BAD_REQUEST, NO_FUNCTION, Server, connect, post, read_all, reply
+
+# The longest head.
+MOST = 8_192
+
+# So many requests of random bytes there are, and by `--long`; heads of every so many lengths are cut.
+RANDOM, MORE_RANDOM = 1_200, 100_000
+EVERY, EVERY_LONG = 37, 1
+
+# So many seconds lie between the two parts of a request that is split, at least.
+PAUSE = 0.002
+
+DONE = b'{"ok":true}'
+
+# Takes the user away whom a request of these added.
+REMOVE = post("deleteUser", b'{"user":"ann"}')
+
+# Each reply that refuses a request for its head or its body.
+REFUSED = [reply(status, BAD_REQUEST) for status in (400, 405, 411, 413, 431, 501)] + [reply(404, NO_FUNCTION)]
+
+# What bytes of a head are changed to.
+BYTES = b'\x00\t\n\r !"%/0123456789:;?ABPQTZaz\x7f\x80\xff'
+
+
+def body_of(user):
+    """The body that adds a user."""
+    return json.dumps({"user": user}).encode()
+
+
+def head_of(length, body):
+    """A head of this length that asks for the body of a user, if it can be that long; it ends as a head does."""
+    start = f"POST /v1/addUser HTTP/1.1\r\nContent-Length: {len(body)}\r\n".encode()
+    rest = length - len(start) - 2
+    if rest == 0:
+        return start + b"\r\n"
+    return start + b"X:".ljust(rest - 2, b"y") + b"\r\n\r\n" if rest >= 4 else None
+
+
+def ask_whole_heads(bench, first, step):
+    """A head of each length from the least to the most is taken, and one of a byte more isn't."""
+    office, body = Office(bench), body_of("ann")
+    lengths = [length for length in range(first, MOST + 1, step) if head_of(length, body)]
+    with Server(bench, office.path, 2 * len(lengths) + 1) as server:
+        for length in lengths:
+            for what, request in ((f"a head of {length} bytes", head_of(length, body) + body), ("its end", REMOVE)):
+                bench.same(what, server.ask(request), reply(200, DONE))
+        too_long = head_of(MOST + 1, body) + body
+        bench.same("a head that is too long", server.ask(too_long), reply(431, BAD_REQUEST))
+        server.ends()
+    office.told()
+    return {"whole heads": len(lengths)}
+
+
+def ask_cut_heads(bench, every):
+    """A head that ends at any length is a bad request, one without an end is too long from 8,192 bytes on."""
+    office = Office(bench)
+    endless = head_of(2 * MOST, body_of("ann"))
+    lengths = [*range(0, MOST, every), *range(MOST - 3, MOST + 3)]
+    with Server(bench, office.path, len(lengths)) as server:
+        for length in lengths:
+            answer = server.ask(endless[:length], cut=True)
+            wanted = reply(400 if length < MOST else 431, BAD_REQUEST)
+            bench.same(f"a head that is cut behind {length} bytes", answer, wanted)
+        server.ends()
+    office.told()
+    return {"heads that are cut": len(lengths)}
+
+
+def random_request(draws):
+    """Bytes that no client means as a request: of any kind, of lines, and heads with some bytes changed."""
+    length = draws.choice([draws.randrange(200), draws.randrange(MOST + 20), MOST, MOST + 1])
+    sort = draws.randrange(3)
+    if sort == 0:
+        return draws.randbytes(length)
+    if sort == 1:
+        return bytes(draws.choices(BYTES, k=length))
+    changed = bytearray(CURL)
+    for _ in range(1 + draws.randrange(3)):
+        changed[draws.randrange(len(CURL) - 14)] = draws.choice(BYTES)
+    return bytes(changed)
+
+
+def ask_random(bench, first, count):
+    """Requests of random bytes are refused; a head that was changed may still be taken.
+
+    Where a request goes on behind what is refused of it, the system resets the connection, and the reply may be cut.
+    """
+    office, draws, added, cut = Office(bench), random.Random(first), 0, 0
+    exists = reply(409, json_text({"code": 3, "error": "UserExists"}).encode())
+    with Server(bench, office.path, count + 1) as server:
+        for number in range(count):
+            request = random_request(draws)
+            answer = server.ask(request, cut=True)
+            is_taken = answer == (exists if added else reply(200, DONE)) and request.endswith(b'{"user":"ann"}')
+            if is_taken:
+                added += 1
+            elif answer in REFUSED:
+                bench.passed += 1
+            elif len(request) > len(CURL) and any(one.startswith(answer) for one in REFUSED):
+                cut += 1
+            else:
+                bench.same(f"request {number} from seed {first}", answer, "a refusal")
+        bench.same("the server goes on", server.ask(post("ssdRoleSets", b"")), reply(200, b'{"ok":true,"value":[]}'))
+        server.ends()
+    if added:
+        office.model.answer(b'{"fn":"addUser","user":"ann"}')
+    office.told()
+    counts = {"requests of random bytes": count, "changed heads that were taken": added}
+    return {**counts, "refusals cut by a reset, since bytes of the request were not read": cut}
+
+
+def random_bodies(bench, first, count):
+    """Bodies of random bytes are bad requests, and nothing is done."""
+    office, draws = Office(bench), random.Random(first)
+    with Server(bench, office.path, count) as server:
+        for number in range(count):
+            body = b"\xff" + draws.randbytes(draws.choice([0, 10, draws.randrange(65_536), 65_535]))
+            answer = server.ask(post(draws.choice(["addUser", "sessionRoles", "ssdRoleSets"]), body))
+            bench.same(f"random body {number}", answer, reply(400, BAD_REQUEST))
+        server.ends()
+    office.told()
+    return {"bodies of random bytes": count}
+
+
+def split_requests(bench):
+    """A request that comes in two parts, split at any byte, is done as any other; so is one byte by byte."""
+    office = Office(bench)
+    parts = [(CURL[:at], CURL[at:]) for at in range(1, len(CURL))]
+    parts.append(tuple(bytes([byte]) for byte in CURL))
+    with Server(bench, office.path, 2 * len(parts)) as server:
+        for pieces in parts:
+            what = f"a request in {len(pieces)} pieces, the first of {len(pieces[0])} bytes"
+            bench.same(what, ask_in_pieces(server, pieces), reply(200, DONE))
+            bench.same("the user is there", server.ask(REMOVE), reply(200, DONE))
+        server.ends()
+    office.told()
+    return {"requests that were split": len(parts)}
+
+
+def ask_in_pieces(server, pieces):
+    """The reply to a request whose pieces are sent one by one."""
+    with connect(server.port) as client:
+        client.setsockopt(socket.IPPROTO_TCP, socket.TCP_NODELAY, 1)
+        for piece in pieces:
+            client.sendall(piece)
+            time.sleep(PAUSE)
+        return read_all(client)
+
+
+def jobs(is_long):
+    """The requests, those of random bytes shared by some jobs."""
+    count = (MORE_RANDOM if is_long else RANDOM) // 4
+    found = [(ask_whole_heads, 50 + part, 4) for part in range(4)]
+    found += [(ask_cut_heads, EVERY_LONG if is_long else EVERY), (split_requests,)]
+    found += [(ask_random, 40_000 + part * count, count) for part in range(4)]
+    return found + [(random_bodies, 50_000, count)]

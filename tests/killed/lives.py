@@ -1,0 +1,184 @@
+"""Offices that go from life to life, where each life is a replay that ends too early: by a kill, or at a write."""
+
+import random
+import subprocess
+import time
+from collections import Counter
+
+from machine.assignments import read_assignments
+from machine.drawing import Draws
+from program.bench import PROGRAM, SECONDS, Done
+from program.kills import is_left_with
+from program.offices import Office, read_rows
+from stopped.shim import ENDED, Stopper
+from stopped.stories import migrate_story, place_of, replay_story
+
+from .others import kill_after
+
+# By the way in which their lives end: how many offices there are, how many lives each has, and how many lines a life
+# has at most. First what is done without words, then what is done by `--long`.
+OFFICES = {"kill": (12, 45, 130), "write": (6, 20, 60)}
+MORE_OFFICES = {"kill": (100, 50, 130), "write": (200, 50, 60)}
+
+# Every so many offices one is of version 1 at first. Behind half of its lives it is taken into version 2, by some runs
+# that are killed and then by one that is not.
+OLD = 3
+MIGRATIONS = 5
+
+# A replay is killed at most so many milliseconds behind its last line, and the taking into version 2 behind its start. One
+# in so many replays is given the end of its input before it is killed.
+MILLISECONDS = 0.6
+MIGRATING = 25
+OPEN_ENDED = 12
+
+# So many writes, syncs and changes of a length a line makes at most, by and large.
+CHANGES = 3
+
+
+class Taken:
+    """The assignments and grants that were taken by lines so far, and were not given again."""
+
+    def __init__(self):
+        self.assignments = frozenset()
+        self.grants = frozenset()
+
+    def follow(self, before, after):
+        """Goes on by one line, which led from one state to the next."""
+        self.assignments = (self.assignments | before.assignments) - after.assignments
+        self.grants = (self.grants | before.grants) - after.grants
+
+    def stay_away(self, bench, path):
+        """Counts whether none of them is in the tables, or in the export of the program."""
+        rows = read_rows(path)
+        assigned = {(user, role) for kind, user, role in rows["pair_row"] if kind == 2}
+        bench.same("assignments that are back", self.assignments & assigned, frozenset())
+        bench.same("grants that are back", self.grants & set(rows["grant_row"]), frozenset())
+        exported = set(read_assignments(bench.run(["export", path]).out))
+        bench.same("assignments that are back in the export", self.assignments & exported, frozenset())
+
+
+class ByKill:
+    """A life that is killed at a drawn moment: right behind one of its answers, or as it opens or closes."""
+
+    status = -9
+
+    def __init__(self, bench):
+        self.bench = bench
+
+    def end(self, path, story, draws):
+        """Replays the lines, kills the replay, and tells what it had said by then.
+
+        So many lines are answered first; then it is given the others at once, and amid these it is killed.
+        """
+        behind = draws.randrange(len(story.lines) + 1)
+        with subprocess.Popen(
+            [PROGRAM, "replay", path], stdin=subprocess.PIPE, stdout=subprocess.PIPE, stderr=subprocess.PIPE
+        ) as process:
+            process.stdin.write(b"".join(story.lines[:behind]))
+            process.stdin.flush()
+            answers = [process.stdout.readline() for _ in range(behind)]
+            process.stdin.write(b"".join(story.lines[behind:]))
+            process.stdin.flush()
+            if draws.randrange(OPEN_ENDED) == 0:
+                process.stdin.close()
+            time.sleep(draws.uniform(0, MILLISECONDS) / 1_000)
+            process.kill()
+            out, err = process.stdout.read(), process.stderr.read()
+            status = process.wait(SECONDS)
+        return Done(b"".join(answers) + out, err, status)
+
+
+class AtWrite:
+    """A life that ends in place of a drawn write, sync or change of a length, or amid a write."""
+
+    status = ENDED
+
+    def __init__(self, bench):
+        self.stopper = Stopper(bench)
+
+    def end(self, path, story, draws):
+        """Replays the lines as long as the process lives, and tells what it had said by then."""
+        number = draws.randrange(CHANGES * len(story.lines) + 1) + 1
+        settings = self.stopper.settings(number, draws.choice(["exit", "half"]))
+        return self.stopper.run(story.words(path), story.given, **settings)
+
+
+WAYS = {"kill": ByKill, "write": AtWrite}
+
+
+def story_drawn(draws, state, moments, lines):
+    """A replay of drawn lines over an office with this state: one at least."""
+    draws.replay.state = state
+    drawn = [draws.draw() for _ in range(moments.randrange(lines) + 1)]
+    story = replay_story(state, [line + b"\n" for _, line, answer in drawn if answer])
+    return story if story.lines else story_drawn(draws, state, moments, lines)
+
+
+def live(bench, path, story, way, moments, taken):
+    """One life: a replay that ends too early. Gives the state that is found, and what is counted of it."""
+    done = way.end(path, story, moments)
+    count = done.out.count(b"\n")
+    bench.same("the answers", done.out, b"".join(story.answers[:count]))
+    bench.same("the end", (done.err, done.status in (0, way.status)), (b"", True))
+    place = place_of(bench, "after the end", story, path, range(count, min(count + 2, len(story.states))))
+    if place is None:
+        raise AssertionError(f"no state is found after {count} answers")
+    for before, after in zip(story.states[:place], story.states[1 : place + 1]):
+        taken.follow(before, after)
+    is_left_with(bench, path, story.states[place])
+    taken.stay_away(bench, path)
+    ended = done.status == way.status
+    found = {
+        "lives": True,
+        "lives that ended too early": ended,
+        "lives that ended before all lines were answered": ended and count < len(story.lines),
+        "lives that ended behind the first answer and before the last": ended and 0 < count < len(story.lines),
+        "lives that left one line more than was answered": ended and place > count,
+    }
+    return story.states[place], Counter({name: int(value) for name, value in found.items()})
+
+
+def take_into_version_2(bench, path, state, moments):
+    """Kills the taking of an office into version 2 some times, and then lets it be done: the state."""
+    counts = Counter()
+    for number in range(MIGRATIONS):
+        if state.version == 1:
+            story = migrate_story(state)
+            done = kill_after(story.words(path), moments.uniform(0, MIGRATING) / 1_000)
+            place = place_of(bench, f"migrate, kill {number}", story, path, story.allowed(done))
+            if place is None:
+                raise AssertionError("no state is found after a migrate that was killed")
+            state = story.states[place]
+            is_left_with(bench, path, state)
+            counts["kills of migrate between two lives"] += done.status == -9
+    if state.version == 1:
+        bench.ends(["migrate", path])
+    return state.but(version=2), counts
+
+
+def live_on(bench, way, seed, lives, lines, is_old):
+    """An office goes from life to life, each of which ends in this way; an old one is of version 1 at first."""
+    office = Office(bench, "office")
+    if is_old:
+        office.become_version_1()
+    state, counts = office.model.state, Counter()
+    ending, draws, moments, taken = WAYS[way](bench), Draws(seed), random.Random(seed), Taken()
+    for number in range(lives):
+        if is_old and number == lives // 2:
+            state, more = take_into_version_2(bench, office.path, state, moments)
+            counts.update(more)
+        story = story_drawn(draws, state, moments, lines)
+        state, more = live(bench, office.path, story, ending, moments, taken)
+        counts.update({f"{way}: {name}": count for name, count in more.items()})
+    gone = len(taken.assignments) + len(taken.grants)
+    counts["assignments and grants that were taken and stayed away to the end"] += gone
+    return counts
+
+
+def jobs(is_long):
+    """The offices of both ways."""
+    found = []
+    for way, (offices, lives, lines) in (MORE_OFFICES if is_long else OFFICES).items():
+        for number in range(offices):
+            found.append((live_on, way, 7_000 + number, lives, lines, number % OLD == 0))
+    return found

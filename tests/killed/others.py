@@ -1,0 +1,84 @@
+"""The making of an office, an import and the taking into version 2 are killed: the tables are those before or after."""
+
+import subprocess
+import time
+from collections import Counter
+from math import sqrt
+
+from program.bench import PROGRAM, SECONDS, Done
+from program.offices import Office
+from stopped.running import beside
+from stopped.stories import import_story, init_story, judge_office, lay, migrate_story
+
+# Each of these runs is killed so often, and by `--long`; at moments that are spread over the time that it takes and a
+# fifth more, the closer to each other the later they are.
+KILLS, MORE_KILLS = 40, 1_000
+SPREAD = 1.2
+
+# An office for an import and for the taking into version 2: so many users and roles, and each pair of them.
+NAMES = 40
+
+
+def kill_after(words, seconds):
+    """Runs the program, kills it after so many seconds, and tells what it had said by then."""
+    with subprocess.Popen([PROGRAM, *words], stdout=subprocess.PIPE, stderr=subprocess.PIPE) as process:
+        time.sleep(seconds)
+        process.kill()
+        out, err = process.communicate(timeout=SECONDS)
+    return Done(out, err, process.returncode)
+
+
+def large_office(bench):
+    """An office with users and roles and no assignment, and the path of records that assign each role to each user."""
+    office = Office(bench, "office")
+    names = [b'{"fn":"addUser","user":"u%d"}\n{"fn":"addRole","role":"r%d"}\n' % (one, one) for one in range(NAMES)]
+    office.replay(names)
+    records = beside(bench, "records.csv")
+    with open(records, "w", encoding="utf-8") as file:
+        file.write("user,role\n")
+        file.writelines(f"u{user},r{role}\n" for user in range(NAMES) for role in range(NAMES))
+    return office, records
+
+
+def story_of(bench, word):
+    """The bytes of the office before the run of this subcommand, and its story."""
+    if word == "init":
+        return None, init_story()
+    office, records = large_office(bench)
+    if word == "migrate":
+        bench.run(["import", office.path, records])
+        office.model.state = import_story(office.model.state, records).states[1]
+        office.become_version_1()
+    with open(office.path, "rb") as file:
+        content = file.read()
+    state = office.model.state
+    return content, migrate_story(state) if word == "migrate" else import_story(state, records)
+
+
+def seconds_of(bench, content, story):
+    """How long the run takes where it is not killed; the shortest of three."""
+    found = []
+    for _ in range(3):
+        path = lay(bench, content)
+        start = time.monotonic()
+        bench.same(f"{story.word}: not killed", bench.run(story.words(path)).status, 0)
+        found.append(time.monotonic() - start)
+    return min(found)
+
+
+def kill_story(bench, word, kills):
+    """Kills a run at moments that are spread evenly, and compares what is found with the states before and after."""
+    content, story = story_of(bench, word)
+    seconds, counts = seconds_of(bench, content, story), Counter()
+    for number in range(kills):
+        path = lay(bench, content)
+        done = kill_after(story.words(path), seconds * SPREAD * sqrt(number / kills))
+        place = judge_office(bench, f"{word}, kill {number}: {done}", story, path, story.allowed(done))
+        counts[f"kills of {word}"] += done.status == -9
+        counts[f"kills of {word} that found the state after it"] += done.status == -9 and place == 1
+    return counts
+
+
+def jobs(is_long):
+    """Each of the runs that change a file."""
+    return [(kill_story, word, MORE_KILLS if is_long else KILLS) for word in ("init", "import", "migrate")]

@@ -1,0 +1,244 @@
+#!/usr/bin/env python3
+"""Refuses the allocations of the program in turn: of each subcommand over an office in a file, and of each row.
+
+    memory.py [--times] [--long] [WORD]
+
+With WORD only the jobs run that have it in their names; with `--times` it is told how long each took, and by `--long`
+more allocations are tried. A run ends with all that it has to say, or with status 1 and one line, by which memory or
+the store was refused or stopped it, behind a prefix of its answers. An office in a file is then one of the states that
+the plain model allows, and the same run without a refusal goes on from there. Where a run makes more allocations than
+are tried, those that are tried are spread evenly.
+"""
+
+import os
+import re
+import sys
+from collections import Counter
+
+from machine.replaying import Replay
+from machine.state import State
+from program.bench import TESTS, Done
+from program.offices import STORE, Office
+from program.web import reply
+from stopped.running import beside, is_long, run_all
+from stopped.serving import replies_of, reply_of, request_of
+from stopped.shim import Shim
+from stopped.stories import LINES, REFUSED, judge_office, lay, replay_story, small_office, story_named
+
+STORIES = ["init", "replay", "import", "export", "report", "check", "migrate"]
+
+ROWS = sorted(path for path in (TESTS / "rows").rglob("*.jsonl") if path.parent.name != "version-1")
+
+# So many parts share the allocations of a subcommand or a server. So many of them all parts try at most, and so many
+# of a row's are tried at most over an office in memory and over one in a file; then the same by `--long`.
+PARTS = 4
+TRIED = {"subcommand": 240, "memory": 16, "file": 8}
+MORE_TRIED = {"subcommand": 20_000, "memory": 2_000, "file": 400}
+
+# Longer rows are for `--long` alone, and so few allocations of each are tried.
+LONG_ROW = 5_000
+OF_LONG_ROW = 16
+
+# More allocations than any of these runs makes.
+MOST = 1 << 20
+
+MEMORY = b'{"code":40,"error":"Memory"}'
+NO_MEMORY = b"rbac: " + MEMORY + b"\n"
+STOP = re.compile(rb"rbac: stop (Memory|Store) after (\d+)\n")
+
+# What else a server says where memory was refused to it.
+SERVER_LINES = [b"rbac: cannot listen\n", b"rbac: cannot accept\n", b"rbac: closed\n"]
+
+
+class Refuser(Shim):
+    """The shim that refuses an allocation."""
+
+    def __init__(self, bench):
+        super().__init__(bench, "refuse.c")
+
+    def settings(self, number):
+        """The settings by which the allocation of this number is refused."""
+        return {"REFUSE": number, "REFUSED": self.file}
+
+
+def number_of_allocations(is_refused):
+    """How many allocations a run makes; `is_refused` runs it with one refused, and says whether it came to that one."""
+    least, above = 0, 64
+    while above < MOST and is_refused(above):
+        least, above = above, 2 * above
+    while above - least > 1:
+        middle = (least + above) // 2
+        least, above = (middle, above) if is_refused(middle) else (least, middle)
+    return least
+
+
+def tried(count, most, part=0, parts=1):
+    """The allocations that a part tries of so many: all parts try each, or as many as they may, spread evenly."""
+    most = min(count, most)
+    spread = [number * count // most + 1 for number in range(most)]
+    return spread[part::parts]
+
+
+def faults_of_replay(whole, done):
+    """What is wrong with a replay to which memory was refused, and which has not said all of this."""
+    count = done.out.count(b"\n")
+    faults = [] if whole.startswith(done.out) else [f"other answers: {done.out[-200:]!r}"]
+    if done.out and not done.out.endswith(b"\n"):
+        faults.append(f"an answer is cut: {done.out[-80:]!r}")
+    found = STOP.fullmatch(done.err)
+    if done.status != 1:
+        faults.append(f"the status is {done.status}, and standard error says {done.err[-200:]!r}")
+    elif found and int(found[2]) != count:
+        faults.append(f"{count} answers, and {done.err!r}")
+    elif not found and (done.err not in (NO_MEMORY, REFUSED) or count > 0):
+        faults.append(f"{count} answers, and {done.err!r}")
+    return faults
+
+
+def judge(bench, what, story, done):
+    """Counts whether a run to which memory was refused says what it may say."""
+    whole, faults = b"".join(story.answers), []
+    is_refusal = done.status == 1 and done.err in (NO_MEMORY, REFUSED) and whole.startswith(done.out)
+    if done != Done(whole, b"", 0):
+        faults = faults_of_replay(whole, done) if story.word == "replay" else [] if is_refusal else [str(done)]
+    bench.judge(f"{what}: what it says", faults)
+
+
+def allowed(story, done):
+    """The places of the states that may be found: where an opening was refused for a replay, that before it alone."""
+    if story.word == "replay" and done.status == 1 and done.err in (NO_MEMORY, REFUSED):
+        return range(1)
+    return story.allowed(done)
+
+
+def refuse_over_file(bench, name, content, story, numbers):
+    """Runs a story with one allocation refused, for each number that `numbers` gives of so many allocations."""
+    refuser, counts = Refuser(bench), Counter()
+
+    def run(number):
+        path = lay(bench, content)
+        return path, refuser.run(story.words(path), story.given, **refuser.settings(number))
+
+    count = number_of_allocations(lambda number: run(number)[1] and refuser.told is not None)
+    for number in numbers(count):
+        path, done = run(number)
+        what = f"{name}, allocation {number} of {count} refused"
+        bench.same(f"{what}: it was asked for", refuser.told, "")
+        judge(bench, what, story, done)
+        counts[f"{story.word}: ended with {end_of(done)}"] += 1
+        counts["runs that left a log beside the file"] += os.path.exists(f"{path}-wal")
+        counts["allocations refused over a file"] += 1
+        judge_office(bench, what, story, path, allowed(story, done))
+    return counts
+
+
+def end_of(done):
+    """How an end is counted: the line on standard error without its number."""
+    return re.sub(r" after \d+", "", done.err.decode().strip()) or "status 0"
+
+
+def refuse_subcommand(bench, name, part, most):
+    """Refuses a part of the allocations of a subcommand over a small office."""
+    content, story = story_named(bench, name, beside(bench, "records.csv"))
+    return refuse_over_file(bench, name, content, story, lambda count: tried(count, most, part, PARTS))
+
+
+def refuse_row_over_file(bench, row, most):
+    """Refuses allocations of a replay of a row over a new office in a file."""
+    office, model, lines = Office(bench, "office"), Replay(), []
+    for line in re.findall(rb"[^\n]*\n|[^\n]+", (TESTS / row).read_bytes()):
+        if list(model.answers(line)):
+            lines.append(line)
+    if model.stop is not None:
+        return {"rows that stop": 1}
+    with open(office.path, "rb") as file:
+        content = file.read()
+    return refuse_over_file(bench, row, content, replay_story(State(), lines), lambda count: tried(count, most))
+
+
+def refuse_row_in_memory(bench, row, most):
+    """Refuses allocations of a replay of a row over an office in memory."""
+    refuser, model, counts = Refuser(bench), Replay(), Counter()
+    given = (TESTS / row).read_bytes()
+    whole = Done(b"".join(model.answers(given)), model.message(), 1 if model.stop else 0)
+
+    def run(number):
+        return refuser.run(["replay", "--memory"], given, **refuser.settings(number))
+
+    count = number_of_allocations(lambda number: run(number) and refuser.told is not None)
+    for number in tried(count, most):
+        done = run(number)
+        what = f"{row} in memory, allocation {number} of {count} refused"
+        bench.same(f"{what}: it was asked for", refuser.told, "")
+        faults = [] if done == whole else faults_of_replay(whole.out, done)
+        bench.judge(f"{what}: what it says", faults)
+        counts[f"replay --memory: ended with {end_of(done)}"] += 1
+        counts["allocations refused in memory"] += 1
+    bench.same(f"{row} in memory, nothing refused", run(count + 1), whole)
+    return counts
+
+
+def judge_server(bench, what, wanted, replies, done):
+    """Counts whether a server to which memory was refused replies and ends as it may: which states may be found."""
+    lines = [NO_MEMORY, REFUSED, *SERVER_LINES]
+    if replies == wanted:
+        good, places = done == Done(b"", b"", 0), [1]
+    elif replies == [reply(503, MEMORY)]:
+        good, places = done == Done(b"", b"", 0), [0]
+    elif replies == [reply(500, STORE)]:
+        good, places = done == Done(b"", b"rbac: closed\n", 1), [0, 1]
+    elif replies == [b""]:
+        good, places = done == Done(b"", b"", 0) or (done.status == 1 and done.err in lines), [0, 1]
+    else:
+        good, places = replies == [] and done.status == 1 and done.err in lines, [0]
+    bench.judge(f"{what}: what it replies", [] if good else [f"{replies} and {done}"])
+    return places
+
+
+def refuse_server(bench, part, most):
+    """Serves one request with one allocation refused, for a part of the allocations that the server makes."""
+    content, state = small_office(bench)
+    story = replay_story(state, LINES[:1])
+    requests, wanted = [request_of(line) for line in story.lines], [reply_of(answer) for answer in story.answers]
+    refuser, counts = Refuser(bench), Counter()
+
+    def run(number):
+        path = lay(bench, content)
+        refuser.forget()
+        found = replies_of(bench, path, requests, refuser.environment(refuser.settings(number)))
+        refuser.ask()
+        return path, *found
+
+    count = number_of_allocations(lambda number: run(number) and refuser.told is not None)
+    for number in tried(count, most, part, PARTS):
+        path, replies, done = run(number)
+        what = f"serve, allocation {number} of {count} refused"
+        bench.same(f"{what}: it was asked for", refuser.told, "")
+        places = judge_server(bench, what, wanted, replies, done)
+        statuses = " ".join(one[9:12].decode() or "nothing" for one in replies)
+        counts[f"serve: replied {statuses}, ended with {done.err.decode().strip() or 'status 0'}"] += 1
+        judge_office(bench, what, story, path, places)
+        counts["allocations refused to a server"] += 1
+    return counts
+
+
+def jobs(is_long):
+    """Each subcommand, each row over both kinds of offices, and a server."""
+    most = MORE_TRIED if is_long else TRIED
+    found = [(refuse_subcommand, name, part, most["subcommand"]) for name in STORIES for part in range(PARTS)]
+    found += [(refuse_server, part, most["subcommand"]) for part in range(PARTS)]
+    for path in ROWS:
+        row, size = str(path.relative_to(TESTS)), path.stat().st_size
+        if size <= LONG_ROW:
+            found += [(refuse_row_in_memory, row, most["memory"]), (refuse_row_over_file, row, most["file"])]
+        elif is_long:
+            found += [(refuse_row_in_memory, row, OF_LONG_ROW), (refuse_row_over_file, row, OF_LONG_ROW)]
+    return found
+
+
+def main(words):
+    return run_all(jobs(is_long(words)), words)
+
+
+if __name__ == "__main__":
+    sys.exit(main(sys.argv[1:]))

@@ -1,0 +1,11 @@
+"""What becomes of an office where a call on its files fails, the disk is full, or process or machine stop at a call.
+
+    running     jobs run side by side, each in a folder of its own, and the count of what came of them
+    stories     runs of the program beside the plain model: what they may say, and what may be found afterwards
+    shim        stop.c, loaded into the program: which call it stops, and how
+    calls       each call on the files of an office is stopped in turn
+    serving     the same of a server, to which requests are sent
+    lost        the machine stops at each call: what was not synced is lost
+    full        limits of a file's size, and file systems without room
+    readonly    files and folders that may not be written
+"""

@@ -1,0 +1,189 @@
+"""Files and folders that may not be written, or not any more, as a user meets them who is not root."""
+
+import os
+import shutil
+import subprocess
+from contextlib import contextmanager
+
+from program.bench import PROGRAM, SECONDS, Done
+
+from .running import beside
+from .stories import LINES, REFUSED, judge_office, lay, replay_story, small_office
+
+NOBODY = 65_534
+
+# Files in memory are written on where whoever has them open may not.
+ON_DISK = True
+
+
+class Stranger:
+    """Runs the program as a user for whom permissions count: nobody, where this process is root."""
+
+    def __init__(self, bench):
+        self.bench = bench
+        self.program = beside(bench, "rbac")
+        shutil.copy(PROGRAM, self.program)
+        os.chmod(self.program, 0o755)
+        self.more = {}
+        if os.geteuid() == 0:
+            self.more = {"user": NOBODY, "group": NOBODY, "extra_groups": []}
+            os.chmod(bench.folder.parent, 0o711)
+
+    def start(self, words):
+        """Starts the program; its streams are pipes."""
+        pipes = {stream: subprocess.PIPE for stream in ("stdin", "stdout", "stderr")}
+        return subprocess.Popen([self.program, *words], cwd="/", **pipes, **self.more)
+
+    def run(self, words, given=b""):
+        """Runs the program to its end."""
+        with self.start(words) as process:
+            out, err = process.communicate(given, timeout=SECONDS)
+        return Done(out, err, process.returncode)
+
+    def lay(self, content):
+        """Writes the office anew, as a file of this user: its path."""
+        os.chmod(self.bench.folder, 0o755)
+        path = lay(self.bench, content)
+        if self.more:
+            for each in (self.bench.folder, path):
+                os.chown(each, NOBODY, NOBODY)
+        return path
+
+    def is_let_in(self):
+        """Whether permissions do not count for this user either."""
+        os.chmod(self.bench.folder, 0o555)
+        done = subprocess.run(["touch", self.bench.path("probe")], check=False, capture_output=True, **self.more)
+        os.chmod(self.bench.folder, 0o755)
+        if done.returncode == 0:
+            os.remove(self.bench.path("probe"))
+        return done.returncode == 0
+
+
+def changed_while_open(bench, stranger, path, story, change):
+    """Replays lines one by one, with a change made behind the first answer: what it says in the end."""
+    with stranger.start(["replay", path]) as process:
+        answers = []
+        for line in story.lines:
+            process.stdin.write(line)
+            process.stdin.flush()
+            answers.append(process.stdout.readline())
+            if len(answers) == 1:
+                change()
+        out, err = process.communicate(timeout=SECONDS)
+    bench.same("the answers", answers, list(story.answers))
+    bench.same("the end of the replay", Done(out, err, process.returncode), Done(b"", b"", 0))
+
+
+def refused_to_all(bench, stranger, path, what):
+    """Counts whether each subcommand is refused by the store, and each file stays as it is."""
+    before = bench.contents()
+    for word, more in [("check", []), ("replay", []), ("migrate", []), ("import", ["/dev/null"]), ("report", [])]:
+        done = stranger.run([word, path, *more], b'{"fn":"addUser","user":"new"}\n')
+        bench.same(f"{word} of {what}", done, Done(b"", REFUSED, 1))
+        bench.same(f"what is there after {word} of {what}", bench.contents(), before)
+
+
+def lose_the_file(bench):
+    """A file that becomes one to be read while a replay has it open is written to the end; then all are refused."""
+    content, state = small_office(bench)
+    story = replay_story(state, LINES)
+    stranger = Stranger(bench)
+    path = stranger.lay(content)
+    if stranger.is_let_in():
+        return {"permissions that do not count": 1}
+    changed_while_open(bench, stranger, path, story, lambda: [os.chmod(one, 0o444) for one in bench.folder.iterdir()])
+    bench.same("which files are left", os.listdir(bench.folder), ["office"])
+    refused_to_all(bench, stranger, path, "a file to be read")
+    os.chmod(path, 0o644)
+    judge_office(bench, "a file that was to be read", story, path, [len(LINES)])
+    return {"files to be read": 1}
+
+
+def lose_the_folder(bench):
+    """A folder that becomes one to be read while a replay has a file of it open: all that was answered is kept."""
+    content, state = small_office(bench)
+    story = replay_story(state, LINES)
+    stranger = Stranger(bench)
+    path = stranger.lay(content)
+    if stranger.is_let_in():
+        return {"permissions that do not count": 1}
+    changed_while_open(bench, stranger, path, story, lambda: os.chmod(bench.folder, 0o555))
+    bench.same("check beside a log that stays", stranger.run(["check", path]), Done(b"good\n", b"", 0))
+    os.chmod(bench.folder, 0o755)
+    judge_office(bench, "a folder that was to be read", story, path, [len(LINES)])
+    return {"folders to be read": 1}
+
+
+def lack_the_folder(bench):
+    """In a folder to be read no office is opened or made, and nothing changes."""
+    content, state = small_office(bench)
+    stranger = Stranger(bench)
+    path = stranger.lay(content)
+    if stranger.is_let_in():
+        return {"permissions that do not count": 1}
+    os.chmod(bench.folder, 0o555)
+    refused_to_all(bench, stranger, path, "an office in a folder to be read")
+    bench.same("init in a folder to be read", stranger.run(["init", bench.path("new")]), Done(b"", REFUSED, 1))
+    bench.same("what is there after init", bench.contents(), {"office": content})
+    os.chmod(bench.folder, 0o755)
+    judge_office(bench, "an office in a folder that was to be read", replay_story(state, LINES), path, [0])
+    return {"folders to be read": 1}
+
+
+@contextmanager
+def unchangeable(paths):
+    """Makes files such as nobody can change as long as this lasts, not even who has them open, where that can be."""
+    subprocess.run(["chattr", "+i", *paths], check=False, capture_output=True)
+    try:
+        yield
+    finally:
+        subprocess.run(["chattr", "-i", *paths], check=False, capture_output=True)
+
+
+def can_be_unchangeable(bench):
+    """Whether the system refuses writes on a file that was made so while it was open."""
+    path = beside(bench, "probe")
+    with open(path, "wb", buffering=0) as file, unchangeable([path]):
+        try:
+            file.write(b"x")
+        except PermissionError:
+            return True
+    return False
+
+
+def replay_until_stopped(bench, path, story, names):
+    """Replays lines one by one, with these files unchangeable behind the first answer: what it says, and which stay."""
+    with subprocess.Popen(
+        [PROGRAM, "replay", path], stdin=subprocess.PIPE, stdout=subprocess.PIPE, stderr=subprocess.PIPE
+    ) as process:
+        process.stdin.write(story.lines[0])
+        process.stdin.flush()
+        first = process.stdout.readline()
+        with unchangeable([bench.path(name) for name in names]):
+            out, err = process.communicate(b"".join(story.lines[1:]), timeout=SECONDS)
+            left = sorted(os.listdir(bench.folder))
+    return Done(first + out, err, process.returncode), left
+
+
+def lose_open_files(bench, names, done_by_then):
+    """Files that nobody can write any more while a replay has them open: it stops, or what is written is enough."""
+    if not can_be_unchangeable(bench):
+        return {"open files that could not be made unchangeable": len(names)}
+    content, state = small_office(bench)
+    story = replay_story(state, LINES)
+    path = lay(bench, content)
+    done, left = replay_until_stopped(bench, path, story, names)
+    what = " and ".join(names) + " unchangeable"
+    bench.same(f"{what}: which files are left", left, ["office", "office-wal"])
+    if done_by_then:
+        bench.same(f"{what}: the end of the replay", done, Done(b"".join(story.answers), b"", 0))
+    else:
+        bench.same(f"{what}: the end of the replay", done, Done(story.answers[0], b"rbac: stop Store after 1\n", 1))
+    judge_office(bench, what, story, path, story.allowed(done))
+    return {"open files that were made unchangeable": len(names)}
+
+
+def jobs(_):
+    """Files and folders that lose their permissions, and files that lose more."""
+    found = [(lose_the_file,), (lose_the_folder,), (lack_the_folder,), (lose_open_files, ["office"], True)]
+    return found + [(lose_open_files, names, False) for names in (["office-wal"], ["office", "office-wal"])]

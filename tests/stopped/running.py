@@ -1,0 +1,102 @@
+"""Runs jobs side by side, each in a folder of its own, and counts what came of them.
+
+A job is a function and what it is given after its bench; it may give counts, of which a line each is printed.
+"""
+
+import os
+import sys
+import tempfile
+import time
+import traceback
+from collections import Counter
+from concurrent.futures import ProcessPoolExecutor
+from pathlib import Path
+
+from program.bench import PROGRAM, Bench
+
+WORKERS = 4
+OPTIONS = ("--times", "--long")
+
+# How many faults of one job are shown.
+SHOWN = 5
+
+# Jobs run in files in memory where there are such, but for those of modules with ON_DISK: a sync takes long on a disk.
+IN_MEMORY = "/dev/shm"
+
+
+def beside(bench, name):
+    """The path of a file beside the folder of a bench, in which the program has no business."""
+    return str(bench.folder.parent / name)
+
+
+def name_of(job):
+    """The name of a job: its function, and what it is given."""
+    function, *given = job
+    words = [function.__name__, *(str(one) for one in given)]
+    return f"{function.__module__}." + " ".join(words)
+
+
+def folder_of(function):
+    """The folder in which the files of a job are made; None is the usual one of the system."""
+    is_on_disk = getattr(sys.modules[function.__module__], "ON_DISK", False)
+    return None if is_on_disk or not os.access(IN_MEMORY, os.W_OK) else IN_MEMORY
+
+
+def run_job(job):
+    """Runs a function of a bench, and tells its name, what passed and failed, what it counted, and the seconds."""
+    function, *given = job
+    start = time.monotonic()
+    counts = Counter()
+    with tempfile.TemporaryDirectory(dir=folder_of(function)) as outside:
+        folder = Path(outside).resolve() / "files"
+        folder.mkdir()
+        bench = Bench(folder)
+        try:
+            counts.update(function(bench, *given) or {})
+        except Exception:
+            bench.faults.append(traceback.format_exc())
+    return name_of(job), bench.passed, bench.faults, counts, time.monotonic() - start
+
+
+def show_faults(name, faults):
+    """Prints the first faults of a job, and how many there are more."""
+    for fault in faults[:SHOWN]:
+        print(f"FAILED: {name}: {fault}")
+    if len(faults) > SHOWN:
+        print(f"{name}: {len(faults) - SHOWN} failures more")
+
+
+def is_long(words):
+    """Whether the words ask for as much as `bin/soak` does."""
+    return "--long" in words
+
+
+def run_all(jobs, words, judge=None):
+    """Runs the jobs with these words in their names, prints what they counted, and gives the exit status.
+
+    With `--times` it is printed how long each took. Where all jobs ran, `judge` tells what is wrong with the counts.
+    """
+    if not os.access(PROGRAM, os.X_OK):
+        print(f"FAILED: there is no program {PROGRAM}\n0 passed, 1 failed")
+        return 1
+    word = " ".join(one for one in words if one not in OPTIONS)
+    chosen = [job for job in jobs if word in name_of(job)]
+    passed, failed, counted = 0, 0, Counter()
+    with ProcessPoolExecutor(WORKERS) as pool:
+        for name, good, faults, counts, seconds in pool.map(run_job, chosen):
+            passed += good
+            failed += len(faults)
+            counted.update(counts)
+            show_faults(name, faults)
+            if "--times" in words:
+                print(f"{seconds:6.1f} s  {name}", flush=True)
+    for name in sorted(counted):
+        print(f"{counted[name]:9,}  {name}")
+    faults = judge(counted) if judge and not word else []
+    if passed + failed == 0:
+        faults.append("nothing was checked")
+    for fault in faults:
+        print(f"FAILED: {fault}")
+    failed += len(faults)
+    print(f"{passed} passed, {failed} failed", flush=True)
+    return 1 if failed else 0

@@ -1,0 +1,78 @@
+"""Shims in C that are loaded into the program, and runs of the program under one of them."""
+
+import os
+import subprocess
+
+from program.bench import PROGRAM, SECONDS, TESTS, Done
+
+from .running import beside
+
+# The status by which stop.c ends a process.
+ENDED = 99
+
+
+def run_program(bench, words, given=b"", **more):
+    """Runs the program with what `subprocess` is given more."""
+    done = subprocess.run(
+        [PROGRAM, *words], input=given, cwd=bench.folder, capture_output=True, timeout=SECONDS, check=False, **more
+    )
+    return Done(done.stdout, done.stderr, done.returncode)
+
+
+class Shim:
+    """A shim, built beside the folder of a bench. `told` is what it wrote of the call that it stopped."""
+
+    def __init__(self, bench, source):
+        self.bench = bench
+        self.library = beside(bench, "shim.so")
+        self.file = beside(bench, "told")
+        self.told = None
+        command = ["cc", "-O1", "-Wall", "-Wextra", "-Werror", "-shared", "-fPIC", "-o", self.library]
+        subprocess.run([*command, str(TESTS / source)], check=True)
+
+    def environment(self, settings):
+        """The variables by which it is loaded with these settings."""
+        return {**os.environ, "LD_PRELOAD": self.library, **{key: str(value) for key, value in settings.items()}}
+
+    def forget(self):
+        """Takes away what it wrote of an earlier run."""
+        if os.path.exists(self.file):
+            os.remove(self.file)
+
+    def ask(self):
+        """Reads what it wrote of the call that it stopped: None where there were fewer calls."""
+        self.told = None
+        if os.path.exists(self.file):
+            with open(self.file, encoding="utf-8") as file:
+                self.told = file.read()
+        return self.told
+
+    def run(self, words, given=b"", **settings):
+        """Runs the program under it, and keeps what it tells."""
+        self.forget()
+        done = run_program(self.bench, words, given, env=self.environment(settings))
+        self.ask()
+        return done
+
+
+class Stopper(Shim):
+    """The shim that stops a call on the files in the folder of a bench."""
+
+    def __init__(self, bench):
+        super().__init__(bench, "stopped/stop.c")
+
+    def settings(self, at, like, calls="changes", ever=False):
+        """The settings by which the call of this number is stopped like this."""
+        found = {"STOP_UNDER": self.bench.folder, "STOPPED": self.file, "STOP_AT": at, "STOP_LIKE": like}
+        found["STOP_CALLS"] = calls
+        return {**found, "STOP_EVER": 1} if ever else found
+
+    @property
+    def answers(self):
+        """How many answers there were when the call was stopped."""
+        return int(self.told.split()[0])
+
+    @property
+    def call(self):
+        """Which call was stopped, and on which file."""
+        return " ".join(self.told.split()[1:])
