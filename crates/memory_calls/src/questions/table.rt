@@ -1,8 +1,8 @@
 //! The table of the order of the roles.
 use super::small_office::small_office;
 use admin_mgr::State;
-use rbac_sets::Refusal;
 use order_table::OrderTable;
+use rbac_sets::Refusal;
 use std::alloc::Global;
 use std::test::Fail;
 
