@@ -8,7 +8,7 @@ tests=$(cd "$(dirname "$0")" && pwd) || exit 1
 crates='rbac_sets role_order order_table admin_mgr review_mgr role_csv role_json'
 
 # The seconds that one test may take.
-most=300
+most=900
 
 work=$(mktemp -d) || exit 1
 trap 'rm -rf "$work"' EXIT

@@ -11,7 +11,7 @@ crates='rbac_sets role_order order_table admin_mgr review_mgr role_tables'
 readers='answers asking beginnings script showing drawn/drawing'
 
 # The seconds that one test may take.
-most=300
+most=900
 
 work=$(mktemp -d) || exit 1
 trap 'rm -rf "$work"' EXIT

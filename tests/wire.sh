@@ -13,7 +13,7 @@ readers='office/answers office/asking office/beginnings office/narrow office/scr
     tables/offices'
 
 # The seconds that one test may take.
-most=300
+most=900
 
 work=$(mktemp -d) || exit 1
 trap 'rm -rf "$work"' EXIT

@@ -4,4 +4,3 @@ mod answers;
 mod asking;
 mod report;
 mod small_office;
-mod table;
