@@ -3,6 +3,7 @@ pub mod BreakLaws
 pub mod HeldLaws
 pub mod InheritLaws
 pub mod KeepLaws
+pub mod NumberLaws
 pub mod RefusingLaws
 pub mod SeparationLaws
 pub mod SessionCommandLaws

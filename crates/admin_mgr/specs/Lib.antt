@@ -17,6 +17,7 @@ pub mod Laws
 pub mod Life
 pub mod Listing
 pub mod Named
+pub mod Numbers
 pub mod PlainPlan
 pub mod Planned
 pub mod RbacState

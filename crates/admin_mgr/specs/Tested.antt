@@ -3,6 +3,8 @@ use Rattle.std.specs.Prelude.{Bool, not, ◌&&◌, nat_le, if◌then◌else◌, 
 use Rattle.rbac_sets.specs.Sets.{Names, Pair, Pairs, Triple, Cardinality, all, contains, len, seconds}
 use Rattle.rbac_sets.specs.declared.refusal.Refusal.{Refusal}
 use Rattle.rbac_sets.specs.declared.refusal.Refusal.TheVariants.{TooMany, Damaged}
+use Rattle.admin_mgr.specs.declared.separation_of_duty.SeparationOfDuty.{SeparationOfDuty}
+use Rattle.admin_mgr.specs.declared.separation_of_duty.SeparationOfDuty.TheVariants.{Static, Dynamic}
 use Rattle.admin_mgr.specs.RbacState.{RbacState, Separation, members_of, has_set, has_session, active_roles}
 use Rattle.admin_mgr.specs.Authorization.{is_authorized}
 use Rattle.admin_mgr.specs.Separation.{is_kept_statically, is_kept_dynamically}
@@ -67,6 +69,10 @@ has_cardinalities separation = all (λ (entry : Cardinality). nat_le 2 entry.1 &
 abbrev pub have_authorized_users : RbacState → Bool
 have_authorized_users S = all (λ (session : Pair). all (is_authorized S session.1) (active_roles S session.0)) S.sessions
 
+-- the roles that are assigned, that were activated and that sets have are there
+abbrev pub are_roles_there : RbacState → Bool
+are_roles_there S = are_seconds_in S.roles S.assignments && are_seconds_in S.roles S.active && are_seconds_in S.roles S.ssd.members && are_seconds_in S.roles S.dsd.members
+
 -- each static set is kept by each user
 abbrev pub are_kept_statically : RbacState → Bool
 are_kept_statically S = all (λ (entry : Cardinality). is_kept_statically S (members_of S.ssd entry.0) entry.1) S.ssd.cardinalities
@@ -74,6 +80,11 @@ are_kept_statically S = all (λ (entry : Cardinality). is_kept_statically S (mem
 -- each dynamic set is kept by each session
 abbrev pub are_kept_dynamically : RbacState → Bool
 are_kept_dynamically S = all (λ (entry : Cardinality). is_kept_dynamically S (members_of S.dsd entry.0) entry.1) S.dsd.cardinalities
+
+-- the same of the sets of one kind
+abbrev pub are_kept : SeparationOfDuty → RbacState → Bool
+are_kept Static S = are_kept_statically S
+are_kept Dynamic S = are_kept_dynamically S
 
 -- no locked user has a session
 abbrev pub have_unlocked_users : RbacState → Bool

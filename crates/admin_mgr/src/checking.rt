@@ -1,44 +1,53 @@
 //! What is asked of the relations once the hierarchy is made.
-ghost use Rattle.std.specs.Prelude.{◌≡◌, not, ◌&&◌, nat_le};
+ghost use Rattle.std.specs.Prelude.{◌≡◌, not, ◌&&◌, map, nat_le, IsTrue, IfOk, IfErr};
 ghost use Rattle.std.specs.List.{list_all};
-ghost use Rattle.rbac_sets.specs.Sets.{Pair, all};
+ghost use Rattle.rbac_sets.specs.Sets.{Pair, all, members};
+ghost use Rattle.order_table.specs.Table.{table_of};
 ghost use Rattle.admin_mgr.specs.RbacState.{active_roles};
 ghost use Rattle.admin_mgr.specs.Authorization.{is_authorized};
 ghost use Rattle.admin_mgr.specs.Held.{is_reached};
+ghost use Rattle.admin_mgr.specs.Holders.{runs_of};
 ghost use Rattle.admin_mgr.specs.Kept.{separation_of};
-ghost use Rattle.admin_mgr.specs.Tested.{late_refusal, has_cardinalities, have_authorized_users, are_kept_statically, are_kept_dynamically, have_unlocked_users};
+ghost use Rattle.admin_mgr.specs.Tested.{late_refusal, are_kept, are_roles_there, has_cardinalities, have_authorized_users, have_unlocked_users};
 
 use crate::held::is_reached;
 use crate::judge::set_refusals::{is_cardinality, member_count};
-use crate::keeping::keeps_members;
+use crate::numbered::{keep_all, run_numbers};
 use crate::relations::Relations;
 use crate::separation_of_duty::SeparationOfDuty;
+use order_table::OrderTable;
 use rbac_sets::{CountSet, Name, PairSet, Refusal};
 use role_order::RoleOrder;
+use std::alloc::{AllocError, Global};
 
 // Why the relations are refused, where what they speak of is there and the hierarchy is sound: by
 // `Damaged` with 7 where a cardinality isn't from two to the number of the set's members, with 8 where
 // a session's user isn't authorized for an activated role, with 9 and 10 where a static and a dynamic
 // set is violated, and with 11 where a locked user has a session.
-pub(crate) fn late_refusal(relations: &Relations) -> Option<Refusal>
-    ensures { result ≡ late_refusal relations.now.facts }
+//
+// An error says that memory for the numbers of the roles was refused.
+pub(crate) fn late_refusal(alloc: Global, relations: &Relations) -> Result<Option<Refusal>, Refusal>
+    requires { IsTrue (are_roles_there relations.now.facts) }
+    ensures ok { IfOk result (λ found. found ≡ late_refusal relations.now.facts) }
+    ensures cause { IfErr result (λ refusal. refusal ≡ Refusal.Memory) }
 {
     if !have_cardinalities(relations) {
-        return Some(Refusal::Damaged(7));
+        return Ok(Some(Refusal::Damaged(7)));
     }
     if !have_authorized_users(relations) {
-        return Some(Refusal::Damaged(8));
+        return Ok(Some(Refusal::Damaged(8)));
     }
-    if !are_kept_statically(relations) {
-        return Some(Refusal::Damaged(9));
+    let table = OrderTable::new(alloc, relations.order(), relations.roles().as_slice())?;
+    if !are_kept(alloc, relations, SeparationOfDuty::Static, &table)? {
+        return Ok(Some(Refusal::Damaged(9)));
     }
-    if !are_kept_dynamically(relations) {
-        return Some(Refusal::Damaged(10));
+    if !are_kept(alloc, relations, SeparationOfDuty::Dynamic, &table)? {
+        return Ok(Some(Refusal::Damaged(10)));
     }
     if !have_unlocked_users(relations) {
-        return Some(Refusal::Damaged(11));
+        return Ok(Some(Refusal::Damaged(11)));
     }
-    None
+    Ok(None)
 }
 
 // Whether the cardinality of each set is from two to the number of its members.
@@ -86,30 +95,36 @@ fn are_reached(order: &RoleOrder, held: &[(Name, Name)], pairs: &[(Name, Name)])
     pairs.iter().all(|pair| is_reached(order, held, &pair.1))
 }
 
-// Whether each static set is kept by each user.
-#[tactic(auto, unfolding(rbac_sets::specs::Sets::all))]
-fn are_kept_statically(relations: &Relations) -> bool
-    ensures { result ≡ are_kept_statically relations.now.facts }
+// Whether each static set is kept by each user, or each dynamic set by each session.
+fn are_kept(
+    alloc: Global,
+    relations: &Relations,
+    duty: SeparationOfDuty,
+    table: &OrderTable,
+) -> Result<bool, Refusal>
+    requires there { IsTrue (are_roles_there relations.now.facts) }
+    requires table { table.now ≡ table_of relations.now.facts.edges (members relations.now.facts.roles) }
+    ensures ok { IfOk result (λ kept. kept ≡ are_kept duty relations.now.facts) }
+    ensures cause { IfErr result (λ refusal. refusal ≡ Refusal.Memory) }
 {
-    relations.ssd_cardinalities().as_slice().iter().all(|entry| keeps_members(
-        relations,
-        SeparationOfDuty::Static,
-        &entry.0,
-        entry.1,
-    ))
+    let roles = relations.roles().as_slice();
+    let runs = all_runs(alloc, relations, duty)?;
+    let numbers = run_numbers(alloc, roles, &runs, &[])?;
+    let members = duty.members_in(relations);
+    let sets = duty.cardinalities_in(relations).as_slice();
+    let kept = keep_all(alloc, table, roles, &numbers, members, sets)?;
+    Ok(kept)
 }
 
-// Whether each dynamic set is kept by each session.
-#[tactic(auto, unfolding(rbac_sets::specs::Sets::all))]
-fn are_kept_dynamically(relations: &Relations) -> bool
-    ensures { result ≡ are_kept_dynamically relations.now.facts }
+// What each user is assigned, or what was activated in each session.
+fn all_runs<'a>(
+    alloc: Global,
+    relations: &'a Relations,
+    duty: SeparationOfDuty,
+) -> Result<Vec<&'a [(Name, Name)]>, AllocError>
+    ensures { IfOk result (λ runs. map (λ run. run.now) runs.items ≡ runs_of duty relations.now.facts) }
 {
-    relations.dsd_cardinalities().as_slice().iter().all(|entry| keeps_members(
-        relations,
-        SeparationOfDuty::Dynamic,
-        &entry.0,
-        entry.1,
-    ))
+    duty.runs(relations).collect(alloc)
 }
 
 // Whether no locked user has a session.

@@ -2,20 +2,22 @@
 //!
 //! Only who reaches the ascendant can come to violate a set: the roles that each of these has are
 //! gathered once, and then the sets are asked one after another.
-ghost use Rattle.std.specs.Prelude.{◌≡◌, ◌&&◌, IfOk, filter, not, nat_lt};
+ghost use Rattle.std.specs.Prelude.{◌≡◌, IsTrue, IfOk, filter};
 ghost use Rattle.std.specs.Prelude.{map as list_map};
 ghost use Rattle.std.specs.List.{list_all, list_any};
 ghost use Rattle.std.specs.Option.{option_copied};
-ghost use Rattle.rbac_sets.specs.Sets.{Cardinality, members, pair_cmp};
+ghost use Rattle.rbac_sets.specs.Sets.{Cardinality, Pair, all, contains, members, pair_cmp};
 ghost use Rattle.rbac_sets.specs.SortedSet.{set_of};
-ghost use Rattle.admin_mgr.specs.Held.{find_broken, is_reached, is_touched, reached_with, run_of};
+ghost use Rattle.admin_mgr.specs.Held.{find_broken, is_reached, is_touched, run_of};
 ghost use Rattle.admin_mgr.specs.Holders.{runs_of};
 ghost use Rattle.admin_mgr.specs.SeparationOfDuty.{sets_of};
 
-use crate::held::{is_reached, is_touched, reached_with};
+use crate::held::{is_reached, is_touched};
+use crate::numbered::{first_broken_by, run_numbers};
 use crate::separation_of_duty::SeparationOfDuty;
 use crate::state::State;
-use rbac_sets::{Name, PairSet};
+use order_table::{OrderTable, number};
+use rbac_sets::{Name, PairSet, Refusal};
 use role_order::RoleOrder;
 use std::alloc::{AllocError, Global};
 
@@ -28,17 +30,22 @@ pub(crate) fn first_broken<'a>(
     asc: &Name,
     desc: &Name,
 ) -> Result<Option<&'a (Name, u32)>, AllocError>
+    requires { IsTrue (contains state.now.facts.roles desc.now) }
     ensures { IfOk result (λ found. option_copied found ≡ find_broken state.now.facts.edges
         (filter (λ held. is_reached state.now.facts.edges held asc.now) (runs_of duty state.now.facts)) desc.now
         (sets_of duty state.now.facts).members (members (sets_of duty state.now.facts).cardinalities)) }
 {
+    state.is_good();
     let members = duty.members(state);
     let sets = duty.cardinalities(state).as_slice();
     if !touches_some(state.order(), desc, members, sets) {
         return Ok(None);
     }
     let runs = who_reach(alloc, state, duty, asc)?;
-    Ok(find_broken(state.order(), &runs, desc, members, sets))
+    match find_broken(alloc, state, &runs, desc, members, sets) {
+        Ok(found) => Ok(found),
+        Err(_) => Err(AllocError),
+    }
 }
 
 // What each user who is authorized for the role is assigned, or what was activated in each session that
@@ -64,47 +71,28 @@ fn touches_some(order: &RoleOrder, role: &Name, members: &PairSet, sets: &[(Name
 }
 
 // The first of the sets from which one of these runs and one more role reach as many members as its
-// cardinality. Only a set with a member that the role reaches is asked.
+// cardinality. Only a set with a member that the role reaches is asked. The table of the order is made
+// only where there is a run.
 fn find_broken<'a>(
-    order: &RoleOrder,
+    alloc: Global,
+    state: &State,
     runs: &[&[(Name, Name)]],
     more: &Name,
     members: &PairSet,
     sets: &'a [(Name, u32)],
-) -> Option<&'a (Name, u32)>
-    ensures { option_copied result ≡ find_broken order.now.edges (list_map (λ run. run.now) runs.entry.now) more.now (set_of pair_cmp members.now) sets.now }
+) -> Result<Option<&'a (Name, u32)>, Refusal>
+    requires runs { IsTrue (list_all (λ run. list_all (λ (pair : Pair). contains state.now.facts.roles pair.1) run.now) runs.now) }
+    requires more { IsTrue (contains state.now.facts.roles more.now) }
+    requires members { IsTrue (all (λ (pair : Pair). contains state.now.facts.roles pair.1) (set_of pair_cmp members.now)) }
+    ensures { IfOk result (λ found. option_copied found ≡ find_broken state.now.facts.edges (list_map (λ run. run.now) runs.entry.now) more.now (set_of pair_cmp members.now) sets.now) }
 {
-    for entry in sets {
-        if is_broken(order, runs, more, members.with_first(&entry.0), entry.1) {
-            return Some(entry);
-        }
+    if runs.is_empty() {
+        return Ok(None);
     }
-    None
-}
-
-// Whether the role reaches one of the members, and one of the runs with it so many of them.
-fn is_broken(
-    order: &RoleOrder,
-    runs: &[&[(Name, Name)]],
-    more: &Name,
-    members: &[(Name, Name)],
-    cardinality: u32,
-) -> bool
-    ensures { result ≡ (is_touched order.now.edges more.now members.now
-        && not (list_all (λ held. nat_lt (reached_with order.now.edges held more.now members.now) cardinality) (list_map (λ run. run.now) runs.entry.now))) }
-{
-    is_touched(order, more, members) && !keep_below(order, runs, more, members, cardinality)
-}
-
-// Whether each of the runs reaches fewer than so many of the members, with one more role.
-fn keep_below(
-    order: &RoleOrder,
-    runs: &[&[(Name, Name)]],
-    more: &Name,
-    members: &[(Name, Name)],
-    cardinality: u32,
-) -> bool
-    ensures { result ≡ list_all (λ run. nat_lt (reached_with order.now.edges run.now more.now members.now) cardinality) runs.entry.now }
-{
-    runs.iter().all(|run| reached_with(order, run, more, members) < cardinality as usize)
+    let roles = state.roles().as_slice();
+    let table = OrderTable::new(alloc, state.order(), roles)?;
+    let more = number(roles, more);
+    let numbers = run_numbers(alloc, roles, runs, &[more])?;
+    let found = first_broken_by(alloc, &table, roles, &numbers, more, members, sets)?;
+    Ok(found)
 }

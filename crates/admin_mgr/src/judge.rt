@@ -40,8 +40,8 @@ pub(crate) mod set_refusals;
 // The verdict on a command: the first of its refusals that holds, in their order, and `None` where the
 // command is accepted.
 //
-// An error says that memory was refused, for the name of a violated separation of duty set or for the
-// list of who reaches the ascendant of a new inheritance.
+// An error says that memory was refused, for the name of a violated separation of duty set, for the list of
+// who reaches the ascendant of a new inheritance or for the numbers of their roles.
 pub(crate) fn judge(
     alloc: Global,
     state: &State,

@@ -46,7 +46,7 @@ pub(crate) fn keeps_set(
 }
 
 // Whether nobody has so many of the set's roles. The relations may be anything.
-pub(crate) fn keeps_members(
+fn keeps_members(
     relations: &Relations,
     duty: SeparationOfDuty,
     set: &Name,

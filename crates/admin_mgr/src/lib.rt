@@ -41,6 +41,7 @@ mod keeping;
 pub mod laws;
 mod limits;
 mod lookup;
+mod numbered;
 pub mod plan;
 mod planning;
 mod relations;

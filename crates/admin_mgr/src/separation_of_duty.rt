@@ -82,9 +82,16 @@ impl SeparationOfDuty {
     pub(crate) fn cardinalities(self, state: &State) -> &CountSet
         ensures { set_of cardinality_cmp result.now ≡ (sets_of self state.now.facts).cardinalities }
     {
+        self.cardinalities_in(state.relations())
+    }
+
+    // The same of relations that may be anything.
+    pub(crate) fn cardinalities_in(self, relations: &Relations) -> &CountSet
+        ensures { set_of cardinality_cmp result.now ≡ (sets_of self relations.now.facts).cardinalities }
+    {
         match self {
-            SeparationOfDuty::Static => state.ssd_cardinalities(),
-            SeparationOfDuty::Dynamic => state.dsd_cardinalities(),
+            SeparationOfDuty::Static => relations.ssd_cardinalities(),
+            SeparationOfDuty::Dynamic => relations.dsd_cardinalities(),
         }
     }
 
@@ -97,6 +104,7 @@ impl SeparationOfDuty {
             SeparationOfDuty::Dynamic => state.dsd_n(set),
         }
     }
+
     // Who this kind goes over: of each user the assignments, or of each session the roles that were
     // activated in it, as pairs (holder, role).
     pub(crate) fn runs(self, relations: &Relations) -> Runs<'_>

@@ -85,7 +85,8 @@ impl State {
             return Err(refusal);
         }
         let relations = made.into_relations(alloc)?;
-        if let Some(refusal) = late_refusal(&relations) {
+        let late = late_refusal(alloc, &relations)?;
+        if let Some(refusal) = late {
             return Err(refusal);
         }
         Ok(State { relations })

@@ -1,3 +1,5 @@
 pub mod Entries
-pub mod Numbers
+pub mod Mapped
+pub mod Places
+pub mod Roles
 pub mod Rows

@@ -1,8 +1,8 @@
 -- The order of roles as a table, by the numbers of the roles.
 use Rattle.std.specs.Prelude.{◌≡◌, ℕ, Bool, false, List, [], map, filter, length, get_or, count_by, Some}
-use Rattle.std.specs.List.{slice_get}
+use Rattle.std.specs.List.{list_any, slice_get}
 use Rattle.std.specs.Ordering.{is_lt}
-use Rattle.rbac_sets.specs.Sets.{Bytes, Pairs, name_cmp}
+use Rattle.rbac_sets.specs.Sets.{Bytes, Pair, Pairs, name_cmp}
 use Rattle.role_order.specs.Order.{geq}
 
 -- a row for each role, with an entry for each role: whether the first is the second, or above it
@@ -16,6 +16,10 @@ table_of edges roles = map (λ above. map (λ below. geq edges above below) role
 abbrev pub entry : Table → ℕ → ℕ → Bool
 entry table above below = get_or (get_or table above []) below false
 
+-- whether one of the roles of these numbers is the role of a number, or above it
+abbrev pub reaches : Table → List ℕ → ℕ → Bool
+reaches table numbers below = list_any (λ number. entry table number below) numbers
+
 -- how many rows have this entry
 abbrev pub count_above : Table → ℕ → ℕ
 count_above table below = count_by (λ row. get_or row below false) table
@@ -27,3 +31,7 @@ TellsOrder edges roles table = (i j : ℕ) (above below : Bytes) → slice_get r
 -- the number of a name among names in byte order: how many of them are below it
 unfoldable pub number_in : List Bytes → Bytes → ℕ
 number_in names name = length (filter (λ other. is_lt (name_cmp other name)) names)
+
+-- the numbers of the second names of pairs
+abbrev pub numbers_of : List Bytes → List Pair → List ℕ
+numbers_of names pairs = map (λ (pair : Pair). number_in names pair.1) pairs

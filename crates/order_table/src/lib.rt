@@ -6,6 +6,8 @@
 //! roles takes their numbers once, and then reads the table.
 #![tactic(auto)]
 
-pub use table::{OrderTable, number};
+pub use numbers::{number, second_numbers};
+pub use table::OrderTable;
 
+pub mod numbers;
 pub mod table;

@@ -1,13 +1,13 @@
 //! The table of the order of roles.
-ghost use Rattle.std.specs.Prelude.{◌≡◌, ◌<◌, ◌≤◌, ◌||◌, length, IsTrue, false, get_or, map, Some, IfOk, IfErr};
-ghost use Rattle.std.specs.List.{AllWithin, list_any, slice_get};
+ghost use Rattle.std.specs.Prelude.{◌≡◌, ◌<◌, ◌≤◌, ◌||◌, length, IsTrue, false, get_or, map, IfOk, IfErr};
+ghost use Rattle.std.specs.List.{AllWithin, list_any};
 ghost use Rattle.std.specs.declared.cmp.Ordering.TheVariants.{Less, Greater};
 ghost use Rattle.std.specs.Ordering.{is_lt};
 ghost use Rattle.std.specs.List.Sorted.{IsStrictlySortedBy};
-ghost use Rattle.rbac_sets.specs.Sets.{Pair, name_cmp, same_name, contains, from_list};
+ghost use Rattle.rbac_sets.specs.Sets.{Pair, name_cmp, same_name};
 ghost use Rattle.role_order.specs.Order.{geq};
 ghost use Rattle.role_order.specs.Checked.{second_cmp};
-ghost use Rattle.order_table.specs.Table.{table_of, entry, count_above, TellsOrder, number_in};
+ghost use Rattle.order_table.specs.Table.{table_of, entry, reaches, count_above, TellsOrder};
 
 use rbac_sets::{Name, Refusal};
 use role_order::RoleOrder;
@@ -64,6 +64,15 @@ impl OrderTable {
         above < self.rows.len() && is_set(&self.rows[above], below)
     }
 
+    /// Whether one of the roles of these numbers is the role of this number, or above it.
+    ///
+    /// It takes no memory.
+    pub fn reaches(&self, numbers: &[usize], below: usize) -> bool
+        ensures { result ≡ reaches self.now numbers.now below }
+    {
+        numbers.iter().any(|number| self.geq(*number, below))
+    }
+
     /// How many of the roles are the role of this number, or above it.
     ///
     /// It takes no memory.
@@ -72,18 +81,6 @@ impl OrderTable {
     {
         self.rows.iter().filter(|row| is_set(row, below)).count()
     }
-}
-
-/// The number of a name among names in byte order: its place, where it is one of them, and else how
-/// many of them are below it.
-///
-/// It takes no memory.
-pub fn number(names: &[Name], name: &Name) -> usize
-    requires { IsStrictlySortedBy name_cmp names.now }
-    ensures number { result ≡ number_in names.now name.now }
-    ensures place { IsTrue (contains (from_list {R = name_cmp} names.now) name.now) → slice_get names.now result ≡ Some name.now }
-{
-    names.partition_point(|other| other.cmp(name).is_lt())
 }
 
 // The row of a role: for each of the roles, whether the role is that one, or above it. Where the roles

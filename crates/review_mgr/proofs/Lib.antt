@@ -3,7 +3,6 @@ pub mod Below
 pub mod Columns
 pub mod Counts
 pub mod Gathering
-pub mod Mapped
 pub mod Numbered
 pub mod Reached
 pub mod Refusing

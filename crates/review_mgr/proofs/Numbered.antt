@@ -18,8 +18,7 @@ use Rattle.role_order.proofs.Leading.{first_step}
 use Rattle.role_order.proofs.Deciding.{geq-Decides, at_or_above-are, juniors-same, not_own_senior}
 use Rattle.role_order.proofs.Runs.{run-count}
 use Rattle.order_table.specs.Table.{Table, count_above, entry, number_in, table_of}
-use Rattle.order_table.proofs.Entries.{tells-table_of}
-use Rattle.order_table.proofs.Numbers.{slice_get-number_in}
+use Rattle.order_table.proofs.Roles.{number, placed}
 use Rattle.review_mgr.specs.Numbering.{assigned_runs, granted_runs, grant_numbers}
 use Rattle.review_mgr.proofs.Counts.{count-numbers, count-runs}
 
@@ -30,42 +29,23 @@ unfolding len insert contains
 one_senior_more edges role = finmap.len-insert name_total (seniors edges role) role tt ∙ ap (λ b. cond b (len (seniors edges role)) (len (seniors edges role) + 1)) (not_own_senior edges role)
 
 module _ (roles : Names) where
-  abbrev pub number : Bytes → ℕ
-  number role = number_in (members roles) role
-
-  -- a role stands at its number
-  placed : (role : Bytes) → IsTrue (contains roles role) → slice_get (members roles) (number role) ≡ Some role
-  placed role here = slice_get-number_in (members roles) role (members-rise name_cmp roles) (ap (λ s. contains s role) (from_members name_total name_exact roles) ∙ here)
-
-  -- two roles have one number where they are one
-  pub same-number : (role : Bytes) → IsTrue (contains roles role) → (q : Bytes) → IsTrue (contains roles q) → nat_eq (number q) (number role) ≡ same_name q role
-  same-number role here q there = both_ways _ _
-      (λ e. (tie_Decides name_total name_exact q role).1
-      (let both : Some q ≡ Some role = sym (placed q there) ∙ ap (slice_get (members roles)) (eqb-true (number q) (number role) e) ∙ placed role here in cc))
-      (λ e. eq-eqb (number q) (number role) (ap number ((tie_Decides name_total name_exact q role).0 e)))
-
-  -- the entry at the numbers of two roles
-  pub entry-number : (edges : Pairs) (table : Table) → table ≡ table_of edges (members roles) → (a b : Bytes) → IsTrue (contains roles a) → IsTrue (contains roles b)
-      → entry table (number a) (number b) ≡ geq edges a b
-  entry-number edges table is a b at_a at_b = ap (λ t. entry t (number a) (number b)) is ∙ tells-table_of edges (members roles) (number a) (number b) a b (placed a at_a) (placed b at_b)
-
   -- the roles above one and the role itself, counted in the table
   pub count_above-seniors : (edges : Pairs) (table : Table) → table ≡ table_of edges (members roles) → ((a b : Bytes) → HasPair edges a b → IsTrue (contains roles a))
-      → (role : Bytes) → IsTrue (contains roles role) → count_above table (number role) ≡ len (seniors edges role) + 1
+      → (role : Bytes) → IsTrue (contains roles role) → count_above table (number roles role) ≡ len (seniors edges role) + 1
   unfolding count
   count_above-seniors edges table is starts role here =
       let row : Bytes → List Bool = λ above. map (λ (below : Bytes). geq edges above below) (members roles) in
-      let at : (above : Bytes) → get_or (row above) (number role) false ≡ geq edges above role = λ above.
-      get_or-map (λ (below : Bytes). geq edges above below) (members roles) (number role) [] false (slice_get_within (members roles) (number role) role (placed role here))
-      ∙ ap (geq edges above) (get_or_from_slice_get (members roles) (number role) role [] (placed role here)) in
+      let at : (above : Bytes) → get_or (row above) (number roles role) false ≡ geq edges above role = λ above.
+      get_or-map (λ (below : Bytes). geq edges above below) (members roles) (number roles role) [] false (slice_get_within (members roles) (number roles role) role (placed roles role here))
+      ∙ ap (geq edges above) (get_or_from_slice_get (members roles) (number roles role) role [] (placed roles role here)) in
       let test : Bytes → Bool = λ above. geq edges above role in
       let within : Names = insert (seniors edges role) role in
       let above_is : (p : Bytes) → Geq edges p role → IsTrue (contains roles p) = λ p leads. (elim (first_step (HasPair edges) leads) [
         | inl same ↦ subst (λ z. IsTrue (contains roles z)) (sym same) here
         | inr k ↦ starts p k.0 k.1
       ]) in
-      ap (λ t. count_above t (number role)) is
-      ∙ count_map row (λ entries. get_or entries (number role) false) (members roles)
+      ap (λ t. count_above t (number roles role)) is
+      ∙ count_map row (λ entries. get_or entries (number roles role) false) (members roles)
       ∙ (λ i. count_by (λ above. at above i) (members roles))
       ∙ count-len name_total name_exact test roles
       ∙ ap len (same_members name_total name_exact (retain roles test) within (λ p. (

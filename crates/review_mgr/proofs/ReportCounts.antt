@@ -11,7 +11,8 @@ use Rattle.admin_mgr.specs.Authorization.{authorized_permissions, authorized_use
 use Rattle.review_mgr.specs.Numbering.{IsNumbering}
 use Rattle.review_mgr.specs.Review.{assigned_users}
 use Rattle.review_mgr.specs.declared.report.numbering.Numbers.{Numbers}
-use Rattle.review_mgr.proofs.Numbered.{same-number, entry-number, count_above-seniors, count-assigned_runs, count-granted_runs, count-granted}
+use Rattle.order_table.proofs.Roles.{same-number, entry-number}
+use Rattle.review_mgr.proofs.Numbered.{count_above-seniors, count-assigned_runs, count-granted_runs, count-granted}
 
 module _ (S : RbacState) (good : IsGood S) (numbers : Numbers) (is : IsNumbering S numbers) (role : Bytes) (here : IsTrue (contains S.roles role)) (number : ℕ) (number_is : number ≡ number_in (members S.roles) role) where
   pub assigned-counted : count_by (λ run. list_any (λ n. nat_eq n number) run.items) numbers.assigned.items ≡ len (assigned_users S role)

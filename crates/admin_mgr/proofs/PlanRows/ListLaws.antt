@@ -1,6 +1,7 @@
 -- Lists that a loop makes entry by entry.
-use Rattle.std.proofs.Common.{◌≡◌, ℕ, ◌+◌, ◌<◌, ◌≤◌, Bool, true, false, cond, List, [], ◌∷◌, ◌++◌, length, drop, map, get_or, refl, sym, ◌∙◌, ap}
+use Rattle.std.proofs.Common.{◌≡◌, ℕ, ◌+◌, ◌<◌, ◌≤◌, Bool, true, false, cond, ◌&&◌, List, [], ◌∷◌, ◌++◌, length, drop, map, get_or, refl, sym, ◌∙◌, ap}
 use Rattle.std.specs.Prelude.{Some, filter, find}
+use Rattle.std.specs.List.{list_all}
 use Rattle.std.proofs.lemmas.List.{append_assoc, append-nil, drop_more}
 use Rattle.std.proofs.Math.ListN.{drop_of_length-le}
 
@@ -46,6 +47,13 @@ each_filter {K} g test = record { none = refl; more = λ x xs. by x xs (test x) 
 -- a list to which more was appended, where both are known
 pub listed_then : {C : Type 0} {after before more was rows : List C} → after ≡ before ++ more → before ≡ was → more ≡ rows → after ≡ was ++ rows
 listed_then next before more = next ∙ (λ i. before i ++ more i)
+
+-- whether a test holds of all entries from the place i on, where it holds of the entry there, and where it doesn't
+pub all_later : {K : Type 0} (p : K → Bool) (xs : List K) (i : ℕ) (x : K) → i < length xs → x ≡ get_or xs i x → p x ≡ true → list_all p (drop i xs) ≡ list_all p (drop (i + 1) xs)
+all_later p xs i x within is holds = ap (list_all p) (drop_more xs i x within) ∙ ap (λ b. b && list_all p (drop (i + 1) xs)) (ap p (sym is) ∙ holds)
+
+pub all_here : {K : Type 0} (p : K → Bool) (xs : List K) (i : ℕ) (x : K) → i < length xs → x ≡ get_or xs i x → p x ≡ false → list_all p (drop i xs) ≡ false
+all_here p xs i x within is fails = ap (list_all p) (drop_more xs i x within) ∙ ap (λ b. b && list_all p (drop (i + 1) xs)) (ap p (sym is) ∙ fails)
 
 -- what is found from the place i on: nothing at it, or the entry there
 pub found_later : {K : Type 0} (p : K → Bool) (xs : List K) (i : ℕ) (x : K) → i < length xs → x ≡ get_or xs i x → p x ≡ false → find p (drop i xs) ≡ find p (drop (i + 1) xs)

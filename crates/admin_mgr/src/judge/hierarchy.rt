@@ -1,5 +1,6 @@
 //! The verdicts on the commands of the role hierarchy.
-ghost use Rattle.std.specs.Prelude.{◌≡◌, IfOk, false};
+ghost use Rattle.std.specs.Prelude.{◌≡◌, IfOk, IsTrue, false};
+ghost use Rattle.rbac_sets.specs.Sets.{contains};
 ghost use Rattle.rbac_sets.specs.declared.command.Command.TheVariants.{AddInheritance, DeleteInheritance, AddAscendant, AddDescendant};
 ghost use Rattle.role_order.specs.Order.{geq};
 ghost use Rattle.admin_mgr.specs.After.{after};
@@ -24,8 +25,8 @@ use std::alloc::{AllocError, Global};
 // cardinality, then by `DynamicSeparation` with the first dynamic set in byte order from which some
 // session would have as many roles as its cardinality.
 //
-// An error says that memory was refused, for the name of the set or for the list of who is authorized
-// for `asc`.
+// An error says that memory was refused, for the name of the set, for the list of who is authorized
+// for `asc` or for the numbers of their roles.
 #[tactic(auto, unfolding(crate::specs::Verdict::verdict, crate::specs::Verdict::refusals))]
 pub(crate) fn judge_add_inheritance(
     alloc: Global,
@@ -55,7 +56,8 @@ fn refuse_broken(
     asc: &Name,
     desc: &Name,
 ) -> Result<Option<Refusal>, AllocError>
-    requires { geq state.now.facts.edges desc.now asc.now ≡ false }
+    requires apart { geq state.now.facts.edges desc.now asc.now ≡ false }
+    requires there { IsTrue (contains state.now.facts.roles desc.now) }
     ensures { IfOk result (λ found. found ≡ breaks duty (after state.now.facts (AddInheritance asc.now desc.now))) }
 {
     state.is_good();

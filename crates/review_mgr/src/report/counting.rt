@@ -12,13 +12,6 @@ fn has_number(numbers: &[usize], role: usize) -> bool
     numbers.iter().any(|number| *number == role)
 }
 
-// Whether one of the roles is the role of this number, or above it.
-fn has_above(table: &OrderTable, numbers: &[usize], role: usize) -> bool
-    ensures { result ≡ list_any (λ number. entry table.now number role) numbers.now }
-{
-    numbers.iter().any(|number| table.geq(*number, role))
-}
-
 // Whether one of the roles is the role of this number, or below it.
 fn has_below(table: &OrderTable, numbers: &[usize], role: usize) -> bool
     ensures { result ≡ list_any (λ number. entry table.now role number) numbers.now }
@@ -44,9 +37,7 @@ pub(super) fn count_runs_with(runs: &[Vec<usize>], role: usize) -> u64
 pub(super) fn count_runs_above(table: &OrderTable, runs: &[Vec<usize>], role: usize) -> u64
     ensures { result ≡ count_by (λ run. list_any (λ number. entry table.now number role) run.items) runs.now }
 {
-    runs.iter()
-        .filter(|run| has_above(table, run, role))
-        .count() as u64
+    runs.iter().filter(|run| table.reaches(run, role)).count() as u64
 }
 
 // How many of the runs have the role, or one below it.

@@ -8,7 +8,7 @@ ghost use Rattle.role_order.specs.Runs.{run_of};
 ghost use Rattle.order_table.specs.Table.{number_in};
 
 use admin_mgr::State;
-use order_table::{OrderTable, number};
+use order_table::{OrderTable, number, second_numbers};
 use rbac_sets::{GrantSet, Name, PairSet, Refusal};
 use std::alloc::Global;
 
@@ -47,24 +47,6 @@ impl Numbers {
             grants,
         })
     }
-}
-
-// The numbers of the second names of the pairs.
-fn second_numbers(
-    alloc: Global,
-    roles: &[Name],
-    pairs: &[(Name, Name)],
-) -> Result<Vec<usize>, Refusal>
-    requires { IsStrictlySortedBy name_cmp roles.now }
-    ensures ok { IfOk result (λ numbers. numbers.items ≡ map (λ (pair : Pair). number_in roles.now pair.1) pairs.now) }
-    ensures cause { IfErr result (λ refusal. refusal ≡ Refusal.Memory) }
-{
-    let mut numbers = Vec::new(alloc);
-    numbers.reserve(pairs.len())?;
-    for pair in pairs {
-        numbers.push(number(roles, &pair.1))?;
-    }
-    Ok(numbers)
 }
 
 // The numbers of the third names of the grants.

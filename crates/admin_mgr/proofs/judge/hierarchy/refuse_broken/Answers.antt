@@ -9,4 +9,4 @@ pub returns : goal.returns
 returns c =
     c.in_ok-named.ensures
     ∙ ap (λ o. option_map (refusal_of c.args.duty) (option_map (λ (entry : Cardinality). entry.0) o)) c.in_ok-violated.ensures
-    ∙ sym (inheritance_breaks c.args.state.now.facts c.is_good.ensures c.args.asc.now c.args.desc.now c.requires c.args.duty)
+    ∙ sym (inheritance_breaks c.args.state.now.facts c.is_good.ensures c.args.asc.now c.args.desc.now c.requires.apart c.args.duty)

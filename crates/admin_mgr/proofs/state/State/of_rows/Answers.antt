@@ -1,4 +1,4 @@
-use Rattle.std.proofs.Common.{◌≡◌, ℕ, List, ◌⊎◌, sym, ap, subst, ◌∙◌}
+use Rattle.std.proofs.Common.{◌≡◌, ℕ, List, ◌⊎◌, IsTrue, sym, ap, subst, ◌∙◌, arith}
 use Rattle.std.specs.Prelude.{None}
 use Rattle.rbac_sets.specs.declared.row.Row.{Row}
 use Rattle.role_order.specs.Order.{IsAcyclic, IsClosure}
@@ -6,12 +6,13 @@ use Rattle.std.proofs.lemmas.Result.{err_from_is_err_and}
 use Rattle.admin_mgr.specs.RbacState.{RbacState}
 use Rattle.admin_mgr.specs.Gathered.{Gathered, gathered}
 use Rattle.admin_mgr.specs.Checked.{AreReadable, IsStateOf}
-use Rattle.admin_mgr.specs.Tested.{early_refusal, late_refusal}
+use Rattle.admin_mgr.specs.Tested.{are_roles_there, early_refusal, late_refusal}
 use Rattle.admin_mgr.proofs.StoredRows.TestLaws.{RefusesOrder}
 use Rattle.admin_mgr.proofs.StateAfter.NamedLaws.{named_rows}
 use Rattle.admin_mgr.proofs.StoredRows.RowSteps.{version-gathered}
 use Rattle.admin_mgr.proofs.StoredRows.CheckLaws.{PassBefore, early_told, early_passed, order_told, late_told, late_passed, before_next, is_state_of, refuses_rows}
 use Rattle.admin_mgr.proofs.state.State.of_rows.Goals as goal
+use Rattle.admin_mgr.proofs.Verdicts.NumberLaws.{complete_roles_are_there}
 use Rattle.admin_mgr.proofs.Verdicts.VerdictLaws.{none_unless_some}
 
 pub early_refusal-requires : goal.early_refusal-requires
@@ -43,13 +44,22 @@ returns-in_err-relations-clause-err c =
     (made_is c.args.version c.args.rows.items c.in_ok-made.made made.0 (sym c.early_refusal.ensures ∙ none_unless_some _ c.in_default.not-Some))
     (subst (λ (g : Gathered). RefusesOrder g c.in_err-relations.field-0.0) made.0 c.in_err-relations.ensures.err)))
 
-pub returns-in-Some-late_refusal-clause-err : goal.returns-in-Some-late_refusal-clause-err
-returns-in-Some-late_refusal-clause-err c =
+-- what the relations speak of is there
+roles_there : (version : ℕ) (rows : List Row) (made : Gathered) (S : RbacState) → made ≡ gathered version rows → early_refusal made ≡ None → S ≡ made.facts → IsTrue (are_roles_there S)
+roles_there version rows made S is none facts =
+    subst (λ T. IsTrue (are_roles_there T)) (sym (facts ∙ ap (λ (g : Gathered). g.facts) is)) (complete_roles_are_there (gathered version rows) (made_is version rows made is none 3 (omega arith)))
+
+pub late_refusal-requires : goal.late_refusal-requires
+late_refusal-requires c =
+    roles_there c.args.version c.args.rows.items c.in_ok-made.made c.in_ok-relations.relations.facts c.in_ok-made.ensures.ok.0 (sym c.early_refusal.ensures ∙ none_unless_some _ c.in_default.not-Some) c.in_ok-relations.ensures.facts
+
+pub returns-in-Some-late-clause-err : goal.returns-in-Some-late-clause-err
+returns-in-Some-late-clause-err c =
     let made = c.in_ok-made.ensures.ok in
     let facts : c.in_ok-relations.relations.facts ≡ (gathered c.args.version c.args.rows.items).facts = c.in_ok-relations.ensures.facts ∙ ap (λ (g : Gathered). g.facts) made.0 in
-    let told = sym (c.late_refusal.ensures ∙ ap late_refusal facts) ∙ c.in-Some-late_refusal.is in
-    refuses_rows c.args.version c.args.rows.items c.in-Some-late_refusal.refusal made.1
-    (late_told c.args.version c.args.rows.items made.1 c.in-Some-late_refusal.refusal
+    let told = sym (c.in_ok-late.ensures.ok ∙ ap late_refusal facts) ∙ c.in-Some-late.is in
+    refuses_rows c.args.version c.args.rows.items c.in-Some-late.refusal made.1
+    (late_told c.args.version c.args.rows.items made.1 c.in-Some-late.refusal
     (to_seven c.args.version c.args.rows.items c.in_ok-made.made made.0 (sym c.early_refusal.ensures ∙ none_unless_some _ c.in_default.not-Some) c.in_ok-relations.ensures.order) told)
 
 -- where nothing is refused, the relations are the state of the rows
@@ -63,10 +73,10 @@ is_state version rows made S known is readable early order facts late =
 pub returns-clause-ok : goal.returns-clause-ok
 returns-clause-ok c =
     is_state c.args.version c.args.rows.items c.in_ok-made.made c.in_ok-relations.relations.facts c.requires c.in_ok-made.ensures.ok.0 c.in_ok-made.ensures.ok.1 (sym c.early_refusal.ensures ∙ none_unless_some _ c.in_default.not-Some)
-    c.in_ok-relations.ensures.order c.in_ok-relations.ensures.facts (sym c.late_refusal.ensures ∙ none_unless_some _ c.in_default-late_refusal.not-Some)
+    c.in_ok-relations.ensures.order c.in_ok-relations.ensures.facts (sym c.in_ok-late.ensures.ok ∙ none_unless_some _ c.in_default-late.not-Some)
 
 pub invariant_of-result : goal.invariant_of-result
 invariant_of-result c =
     let is = is_state c.args.version c.args.rows.items c.in_ok-made.made c.in_ok-relations.relations.facts c.requires c.in_ok-made.ensures.ok.0 c.in_ok-made.ensures.ok.1 (sym c.early_refusal.ensures ∙ none_unless_some _ c.in_default.not-Some)
-    c.in_ok-relations.ensures.order c.in_ok-relations.ensures.facts (sym c.late_refusal.ensures ∙ none_unless_some _ c.in_default-late_refusal.not-Some) in
+    c.in_ok-relations.ensures.order c.in_ok-relations.ensures.facts (sym c.in_ok-late.ensures.ok ∙ none_unless_some _ c.in_default-late.not-Some) in
     (is.good, named_rows _ c.args.rows.items is.stored c.in_ok-made.ensures.named)

@@ -3,7 +3,7 @@ use Rattle.rbac_sets.specs.Sets.{Bytes, Pair, pair_cmp}
 use Rattle.rbac_sets.specs.SortedSet.{set_of}
 use Rattle.role_order.specs.Runs.{run_of}
 use Rattle.order_table.specs.Table.{number_in}
-use Rattle.review_mgr.proofs.Mapped.{mapped_more_through}
+use Rattle.order_table.proofs.Mapped.{mapped_more_through}
 use Rattle.review_mgr.proofs.report.numbering.assigned_numbers.Goals as goal
 
 pub loop-user-preserved : goal.loop-user-preserved

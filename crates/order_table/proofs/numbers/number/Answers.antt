@@ -6,9 +6,9 @@ use Rattle.rbac_sets.specs.Sets.{Bytes, name_cmp}
 use Rattle.rbac_sets.specs.NameOrder.{name_total, rises}
 use Rattle.rbac_sets.proofs.Runs.{lows_first, rise-sorted}
 use Rattle.order_table.specs.Table.{number_in}
-use Rattle.order_table.proofs.Numbers.{length-parted, slice_get-number_in}
+use Rattle.order_table.proofs.Places.{length-parted, slice_get-number_in}
 use Rattle.std.proofs.Common.{inl}
-use Rattle.order_table.proofs.table.number.Goals as goal
+use Rattle.order_table.proofs.numbers.number.Goals as goal
 
 pub returns-clause-number : goal.returns-clause-number
 unfolding number_in

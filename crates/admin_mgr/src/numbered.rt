@@ -1,0 +1,138 @@
+//! Who has how many roles of a set, by the numbers of the roles: a role's number is its place among the roles
+//! in byte order.
+//!
+//! What goes over all users or sessions for many sets takes the numbers of what each has once, and then reads
+//! the table of the order.
+ghost use Rattle.std.specs.Prelude.{◌≡◌, ◌++◌, ◌&&◌, not, nat_lt, IfOk, IfErr};
+ghost use Rattle.std.specs.Prelude.{map as list_map};
+ghost use Rattle.std.specs.List.{list_all, list_any};
+ghost use Rattle.std.specs.List.Sorted.{IsStrictlySortedBy};
+ghost use Rattle.std.specs.Option.{option_copied};
+ghost use Rattle.rbac_sets.specs.Sets.{name_cmp, pair_cmp};
+ghost use Rattle.rbac_sets.specs.SortedSet.{set_of};
+ghost use Rattle.order_table.specs.Table.{entry, numbers_of};
+ghost use Rattle.admin_mgr.specs.Numbers.{count_reached, first_broken_by, keep_all};
+
+use order_table::{OrderTable, second_numbers};
+use rbac_sets::{Name, PairSet, Refusal};
+use std::alloc::Global;
+
+// The numbers of the roles of each run, and behind them those of some more roles. A run has the pairs
+// (holder, role) of one user or session.
+pub(crate) fn run_numbers(
+    alloc: Global,
+    roles: &[Name],
+    runs: &[&[(Name, Name)]],
+    more: &[usize],
+) -> Result<Vec<Vec<usize>>, Refusal>
+    requires { IsStrictlySortedBy name_cmp roles.now }
+    ensures ok { IfOk result (λ numbers. list_map (λ run. run.items) numbers.items ≡ list_map (λ run. numbers_of roles.now run.now ++ more.now) runs.entry.now) }
+    ensures cause { IfErr result (λ refusal. refusal ≡ Refusal.Memory) }
+{
+    let mut numbers = Vec::new(alloc);
+    numbers.reserve(runs.len())?;
+    for run in runs {
+        numbers.push(numbers_with(alloc, roles, run, more)?)?;
+    }
+    Ok(numbers)
+}
+
+// The numbers of the roles of one run, and behind them those of some more roles.
+fn numbers_with(
+    alloc: Global,
+    roles: &[Name],
+    run: &[(Name, Name)],
+    more: &[usize],
+) -> Result<Vec<usize>, Refusal>
+    requires { IsStrictlySortedBy name_cmp roles.now }
+    ensures ok { IfOk result (λ numbers. numbers.items ≡ numbers_of roles.now run.now ++ more.now) }
+    ensures cause { IfErr result (λ refusal. refusal ≡ Refusal.Memory) }
+{
+    let mut numbers = second_numbers(alloc, roles, run)?;
+    numbers.extend_from_slice(more)?;
+    Ok(numbers)
+}
+
+// How many of the members are one of these roles, or below one.
+fn reached(table: &OrderTable, run: &[usize], members: &[usize]) -> usize
+    ensures { result ≡ count_reached table.now run.now members.now }
+{
+    members
+        .iter()
+        .filter(|member| table.reaches(run, **member))
+        .count()
+}
+
+// Whether each of the runs reaches fewer than so many of the members.
+fn keep_below(table: &OrderTable, runs: &[Vec<usize>], members: &[usize], cardinality: u32) -> bool
+    ensures { result ≡ list_all (λ run. nat_lt (count_reached table.now run.items members.now) cardinality) runs.now }
+{
+    runs.iter()
+        .all(|run| reached(table, run, members) < cardinality as usize)
+}
+
+// Whether one of the members is this role, or below it.
+fn touches(table: &OrderTable, role: usize, members: &[usize]) -> bool
+    ensures { result ≡ list_any (λ member. entry table.now role member) members.now }
+{
+    members.iter().any(|member| table.geq(role, *member))
+}
+
+// Whether a role reaches one of the members, and one of the runs so many of them.
+fn break_by(
+    table: &OrderTable,
+    runs: &[Vec<usize>],
+    role: usize,
+    members: &[usize],
+    cardinality: u32,
+) -> bool
+    ensures { result ≡ (list_any (λ member. entry table.now role member) members.now
+        && not (list_all (λ run. nat_lt (count_reached table.now run.items members.now) cardinality) runs.now)) }
+{
+    touches(table, role, members) && !keep_below(table, runs, members, cardinality)
+}
+
+// Whether each of the sets is kept by each of the runs.
+pub(crate) fn keep_all(
+    alloc: Global,
+    table: &OrderTable,
+    roles: &[Name],
+    runs: &[Vec<usize>],
+    members: &PairSet,
+    sets: &[(Name, u32)],
+) -> Result<bool, Refusal>
+    requires { IsStrictlySortedBy name_cmp roles.now }
+    ensures ok { IfOk result (λ kept. kept ≡ keep_all table.now roles.now (list_map (λ run. run.items) runs.now) (set_of pair_cmp members.now) sets.now) }
+    ensures cause { IfErr result (λ refusal. refusal ≡ Refusal.Memory) }
+{
+    for set in sets {
+        let members = second_numbers(alloc, roles, members.with_first(&set.0))?;
+        if !keep_below(table, runs, &members, set.1) {
+            return Ok(false);
+        }
+    }
+    Ok(true)
+}
+
+// The first of the sets that a role reaches and one of the runs breaks.
+pub(crate) fn first_broken_by<'a>(
+    alloc: Global,
+    table: &OrderTable,
+    roles: &[Name],
+    runs: &[Vec<usize>],
+    role: usize,
+    members: &PairSet,
+    sets: &'a [(Name, u32)],
+) -> Result<Option<&'a (Name, u32)>, Refusal>
+    requires { IsStrictlySortedBy name_cmp roles.now }
+    ensures ok { IfOk result (λ found. option_copied found ≡ first_broken_by table.now roles.now (list_map (λ run. run.items) runs.now) role (set_of pair_cmp members.now) sets.now) }
+    ensures cause { IfErr result (λ refusal. refusal ≡ Refusal.Memory) }
+{
+    for set in sets {
+        let members = second_numbers(alloc, roles, members.with_first(&set.0))?;
+        if break_by(table, runs, role, &members, set.1) {
+            return Ok(Some(set));
+        }
+    }
+    Ok(None)
+}
