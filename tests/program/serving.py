@@ -13,7 +13,7 @@ from machine.questions import QUESTIONS
 from .heads import ANN, CURL, LENGTH
 from .importing import RECORDS, SEPARATED
 from .offices import STORE, Office, small_office
-from .web import HOST, Server, connect, free_port, head, post, read_all, reply
+from .web import BAD_REQUEST, HOST, NO_FUNCTION, Server, connect, free_port, head, post, read_all, reply
 
 DONE = b'{"ok":true}'
 ADD_ANN = b'{"fn":"addUser","user":"ann"}'
@@ -165,6 +165,21 @@ def silent_before(bench, said):
         waited = time.monotonic() - start
         bench.same(f"the next client waited {waited:.1f} seconds", LEAST <= waited <= MOST, True)
         bench.same("the silent client", read_all(silent), b"")
+        server.ends()
+    office.model.answer(ADD_ANN)
+    office.told()
+
+
+def check_refused_early(bench):
+    """A request that is refused by its head is read on, so that a client that sends all of it first gets the reply."""
+    office, rest = Office(bench), b"x" * 3_000_000
+    too_long = head("POST /v1/importAssignments HTTP/1.1", f"Content-Length: {len(rest)}")
+    no_function = head("POST /v1/none HTTP/1.1", f"Content-Length: {len(rest)}")
+    with Server(bench, office.path, 9) as server:
+        for _ in range(4):
+            bench.same("a body that is too long", server.ask(too_long + rest), reply(413, BAD_REQUEST))
+            bench.same("the body of no function", server.ask(no_function + rest), reply(404, NO_FUNCTION))
+        bench.same("the next client", server.ask(CURL), reply(200, DONE))
         server.ends()
     office.model.answer(ADD_ANN)
     office.told()

@@ -15,8 +15,8 @@ use role_tables::Office;
 use role_wire::{Served, serve_with};
 use sqlite::Alter;
 use std::alloc::{AllocError, Global};
-use std::io::BufReader;
-use std::net::{TcpListener, TcpStream};
+use std::io::{BufReader, BufWriter, Read};
+use std::net::{Shutdown, TcpListener, TcpStream};
 use std::time::Duration;
 
 /// How many seconds a read or a write of one connection may wait.
@@ -24,6 +24,15 @@ const PATIENCE: u64 = 5;
 
 /// The status after which the office is closed.
 const OFFICE_CLOSED: u16 = 500;
+
+/// The statuses that are told once the whole body was read. Any other may leave bytes that the client still sends.
+const AFTER_THE_BODY: [u16; 3] = [200, 409, OFFICE_CLOSED];
+
+/// How many bytes that come after a refusal are read at once.
+const DISCARDED_AT_ONCE: usize = 8192;
+
+/// How often they are read: 4 MiB in all.
+const MOST_DISCARDS: u32 = 512;
 
 /// Serves as many connections of the listener as `limit` says, one after the other, each by
 /// `serve_one` of `role_wire`, and gives the exit status. A read or a write of a connection waits at
@@ -133,12 +142,45 @@ fn serve_stream<S: Alter>(
     let patience = Duration::from_secs(PATIENCE);
     let _ = stream.set_read_timeout(Some(patience));
     let _ = stream.set_write_timeout(Some(patience));
-    let Ok(buffered) = BufReader::new(alloc, stream) else {
+    let status = answer_stream(alloc, router, office, stream);
+    if status.is_some_and(|status| !AFTER_THE_BODY.contains(&status)) {
+        discard_rest(stream);
+    }
+    status
+}
+
+// The same without what the client still sends. The reply leaves in one piece as the sink is dropped, whether
+// or not the client takes it.
+fn answer_stream<S: Alter>(
+    alloc: Global,
+    router: &Router<()>,
+    office: &mut Office<S>,
+    stream: &TcpStream,
+) -> Option<u16>
+    requires route { router.now ≡ routes }
+    ensures { IsServed (state S.Store) office.old office.new }
+{
+    let (Ok(reader), Ok(writer)) = (BufReader::new(alloc, stream), BufWriter::new(alloc, stream))
+    else {
         return None;
     };
-    let mut source = Reader::new(buffered);
-    let mut sink = Writer::new(stream);
+    let mut source = Reader::new(reader);
+    let mut sink = Writer::new(writer);
     answered(alloc, router, office, &mut source, &mut sink)
+}
+
+// Reads what a client still sends, up to a bound: a connection that is closed before would be reset, and the
+// client might lose the reply.
+fn discard_rest(mut stream: &TcpStream) {
+    if stream.shutdown(Shutdown::Write).is_err() {
+        return;
+    }
+    let mut bytes = [0; DISCARDED_AT_ONCE];
+    for _ in 0..MOST_DISCARDS {
+        if !matches!(stream.read(&mut bytes), Ok(1..)) {
+            return;
+        }
+    }
 }
 
 // The status with which one request was answered, if it was.
