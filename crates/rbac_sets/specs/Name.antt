@@ -1,5 +1,5 @@
 -- What a name is.
-use Rattle.std.specs.Prelude.{ℕ, Bool, not, ◌&&◌, ◌==◌, nat_le, List, length}
+use Rattle.std.specs.Prelude.{ℕ, suc, zero, Bool, not, ◌&&◌, ◌==◌, ◌+◌, ◌*◌, ◌^◌, nat_le, List, [], ◌∷◌, length}
 use Rattle.std.specs.List.{list_all}
 use Rattle.std.specs.Str.{is_utf8}
 
@@ -14,3 +14,9 @@ has_name_length text = nat_le 1 (length text) && nat_le (length text) 64
 -- whether a text is a name: UTF-8 of 1 to 64 bytes, none of them a control character of ASCII
 abbrev pub is_name : List ℕ → Bool
 is_name text = has_name_length text && (list_all is_printable text && is_utf8 text)
+
+-- so many first bytes of a text as one number, the first byte the highest, with zeros behind a shorter text
+abbrev pub first_bytes : ℕ → List ℕ → ℕ
+first_bytes zero text = 0
+first_bytes (suc n) [] = 0
+first_bytes (suc n) (byte ∷ rest) = byte * 256 ^ n + first_bytes n rest

@@ -1,7 +1,9 @@
 //! Names of users, roles, objects, operations, sessions and separation of duty sets.
-ghost use Rattle.std.specs.Prelude.{◌≡◌, ◌⊎◌, ◌&&◌, true, false, Err, IfOk, IfErr, nat_le, length};
+ghost use Rattle.std.specs.Prelude.{◌≡◌, ◌⊎◌, ◌&&◌, true, false, Err, IfOk, IfErr, nat_le, length, slice_index_or};
 ghost use Rattle.std.specs.List.{list_all};
-ghost use Rattle.rbac_sets.specs.Name.{has_name_length, is_name, is_printable};
+ghost use Rattle.std.specs.Ordering.{nat_cmp};
+ghost use Rattle.std.specs.Cmp.Lexicographic.{slice_cmp};
+ghost use Rattle.rbac_sets.specs.Name.{first_bytes, has_name_length, is_name, is_printable};
 
 use crate::refusal::Refusal;
 use std::alloc::Global;
@@ -18,18 +20,20 @@ const LONGEST_NAME: usize = 64;
 /// normalisation and no case folding. A contract sees a name as its bytes.
 #[derive(Debug, Drop)]
 pub struct Name {
+    // The first bytes of the text as a number: most names differ in these, and then no text is read.
+    front: u64,
     text: String,
 }
 
 impl Model for Name {
     ghost use Rattle.std.specs.Prelude.{◌≡◌, true, List, ℕ, string_bytes};
-    ghost use Rattle.rbac_sets.specs.Name.{is_name};
+    ghost use Rattle.rbac_sets.specs.Name.{first_bytes, is_name};
 
     ghost Value = { List ℕ };
 
     ghost view = { λ name. string_bytes name.text };
 
-    ghost invariant = { λ name. is_name (string_bytes name.text) ≡ true };
+    ghost invariant = { λ name. (is_name (string_bytes name.text) ≡ true) × (name.front ≡ first_bytes 8 (string_bytes name.text)) };
 }
 
 impl Name {
@@ -47,8 +51,9 @@ impl Name {
         if !is_name(text) {
             return Err(Refusal::BadName);
         }
+        let front = front_of(text);
         let text = String::from_str(alloc, text)?;
-        Ok(Name { text })
+        Ok(Name { front, text })
     }
 
     /// The name's text.
@@ -69,7 +74,7 @@ impl Name {
         ensures cause { IfErr result (λ refusal. refusal ≡ Refusal.Memory) }
     {
         let text = String::from_str(alloc, self.as_str())?;
-        Ok(Name { text })
+        Ok(Name { front: self.front, text })
     }
 }
 
@@ -83,7 +88,7 @@ impl PartialEq for Name {
     ghost laws = { partial_equiv_from_equiv nat_list_eq_equiv };
 
     fn eq(&self, other: &Name) -> bool {
-        self.as_str() == other.as_str()
+        self.front == other.front && self.as_str() == other.as_str()
     }
 }
 
@@ -122,8 +127,51 @@ impl Ord for Name {
     ghost matches_eq = { texts_ties };
 
     fn cmp(&self, other: &Name) -> Ordering {
-        self.as_str().cmp(&other.as_str())
+        order(self.as_str(), self.front, other.as_str(), other.front)
     }
+}
+
+// The order of two texts of names, byte by byte: that of the numbers of their first bytes, where these
+// differ. Where they don't, and end in zero, both texts are shorter than eight bytes, and are the same.
+#[inline(always)]
+fn order(text: &str, front: u64, other: &str, other_front: u64) -> Ordering
+    requires names { (is_name text.now ≡ true) × (is_name other.now ≡ true) }
+    requires front { front ≡ first_bytes 8 text.now }
+    requires other_front { other_front ≡ first_bytes 8 other.now }
+    ensures { result ≡ slice_cmp nat_cmp text.now other.now }
+{
+    if front != other_front {
+        return front.cmp(&other_front);
+    }
+    if front % 256 == 0 {
+        return Ordering::Equal;
+    }
+    text.cmp(other)
+}
+
+// The first eight bytes of the text as a number, the first of them the highest, with zeros for those that
+// it doesn't have.
+fn front_of(text: &str) -> u64
+    ensures { result ≡ first_bytes 8 text.now }
+{
+    let bytes = text.as_bytes();
+    u64::from_be_bytes([
+        byte_or_zero(bytes, 0),
+        byte_or_zero(bytes, 1),
+        byte_or_zero(bytes, 2),
+        byte_or_zero(bytes, 3),
+        byte_or_zero(bytes, 4),
+        byte_or_zero(bytes, 5),
+        byte_or_zero(bytes, 6),
+        byte_or_zero(bytes, 7),
+    ])
+}
+
+// The byte at this place, or zero where the text has ended before it.
+fn byte_or_zero(bytes: &[u8], place: usize) -> u8
+    ensures { result ≡ slice_index_or bytes.now place 0 }
+{
+    if place < bytes.len() { bytes[place] } else { 0 }
 }
 
 // Whether the text is a name. It is UTF-8 already, as every `&str`.

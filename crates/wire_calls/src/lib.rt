@@ -7,16 +7,10 @@
 #[cfg(test)]
 mod assignments;
 #[cfg(test)]
-mod choosing;
-#[cfg(test)]
 mod heads;
-#[cfg(test)]
-mod listening;
 #[cfg(test)]
 mod refused;
 #[cfg(test)]
 mod replaying;
 #[cfg(test)]
 mod requests;
-#[cfg(test)]
-mod running;

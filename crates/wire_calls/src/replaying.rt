@@ -6,7 +6,7 @@ use role_wire::{replay, serve_one, serve_with};
 use sqlite::{Connection, MemStore};
 use std::alloc::Global;
 
-pub(super) const LINES: &str = r#"{"fn":"addUser","user":"ann"}
+const LINES: &str = r#"{"fn":"addUser","user":"ann"}
 {"role":"clerk","fn":"addRole"}
 
 {"fn":"importAssignments","csv":"user,role\nann,clerk\nbob,clerk\n"}
@@ -15,7 +15,7 @@ pub(super) const LINES: &str = r#"{"fn":"addUser","user":"ann"}
 []
 {"fn":"permissionRoles","object":"safe","operation":"open"}"#;
 
-pub(super) const ANSWERS: &str = r#"{"ok":true}
+const ANSWERS: &str = r#"{"ok":true}
 {"ok":true}
 {"ok":true,"value":{"already":0,"assigned":1,"refused":[{"code":2,"record":2}]}}
 {"ok":true,"value":["ann"]}

@@ -11,7 +11,7 @@ ghost use Rattle.admin_mgr.specs.Planned.{IsPlanOf};
 use crate::plan::Plan;
 use crate::planning::ending::{Loss, take_ended};
 use crate::planning::making::with_order;
-use crate::planning::rows::{put, put_pairs, take, take_pairs};
+use crate::planning::rows::{pair_row, put, put_pairs, take, take_pairs};
 use crate::state::State;
 use rbac_sets::{Change, Name, Refusal, Row};
 use role_order::OrderPlan;
@@ -136,10 +136,7 @@ fn put_edge(
     ensures ok { OnOk result (changes.new.items ≡ changes.old.items ++ order_puts asc.now desc.now order.now.puts) }
     ensures cause { IfErr result (λ refusal. refusal ≡ Refusal.Memory) }
 {
-    put(
-        changes,
-        Row::inheritance(asc.copy(alloc)?, desc.copy(alloc)?),
-    )?;
+    put(changes, pair_row(alloc, Row::INHERITANCE, asc, desc)?)?;
     put_pairs(alloc, changes, Row::CLOSURE_PAIR, order.puts().as_slice())
 }
 
@@ -154,9 +151,6 @@ fn take_edge(
     ensures ok { OnOk result (changes.new.items ≡ changes.old.items ++ order_takes asc.now desc.now order.now.takes) }
     ensures cause { IfErr result (λ refusal. refusal ≡ Refusal.Memory) }
 {
-    take(
-        changes,
-        Row::inheritance(asc.copy(alloc)?, desc.copy(alloc)?),
-    )?;
+    take(changes, pair_row(alloc, Row::INHERITANCE, asc, desc)?)?;
     take_pairs(alloc, changes, Row::CLOSURE_PAIR, order.takes().as_slice())
 }

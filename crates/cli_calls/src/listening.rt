@@ -1,14 +1,32 @@
 //! A server on a port of this machine, and its one client.
-use super::replaying::{DONE, REQUEST, empty_office};
 use rbac_sets::MemorySink;
 use role_cli::serve_on;
-use role_tables::Office;
-use sqlite::MemStore;
+use role_tables::{Office, create};
+use sqlite::{Connection, MemStore};
+use std::alloc::Global;
 use std::io;
 use std::io::Write;
 use std::net::{TcpListener, TcpStream};
 use std::test::Fail;
 use std::time::Duration;
+
+const REQUEST: &str =
+    "POST /v1/addUser HTTP/1.1\r\nContent-Length: 14\r\n\r\n{\"user\":\"ann\"}";
+
+const DONE: &str =
+    "HTTP/1.1 200 OK\r\nContent-Type: application/json\r\nContent-Length: 11\r\n\
+    Connection: close\r\n\r\n{\"ok\":true}";
+
+// An empty office in memory.
+fn empty_office(alloc: Global) -> Option<Office<MemStore>> {
+    let Ok(conn) = Connection::open_in_memory(alloc) else {
+        return None;
+    };
+    match create(alloc, conn) {
+        Ok(office) => Some(office),
+        Err(_) => None,
+    }
+}
 
 // A client whose request is sent, and which waits at most five seconds for its reply.
 fn asking(rt: &HostRuntime, listener: &TcpListener) -> io::Result<TcpStream> {

@@ -1,9 +1,18 @@
 //! What the program writes for its words, from memory into memory, and its exit status.
-use super::replaying::{ANSWERS, LINES};
 use rbac_sets::{MemorySink, MemorySource};
 use role_cli::run;
 use std::alloc::{AllocError, Global};
 use std::test::Fail;
+
+const LINES: &str = r#"{"fn":"addUser","user":"ann"}
+{"fn":"addRole","role":"clerk"}
+{"fn":"assignUser","user":"bob","role":"clerk"}
+"#;
+
+const ANSWERS: &str = r#"{"ok":true}
+{"ok":true}
+{"code":2,"error":"NoUser"}
+"#;
 
 // Whether the words of a line have this status on an input, with these texts in `out` and `err`.
 fn ends_so(
