@@ -1,10 +1,9 @@
 -- The first bytes of a text as a number: texts whose numbers differ are in the order of these.
-use Rattle.std.proofs.Common.{◌≡◌, ◌≢◌, ◌⊎◌, inl, inr, ℕ, zero, suc, ◌+◌, ◌*◌, ◌^◌, ◌%◌, ◌<◌, ◌≤◌, true, false, List, [], ◌∷◌, length, refl, sym, ap, ◌∙◌, arith, slice_index_or, pow-suc, mul_comm, true≢false}
+use Rattle.std.proofs.Common.{◌≡◌, ◌≢◌, ◌⊎◌, inl, inr, ℕ, zero, suc, ◌+◌, ◌*◌, ◌^◌, ◌%◌, ◌<◌, ◌≤◌, true, List, [], ◌∷◌, length, refl, sym, ap, ◌∙◌, arith, slice_index_or, pow-suc, mul_comm, true≢false}
 use Rattle.std.specs.List.{list_all}
 use Rattle.std.specs.Cmp.{first_so, second_so}
 use Rattle.std.proofs.lemmas.List.Folds.{list_all_at}
 use Rattle.std.proofs.Math.Nat.{pow-le-pow_right, mul-le-mul_right}
-use Rattle.std.specs.declared.cmp.Ordering.{Ordering}
 use Rattle.std.specs.declared.cmp.Ordering.TheVariants.{Less, Equal, Greater}
 use Rattle.std.specs.Ordering.{nat_cmp, ordering_then, ordering_reverse}
 use Rattle.std.specs.Cmp.{nat_cmp_is}
@@ -45,6 +44,13 @@ below_power (suc n) (byte ∷ rest) bytes =
     let step : suc byte * unit ≡ byte * unit + unit = omega arith in
     rw wider (omega arith)
 
+-- of two numbers the one with the lower highest digit is lower, where what is below is less than the digit's unit
+higher_digit : (unit x y f g : ℕ) → f < unit → x < y → x * unit + f < y * unit + g
+higher_digit unit x y f g p less =
+    let higher : suc x * unit ≤ y * unit = mul-le-mul_right {m = suc x} {n = y} unit less in
+    let step : suc x * unit ≡ x * unit + unit = omega arith in
+    omega arith
+
 -- the text with the lower number comes first
 lower_first : (n : ℕ) (xs ys : List ℕ) → AreBytes xs → AreBytes ys → first_bytes n xs < first_bytes n ys → slice_cmp nat_cmp xs ys ≡ Less
 lower_first zero xs ys p q lower = absurd (omega arith)
@@ -54,32 +60,25 @@ lower_first (suc n) (x ∷ xs) (y ∷ ys) p q lower = by (cases_lt x y) (cases_l
   where
     unit : ℕ
     unit = 256 ^ n
+
     by : (x < y) ⊎ (y ≤ x) → (y < x) ⊎ (x ≤ y) → (first_bytes n xs < first_bytes n ys → slice_cmp nat_cmp xs ys ≡ Less) → ordering_then (nat_cmp x y) (slice_cmp nat_cmp xs ys) ≡ Less
     by (inl less) other later = ap (λ r. ordering_then r (slice_cmp nat_cmp xs ys)) (sym (nat_cmp_is x y Less less))
     by (inr least) (inl more) later =
-        let rest : first_bytes n ys < unit = below_power n ys (λ place. q (suc place)) in
-        let higher : suc y * unit ≤ x * unit = mul-le-mul_right {m = suc y} {n = x} unit more in
-        let step : suc y * unit ≡ y * unit + unit = omega arith in
+        let wrong = higher_digit unit y x (first_bytes n ys) (first_bytes n xs) (below_power n ys (λ place. q (suc place))) more in
         absurd (omega arith)
     by (inr least) (inr most) later =
         let same : x ≡ y = omega arith in
         let level : x * unit ≡ y * unit = ap (λ (byte : ℕ). byte * unit) same in
         ap (λ r. ordering_then r (slice_cmp nat_cmp xs ys)) (sym (nat_cmp_is x y Equal same))
-            ∙ later (omega arith)
+        ∙ later (omega arith)
 
--- a number tells its highest digit, where what is below is less than the digit's unit
+-- equal numbers have one highest digit
 same_digit : (unit x y f g : ℕ) → f < unit → g < unit → x * unit + f ≡ y * unit + g → x ≡ y
 same_digit unit x y f g p q same = by (cases_lt x y) (cases_lt y x)
   where
     by : (x < y) ⊎ (y ≤ x) → (y < x) ⊎ (x ≤ y) → x ≡ y
-    by (inl less) other =
-        let higher : suc x * unit ≤ y * unit = mul-le-mul_right {m = suc x} {n = y} unit less in
-        let step : suc x * unit ≡ x * unit + unit = omega arith in
-        absurd (omega arith)
-    by (inr least) (inl more) =
-        let higher : suc y * unit ≤ x * unit = mul-le-mul_right {m = suc y} {n = x} unit more in
-        let step : suc y * unit ≡ y * unit + unit = omega arith in
-        absurd (omega arith)
+    by (inl less) other = let wrong = higher_digit unit x y f g p less in absurd (omega arith)
+    by (inr least) (inl more) = let wrong = higher_digit unit y x g f q more in absurd (omega arith)
     by (inr least) (inr most) = omega arith
 
 printable_is_positive : (byte : ℕ) → is_printable byte ≡ true → 1 ≤ byte
@@ -114,8 +113,10 @@ same_where_short xs ys a b p q same short = short_same 8 xs ys printable (printa
   where
     printable_of : (text : List ℕ) → is_name text ≡ true → list_all is_printable text ≡ true
     printable_of text named = first_so (list_all is_printable text) _ (second_so (has_name_length text) _ named)
+
     printable : list_all is_printable xs ≡ true
     printable = printable_of xs a
+
     by : (length xs < 8) ⊎ (8 ≤ length xs) → length xs < 8
     by (inl less) = less
     by (inr least) =

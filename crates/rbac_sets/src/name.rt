@@ -74,7 +74,10 @@ impl Name {
         ensures cause { IfErr result (λ refusal. refusal ≡ Refusal.Memory) }
     {
         let text = String::from_str(alloc, self.as_str())?;
-        Ok(Name { front: self.front, text })
+        Ok(Name {
+            front: self.front,
+            text,
+        })
     }
 }
 

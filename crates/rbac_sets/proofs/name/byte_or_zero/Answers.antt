@@ -1,4 +1,4 @@
-use Rattle.std.proofs.Common.{refl, sym, arith}
+use Rattle.std.proofs.Common.{sym, arith}
 use Rattle.std.proofs.lemmas.List.{get_or_past}
 use Rattle.rbac_sets.proofs.name.byte_or_zero.Goals as goal
 

@@ -1,4 +1,4 @@
-use Rattle.std.proofs.Common.{◌≡◌, sym, ap, ◌∙◌, arith}
+use Rattle.std.proofs.Common.{ap, ◌∙◌, arith}
 use Rattle.rbac_sets.proofs.Fronts.{eight_bytes}
 use Rattle.rbac_sets.specs.Name.{first_bytes}
 use Rattle.rbac_sets.proofs.name.front_of.Goals as goal

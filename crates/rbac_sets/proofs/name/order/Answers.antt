@@ -1,4 +1,4 @@
-use Rattle.std.proofs.Common.{◌≡◌, ◌%◌, ◌∙◌, sym, ap}
+use Rattle.std.proofs.Common.{◌%◌, ◌∙◌, sym, ap}
 use Rattle.std.specs.Ordering.{nat_cmp}
 use Rattle.std.specs.Cmp.{tied_itself}
 use Rattle.std.specs.Cmp.Lexicographic.{slice_cmp, nat_list_cmp_total}
@@ -10,8 +10,8 @@ returns-then-front-other_front c =
     let first = c.requires.front in
     let other_first = c.requires.other_front in
     c.cmp.ensures ∙ (λ i. nat_cmp (first i) (other_first i))
-        ∙ as_numbers 8 c.args.text.now c.args.other.now (λ place. (c.type_inv.text place).fits) (λ place. (c.type_inv.other place).fits)
-            (λ e. c.if-front-other_front.true (first ∙ e ∙ sym other_first))
+    ∙ as_numbers 8 c.args.text.now c.args.other.now (λ place. (c.type_inv.text place).fits) (λ place. (c.type_inv.other place).fits)
+    (λ e. c.if-front-other_front.true (first ∙ e ∙ sym other_first))
 
 pub returns-then-front-eq0 : goal.returns-then-front-eq0
 returns-then-front-eq0 c =
@@ -20,5 +20,5 @@ returns-then-front-eq0 c =
     let first = c.requires.front in
     let level = sym first ∙ c.if-front-other_front.false ∙ c.requires.other_front in
     let same = same_where_short xs ys c.requires.names.0 c.requires.names.1 (λ place. (c.type_inv.text place).fits) (λ place. (c.type_inv.other place).fits)
-        level (ap (λ n. n % 256) (sym first) ∙ c.if-front-eq0.true) in
+    level (ap (λ n. n % 256) (sym first) ∙ c.if-front-eq0.true) in
     sym (tied_itself nat_list_cmp_total xs) ∙ ap (slice_cmp nat_cmp xs) same
