@@ -194,7 +194,8 @@ def drawn_tables(draws, seed, version):
         lines.draw()
     changes = Changes(rows(lines.state), draws)
     for _ in range(1 + draws.randrange(CHANGES)):
-        getattr(changes, draws.choices(list(WEIGHTS), list(WEIGHTS.values()))[0])()
+        if any(changes.tables.values()):
+            getattr(changes, draws.choices(list(WEIGHTS), list(WEIGHTS.values()))[0])()
     if draws.randrange(3):
         changes.close()
     return changes.tables
@@ -227,14 +228,17 @@ def word_of(answer):
 
 
 def replayed_on(bench, what, path, state, seed):
-    """Counts whether lines are answered over a good office in its own tables as by the model, and what is left."""
-    lines = Draws(seed)
+    """Counts whether lines are answered over a good office in its own tables as by the model, and what is left.
+
+    A row may have made an office of version 1 of one of version 2: its table of locks is a stranger's then, and stays as it is.
+    """
+    before, lines = read_rows(path), Draws(seed)
     lines.replay.state = state
     given = b"".join(lines.draw()[1] + b"\n" for _ in range(REPLAYED))
     life = Replay()
     life.state = state
     bench.ends(["replay", path], b"".join(life.answers(given)), given=given, what=f"replay: {what}")
-    same_rows(bench, f"the rows after a replay: {what}", read_rows(path), rows(life.state))
+    same_rows(bench, f"the rows after a replay: {what}", read_rows(path), {**before, **rows(life.state)})
 
 
 def try_file(bench, statements, seed):
