@@ -122,13 +122,6 @@ impl Row {
         Row::PairRow(Row::ASSIGNMENT, user, role)
     }
 
-    /// The row of the immediate inheritance by which `asc` inherits from `desc`.
-    pub fn inheritance(asc: Name, desc: Name) -> Row
-        ensures { result ≡ PairRow Row.INHERITANCE asc desc }
-    {
-        Row::PairRow(Row::INHERITANCE, asc, desc)
-    }
-
     /// The row of a pair of the role order: `asc` inherits from `desc`, another role, immediately or
     /// over others.
     pub fn closure_pair(asc: Name, desc: Name) -> Row
