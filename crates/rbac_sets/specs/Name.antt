@@ -1,5 +1,5 @@
 -- What a name is.
-use Rattle.std.specs.Prelude.{ℕ, suc, zero, Bool, not, ◌&&◌, ◌==◌, ◌+◌, ◌*◌, ◌^◌, nat_le, List, [], ◌∷◌, length}
+use Rattle.std.specs.Prelude.{ℕ, suc, zero, Bool, not, ◌&&◌, ◌==◌, ◌+◌, ◌*◌, ◌/◌, ◌%◌, ◌^◌, nat_le, List, [], ◌∷◌, length}
 use Rattle.std.specs.List.{list_all}
 use Rattle.std.specs.Str.{is_utf8}
 
@@ -20,3 +20,8 @@ abbrev pub first_bytes : ℕ → List ℕ → ℕ
 first_bytes zero text = 0
 first_bytes (suc n) [] = 0
 first_bytes (suc n) (byte ∷ rest) = byte * 256 ^ n + first_bytes n rest
+
+-- a number below 4,096 that texts have in common whose first eight bytes are the same: these as a number, times 2 to the 64th divided by the golden ratio, of
+-- whose lowest 64 bits the highest 12 are taken
+unfoldable pub fingerprint : List ℕ → ℕ
+fingerprint text = first_bytes 8 text * 11400714819323198485 % 18446744073709551616 / 4503599627370496

@@ -25,7 +25,7 @@
 
 pub use command::Command;
 pub use kind::Kind;
-pub use name::Name;
+pub use name::{FINGERPRINTS, Name};
 pub use refusal::Refusal;
 pub use row::{Change, Row};
 pub use sets::{CountSet, GrantSet, NameSet, PairSet};

@@ -1,9 +1,9 @@
 //! Names of users, roles, objects, operations, sessions and separation of duty sets.
-ghost use Rattle.std.specs.Prelude.{◌≡◌, ◌⊎◌, ◌&&◌, true, false, Err, IfOk, IfErr, nat_le, length, slice_index_or};
+ghost use Rattle.std.specs.Prelude.{◌≡◌, ◌<◌, ◌⊎◌, ◌&&◌, true, false, Err, IfOk, IfErr, nat_le, length, slice_index_or};
 ghost use Rattle.std.specs.List.{list_all};
 ghost use Rattle.std.specs.Ordering.{nat_cmp};
 ghost use Rattle.std.specs.Cmp.Lexicographic.{slice_cmp};
-ghost use Rattle.rbac_sets.specs.Name.{first_bytes, has_name_length, is_name, is_printable};
+ghost use Rattle.rbac_sets.specs.Name.{fingerprint, first_bytes, has_name_length, is_name, is_printable};
 
 use crate::refusal::Refusal;
 use std::alloc::Global;
@@ -12,6 +12,12 @@ use std::marker::Model;
 
 /// The most bytes of a name.
 const LONGEST_NAME: usize = 64;
+
+/// How many fingerprints there are.
+pub const FINGERPRINTS: usize = 4_096;
+
+// 2 to the 64th divided by the golden ratio. The highest bits of a product by it depend on all bits.
+const SPREAD: u64 = 11_400_714_819_323_198_485;
 
 /// The name of a user, a role, an object, an operation, a session or a separation of duty set:
 /// UTF-8 of 1 to 64 bytes, with no byte below 0x20 and no 0x7F.
@@ -78,6 +84,18 @@ impl Name {
             front: self.front,
             text,
         })
+    }
+
+    /// A number below `FINGERPRINTS` that is drawn from the name's first eight bytes. Names that
+    /// are equal have one fingerprint, so names whose fingerprints differ are not equal.
+    ///
+    /// It takes no memory, and reads no text.
+    #[tactic(auto, unfolding(crate::specs::Name::fingerprint))]
+    pub fn fingerprint(&self) -> usize
+        ensures value { result ≡ fingerprint self.now }
+        ensures within { result < FINGERPRINTS }
+    {
+        (self.front.wrapping_mul(SPREAD) >> 52) as usize
     }
 }
 

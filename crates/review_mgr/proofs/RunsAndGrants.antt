@@ -1,6 +1,6 @@
 -- A run of pairs and the grants of a permission, gone through at once.
-use Rattle.std.proofs.Common.{◌≡◌, ℕ, zero, suc, ◌+◌, ◌-◌, ◌<◌, ◌≤◌, Bool, true, false, ◌||◌, cond, List, [], ◌∷◌, length, drop, get_or, refl, sym, ◌∙◌, ap, subst, arith}
-use Rattle.std.specs.List.{list_any, AllByRecursion, filter}
+use Rattle.std.proofs.Common.{◌≡◌, ℕ, zero, suc, ◌+◌, ◌-◌, ◌<◌, ◌≤◌, Bool, true, false, ◌||◌, cond, List, [], ◌∷◌, length, drop, get_or, true≢false, refl, sym, ◌∙◌, ap, subst, arith}
+use Rattle.std.specs.List.{list_any, All, AllByRecursion, AllWithin, filter}
 use Rattle.std.specs.List.Sorted.{IsStrictlySortedBy}
 use Rattle.std.specs.declared.cmp.Ordering.{Ordering}
 use Rattle.std.specs.declared.cmp.Ordering.TheVariants.{Less, Equal}
@@ -15,7 +15,7 @@ use Rattle.role_order.specs.Order.{IsClosure}
 use Rattle.role_order.specs.Checked.{second_cmp}
 use Rattle.admin_mgr.specs.Held.{run_of, is_reached}
 use Rattle.rbac_sets.proofs.Members.{members-rise}
-use Rattle.review_mgr.specs.Meeting.{third_cmp, meets}
+use Rattle.review_mgr.specs.Meeting.{third_cmp, may_have, meets}
 use Rattle.review_mgr.specs.Review.{permission_of, is_grant_of}
 use Rattle.review_mgr.proofs.Below.{below-are}
 
@@ -124,6 +124,41 @@ meets_no_more pairs grants at next past = ap (λ ps. meets ps (drop next grants)
 
 pub meets_nothing : (pairs : List Pair) (grants : List Triple) (at next : ℕ) → length grants ≤ next → meets (drop at pairs) (drop next grants) ≡ false
 meets_nothing pairs grants at next past = ap (meets (drop at pairs)) (drop_all next grants past)
+
+-- ---- what has none of the fingerprints is passed
+
+-- a role that may not be one of those with these fingerprints is none of them
+apart_of : (flags : List Bool) (role other : Bytes) → may_have flags role ≡ true → may_have flags other ≡ false → (b : Bool) → same_name role other ≡ b → b ≡ false
+apart_of flags role other may may_not false same = refl
+apart_of flags role other may may_not true same =
+    absurd (true≢false (sym may ∙ ap (may_have flags) ((tie_Decides name_total name_exact role other).0 same) ∙ may_not))
+
+drop_unseen : (flags : List Bool) (p : Pair) (ps : List Pair) (gs : List Triple) → All (λ (h : Triple). may_have flags h.2 ≡ true) gs → may_have flags p.1 ≡ false
+    → meets (p ∷ ps) gs ≡ meets ps gs
+drop_unseen flags p ps [] all none = refl
+drop_unseen flags p ps (h ∷ gs) all none =
+    let rest : All (λ (g : Triple). may_have flags g.2 ≡ true) gs = λ k d less. all (suc k) d (omega arith) in
+    λ i. (apart_of flags h.2 p.1 (all 0 h (omega arith)) none _ refl i || list_any (λ (q : Pair). same_name h.2 q.1) ps) || drop_unseen flags p ps gs rest none i
+
+-- the first so many pairs
+pass_unseen : (flags : List Bool) (k : ℕ) (ps : List Pair) (gs : List Triple) → All (λ (h : Triple). may_have flags h.2 ≡ true) gs
+    → ((j : ℕ) (d : Pair) → j < k → may_have flags (get_or ps j d).1 ≡ false) → k ≤ length ps → meets ps gs ≡ meets (drop k ps) gs
+pass_unseen flags zero ps gs all none within = refl
+pass_unseen flags (suc k) [] gs all none within = absurd (omega arith)
+pass_unseen flags (suc k) (p ∷ ps) gs all none within =
+    drop_unseen flags p ps gs all (none 0 p (omega arith)) ∙ pass_unseen flags k ps gs all (λ j d less. none (suc j) d (omega arith)) (omega arith)
+
+pub meets_past_unseen : (flags : List Bool) (pairs : List Pair) (grants : List Triple) (at next past : ℕ) → All (λ (h : Triple). may_have flags h.2 ≡ true) grants
+    → AllWithin (λ (pair : Pair). may_have flags pair.1 ≡ false) pairs at past → at ≤ past → past ≤ length pairs → next ≤ length grants
+    → meets (drop at pairs) (drop next grants) ≡ meets (drop past pairs) (drop next grants)
+meets_past_unseen flags pairs grants at next past all none on within there =
+    let k : ℕ = past - at in
+    let end : at + k ≡ past = omega arith in
+    let rest : All (λ (h : Triple). may_have flags h.2 ≡ true) (drop next grants) =
+    λ j d less. subst (λ (h : Triple). may_have flags h.2 ≡ true) (sym (get_or-drop next grants j d)) (all (next + j) d (omega (arith, length-drop next grants, less))) in
+    let passed : (j : ℕ) (d : Pair) → j < k → may_have flags (get_or (drop at pairs) j d).1 ≡ false =
+    λ j d less. ap (λ (p : Pair). may_have flags p.1) (get_or-drop at pairs j d) ∙ none (at + j) d (omega arith) (omega arith) in
+    pass_unseen flags k (drop at pairs) (drop next grants) rest passed (omega (arith, length-drop at pairs)) ∙ (λ i. meets ((drop-drop k at pairs ∙ ap (λ n. drop n pairs) end) i) (drop next grants))
 
 -- ---- by the runs of what is held
 

@@ -36,6 +36,7 @@ pub use report::report_roles;
 
 pub mod access;
 pub mod asking;
+mod fingerprints;
 mod gather;
 pub mod laws;
 mod lookup;

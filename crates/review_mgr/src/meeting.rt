@@ -1,18 +1,22 @@
 //! Whether a role that is held, or one below it, is among the roles of grants.
-ghost use Rattle.std.specs.Prelude.{◌≡◌, ◌<◌, ◌≤◌, ◌-◌, length};
-ghost use Rattle.std.specs.List.{list_any, HoldsAt};
+ghost use Rattle.std.specs.Prelude.{◌≡◌, ◌<◌, ◌≤◌, ◌-◌, true, false, length};
+ghost use Rattle.std.specs.List.{All, AllWithin, HoldsAt, list_any};
 ghost use Rattle.std.specs.List.Sorted.{IsStrictlySortedBy};
 ghost use Rattle.std.specs.declared.cmp.Ordering.TheVariants.{Less};
 ghost use Rattle.rbac_sets.specs.Sets.{Bytes, Pair, Triple, name_cmp, pair_cmp};
 ghost use Rattle.rbac_sets.specs.SortedSet.{set_of};
 ghost use Rattle.admin_mgr.specs.Held.{is_reached, run_of};
 ghost use Rattle.role_order.specs.Checked.{second_cmp};
-ghost use Rattle.review_mgr.specs.Meeting.{meets, third_cmp};
+ghost use Rattle.review_mgr.specs.Meeting.{may_have, meets, third_cmp};
 
+use crate::fingerprints::{fingerprints_of, may_have};
 use crate::lookup::is_reached;
 use rbac_sets::{Name, PairSet};
 use role_order::RoleOrder;
 use std::cmp::Ordering;
+
+// The most grants that are gone through without their fingerprints, which cost more than they spare then.
+const FEW_GRANTS: usize = 32;
 
 // A pair that ends with a role, or a grant to one.
 trait OfRole {
@@ -74,11 +78,27 @@ fn past<T: OfRole>(entries: &[T], at: usize, name: &Name) -> usize
     low + 1
 }
 
+// The first place from this one on at which the role of the pair may be one of those whose fingerprints the
+// flags tell, or the end.
+fn first_that_may(pairs: &[(Name, Name)], at: usize, flags: &[bool]) -> usize
+    requires { at ≤ length pairs.now }
+    ensures bound { (at ≤ result) × (result ≤ length pairs.now) }
+    ensures passed { AllWithin (λ (pair : Pair). may_have flags.now pair.1 ≡ false) pairs.now at result }
+{
+    let mut place = at;
+    while place < pairs.len() && !may_have(flags, &pairs[place].1) {
+        place += 1;
+    }
+    place
+}
+
 // Whether the role of one of the grants is the second part of one of the pairs. It goes once through both,
-// and passes by such steps what lies below the next of the other.
-fn meets(pairs: &[(Name, Name)], grants: &[(Name, Name, Name)]) -> bool
+// and passes by doubled steps what lies below the next of the other, and pairs whose roles have none of the
+// fingerprints of the grants, which the flags tell.
+fn meets(pairs: &[(Name, Name)], grants: &[(Name, Name, Name)], flags: &[bool]) -> bool
     requires pairs { IsStrictlySortedBy second_cmp pairs.now }
     requires grants { IsStrictlySortedBy third_cmp grants.now }
+    requires flags { All (λ (grant : Triple). may_have flags.now grant.2 ≡ true) grants.now }
     ensures { result ≡ meets pairs.now grants.now }
 {
     let mut at = 0;
@@ -86,7 +106,10 @@ fn meets(pairs: &[(Name, Name)], grants: &[(Name, Name, Name)]) -> bool
     while at < pairs.len() && next < grants.len() {
         match pairs[at].1.cmp(&grants[next].2) {
             Ordering::Equal => return true,
-            Ordering::Less => at = past(pairs, at, &grants[next].2),
+            Ordering::Less => {
+                let behind = past(pairs, at, &grants[next].2);
+                at = first_that_may(pairs, behind, flags);
+            }
             Ordering::Greater => next = past(grants, next, &pairs[at].1),
         }
     }
@@ -94,12 +117,18 @@ fn meets(pairs: &[(Name, Name)], grants: &[(Name, Name, Name)]) -> bool
 }
 
 // Whether the role of one of the grants is in the run of the second part of one of `held`.
-fn is_below_held(pairs: &PairSet, held: &[(Name, Name)], grants: &[(Name, Name, Name)]) -> bool
-    requires { IsStrictlySortedBy third_cmp grants.now }
+fn is_below_held(
+    pairs: &PairSet,
+    held: &[(Name, Name)],
+    grants: &[(Name, Name, Name)],
+    flags: &[bool],
+) -> bool
+    requires grants { IsStrictlySortedBy third_cmp grants.now }
+    requires flags { All (λ (grant : Triple). may_have flags.now grant.2 ≡ true) grants.now }
     ensures { result ≡ list_any (λ (pair : Pair). meets (run_of (set_of pair_cmp pairs.now) pair.1) grants.now) held.now }
 {
     for pair in held {
-        if meets(pairs.with_first(&pair.1), grants) {
+        if meets(pairs.with_first(&pair.1), grants, flags) {
             return true;
         }
     }
@@ -111,13 +140,29 @@ fn is_granted_by_runs(
     order: &RoleOrder,
     held: &[(Name, Name)],
     grants: &[(Name, Name, Name)],
+    flags: &[bool],
+) -> bool
+    requires held { IsStrictlySortedBy second_cmp held.now }
+    requires grants { IsStrictlySortedBy third_cmp grants.now }
+    requires flags { All (λ (grant : Triple). may_have flags.now grant.2 ≡ true) grants.now }
+    ensures { result ≡ list_any (λ (grant : Triple). is_reached order.now.edges held.now grant.2) grants.now }
+{
+    let pairs = order.pairs();
+    meets(held, grants, flags) || is_below_held(pairs, held, grants, flags)
+}
+
+// The same, by the runs and the fingerprints of the roles of the grants.
+fn is_granted_by_fingerprints(
+    order: &RoleOrder,
+    held: &[(Name, Name)],
+    grants: &[(Name, Name, Name)],
 ) -> bool
     requires held { IsStrictlySortedBy second_cmp held.now }
     requires grants { IsStrictlySortedBy third_cmp grants.now }
     ensures { result ≡ list_any (λ (grant : Triple). is_reached order.now.edges held.now grant.2) grants.now }
 {
-    let pairs = order.pairs();
-    meets(held, grants) || is_below_held(pairs, held, grants)
+    let flags = fingerprints_of(grants);
+    is_granted_by_runs(order, held, grants, &flags)
 }
 
 // Whether the role of one of the grants is one of those held or below it. One or two grants are looked for
@@ -131,8 +176,11 @@ pub(crate) fn is_granted(
     requires grants { IsStrictlySortedBy third_cmp grants.now }
     ensures { result ≡ list_any (λ (grant : Triple). is_reached order.now.edges held.now grant.2) grants.now }
 {
+    if grants.len() > FEW_GRANTS {
+        return is_granted_by_fingerprints(order, held, grants);
+    }
     if grants.len() > 2 {
-        return is_granted_by_runs(order, held, grants);
+        return is_granted_by_runs(order, held, grants, &[]);
     }
     grants.iter().any(|grant| is_reached(order, held, &grant.2))
 }

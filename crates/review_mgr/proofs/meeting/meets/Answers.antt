@@ -3,7 +3,7 @@ use Rattle.std.specs.Ordering.{ordering_reverse}
 use Rattle.std.proofs.lemmas.List.{get_or_default}
 use Rattle.rbac_sets.specs.Sets.{name_cmp}
 use Rattle.rbac_sets.specs.NameOrder.{name_total}
-use Rattle.review_mgr.proofs.RunsAndGrants.{meets_here, meets_past_pairs, meets_past_grants, meets_no_more}
+use Rattle.review_mgr.proofs.RunsAndGrants.{meets_here, meets_past_pairs, meets_past_grants, meets_past_unseen, meets_no_more}
 use Rattle.review_mgr.proofs.meeting.meets.Goals as goal
 
 pub returns-in-Equal : goal.returns-in-Equal
@@ -12,11 +12,13 @@ returns-in-Equal c =
 
 pub loop-at-preserved-in-Less : goal.loop-at-preserved-in-Less
 loop-at-preserved-in-Less c = record {
-  within = c.past-at.ensures.bound.1;
+  within = c.first_that_may-at.ensures.bound.1;
   along = c.loop-at.invariant.along;
   same = c.loop-at.invariant.same
-      ∙ meets_past_pairs _ _ c.loop-at.at c.loop-at.next c.past-at.result c.index-grants-next-in-Less.result c.index-pairs-at.result c.requires.pairs c.requires.grants
-      c.past-at.ensures.bound.0 c.past-at.ensures.bound.1 c.if-next-grants.true (c.past-at.ensures.below c.index-pairs-at.result);
+      ∙ meets_past_pairs _ _ c.loop-at.at c.loop-at.next c.past-behind.result c.index-grants-next-in-Less.result c.index-pairs-at.result c.requires.pairs c.requires.grants
+      c.past-behind.ensures.bound.0 c.past-behind.ensures.bound.1 c.if-next-grants.true (c.past-behind.ensures.below c.index-pairs-at.result)
+      ∙ meets_past_unseen _ _ _ c.past-behind.result c.loop-at.next c.first_that_may-at.result c.requires.flags
+      c.first_that_may-at.ensures.passed c.first_that_may-at.ensures.bound.0 c.first_that_may-at.ensures.bound.1 c.loop-at.invariant.along;
 }
 
 pub past-next-requires-clause-below : goal.past-next-requires-clause-below
