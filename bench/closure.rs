@@ -44,6 +44,17 @@ pub fn without(pairs: &mut Vec<Pair>, others: &[Pair]) {
     });
 }
 
+/// Whether the seconds of the one run are among those of the other.
+fn is_within(small: &[Pair], large: &[Pair]) -> bool {
+    let mut small = small.iter().peekable();
+    for pair in large {
+        if small.peek().is_some_and(|next| next.1 == pair.1) {
+            small.next();
+        }
+    }
+    small.peek().is_none()
+}
+
 /// A hierarchy of roles: its edges, and the pairs of their closure.
 pub struct Hierarchy<'a> {
     pub edges: &'a [Pair],
@@ -53,6 +64,20 @@ pub struct Hierarchy<'a> {
 impl Hierarchy<'_> {
     pub fn geq(&self, a: &str, b: &str) -> bool {
         a == b || contains(self.pairs, a, b)
+    }
+
+    /// Whether the edges have no cycle, and the pairs are their closure.
+    #[allow(dead_code)]
+    pub fn is_closed(&self) -> bool {
+        let apart = self.pairs.iter().all(|pair| pair.0 != pair.1);
+        let goes_on = self.edges.iter().all(|(a, m)| {
+            contains(self.pairs, a, m)
+                && is_within(with_first(self.pairs, m), with_first(self.pairs, a))
+        });
+        let begins = self.pairs.iter().all(|(a, b)| {
+            with_first(self.edges, a).iter().any(|edge| self.geq(&edge.1, b))
+        });
+        apart && goes_on && begins
     }
 
     fn at_or_above(&self, role: &str) -> Vec<String> {

@@ -7,6 +7,7 @@ use std::cmp::Ordering;
 mod closure;
 mod judging;
 mod planning;
+pub mod table;
 
 pub use closure::{Hierarchy, Pair, contains as has_pair, merge, with_first, without};
 
@@ -273,7 +274,7 @@ pub fn with_pair<'a>(triples: &'a [Triple], first: &str, second: &str) -> &'a [T
     &rest[..rest.partition_point(|it| it.0 == first && it.1 == second)]
 }
 
-fn insert<T: Ord>(entries: &mut Vec<T>, entry: T) {
+pub fn insert<T: Ord>(entries: &mut Vec<T>, entry: T) {
     if let Err(at) = entries.binary_search(&entry) {
         entries.insert(at, entry);
     }
@@ -290,7 +291,7 @@ impl Office {
         self.hierarchy().geq(a, b)
     }
 
-    fn hierarchy(&self) -> Hierarchy<'_> {
+    pub fn hierarchy(&self) -> Hierarchy<'_> {
         Hierarchy { edges: &self.edges, pairs: &self.closure }
     }
 

@@ -3,7 +3,7 @@
 
 mod closure;
 
-use closure::{Hierarchy, Pair, compare, contains, merge, with_first, without};
+use closure::{Hierarchy, Pair, compare, merge, without};
 use std::cmp::Ordering;
 use std::mem;
 use std::time::Instant;
@@ -25,17 +25,6 @@ struct Order {
     pairs: Vec<Pair>,
 }
 
-/// Whether the seconds of the one run are among those of the other.
-fn is_within(small: &[Pair], large: &[Pair]) -> bool {
-    let mut small = small.iter().peekable();
-    for pair in large {
-        if small.peek().is_some_and(|next| next.1 == pair.1) {
-            small.next();
-        }
-    }
-    small.peek().is_none()
-}
-
 impl Order {
     fn hierarchy(&self) -> Hierarchy<'_> {
         Hierarchy { edges: &self.edges, pairs: &self.pairs }
@@ -44,15 +33,7 @@ impl Order {
     /// The order of these edges, where the pairs are their closure.
     fn of_rows(edges: Vec<Pair>, pairs: Vec<Pair>) -> Option<Order> {
         let order = Order { edges, pairs };
-        let apart = order.pairs.iter().all(|pair| pair.0 != pair.1);
-        let goes_on = order.edges.iter().all(|(a, m)| {
-            contains(&order.pairs, a, m)
-                && is_within(with_first(&order.pairs, m), with_first(&order.pairs, a))
-        });
-        let begins = order.pairs.iter().all(|(a, b)| {
-            with_first(&order.edges, a).iter().any(|edge| order.hierarchy().geq(&edge.1, b))
-        });
-        (apart && goes_on && begins).then_some(order)
+        order.hierarchy().is_closed().then_some(order)
     }
 }
 

@@ -1,6 +1,7 @@
 //! Whether a command is accepted, and else the first of its refusals that holds.
 
 use super::Refusal::*;
+use super::table::{Table, number, second_numbers};
 use super::{Command, Office, Pair, Refusal, Separation};
 use super::{has_name, has_pair, has_triple, limit, with_first};
 
@@ -225,15 +226,21 @@ impl Office {
             return None;
         }
         let holders: Vec<&[Pair]> = holders.filter(|held| self.is_reached(held, asc)).collect();
+        if holders.is_empty() {
+            return None;
+        }
+        let table = Table::new(&self.roles, &self.closure);
+        let desc = number(&self.roles, desc);
+        let with_desc = |held: &&[Pair]| {
+            let mut numbers = second_numbers(&self.roles, held);
+            numbers.push(desc);
+            numbers
+        };
+        let runs: Vec<Vec<usize>> = holders.iter().map(with_desc).collect();
         let is_broken = |set: &str, cardinality: u32| {
-            let members = self.members(kind, set);
-            is_touched(set)
-                && holders.iter().any(|held| {
-                    let reached = members.iter().filter(|member| {
-                        self.is_reached(held, &member.1) || self.geq(desc, &member.1)
-                    });
-                    reached.count() >= cardinality as usize
-                })
+            let members = second_numbers(&self.roles, self.members(kind, set));
+            members.iter().any(|member| table.geq(desc, *member))
+                && !table.keep_below(&runs, &members, cardinality)
         };
         sets.iter().find(|(set, cardinality)| is_broken(set, *cardinality)).map(|entry| &entry.0)
     }
