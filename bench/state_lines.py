@@ -3,7 +3,13 @@
 
 `limits`   makes a state that has one less of everything than an office of version 2 may have, and then
            does each command once, each round, taking back what it did; `quarter` is a fourth of that
+`full`     makes a state that has as much of everything as such an office may have, and then asks for the state of
+           its rows and for the role report, and puts and takes edges by which all users and sessions reach members
+           of all separation sets
+`chain`    the same two of a state without sets and sessions, whose roles stand in one chain
 `import`   10,000 records, all pairs of 100 users and 100 roles, with 64 static separation sets
+
+A line of a work that is no command is a label and `of_rows` or `report`.
 """
 
 import sys
@@ -32,19 +38,19 @@ def role(number):
 
 
 class Sizes:
-    """How many there are of each thing, one less than the limits of version 2 or a part of them."""
+    """How many there are of each thing: so many less than the limits of version 2 or a part of them."""
 
-    def __init__(self, part):
-        self.users = 20_000 // part - 1
-        self.roles = 1_024 // part - 1
-        self.edges = 4_096 // part - 1
-        self.objects = 2_000 // part - 1
-        self.permissions = 5_000 // part - 1
-        self.grants = 20_000 // part - 1
-        self.sessions = 1_000 // part - 1
-        self.active = 32 // part - 1
-        self.sets = 64 // part - 1
-        self.members = 32 // part - 1
+    def __init__(self, part, less=1):
+        self.users = 20_000 // part - less
+        self.roles = 1_024 // part - less
+        self.edges = 4_096 // part - less
+        self.objects = 2_000 // part - less
+        self.permissions = 5_000 // part - less
+        self.grants = 20_000 // part - less
+        self.sessions = 1_000 // part - less
+        self.active = 32 // part - less
+        self.sets = 64 // part - less
+        self.members = 32 // part - less
         # the first of the roles of the lower chain
         self.lower = 512 // part
 
@@ -67,6 +73,41 @@ class Sizes:
         """The members of a separation of duty set: two that no user has, and others of the upper chain."""
         rest = range(count - 2)
         return [role(0), role(1)] + [role(2 + (7 * number + 5 * it) % (self.lower - 2)) for it in rest]
+
+
+class Full(Sizes):
+    """As much of everything as there may be. All users have their roles in the upper half of the upper chain."""
+
+    def __init__(self, part=1):
+        super().__init__(part, 0)
+
+    def assigned(self, number):
+        """The role of a user: none of the first two."""
+        return role(2 + number % (self.lower // 2 - 2))
+
+    def first_active(self, number):
+        """The roles that are activated in each session: the lowest of the upper chain."""
+        return [role(it) for it in range(self.lower - self.active, self.lower)]
+
+    def members_of(self, number, count):
+        """The members of a separation of duty set: two that no user has, the last of the lower chain, and others of
+        both chains."""
+        others, rest = self.roles - 3, count - 3
+        spread = [role(2 + (7 * number + others // rest * it) % others) for it in range(rest)]
+        return [role(0), role(1), *spread, role(self.roles - 1)]
+
+
+class Chain(Full):
+    """As much of everything as there may be, but no separation of duty set and no session, and one chain of roles."""
+
+    def __init__(self, part=1):
+        super().__init__(part)
+        self.sets = self.sessions = 0
+        self.lower = self.roles
+
+    def assigned(self, number):
+        """The role of a user, by turns."""
+        return role(number % self.roles)
 
 
 def hierarchy(sizes):
@@ -215,6 +256,37 @@ def limits(part):
     all_sessions_end(sizes)
 
 
+def rows_and_report():
+    """The state of the rows that are there, and the role report."""
+    for _ in range(ROUNDS):
+        time("of_rows", "of_rows")
+        time("report_roles", "report")
+
+
+def all_users(sizes):
+    """Edges from the lowest role of the upper chain, which all users and sessions have: one to the lowest role of the
+    lower chain, which is in all sets, and one that joins the chains. An edge that changes no pair goes before."""
+    say("deleteInheritance", role(0), role(2))
+    asc = role(sizes.lower - 1)
+    for _ in range(ROUNDS):
+        for more, desc in (("", sizes.roles - 1), ("-joined", sizes.lower)):
+            time(f"addInheritance/all-users{more}", "addInheritance", asc, role(desc))
+            time(f"deleteInheritance/all-users{more}", "deleteInheritance", asc, role(desc))
+
+
+def full(sizes):
+    """A state that is full: its rows, its report, and edges for which all of its sets are judged for all users."""
+    build(sizes)
+    rows_and_report()
+    all_users(sizes)
+
+
+def chain(sizes):
+    """A state whose roles stand in one chain: its rows and its report."""
+    build(sizes)
+    rows_and_report()
+
+
 def imports():
     """An import of all pairs of 100 users and 100 roles, and its repetition."""
     for number in range(100):
@@ -231,6 +303,7 @@ def imports():
 def main():
     """Prints the lines that are asked for."""
     what = {"limits": lambda: limits(1), "quarter": lambda: limits(4), "import": imports}
+    what |= {"full": lambda: full(Full()), "chain": lambda: chain(Chain())}
     what[sys.argv[1]]()
 
 
