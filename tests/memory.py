@@ -30,10 +30,11 @@ STORIES = ["init", "replay", "import", "export", "report", "check", "migrate"]
 ROWS = sorted(path for path in (TESTS / "rows").rglob("*.jsonl") if path.parent.name != "version-1")
 
 # So many parts share the allocations of a subcommand or a server. So many of them all parts try at most, and so many
-# of a row's are tried at most over an office in memory and over one in a file; then the same by `--long`.
+# of a row's are tried at most: over an office in memory, and over one in a file of those by which it is opened, which
+# are the same for each row, and of those behind; then the same by `--long`.
 PARTS = 4
-TRIED = {"subcommand": 240, "memory": 16, "file": 8}
-MORE_TRIED = {"subcommand": 20_000, "memory": 2_000, "file": 400}
+TRIED = {"subcommand": 240, "memory": 16, "opening": 2, "file": 6}
+MORE_TRIED = {"subcommand": 20_000, "memory": 10_000, "opening": 8, "file": 10_000}
 
 # Longer rows are for `--long` alone, and so few allocations of each are tried.
 LONG_ROW = 5_000
@@ -143,8 +144,19 @@ def refuse_subcommand(bench, name, part, most):
     return refuse_over_file(bench, name, content, story, lambda count: tried(count, most, part, PARTS))
 
 
-def refuse_row_over_file(bench, row, most):
-    """Refuses allocations of a replay of a row over a new office in a file."""
+def allocations_of_opening(bench, content):
+    """How many allocations a replay makes until the office is opened: a refusal of those behind is told as a stop."""
+    refuser = Refuser(bench)
+
+    def is_of_opening(number):
+        done = refuser.run(["replay", lay(bench, content)], **refuser.settings(number))
+        return done.status == 1 and done.err in (NO_MEMORY, REFUSED)
+
+    return number_of_allocations(is_of_opening)
+
+
+def refuse_row_over_file(bench, row, of_opening, most):
+    """Refuses allocations of a replay of a row over a new office in a file: of those by which it is opened, and behind."""
     office, model, lines = Office(bench, "office"), Replay(), []
     for line in re.findall(rb"[^\n]*\n|[^\n]+", (TESTS / row).read_bytes()):
         if list(model.answers(line)):
@@ -153,7 +165,14 @@ def refuse_row_over_file(bench, row, most):
         return {"rows that stop": 1}
     with open(office.path, "rb") as file:
         content = file.read()
-    return refuse_over_file(bench, row, content, replay_story(State(), lines), lambda count: tried(count, most))
+    opening = allocations_of_opening(bench, content)
+
+    def numbers(count):
+        return [*tried(opening, of_opening), *(opening + number for number in tried(count - opening, most))]
+
+    counts = refuse_over_file(bench, row, content, replay_story(State(), lines), numbers)
+    counts["allocations of openings in rows over a file"] += min(opening, of_opening)
+    return counts
 
 
 def refuse_row_in_memory(bench, row, most):
@@ -230,9 +249,10 @@ def jobs(is_long):
     for path in ROWS:
         row, size = str(path.relative_to(TESTS)), path.stat().st_size
         if size <= LONG_ROW:
-            found += [(refuse_row_in_memory, row, most["memory"]), (refuse_row_over_file, row, most["file"])]
+            found += [(refuse_row_in_memory, row, most["memory"])]
+            found += [(refuse_row_over_file, row, most["opening"], most["file"])]
         elif is_long:
-            found += [(refuse_row_in_memory, row, OF_LONG_ROW), (refuse_row_over_file, row, OF_LONG_ROW)]
+            found += [(refuse_row_in_memory, row, OF_LONG_ROW), (refuse_row_over_file, row, 0, OF_LONG_ROW)]
     return found
 
 

@@ -2,7 +2,7 @@
 # Refuses each allocation of a test in turn. However the refusal falls, the test has to pass. One is of
 # `admin_mgr`: it has commands done on a state, and where memory is refused compares the state with the one
 # before, has other commands done, and then the same one again. Two are of `role_wire`: lines are replayed and a
-# request is served on an office in memory. They stand in the crates `memory_calls` and `wire_calls`.
+# request is served on an office in memory. They stand in the crates `memory_calls` and `office_calls`.
 
 # The built tests of the crates, which `rt ci` leaves there, are the programs.
 RBAC_PROGRAM=$(dirname "$0")/../crates/memory_calls/out/memory_calls_tests
@@ -41,6 +41,6 @@ make_shim
 # Some 800 are made by the 52 commands and what is shown of the state between them.
 refuse_each memory_calls state::refused::refused_memory_changes_nothing 700
 # Most are made for the office.
-refuse_each wire_calls refused::refused_memory_stops_a_replay 700
-refuse_each wire_calls refused::refused_memory_is_told_or_stops_a_request 700
+refuse_each office_calls refused::refused_memory_stops_a_replay 700
+refuse_each office_calls refused::refused_memory_is_told_or_stops_a_request 700
 finish

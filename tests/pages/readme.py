@@ -17,7 +17,7 @@ MOST_FIRST = 5
 LINKED = ["README.md", "docs/API.md", "docs/CONTRACTS.md", "docs/OPERATING.md"]
 
 # Crates that prove nothing by themselves.
-UNPROVED = {"rbac", "memory_calls", "wire_calls", "cli_calls"}
+UNPROVED = {"rbac", "memory_calls", "wire_calls", "office_calls", "cli_calls"}
 
 
 def crates():

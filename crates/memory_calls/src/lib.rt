@@ -1,6 +1,6 @@
-//! Calls the public functions of the libraries that take memory, once each with ample memory, and compares
-//! what they answer: a body that gives up for want of memory is proved. These tests stand in a crate of
-//! their own, since a crate with tests is proved twice.
+//! Calls the public functions of `role_order`, `admin_mgr` and `review_mgr` that take memory, once each with ample
+//! memory, and compares what they answer: a body that gives up for want of memory is proved. These tests stand in
+//! a crate of their own, since a crate with tests is proved twice.
 #![tactic(auto)]
 
 #[cfg(test)]
@@ -9,5 +9,3 @@ mod order;
 mod questions;
 #[cfg(test)]
 mod state;
-#[cfg(test)]
-mod tables;
