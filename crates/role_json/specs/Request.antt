@@ -1,7 +1,8 @@
 -- What a line of JSON, or a body, asks for.
-use Rattle.std.specs.Prelude.{ℕ, List, ◌&&◌, length, nat_eq, nat_le, codes, Option, Some, None, option_map, Result, Ok, if◌then◌else◌}
+use Rattle.std.specs.Prelude.{ℕ, List, ◌&&◌, length, nat_eq, nat_le, codes, Option, Some, None, is_some, option_map, Result, Ok, Err, if◌then◌else◌}
 use Rattle.std.specs.Str.{is_utf8}
 use Rattle.serde_json.specs.Data.{Data}
+use Rattle.serde_json.specs.Find.{as_object}
 use Rattle.serde_json.specs.Read.{read}
 use Rattle.rbac_sets.specs.Asked.{Asked, Import}
 use Rattle.rbac_sets.specs.declared.refusal.Refusal.{Refusal}
@@ -45,11 +46,15 @@ request line = do
 abbrev pub json_body : List ℕ → List ℕ
 json_body body = if nat_eq (length body) 0 then codes "{}" else body
 
--- what a call of a function asks for with a body
+-- the value, where it is an object
+abbrev pub an_object : Data → Result Data Refusal
+an_object value = if is_some (as_object value) then Ok value else Err BadRequest
+
+-- what a call of a function asks for with a body. The arguments stand in an object, also where the function has none
 unfoldable pub body_to : Function → List ℕ → Result Requested Refusal
 body_to called body =
     if takes_csv called then assignments body >>= (λ pairs. Ok (Change (Import pairs)))
-    else json_of (json_body body) >>= request_to called
+    else json_of (json_body body) >>= (λ value. an_object value >>= request_to called)
 
 -- what a call of the function of this name asks for with a body
 unfoldable pub body_request : List ℕ → List ℕ → Result Requested Refusal

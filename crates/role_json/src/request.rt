@@ -86,8 +86,8 @@ pub fn read_body(alloc: Global, function: &str, body: &[u8]) -> Result<Request, 
 /// These are judged one after another:
 ///
 /// - for `importAssignments` what `read_assignments` refuses: `TooMany`, `BadCsv`, `BadName`;
-/// - `BadRequest` where the body is longer than 65,536 bytes or no JSON text, or the key of an
-///   argument is missing or holds what it may not;
+/// - `BadRequest` where the body is longer than 65,536 bytes, is no JSON text or is no object, or the
+///   key of an argument is missing or holds what it may not;
 /// - `BadName` where a text that names something is no name.
 ///
 /// `Memory` where memory was refused before the body was judged; the same body may be read again.
@@ -106,6 +106,9 @@ pub fn body_to(alloc: Global, called: Function, body: &[u8]) -> Result<Request, 
         body
     };
     let value = json(alloc, text)?;
+    if !value.is_object() {
+        return Err(Refusal::BadRequest);
+    }
     request_to(alloc, called, &value)
 }
 
