@@ -23,7 +23,7 @@ passes_on() {
     fi
 }
 
-passes_on "$tests/../examples/first.jsonl" "$tests/../crates/rbac/stdout" 0 replay --memory
+passes_on "$tests/../examples/first.jsonl" "$tests/../examples/first.answers" 0 replay --memory
 passes_on "$tests/rows/line-too-long.jsonl" "$tests/rows/line-too-long.answers" 1 replay --memory
 passes_on /dev/null /dev/null 2 'replay --memory'
 passes_on /dev/null /dev/null 2 replay --memory ''

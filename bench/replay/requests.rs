@@ -238,11 +238,10 @@ pub fn read_body(function: &Function, body: &[u8]) -> Result<Asked, Untold> {
     if function.takes_csv() {
         return Ok(Asked::Command(ImportAssignments(read_assignments(body)?)));
     }
-    let value = match body {
-        [] => Value::Null,
+    let object = match body {
+        [] => Map::new(),
         _ => serde_json::from_slice(body).map_err(|_| Untold::BadRequest)?,
     };
-    let object = if let Value::Object(object) = value { object } else { Map::new() };
     read_arguments(function, object)
 }
 

@@ -45,6 +45,10 @@ fn each_subcommand_is_chosen(rt: HostRuntime) -> Result<(), Fail> {
             "rbac serve --limit=1 --port=65535 a.db",
             "serve a.db on 65535, connections: 1",
         ),
+        (
+            "rbac serve f --limit 3 --port 8080",
+            "serve f on 8080, connections: 3",
+        ),
         ("rbac import a.db staff.csv", "import staff.csv into a.db"),
         ("rbac export a.db", "export a.db"),
         ("rbac report a.db", "report a.db"),
