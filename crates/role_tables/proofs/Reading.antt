@@ -7,3 +7,4 @@ pub mod Judging
 pub mod ReadState
 pub mod GoodState
 pub mod Standing
+pub mod Refused

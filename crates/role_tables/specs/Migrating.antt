@@ -5,12 +5,14 @@ use Rattle.rbac_sets.specs.declared.refusal.Refusal.TheVariants.{Memory, Store, 
 use Rattle.admin_mgr.specs.Good.{IsGood}
 use Rattle.admin_mgr.specs.Life.{taken_into_version_2}
 use Rattle.admin_mgr.specs.RbacState.{RbacState}
+use Rattle.sqlite.specs.Effect.{Database}
 use Rattle.sqlite.specs.State.{State}
+use Rattle.sqlite.specs.Tree.{Trees}
 use Rattle.sqlite.specs.declared.error.Error.{Error}
 use Rattle.sqlite.specs.Schema.{Schema}
-use Rattle.role_tables.specs.Found.{Found}
+use Rattle.role_tables.specs.Found.{Found, held_in}
 use Rattle.role_tables.specs.Opening.{IsSecond, IsStateFound, RefusesFound}
-use Rattle.role_tables.specs.Standing.{HoldsAsBefore, LeavesEither, LeavesOnly, Stands, TransactsTo, WhateverStands}
+use Rattle.role_tables.specs.Standing.{HoldsAsBefore, LeavesOnly, LeavesState, Stands, TransactsTo, WhateverStands}
 use Rattle.role_tables.specs.TableByName.{without_row}
 use Rattle.role_tables.specs.OfficeTables.{StoredTable, Meta, Rows, changed_at, meta_row, cells, HoldsTables}
 use Rattle.role_tables.specs.InSchema.{is_free, may_count}
@@ -34,9 +36,9 @@ RefusesMigration found refusal =
 abbrev pub MigratesTables : State → State → Result (Unit {0}) Error → Type 0
 MigratesTables old new result = (from : RbacState) → from.version ≡ 1 → IsGood from → may_lock old.now.schema ≡ true → Stands old from → TransactsTo old new (taken_into_version_2 from) result
 
--- a state of version 1 was found, and this is it in version 2
-abbrev pub IsMigratedFrom : Found → RbacState → Type 0
-IsMigratedFrom found made = (first : RbacState) × IsStateFound found first × (first.version ≡ 1) × (made ≡ taken_into_version_2 first)
+-- the table of locks could be made; a state of version 1 was found, and this is it in version 2
+abbrev pub IsMigratedFrom : Database → RbacState → Type 0
+IsMigratedFrom db made = IsTrue (may_lock db.schema) × (first : RbacState) × IsStateFound (held_in db) first × (first.version ≡ 1) × (made ≡ taken_into_version_2 first)
 
 -- the state that stood was of version 1, and it stands in version 2 now
 abbrev pub Moves : State → State → RbacState → Type 0
@@ -46,6 +48,6 @@ Moves old new made = WhateverStands old (λ S. (S.version ≡ 1) × (made ≡ ta
 abbrev pub StaysRefused : State → State → Refusal → Type 0
 StaysRefused old new refusal = WhateverStands old (λ S. HoldsAsBefore old new × (refusal ≢ Store → LeavesOnly new S))
 
--- a stop leaves the state that stood, in its version or in version 2
+-- a stop leaves the state that stood or, where it was of version 1, the same in version 2
 abbrev pub LeavesEitherVersion : State → State → Type 0
-LeavesEitherVersion old new = WhateverStands old (λ S. LeavesEither new S (taken_into_version_2 S))
+LeavesEitherVersion old new = WhateverStands old (λ S. (trees : Trees) → new.may_leave trees → LeavesState S trees ⊎ ((S.version ≡ 1) × LeavesState (taken_into_version_2 S) trees))

@@ -1,6 +1,6 @@
 -- What `open` answers on what is found in a database, in the order in which it is judged: that an office is there (50), its
 -- version (51), the table of locks (50), check 1 but for keys, check 2, and then the rows as `State::of_rows` judges them.
-use Rattle.std.specs.Prelude.{ℕ, ◌≡◌, ◌⊎◌, ◌||◌, ◌&&◌, ◌≤ℤ◌, ℤ, pos, Bool, false, if◌then◌else◌, List, [], ◌∷◌, length, map, Option, Some, None, codes, IsTrue, IsSome, IsPermutation, bytes_eq, All, nat_eq}
+use Rattle.std.specs.Prelude.{ℕ, ◌≡◌, ◌≢◌, ◌⊎◌, ◌||◌, ◌&&◌, ◌≤ℤ◌, ℤ, pos, Bool, true, false, if◌then◌else◌, List, [], ◌∷◌, length, map, Option, Some, None, codes, IsTrue, IsSome, IsPermutation, bytes_eq, All, nat_eq}
 use Rattle.std.specs.List.{list_any, list_all, flat_map, Contains}
 use Rattle.std.specs.Ordering.{int_eq}
 use Rattle.rbac_sets.specs.declared.row.Row.{Row}
@@ -139,3 +139,18 @@ RefusesMetas found refusal = (refusal ≡ Memory) ⊎ ((refusal ≡ Store) ⊎ (
 -- memory was refused, or a call of the store
 abbrev pub IsMemoryOrStore : Refusal → Type 0
 IsMemoryOrStore refusal = (refusal ≡ Memory) ⊎ (refusal ≡ Store)
+
+-- an opening may be refused so, whatever the disk does: by want of memory, by the store, or by what is found
+abbrev pub is_opening_refusal : Refusal → Bool
+is_opening_refusal Memory = true
+is_opening_refusal Store = true
+is_opening_refusal NotAnOffice = true
+is_opening_refusal (Version n) = true
+is_opening_refusal (TooMany kind) = true
+is_opening_refusal (Damaged check) = true
+is_opening_refusal _ = false
+
+-- where an opening is refused for what is found, no good state has exactly these rows, each once, under the one row of its
+-- version
+abbrev pub RefusedFindNone : Type 0
+RefusedFindNone = (found : Found) (refusal : Refusal) (S : RbacState) → RefusesFound found refusal → refusal ≢ Memory → IsStateFound found S → ⊥

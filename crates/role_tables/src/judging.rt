@@ -5,7 +5,7 @@ ghost use Rattle.sqlite.specs.Held.{state};
 ghost use Rattle.admin_mgr.specs.Checked.{IsStateOf};
 ghost use Rattle.role_tables.specs.Found.{held_in};
 ghost use Rattle.role_tables.specs.Migrating.{RefusesMigration};
-ghost use Rattle.role_tables.specs.Opening.{HasFive, IsMemoryOrStore, IsSecond, ReadsState, RefusesFound, RefusesMetas};
+ghost use Rattle.role_tables.specs.Opening.{is_opening_refusal, HasFive, IsMemoryOrStore, IsSecond, ReadsState, RefusesFound, RefusesMetas};
 ghost use Rattle.role_tables.specs.MetaRows.{SeesMetas};
 ghost use Rattle.role_tables.specs.Standing.{HoldsAsBefore};
 ghost use Rattle.role_tables.specs.Gathering.{AreOfRows, ReadsTables, HasTables, IsVersionSeen, RefusesVersion, RefusesGathering};
@@ -60,6 +60,7 @@ fn judge_version(metas: &Metas, schema: &Schema) -> Result<u32, Refusal>
 pub(crate) fn refuse_second<S: Alter>(conn: &mut Connection<S>) -> Result<(), Refusal>
     ensures passed { HasCleanDisk (state S.Store conn.new) → OnOk result ((IsSecond (held_in (state S.Store conn.old).now) → ⊥) × IsUnchanged (state S.Store conn.old) (state S.Store conn.new)) }
     ensures err { HasCleanDisk (state S.Store conn.new) → IfErr result (RefusesMigration (held_in (state S.Store conn.old).now)) }
+    ensures refusal { IfErr result (λ refusal. IsTrue (is_opening_refusal refusal)) }
     ensures mode { conn.old.in_transaction ≡ false → conn.new.in_transaction ≡ false }
     ensures undone { conn.old.in_transaction ≡ false → HasCleanDisk (state S.Store conn.new) → HoldsAsBefore (state S.Store conn.old) (state S.Store conn.new) }
     ensures survives { Survives (state S.Store conn.old) (state S.Store conn.new) (λ _. ⊥) }
@@ -113,6 +114,7 @@ fn judge_rows(alloc: Global, version: u32, all: Gathering) -> Result<State, Refu
     requires { (version ≡ 1) ⊎ (version ≡ 2) }
     ensures ok { IfOk result (λ made. IsTrue all.is_whole × IsTrue all.is_named × IsStateOf version all.rows.items made.facts) }
     ensures err { IfErr result (RefusesGathering version all) }
+    ensures refusal { IfErr result (λ refusal. IsTrue (is_opening_refusal refusal)) }
 {
     if !all.is_whole {
         return Err(Refusal::Damaged(1));
@@ -127,6 +129,7 @@ fn judge_rows(alloc: Global, version: u32, all: Gathering) -> Result<State, Refu
 fn find_state<S: Alter>(alloc: Global, conn: &mut Connection<S>) -> Result<State, Refusal>
     ensures ok { HasCleanDisk (state S.Store conn.new) → IfOk result (λ made. ReadsState (state S.Store conn.old) (state S.Store conn.new) made.facts) }
     ensures err { HasCleanDisk (state S.Store conn.new) → IfErr result (λ refusal. (refusal ≡ Refusal.Store) ⊎ RefusesFound (held_in (state S.Store conn.old).now) refusal) }
+    ensures refusal { IfErr result (λ refusal. IsTrue (is_opening_refusal refusal)) }
     ensures mode { conn.old.in_transaction ≡ false → conn.new.in_transaction ≡ false }
     ensures kept { HasCleanDisk (state S.Store conn.new) → KeepsCommit (state S.Store conn.old) (state S.Store conn.new) }
     ensures survives { Survives (state S.Store conn.old) (state S.Store conn.new) (λ _. ⊥) }
@@ -145,6 +148,7 @@ pub(crate) fn read_state<S: Alter>(
 ) -> Result<State, Refusal>
     ensures ok { HasCleanDisk (state S.Store conn.new) → IfOk result (λ made. ReadsState (state S.Store conn.old) (state S.Store conn.new) made.facts) }
     ensures err { HasCleanDisk (state S.Store conn.new) → IfErr result (λ refusal. (refusal ≡ Refusal.Store) ⊎ RefusesFound (held_in (state S.Store conn.old).now) refusal) }
+    ensures refusal { IfErr result (λ refusal. IsTrue (is_opening_refusal refusal)) }
     ensures mode { conn.old.in_transaction ≡ false → conn.new.in_transaction ≡ false }
     ensures undone { conn.old.in_transaction ≡ false → HasCleanDisk (state S.Store conn.new) → HoldsAsBefore (state S.Store conn.old) (state S.Store conn.new) }
     ensures survives { Survives (state S.Store conn.old) (state S.Store conn.new) (λ _. ⊥) }

@@ -1,6 +1,8 @@
-//! What holds of an office over every list of its lives, however often it was stopped.
+//! What holds of an office over every list of its lives, however often it was stopped, and of what is found
+//! where it can't be opened.
 ghost use Rattle.role_tables.specs.Lives.{OpeningsAreGood, OpeningsFollow, LastIsSound, DeassignedStays, RevokedStays};
 ghost use Rattle.role_tables.specs.Lives.{OneCall, EarlierArePossible, SoFarIsLeft, OpenLeavesSoFar, OpenGoesOn, ClosedStays, SoFarGoesOn};
+ghost use Rattle.role_tables.specs.Opening.{RefusedFindNone};
 
 use admin_mgr::laws::{accepted_good, effects, empty_states, migrated_good};
 
@@ -33,4 +35,11 @@ pub fn calls()
     ensures goes_on { OpenGoesOn }
     ensures closed { ClosedStays }
     ensures so_far { SoFarGoesOn }
+{}
+
+/// An opening that is refused for what it finds, and not for want of memory or by the store, has found no
+/// good state: none has exactly these rows, each once, under the one row of its version, however the
+/// tables were made.
+pub fn refused_openings()
+    ensures { RefusedFindNone }
 {}

@@ -1,10 +1,10 @@
 //! Taking an office of version 1 into version 2.
-ghost use Rattle.std.specs.Prelude.{◌≡◌, ◌≢◌, ◌⊎◌, false, true, IfErr, IfOk, OnOk};
+ghost use Rattle.std.specs.Prelude.{◌≡◌, ◌≢◌, false, true, IsTrue, IfErr, IfOk};
 ghost use Rattle.sqlite.specs.State.{HasCleanDisk, KeepsCommit, Survives};
 ghost use Rattle.sqlite.specs.Held.{state};
 ghost use Rattle.role_tables.specs.Found.{held_in};
 ghost use Rattle.role_tables.specs.Migrating.{IsMigratedFrom, LeavesEitherVersion, MigratesTables, Moves, RefusesMigration, StaysRefused};
-ghost use Rattle.role_tables.specs.Opening.{IsSecond};
+ghost use Rattle.role_tables.specs.Opening.{is_opening_refusal, IsSecond};
 ghost use Rattle.role_tables.specs.Standing.{HoldsAsBefore};
 
 use crate::judging::{read_state, refuse_second};
@@ -38,11 +38,13 @@ fn migrate_first<S: Alter>(alloc: Global, conn: &mut Connection<S>) -> Result<St
     requires { conn.old.in_transaction ≡ false }
     ensures ended { conn.new.in_transaction ≡ false }
     ensures clean { HasCleanDisk (state S.Store conn.new) → HasCleanDisk (state S.Store conn.old) }
-    ensures found { HasCleanDisk (state S.Store conn.new) → IfOk result (λ made. IsMigratedFrom (held_in (state S.Store conn.old).now) made.facts) }
+    ensures found { HasCleanDisk (state S.Store conn.new) → IfOk result (λ made. IsMigratedFrom (state S.Store conn.old).now made.facts) }
     ensures err { HasCleanDisk (state S.Store conn.new) → (IsSecond (held_in (state S.Store conn.old).now) → ⊥) → IfErr result (RefusesMigration (held_in (state S.Store conn.old).now)) }
     ensures undone { HasCleanDisk (state S.Store conn.new) → IfErr result (λ refusal. refusal ≢ Refusal.Store → HoldsAsBefore (state S.Store conn.old) (state S.Store conn.new)) }
     ensures moved { HasCleanDisk (state S.Store conn.new) → IfOk result (λ made. Moves (state S.Store conn.old) (state S.Store conn.new) made.facts) }
     ensures unmoved { HasCleanDisk (state S.Store conn.new) → IfErr result (StaysRefused (state S.Store conn.old) (state S.Store conn.new)) }
+    ensures survives { IfErr result (λ refusal. refusal ≢ Refusal.Store → Survives (state S.Store conn.old) (state S.Store conn.new) (λ _. ⊥)) }
+    ensures refusal { IfErr result (λ refusal. IsTrue (is_opening_refusal refusal)) }
     ensures stop { HasCleanDisk (state S.Store conn.new) → LeavesEitherVersion (state S.Store conn.old) (state S.Store conn.new) }
 {
     let first = read_state(alloc, conn)?;
@@ -62,11 +64,13 @@ fn migrate_first<S: Alter>(alloc: Global, conn: &mut Connection<S>) -> Result<St
 fn migrate_state<S: Alter>(alloc: Global, conn: &mut Connection<S>) -> Result<State, Refusal>
     requires { conn.old.in_transaction ≡ false }
     ensures ended { conn.new.in_transaction ≡ false }
-    ensures found { HasCleanDisk (state S.Store conn.new) → IfOk result (λ made. IsMigratedFrom (held_in (state S.Store conn.old).now) made.facts) }
+    ensures found { HasCleanDisk (state S.Store conn.new) → IfOk result (λ made. IsMigratedFrom (state S.Store conn.old).now made.facts) }
     ensures err { HasCleanDisk (state S.Store conn.new) → IfErr result (RefusesMigration (held_in (state S.Store conn.old).now)) }
     ensures undone { HasCleanDisk (state S.Store conn.new) → IfErr result (λ refusal. refusal ≢ Refusal.Store → HoldsAsBefore (state S.Store conn.old) (state S.Store conn.new)) }
     ensures moved { HasCleanDisk (state S.Store conn.new) → IfOk result (λ made. Moves (state S.Store conn.old) (state S.Store conn.new) made.facts) }
     ensures unmoved { HasCleanDisk (state S.Store conn.new) → IfErr result (StaysRefused (state S.Store conn.old) (state S.Store conn.new)) }
+    ensures survives { IfErr result (λ refusal. refusal ≢ Refusal.Store → Survives (state S.Store conn.old) (state S.Store conn.new) (λ _. ⊥)) }
+    ensures refusal { IfErr result (λ refusal. IsTrue (is_opening_refusal refusal)) }
     ensures stop { HasCleanDisk (state S.Store conn.new) → LeavesEitherVersion (state S.Store conn.old) (state S.Store conn.new) }
 {
     refuse_second(conn)?;
@@ -82,18 +86,20 @@ fn migrate_state<S: Alter>(alloc: Global, conn: &mut Connection<S>) -> Result<St
 /// # Errors
 ///
 /// What `open` refuses, but `Version(2)` where the office is of version 2 already, whatever its rows are;
-/// then `Store` where the table of locks, or a foreign key that names it, is there, or where the store
-/// refuses a call.
-/// After any refusal but `Store` nothing is changed; after `Store` a stop leaves the office in version 1
-/// or in version 2.
+/// then `Store` where the table of locks, or a foreign key that names it, is there, where a table counts
+/// its rowids without the table for it, or where the store refuses a call.
+/// After any refusal but `Store` nothing is changed; after `Store` a stop leaves an office of version 1 in
+/// version 1 or in version 2, and one of version 2 as it was.
 pub fn migrate<S: Alter>(alloc: Global, conn: Connection<S>) -> Result<Office<S>, Unopened<S>>
     ensures ok { IfOk result (λ o. (o.is_closed ≡ false) × ((state S.Store conn).in_transaction ≡ false)
-        × (HasCleanDisk (state S.Store o.conn) → IsMigratedFrom (held_in (state S.Store conn).now) o.facts)) }
+        × (HasCleanDisk (state S.Store o.conn) → IsMigratedFrom (state S.Store conn).now o.facts)) }
+    ensures refusal { IfErr result (λ u. IsTrue (is_opening_refusal u.refusal)) }
     ensures err { IfErr result (λ u. HasCleanDisk (state S.Store u.conn) → RefusesMigration (held_in (state S.Store conn).now) u.refusal) }
     ensures inside { IfErr result (λ u. (state S.Store conn).in_transaction ≡ true → (u.refusal ≡ Refusal.Store) × (u.conn ≡ conn)) }
     ensures undone { IfErr result (λ u. HasCleanDisk (state S.Store u.conn) → u.refusal ≢ Refusal.Store → HoldsAsBefore (state S.Store conn) (state S.Store u.conn)) }
     ensures moved { IfOk result (λ o. HasCleanDisk (state S.Store o.conn) → Moves (state S.Store conn) (state S.Store o.conn) o.facts) }
     ensures unmoved { IfErr result (λ u. HasCleanDisk (state S.Store u.conn) → StaysRefused (state S.Store conn) (state S.Store u.conn) u.refusal) }
+    ensures survives { IfErr result (λ u. u.refusal ≢ Refusal.Store → Survives (state S.Store conn) (state S.Store u.conn) (λ _. ⊥)) }
     ensures stop { IfErr result (λ u. HasCleanDisk (state S.Store u.conn) → LeavesEitherVersion (state S.Store conn) (state S.Store u.conn)) }
 {
     let mut conn = conn;

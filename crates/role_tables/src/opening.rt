@@ -1,9 +1,9 @@
 //! Opening an office.
-ghost use Rattle.std.specs.Prelude.{◌≡◌, ◌⊎◌, false, true, IfErr, IfOk, MatchResult};
+ghost use Rattle.std.specs.Prelude.{◌≡◌, ◌⊎◌, false, true, IfErr, IfOk, IsTrue, MatchResult};
 ghost use Rattle.sqlite.specs.State.{HasCleanDisk, Survives};
 ghost use Rattle.sqlite.specs.Held.{state};
 ghost use Rattle.role_tables.specs.Found.{held_in};
-ghost use Rattle.role_tables.specs.Opening.{IsMemoryOrStore, ReadsState, RefusesFound};
+ghost use Rattle.role_tables.specs.Opening.{is_opening_refusal, IsMemoryOrStore, ReadsState, RefusesFound};
 ghost use Rattle.role_tables.specs.Standing.{HoldsAsBefore, LeavesOnly, Stands, WhateverStands};
 
 use crate::judging::read_state;
@@ -36,6 +36,7 @@ pub struct Unopened<S: Alter> {
 pub fn open<S: Alter>(alloc: Global, conn: Connection<S>) -> Result<Office<S>, Unopened<S>>
     ensures ok { IfOk result (λ o. (o.is_closed ≡ false) × ((state S.Store conn).in_transaction ≡ false)
         × (HasCleanDisk (state S.Store o.conn) → ReadsState (state S.Store conn) (state S.Store o.conn) o.facts)) }
+    ensures refusal { IfErr result (λ u. IsTrue (is_opening_refusal u.refusal)) }
     ensures err { IfErr result (λ u. HasCleanDisk (state S.Store u.conn) → (u.refusal ≡ Refusal.Store) ⊎ RefusesFound (held_in (state S.Store conn).now) u.refusal) }
     ensures inside { IfErr result (λ u. (state S.Store conn).in_transaction ≡ true → (u.refusal ≡ Refusal.Store) × (u.conn ≡ conn)) }
     ensures undone { IfErr result (λ u. HasCleanDisk (state S.Store u.conn) → HoldsAsBefore (state S.Store conn) (state S.Store u.conn)) }

@@ -1,7 +1,7 @@
 -- Tables that hold the rows of a good state are found whole and named, and are read as that state alone.
 use Rattle.std.proofs.Common.{◌≢◌, ◌≤◌, ◌≡◌, ◌⊎◌, inl, inr, ℕ, pos, ◌<◌, ◌^◌, List, [], ◌∷◌, ◌++◌, map, filter, codes, Bool, true, false, ◌&&◌, if◌then◌else◌, Option, Some, None, is_some, IsSome, IsTrue, refl, sym, ap, subst, ◌∙◌, arith}
 use Rattle.std.specs.Prelude.{nat_eq, nat_le}
-use Rattle.std.specs.List.{list_all, flat_map, Contains, AllByRecursion}
+use Rattle.std.specs.List.{list_all, flat_map, AllByRecursion}
 use Rattle.std.specs.List.Sorted.{IsPermutation}
 use Rattle.std.proofs.lemmas.Bool.{cases_Bool, and_parts, or_left, or_right, eqb-true, lt-ltb}
 use Rattle.std.proofs.lemmas.List.Sorted.{IsPermutation-map, IsPermutation-sym, IsPermutation-trans, IsPermutation-refl, IsPermutation-cons, IsPermutation-append, IsPermutation-middle}
@@ -9,7 +9,7 @@ use Rattle.rbac_sets.specs.Name.{is_name}
 use Rattle.rbac_sets.specs.declared.row.Row.{Row}
 use Rattle.rbac_sets.specs.declared.row.Row.TheVariants.{NameRow, PairRow, GrantRow, SetRow, LockedRow}
 use Rattle.rbac_sets.specs.declared.refusal.Refusal.{Refusal}
-use Rattle.rbac_sets.specs.declared.refusal.Refusal.TheVariants.{Memory, NotAnOffice, Version, Damaged, TooMany}
+use Rattle.rbac_sets.specs.declared.refusal.Refusal.TheVariants.{Memory}
 use Rattle.sqlite.specs.Order as sql
 use Rattle.sqlite.specs.Effect.{Database}
 use Rattle.sqlite.proofs.Callers.{one_permutation}
@@ -27,17 +27,18 @@ use Rattle.admin_mgr.specs.Good.{IsSeparation}
 use Rattle.admin_mgr.specs.Changes.{same_row}
 use Rattle.admin_mgr.specs.Gathered.{is_known, is_among}
 use Rattle.admin_mgr.proofs.PlanRows.CommitLaws.{same_row-self}
-use Rattle.admin_mgr.specs.Checked.{RefusesRows, AreRowsOf}
-use Rattle.admin_mgr.proofs.StoredRows.AcceptLaws.{good_rows_are_read, readable_of_good}
+use Rattle.admin_mgr.specs.Checked.{AreRowsOf}
+use Rattle.admin_mgr.proofs.StoredRows.AcceptLaws.{readable_of_good}
 use Rattle.admin_mgr.proofs.PlanRows.RowLaws.{rows_determine}
 use Rattle.role_tables.specs.OfficeTables.{StoredTable, Meta, Names, Pairs, Grants, Sets, Locks, meta_row, cells, table_of, is_wanted, row_tables}
 use Rattle.role_tables.specs.StoredState.{stored, is_of, cells_of, stored_rows, HoldsState}
 use Rattle.role_tables.specs.Found.{Found, is_whole, has_names, row_in, held_in}
-use Rattle.role_tables.specs.Opening.{values, versions, is_known_version, HasFive, HasKnownVersions, version_in, HasLocks, IsOffice, AreWhole, AreNamed, rows_at, rows_in_all, rows_found, RefusesRead, RefusesFound, IsStateFound}
+use Rattle.role_tables.specs.Opening.{values, versions, is_known_version, HasFive, HasKnownVersions, version_in, HasLocks, IsOffice, AreWhole, AreNamed, rows_at, rows_in_all, rows_found, RefusesFound, IsStateFound}
 use Rattle.role_tables.proofs.OfficeTables.Changes.{same_code}
 use Rattle.role_tables.proofs.OfficeTables.Looking.{rows_wanted}
 use Rattle.role_tables.proofs.Reading.Held.{holds_found}
 use Rattle.role_tables.proofs.Reading.MetaRows.{list_all-IsPermutation}
+use Rattle.role_tables.proofs.Reading.Refused.{found_refused}
 use Rattle.role_tables.proofs.StoredRows.Once.{rows_of_same}
 
 and_assoc : (a b c : Bool) → ((a && b) && c) ≡ (a && (b && c))
@@ -362,23 +363,19 @@ module _ (db : Database) (S : RbacState) (good : IsGood S) (is_named : names.Are
   of_state : (others : List Row) → IsPermutation (rows_found found) others → AreRowsOf S others
   of_state others same = rows_of_same S held.rows others (IsPermutation-trans held.rows (rows_found found) others read_rows same) held.rows_are
 
-  -- nothing is refused but for want of memory
-  read_refused : (refusal : Refusal) → RefusesRead found refusal → refusal ≡ Memory
-  read_refused refusal (others, same, bad) = good_rows_are_read S others refusal good (of_state others same) (subst (λ v. RefusesRows v others refusal) version_is bad)
+  -- the state is found, so nothing is refused but for want of memory
+  is_found : IsStateFound found S
+  is_found = record {
+    reached = (office, known_versions, locks);
+    whole = whole;
+    named = named;
+    rows = rows_found found;
+    same = IsPermutation-refl (rows_found found);
+    state = record { version_is = sym version_is; stored = of_state (rows_found found) (IsPermutation-refl (rows_found found)); good = good };
+  }
 
   pub memory_alone : (refusal : Refusal) → RefusesFound found refusal → refusal ≡ Memory
-  memory_alone Memory bad = refl
-  memory_alone NotAnOffice (inl none) = absurd (none office)
-  memory_alone NotAnOffice (inr bare) = absurd (bare.2 locks)
-  memory_alone (Version n) bad = absurd (clash (is_known_version n) (one_of (subst (λ l. Contains l n) numbers bad.1.there)) bad.1.unknown)
-    where
-      one_of : Contains (pos S.version ∷ []) n → is_known_version n ≡ true
-      one_of (k, low, is) = let first : k ≡ 0 = omega (arith, low) in let same : pos S.version ≡ n = rw first at is in subst (λ m. is_known_version m ≡ true) same known_number
-  memory_alone (TooMany kind) bad = read_refused (TooMany kind) bad.3
-  memory_alone (Damaged check) (reached, inl broken) = absurd (broken.1 whole)
-  memory_alone (Damaged check) (reached, inr (inl nameless)) = absurd (nameless.2 named)
-  memory_alone (Damaged check) (reached, inr (inr bad)) = read_refused (Damaged check) bad.2
-  memory_alone _ bad = absurd bad
+  memory_alone = found_refused found S is_found
 
   -- and the state is the one
   pub same_state : (T : RbacState) → IsStateFound found T → T ≡ S

@@ -21,11 +21,11 @@ use Rattle.role_tables.specs.Gathering.{GathersTables, AreThere, IsVersionSeen, 
 use Rattle.role_tables.proofs.OfficeTables.Looking.{each_of, all_of, with_rows}
 use Rattle.role_tables.proofs.OfficeTables.There.{some_there, there_some}
 
-clash : {A : Type 0} (b : Bool) → b ≡ true → b ≡ false → A
+pub clash : {A : Type 0} (b : Bool) → b ≡ true → b ≡ false → A
 clash b yes_it no_it = absurd (let e = sym yes_it ∙ no_it in cc)
 
 -- a test that all elements pass is passed by each
-passes_each : {A : Type 0} (p : A → Bool) (xs : List A) (x : A) → list_all p xs ≡ true → Contains xs x → p x ≡ true
+pub passes_each : {A : Type 0} (p : A → Bool) (xs : List A) (x : A) → list_all p xs ≡ true → Contains xs x → p x ≡ true
 passes_each p [] x all (k, low, is) = absurd (omega (arith, low))
 passes_each p (y ∷ ys) x all (zero, low, is) = subst (λ z. p z ≡ true) is (and_parts (p y) (list_all p ys) all).0
 passes_each p (y ∷ ys) x all (suc k, low, is) = passes_each p ys x (and_parts (p y) (list_all p ys) all).1 (k, omega (arith, low), is)

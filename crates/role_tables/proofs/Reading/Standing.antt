@@ -7,6 +7,7 @@ use Rattle.rbac_sets.specs.declared.refusal.Refusal.{Refusal}
 use Rattle.rbac_sets.specs.declared.refusal.Refusal.TheVariants.{Memory, Store}
 use Rattle.admin_mgr.specs.RbacState.{RbacState}
 use Rattle.admin_mgr.specs.Good.{IsGood}
+use Rattle.admin_mgr.specs.Life.{taken_into_version_2}
 use Rattle.admin_mgr.specs.Named.{AreNamed}
 use Rattle.role_tables.specs.Found.{Found, held_in}
 use Rattle.role_tables.specs.StoredState.{HoldsState}
@@ -49,3 +50,8 @@ second_found found S it two = (it.reached.0, it.reached.1, sym it.state.version_
 pub refused_first : (found : Found) (refusal : Refusal) → (IsSecond found → ⊥) → (refusal ≡ Store) ⊎ RefusesFound found refusal → RefusesMigration found refusal
 refused_first found refusal none (inl store) = inl store
 refused_first found refusal none (inr bad) = inr (inr (inr (bad, none)))
+
+-- a stop leaves the state of version 1 that stood, or the same in version 2, to which the call was to lead
+pub leaves_either_version : (old new : State) (S : RbacState) → S.version ≡ 1 → Stands old S → ((trees : Trees) → new.may_leave trees → old.may_leave trees ⊎ LeavesState (taken_into_version_2 S) trees)
+    → (trees : Trees) → new.may_leave trees → LeavesState S trees ⊎ ((S.version ≡ 1) × LeavesState (taken_into_version_2 S) trees)
+leaves_either_version old new S one stands left trees may = elim (left trees may) [ inl before ↦ inl (stands.left trees before) | inr after ↦ inr (one, after) ]

@@ -5,8 +5,7 @@ use Rattle.admin_mgr.specs.Good.{IsGood}
 use Rattle.admin_mgr.specs.Named.{AreNamed}
 use Rattle.admin_mgr.specs.RbacState.{RbacState}
 use Rattle.admin_mgr.specs.Life.{taken_into_version_2}
-use Rattle.role_tables.specs.Found.{held_in}
-use Rattle.role_tables.specs.Opening.{IsStateFound}
+use Rattle.role_tables.specs.Migrating.{IsMigratedFrom}
 use Rattle.role_tables.specs.Standing.{Stands}
 use Rattle.role_tables.proofs.migrating.migrate.Goals as goal
 
@@ -17,8 +16,8 @@ returns-in-Ok-clause-ok g c =
     let old = state g.S.Store c.args.conn in (
       c.new.ensures.2,
       search rules,
-      subst (λ h. HasCleanDisk (state g.S.Store h) → (first : RbacState) × IsStateFound (held_in old.now) first × (first.version ≡ 1) × (c.new.result.facts ≡ taken_into_version_2 first)) same
-          (λ clean. let got = c.in-Ok.ensures.found clean in (got.0, got.1, got.2, facts ∙ got.3)),
+      subst (λ h. HasCleanDisk (state g.S.Store h) → IsMigratedFrom old.now c.new.result.facts) same
+          (λ clean. let got = c.in-Ok.ensures.found clean in (got.0, got.1, got.2, got.3, facts ∙ got.4)),
     )
 
 pub returns-in-Ok-clause-moved : goal.returns-in-Ok-clause-moved

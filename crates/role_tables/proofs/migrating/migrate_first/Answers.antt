@@ -1,10 +1,11 @@
 use Rattle.std.proofs.Common.{rules, ◌≡◌, inl, inr, true, Err, IfErr, refl, sym, ap, subst, ◌∙◌}
+use Rattle.sqlite.specs.Effect.{Database}
 use Rattle.sqlite.specs.Held.{state}
 use Rattle.admin_mgr.specs.RbacState.{RbacState}
 use Rattle.admin_mgr.specs.Life.{taken_into_version_2}
 use Rattle.role_tables.specs.Found.{held_in}
 use Rattle.role_tables.specs.Migrating.{may_lock, RefusesMigration}
-use Rattle.role_tables.proofs.Reading.Standing.{stands_still, opens_the_state, leaves_either, second_found, refused_first}
+use Rattle.role_tables.proofs.Reading.Standing.{stands_still, opens_the_state, leaves_either_version, second_found, refused_first}
 use Rattle.role_tables.proofs.migrating.migrate_first.Goals as goal
 
 pub returns-then-version-ne1-clause-err : goal.returns-then-version-ne1-clause-err
@@ -15,8 +16,10 @@ returns-then-version-ne1-clause-err g c clean none =
 
 pub returns-in-Ok-clause-found : goal.returns-in-Ok-clause-found
 returns-in-Ok-clause-found g c clean =
+    let mid = state g.S.Store c.read_state.new.conn in
     let got = c.in_ok-first.ensures.ok (c.migrate_tables.ensures.clean clean) in
-    (c.in_ok-first.first.facts, got.0, sym c.version.ensures.version ∙ c.if-version-ne1.false, c.migrated.ensures)
+    let may : may_lock mid.now.schema ≡ true = search rules in
+    (subst (λ (db : Database). may_lock db.schema ≡ true) got.1.0.now_is may, c.in_ok-first.first.facts, got.0, sym c.version.ensures.version ∙ c.if-version-ne1.false, c.migrated.ensures)
 
 pub returns-in-Ok-clause-moved : goal.returns-in-Ok-clause-moved
 returns-in-Ok-clause-moved g c clean before good named stands =
@@ -39,7 +42,7 @@ returns-in-Ok-clause-stop g c clean before good named stands =
     let one : before.version ≡ 1 = ap (λ (S : RbacState). S.version) (sym same) ∙ sym c.version.ensures.version ∙ c.if-version-ne1.false in
     let may : may_lock mid.now.schema ≡ true = search rules in
     let here = stands_still old mid before was c.read_state.ensures.survives got.1 stands in
-    leaves_either mid (state g.S.Store c.migrate_tables.new.conn) before (taken_into_version_2 before) here (c.in-Ok.ensures.written clean before one good may here).left
+    leaves_either_version mid (state g.S.Store c.migrate_tables.new.conn) before one here (c.in-Ok.ensures.written clean before one good may here).left
 
 pub returns-in-Err-clause-stop : goal.returns-in-Err-clause-stop
 returns-in-Err-clause-stop g c clean before good named stands =
@@ -51,7 +54,7 @@ returns-in-Err-clause-stop g c clean before good named stands =
     let one : before.version ≡ 1 = ap (λ (S : RbacState). S.version) (sym same) ∙ sym c.version.ensures.version ∙ c.if-version-ne1.false in
     let may : may_lock mid.now.schema ≡ true = search rules in
     let here = stands_still old mid before was c.read_state.ensures.survives got.1 stands in
-    leaves_either mid (state g.S.Store c.migrate_tables.new.conn) before (taken_into_version_2 before) here (c.in-Err.ensures.written clean before one good may here).left
+    leaves_either_version mid (state g.S.Store c.migrate_tables.new.conn) before one here (c.in-Err.ensures.written clean before one good may here).left
 
 pub returns-in-Err-clause-unmoved : goal.returns-in-Err-clause-unmoved
 returns-in-Err-clause-unmoved g c clean before good named stands =

@@ -3,13 +3,13 @@ use Rattle.sqlite.specs.Effect.{Database}
 use Rattle.sqlite.specs.Held.{state}
 use Rattle.rbac_sets.specs.declared.refusal.Refusal.TheVariants.{Store}
 use Rattle.admin_mgr.specs.Good.{IsGood}
-use Rattle.admin_mgr.specs.Life.{taken_into_version_2}
 use Rattle.admin_mgr.specs.Named.{AreNamed}
 use Rattle.admin_mgr.specs.RbacState.{RbacState}
 use Rattle.role_tables.specs.Found.{held_in}
-use Rattle.role_tables.specs.Migrating.{RefusesMigration}
-use Rattle.role_tables.specs.Opening.{IsSecond, IsStateFound}
+use Rattle.role_tables.specs.Migrating.{IsMigratedFrom, RefusesMigration}
+use Rattle.role_tables.specs.Opening.{IsSecond}
 use Rattle.role_tables.specs.Standing.{HoldsAsBefore, LeavesOnly, Stands}
+use Rattle.role_tables.proofs.Meanings.Surviving.{survives_both}
 use Rattle.role_tables.proofs.Reading.ReadState.{if_ok, if_err}
 use Rattle.role_tables.proofs.Reading.Standing.{leaves_still, stands_still}
 use Rattle.role_tables.proofs.migrating.migrate_state.Goals as goal
@@ -33,7 +33,7 @@ returns-in_err-refuse_second-clause-stop g c clean before good named stands tree
 pub returns-clause-found : goal.returns-clause-found
 returns-clause-found g c clean =
     let same = (c.in_ok-refuse_second.ensures.passed (c.migrate_first.ensures.clean clean)).1 in
-    subst (λ (db : Database). IfOk c.migrate_first.result (λ made. (first : RbacState) × IsStateFound (held_in db) first × (first.version ≡ 1) × (made.facts ≡ taken_into_version_2 first))) same.0.now_is (c.migrate_first.ensures.found clean)
+    subst (λ (db : Database). IfOk c.migrate_first.result (λ made. IsMigratedFrom db made.facts)) same.0.now_is (c.migrate_first.ensures.found clean)
 
 pub returns-clause-err : goal.returns-clause-err
 returns-clause-err g c clean =
@@ -62,6 +62,10 @@ returns-clause-unmoved g c clean =
     let it = leaves before good named (stands_still (state g.S.Store c.args.conn.now) (state g.S.Store c.refuse_second.new.conn) before was c.refuse_second.ensures.survives same stands) in
     ((λ is_open. it.0 is_open ∙ same.0.now_is), it.1))
     (c.migrate_first.ensures.unmoved clean)
+
+pub returns-clause-survives : goal.returns-clause-survives
+returns-clause-survives g c =
+    if_err c.migrate_first.result _ _ (λ refusal survives other. survives_both _ _ _ c.refuse_second.ensures.survives (survives other)) c.migrate_first.ensures.survives
 
 pub returns-clause-stop : goal.returns-clause-stop
 returns-clause-stop g c clean before good named stands =
