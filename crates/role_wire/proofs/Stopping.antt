@@ -6,7 +6,7 @@ use Rattle.std.specs.Io.KnownBytes.{Appends}
 use Rattle.role_wire.specs.declared.lines.Cause.{Cause}
 use Rattle.role_wire.specs.declared.lines.Cause.TheVariants.{Read, Write, Line, Store, Closed, Memory}
 use Rattle.role_wire.specs.declared.lines.Unanswered.{Unanswered}
-use Rattle.role_wire.specs.Lines.{longest_line, split_lines, ended_lines, is_blank, asking}
+use Rattle.role_wire.specs.Lines.{longest_line, split_lines, ended_lines, is_blank, asking, AllFit}
 use Rattle.role_wire.specs.Replay.{AreAnswered, IsReplayed, IsNext, LeavesOff, IsStopped}
 use Rattle.role_wire.specs.Reading.{Place, HasNoLineFeed, IsOpenLine, IsRead, EndsLine, FailsLine, EndsHere, StopsReading, Halts}
 use Rattle.rbac_sets.proofs.Known.{Appends-none, Appends-more}
@@ -25,15 +25,16 @@ split-front : (front rest : List ℕ) → HasNoLineFeed front → 1 ≤ length f
 split-front [] rest plain some = absurd (omega arith)
 split-front (x ∷ front) rest plain some = split_lines-first x front rest plain
 
-asking-one : (line : List ℕ) (lines : List (List ℕ)) → is_blank line ≡ false → asking (line ∷ lines) ≡ line ∷ asking lines
-unfolding asking
-asking-one line lines asks = rw asks refl
-
 -- the last line of an input without LF at its end, and none where it is empty
 split-open : (line : List ℕ) → HasNoLineFeed line → asking (split_lines line) ≡ asking (line ∷ [])
 unfolding asking
 split-open [] plain = refl
 split-open (x ∷ line) plain = ap asking (split_lines-last x line plain)
+
+-- it is the one line where it asks
+split-one : (line : List ℕ) → HasNoLineFeed line → is_blank line ≡ false → split_lines line ≡ line ∷ []
+split-one [] plain asks = absurd (let no : is_blank [] ≡ false = asks in cc)
+split-one (x ∷ line) plain asks = split_lines-last x line plain
 
 split-open-fits : (line : List ℕ) → IsOpenLine line → AllByRecursion (λ l. length l ≤ longest_line) (split_lines line)
 split-open-fits [] is = tt
@@ -87,28 +88,46 @@ module _ {S : Type 0} (answers : S → List ℕ → List ℕ → S → Type 0) (
     ended : ended_lines taken ≡ lines ++ ended_lines (line ++ halts.rest)
     ended = ap ended_lines (halts.taken_is ∙ ap (λ l. l ++ (halts.front ++ halts.rest)) (sym empty)) ∙ halts.read.ended halts.rest
 
+    lines_fit : AllFit lines
+    lines_fit = all_at (λ l. length l ≤ longest_line) lines halts.read.lines_fit
+
+    -- where all bytes were read
+    splits_here : halts.rest ≡ [] → split_lines taken ≡ lines ++ split_lines line
+    splits_here none = splits ∙ ap (λ l. lines ++ split_lines l) (ap (λ l. line ++ l) none ∙ append-nil line)
+
+    ends_here : halts.rest ≡ [] → ended_lines taken ≡ lines
+    ends_here none = ended ∙ ap (λ l. lines ++ ended_lines l) (ap (λ l. line ++ l) none ∙ append-nil line) ∙ ap (λ l. lines ++ l) (ended_lines-last line halts.read.open_line.plain) ∙ append-nil lines
+
     next_line : EndsHere halts.rest at_end → is_blank line ≡ false → IsNext (asking lines) line taken at_end
-    unfolding asking
     next_line (inl here) asks = (
-      asking (ended_lines here.0),
-      inl (ap asking (ended ∙ ap (λ l. lines ++ ended_lines (line ++ l)) here.1 ∙ ap (λ l. lines ++ l) (ended_lines-ended line here.0 halts.read.open_line.plain))
-          ∙ asking-append lines (line ∷ ended_lines here.0) ∙ ap (λ l. asking lines ++ l) (asking-one line (ended_lines here.0) asks)),
+      lines,
+      ended_lines here.0,
+      inl (ended ∙ ap (λ l. lines ++ ended_lines (line ++ l)) here.1 ∙ ap (λ l. lines ++ l) (ended_lines-ended line here.0 halts.read.open_line.plain)),
+      refl,
+      asks,
+      lines_fit,
+      halts.read.open_line.fits,
     )
     next_line (inr here) asks = (
+      lines,
       [],
-      inr (
-        here.0,
-        ap asking (splits ∙ ap (λ l. lines ++ split_lines l) (ap (λ l. line ++ l) here.1 ∙ append-nil line))
-            ∙ asking-append lines (split_lines line) ∙ ap (λ l. asking lines ++ l) (split-open line halts.read.open_line.plain ∙ asking-one line [] asks),
-      ),
+      inr (here.0, splits_here here.1 ∙ ap (λ l. lines ++ l) (split-one line halts.read.open_line.plain asks)),
+      refl,
+      asks,
+      lines_fit,
+      halts.read.open_line.fits,
     )
 
     stops_off : start.number ≡ 0 → (c : Cause) → StopsReading c halts.between halts.rest → LeavesOff c (asking lines) taken
-    stops_off first Read none = ap asking (ended ∙ ap (λ l. lines ++ ended_lines l) (ap (λ l. line ++ l) none ∙ append-nil line) ∙ ap (λ l. lines ++ l) (ended_lines-last line halts.read.open_line.plain) ∙ append-nil lines)
+    stops_off first Read none = (
+      ap asking (ends_here none),
+      all_at (λ l. length l ≤ longest_line) (split_lines taken) (subst (AllByRecursion (λ l. length l ≤ longest_line)) (sym (splits_here none))
+          (all_join (λ l. length l ≤ longest_line) lines (split_lines line) halts.read.lines_fit (split-open-fits line halts.read.open_line))),
+    )
     stops_off first Write none = none
     stops_off first Store none = none
     stops_off first Closed none = none
-    stops_off first Memory none = (asking (ended_lines (line ++ halts.rest)), ap asking ended ∙ asking-append lines (ended_lines (line ++ halts.rest)))
+    stops_off first Memory none = (lines, ended_lines (line ++ halts.rest), ended, refl, lines_fit)
     stops_off first (Line number) (more, after, rest, plain, long, is) =
         let front = line ++ more in
         let here = split-front front after (HasNoLineFeed-append line more halts.read.open_line.plain plain) (omega (arith, long)) in (
@@ -116,9 +135,10 @@ module _ {S : Type 0} (answers : S → List ℕ → List ℕ → S → Type 0) (
           here.1.0,
           front ++ here.0,
           splits ∙ ap (λ l. lines ++ split_lines l) (ap (λ l. line ++ l) rest ∙ sym (append_assoc line more after)) ∙ ap (λ l. lines ++ l) here.1.1,
+          refl,
+          lines_fit,
           omega (arith, long, length-append front here.0),
           omega (arith, is, first, halts.read.number),
-          refl,
         )
 
     pub stopped : start.number ≡ 0 → start.answered ≡ 0 → IsStopped answers fails start.state new taken at_end start.written written cause answered

@@ -1,10 +1,14 @@
 -- The lines of an input.
-use Rattle.std.specs.Prelude.{◌≡◌, ℕ, Bool, not, ◌||◌, ◌==◌, List, [], ◌∷◌, ◌++◌, if◌then◌else◌}
+use Rattle.std.specs.Prelude.{◌≡◌, ◌≤◌, ℕ, Bool, not, ◌||◌, ◌==◌, List, [], ◌∷◌, ◌++◌, length, All, if◌then◌else◌}
 use Rattle.std.specs.List.{list_all, filter}
 
 -- the most bytes of a line, its LF not counted
 abbrev pub longest_line : ℕ
 longest_line = 65536
+
+-- no line is longer than that
+abbrev pub AllFit : List (List ℕ) → Type 0
+AllFit lines = All (λ line. length line ≤ longest_line) lines
 
 -- the byte that ends a line
 abbrev pub line_feed : ℕ

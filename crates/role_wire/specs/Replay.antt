@@ -1,13 +1,13 @@
 -- What a replay of an input writes and leaves, whether it ends or stops.
 --     answers old line text new       what answers lines is old, answers the line by the text, and is new then
 --     fails old line unanswered new   the line gets no answer for this reason
-use Rattle.std.specs.Prelude.{◌≡◌, ◌⊎◌, ℕ, ◌+◌, ◌-◌, ◌^◌, ◌<◌, ◌≤◌, List, [], ◌∷◌, ◌++◌, length, Option, All}
+use Rattle.std.specs.Prelude.{◌≡◌, ◌⊎◌, ℕ, ◌+◌, ◌-◌, ◌^◌, ◌<◌, ◌≤◌, false, List, [], ◌∷◌, ◌++◌, length, Option}
 use Rattle.std.specs.Io.KnownBytes.{Appends}
 use Rattle.role_wire.specs.declared.lines.Cause.{Cause}
 use Rattle.role_wire.specs.declared.lines.Cause.TheVariants.{Read, Write, Line, Store, Memory}
 use Rattle.role_wire.specs.declared.lines.Unanswered.{Unanswered}
 use Rattle.role_wire.specs.declared.lines.Unanswered.TheVariants as unanswered
-use Rattle.role_wire.specs.Lines.{longest_line, line_feed, split_lines, ended_lines, asking, with_line_feeds}
+use Rattle.role_wire.specs.Lines.{longest_line, line_feed, split_lines, ended_lines, is_blank, asking, with_line_feeds, AllFit}
 
 -- the most reads of one replay
 abbrev pub most_reads : ℕ
@@ -27,23 +27,27 @@ module _ {S : Type 0} (answers : S → List ℕ → List ℕ → S → Type 0) w
 
   -- the whole input was answered: each line that asks, in order, each answer with LF
   pub record IsReplayed (old new : S) (input : List ℕ) (written now_written : Option (List ℕ)) (answered : ℕ) : Type 0 where
-    pub lines_fit : All (λ line. length line ≤ longest_line) (split_lines input)
+    pub lines_fit : AllFit (split_lines input)
     pub texts : List (List ℕ)
     pub are_answered : AreAnswered old (asking (split_lines input)) texts new
     pub text : Appends written now_written (with_line_feeds texts)
     pub count : answered ≡ length texts
 
--- the line is the next that asks behind those that are done, in bytes that were read to their end or not
+-- the line is the next that asks behind those that are done, in bytes that were read to their end or not; neither it nor a
+-- line before it is too long
 abbrev pub IsNext : List (List ℕ) → List ℕ → List ℕ → Type 0 → Type 0
-IsNext done line taken at_end = (later : List (List ℕ))
-    × ((asking (ended_lines taken) ≡ done ++ line ∷ later) ⊎ (at_end × (asking (split_lines taken) ≡ done ++ line ∷ later)))
+IsNext done line taken at_end = (before after : List (List ℕ))
+    × ((ended_lines taken ≡ before ++ line ∷ after) ⊎ (at_end × (split_lines taken ≡ before ++ line ∷ after)))
+    × (asking before ≡ done) × (is_blank line ≡ false) × AllFit before × (length line ≤ longest_line)
 
--- what a stop leaves where it came at no answer: the line of this number is too long, or no more could be read or kept
+-- What a stop leaves where it came at no answer: no more could be read, or be kept, or the line of this number is the first
+-- that is too long. The lines that are done are those that ask of the lines before, none of which is too long; of what was
+-- read to where no more could be, no line is.
 abbrev pub LeavesOff : Cause → List (List ℕ) → List ℕ → Type 0
-LeavesOff Read done taken = asking (ended_lines taken) ≡ done
+LeavesOff Read done taken = (asking (ended_lines taken) ≡ done) × AllFit (split_lines taken)
 LeavesOff (Line number) done taken = (before after : List (List ℕ)) × (line : List ℕ) × (split_lines taken ≡ before ++ line ∷ after)
-    × (longest_line < length line) × (number ≡ length before + 1) × (asking before ≡ done)
-LeavesOff Memory done taken = (later : List (List ℕ)) × (asking (ended_lines taken) ≡ done ++ later)
+    × (asking before ≡ done) × AllFit before × (longest_line < length line) × (number ≡ length before + 1)
+LeavesOff Memory done taken = (before after : List (List ℕ)) × (ended_lines taken ≡ before ++ after) × (asking before ≡ done) × AllFit before
 LeavesOff _ done taken = ⊥
 
 module _ {S : Type 0} (answers : S → List ℕ → List ℕ → S → Type 0) (fails : S → List ℕ → Unanswered → S → Type 0) where

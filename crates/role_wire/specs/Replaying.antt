@@ -1,12 +1,12 @@
 -- What a replay over an office writes, and what it leaves.
-use Rattle.std.specs.Prelude.{◌≡◌, ◌⊎◌, ℕ, ◌≤◌, List, [], ◌∷◌, ◌++◌, length, Option, All}
+use Rattle.std.specs.Prelude.{◌≡◌, ◌⊎◌, ℕ, ◌≤◌, List, [], ◌∷◌, ◌++◌, length, Option}
 use Rattle.std.specs.Io.KnownBytes.{Appends}
 use Rattle.sqlite.specs.Held.{Held}
 use Rattle.sqlite.specs.State.{State}
 use Rattle.admin_mgr.specs.RbacState.{RbacState}
 use Rattle.role_tables.specs.Office.{Opened}
 use Rattle.role_wire.specs.Keeping.{Breaks, Reaches}
-use Rattle.role_wire.specs.Lines.{longest_line, line_feed, split_lines, with_line_feeds}
+use Rattle.role_wire.specs.Lines.{line_feed, split_lines, with_line_feeds, AllFit}
 use Rattle.role_wire.specs.Outcome.{answer_to, answers_to, answer_lines, after_lines, asking_lines}
 use Rattle.role_wire.specs.Replay.{IsNext, LeavesOff}
 use Rattle.role_wire.specs.declared.lines.Cause.{Cause}
@@ -14,7 +14,7 @@ use Rattle.role_wire.specs.declared.lines.Cause.TheVariants.{Write, Store, Memor
 
 -- a whole input was answered from this state on: each line that asks, in order
 pub record IsAnswered (S : RbacState) (input : List ℕ) (written now_written : Option (List ℕ)) (answered : ℕ) : Type 0 where
-  pub lines_fit : All (λ line. length line ≤ longest_line) (split_lines input)
+  pub lines_fit : AllFit (split_lines input)
   pub text : Appends written now_written (answer_lines S input)
   pub count : answered ≡ length (asking_lines input)
 

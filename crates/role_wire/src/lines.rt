@@ -69,7 +69,7 @@ pub enum Cause {
     Read,
     /// The sink failed, or took no byte of a piece that has some.
     Write,
-    /// The line of this number is longer than 65,536 bytes. The first line has number 1.
+    /// The line of this number is the first that is longer than 65,536 bytes. Lines count from 1.
     Line(u64),
     /// The store refused a call.
     Store,

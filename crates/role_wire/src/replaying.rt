@@ -35,7 +35,7 @@ use std::alloc::Global;
 /// - `Closed`: the office was closed before; nothing was read.
 /// - `Read`: a read failed, or 1,000,000,000 reads were made. What was read of a line that had not
 ///   ended was not judged.
-/// - `Line`: the line of this number has more than 65,536 bytes. It was not judged.
+/// - `Line`: the line of this number is the first of more than 65,536 bytes. It was not judged.
 /// - `Write`: a write failed, or took no byte. A part of the next answer may be written, and what
 ///   its line asks for is done.
 /// - `Memory`: memory was refused. What the next line asks for may be done.
