@@ -13,9 +13,10 @@ use Rattle.role_http.specs.Status.{head_body}
 use Rattle.role_tables.specs.Office.{Opened}
 use Rattle.role_wire.specs.Made.{bytes_in}
 use Rattle.role_wire.specs.Reply.{called_for}
-use Rattle.role_wire.specs.Serving.{ComesOf}
+use Rattle.role_wire.specs.Serving.{ComesOf, IsRead}
 use Rattle.role_wire.specs.declared.made.Made.{Made}
 use Rattle.role_wire.proofs.Performed.{stays}
+use Rattle.role_wire.proofs.Telling.{asks_nothing}
 
 -- ---- bytes that were taken, and those that are left
 
@@ -27,7 +28,7 @@ take-with_left : (taken : List ℕ) (left : Option (List ℕ)) (count : ℕ) →
 take-with_left taken None count e = take_all count taken (omega (arith, e))
 take-with_left taken (Some ys) count e = take-append-le count taken ys (omega (arith, e)) ∙ take_all count taken (omega (arith, e))
 
-with_left-end : (taken : List ℕ) (left : Option (List ℕ)) → IsAtEnd left → with_left taken left ≡ taken
+pub with_left-end : (taken : List ℕ) (left : Option (List ℕ)) → IsAtEnd left → with_left taken left ≡ taken
 with_left-end taken None at_end = refl
 with_left-end taken (Some ys) at_end = rw at_end (append-nil taken)
 
@@ -52,4 +53,7 @@ module _ {S : Type 0} (shown : Held S → State) where
       → made.status ≡ 400 → bytes_in made.body ≡ head_body 400 → ComesOf shown office (called_for (with_left taken left) called count) made office
   unfolding head_body
   short_told office taken left called count made less at_end status body =
-      subst (λ read. ComesOf shown office read made office) (sym (called_short taken left called count less at_end)) (inl (λ _. (status, body, stays shown office)))
+      subst (λ read. ComesOf shown office read made office) (sym (called_short taken left called count less at_end)) (
+        inl (λ _. (status, body, stays shown office)),
+        asks_nothing office office (IsRead (Err BadRequest)) made.status (bytes_in made.body) refl (λ asked reads. (cc)),
+      )

@@ -92,7 +92,7 @@ module _ {S : Type 0} (shown : Held S → State) where
   judged_refusal old new asked refusal (inl (is, same)) = rw is (tt, inl same)
   judged_refusal old new asked refusal (inr (inl (is, broke))) = rw is (tt, (broke.breaks.is_closed, inr broke.breaks))
   judged_refusal old new asked refusal (inr (inr (inl (is, shut, same)))) = rw is (tt, (rw same shut, inl (shut, same)))
-  judged_refusal old new asked refusal (inr (inr (inr (is, same)))) = judged_so old new asked refusal (is_judged old.facts asked refusal is) is same
+  judged_refusal old new asked refusal (inr (inr (inr (is, works, same)))) = judged_so old new asked refusal (is_judged old.facts asked refusal is) is same
 
   -- ---- lines
 

@@ -61,6 +61,7 @@ module _ {S : Type 0} (shown : Held S → State) where
           let told : Answers old command (Ok report) new = subst (λ r. Answers old command r new) is (answers works) in
           let to = leads told.0 in
           record {
+            is_open = works;
             outcome = rw (accepted told.0) (ap (λ tally. Ok (accepted_text (asked_of command) tally)) (sym (told.1 ∙ law.tally_is)));
             reaches = record {
               state = told.2 ∙ sym to;
@@ -79,6 +80,7 @@ module _ {S : Type 0} (shown : Held S → State) where
         let told : Answers old command (Err Store) new = subst (λ r. Answers old command r new) is (answers works) in
         let to = leads told.0 in
         record {
+          is_open = works;
           accepted = (asked_of command, refl, accepted told.0);
           breaks = record {
             is_closed = told.1;
@@ -99,7 +101,7 @@ module _ {S : Type 0} (shown : Held S → State) where
     refused_by works Memory is told = inl (refl, told)
     refused_by works Store is told = inr (inl (refl, broken works is))
     refused_by works Closed is told = absurd told
-    refused_by works refusal is told = inr (inr (inr (rw (sym law.verdict_is ∙ told.0) refl, told.1)))
+    refused_by works refusal is told = inr (inr (inr (rw (sym law.verdict_is ∙ told.0) refl, works, told.1)))
 
     -- one that was not done
     pub command_refused : (refusal : Refusal) → result ≡ Err refusal → Declines shown old (Change (asked_of command)) refusal new
@@ -111,15 +113,16 @@ module _ {S : Type 0} (shown : Held S → State) where
   -- ---- questions
 
   -- one that was answered
-  pub question_answered : (office : Opened S) (query : Query) (told : Told) → refused office.facts query ≡ None → told ≡ value office.facts query → Performs shown office (Ask query) (told_text told) office
+  pub question_answered : (office : Opened S) (query : Query) (told : Told) → office.is_closed ≡ false → refused office.facts query ≡ None → told ≡ value office.facts query → Performs shown office (Ask query) (told_text told) office
   unfolding outcome_of state_after
-  question_answered office query told accepted is = record {
+  question_answered office query told works accepted is = record {
+    is_open = works;
     outcome = rw accepted (ap (λ t. Ok (told_text t)) (sym is));
     reaches = stays office;
   }
 
   -- one that was not
-  pub question_refused : (office : Opened S) (query : Query) (refusal : Refusal) → (refusal ≡ Memory) ⊎ (refused office.facts query ≡ Some refusal) → Declines shown office (Ask query) refusal office
+  pub question_refused : (office : Opened S) (query : Query) (refusal : Refusal) → office.is_closed ≡ false → (refusal ≡ Memory) ⊎ (refused office.facts query ≡ Some refusal) → Declines shown office (Ask query) refusal office
   unfolding outcome_of
-  question_refused office query refusal (inl memory) = inl (memory, refl)
-  question_refused office query refusal (inr is) = inr (inr (inr (rw is refl, refl)))
+  question_refused office query refusal works (inl memory) = inl (memory, refl)
+  question_refused office query refusal works (inr is) = inr (inr (inr (rw is refl, works, refl)))

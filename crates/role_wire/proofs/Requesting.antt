@@ -1,8 +1,8 @@
 -- Whole requests: a head and a call.
-use Rattle.std.proofs.Common.{◌≡◌, ◌≤◌, ◌+◌, ◌∙◌, ◌⊎◌, inl, inr, ℕ, List, [], ◌++◌, length, length-append, append_assoc, take, Option, Some, None, Ok, Err, ap, sym, refl, arith, subst}
+use Rattle.std.proofs.Common.{◌≡◌, ◌≤◌, ◌+◌, ◌∙◌, ◌⊎◌, inl, inr, ℕ, List, [], ◌++◌, length, length-append, append_assoc, take, Option, Some, None, Result, Ok, Err, ap, sym, refl, arith, subst}
 use Rattle.std.proofs.lemmas.List.{append-nil}
 use Rattle.std.specs.Io.KnownBytes.{Appends, Consumes}
-use Rattle.httparse.specs.Grammar.{RequestHead, print_request}
+use Rattle.httparse.specs.Grammar.{RequestHead, HasNoRequest, print_request}
 use Rattle.sqlite.specs.Held.{Held}
 use Rattle.sqlite.specs.State.{State}
 use Rattle.rbac_sets.specs.declared.refusal.Refusal.TheVariants.{Memory}
@@ -24,24 +24,32 @@ use Rattle.role_wire.specs.Serving.{ComesOf, IsRead, IsToldInPlace, LeavesUntold
 use Rattle.role_wire.specs.declared.lines.Cause.{Cause}
 use Rattle.role_wire.specs.declared.lines.Cause.TheVariants as cause
 use Rattle.role_wire.specs.declared.made.Made.{Made}
+use Rattle.role_wire.proofs.Calling.{with_left-end}
 use Rattle.role_wire.proofs.Performed.{stays}
+use Rattle.role_wire.proofs.Telling.{asks_nothing, has_no_memory}
 
 -- ---- no byte past the request
 
 -- what a head is, it is in all of the bytes
 further : (S : RbacState) (bytes rest taken : List ℕ) (head : RequestHead) → HasHead (bytes ++ rest) head rest → length bytes ≡ length (print_request head)
     → length taken ≤ (reply_to S head rest).taken → TakesNoFurther S (bytes ++ rest) (bytes ++ taken)
-further S bytes rest taken head has whole few other after stands =
-    let same = heads_are_unique (bytes ++ rest) head other rest after has stands in
-    subst (λ h. length (bytes ++ taken) ≤ length (print_request h) + (reply_to S h after).taken) same.0
-    (subst (λ r. length (bytes ++ taken) ≤ length (print_request head) + (reply_to S head r).taken) same.1 (omega (arith, few, whole, length-append bytes taken)))
+further S bytes rest taken head has whole few = (
+  λ other after stands.
+      let same = heads_are_unique (bytes ++ rest) head other rest after has stands in
+      subst (λ h. length (bytes ++ taken) ≤ length (print_request h) + (reply_to S h after).taken) same.0
+      (subst (λ r. length (bytes ++ taken) ≤ length (print_request head) + (reply_to S head r).taken) same.1 (omega (arith, few, whole, length-append bytes taken))),
+  λ none. absurd (none head rest has),
+)
 
 -- bytes that lie in the head
 pub within_head : (S : RbacState) (old new : Option (List ℕ)) (taken : List ℕ) → TakesHead old new taken → TakesNoFurther S (with_left taken new) taken
-within_head S old new taken takes head rest has =
-    let (later, same) = with_left-later taken new in
-    let few = takes.1 later head rest (rw same at has.0) in
-    omega (arith, few)
+within_head S old new taken takes = (
+  λ head rest has.
+      let (later, same) = with_left-later taken new in
+      let few = takes.1 later head rest (rw same at has.0) in
+      omega (arith, few),
+  λ none. takes.2,
+)
 
 with_left-append : (taken more : List ℕ) (left : Option (List ℕ)) → with_left (taken ++ more) left ≡ taken ++ with_left more left
 with_left-append taken more None = refl
@@ -49,6 +57,27 @@ with_left-append taken more (Some ys) = append_assoc taken more ys
 
 length-head : (bytes : List ℕ) (head : RequestHead) → HasHead bytes head [] → length bytes ≡ length (print_request head)
 length-head bytes head has = ap length (has.0.1 ∙ append-nil (print_request head))
+
+-- bytes that are refused as no head are told 400 only where no head is at their front, not even one past the limits
+which_refused : (bytes : List ℕ) (left : Option (List ℕ)) (status : ℕ) → RefusesBytes bytes left (Err status) → ((status ≡ 400) × HasNoRequest (with_left bytes left)) ⊎ (status ≡ 431)
+which_refused bytes left status (inl (bad, inl never)) =
+    let (later, same) = with_left-later bytes left in
+    inl (bad, rw same (never later))
+which_refused bytes left status (inl (bad, inr (none, at_end))) = inl (bad, rw (with_left-end bytes left at_end) none)
+which_refused bytes left status (inr (large, why)) = inr large
+
+-- ---- what the bytes ask for
+
+-- what a head was judged to be is read so
+abbrev ReadsBy : List ℕ → Requested → Result (Function × ℕ) ℕ → Type 0
+ReadsBy rest asked (Ok (called, count)) = called_for rest called count ≡ Ok asked
+ReadsBy rest asked (Err status) = ⊥
+
+-- by the head at the front of the bytes
+asked_by : (bytes rest : List ℕ) (head : RequestHead) (judged : Result (Function × ℕ) ℕ) → HasHead bytes head rest → judged_head head ≡ judged → (asked : Requested) → Asks bytes asked → ReadsBy rest asked judged
+asked_by bytes rest head judged has is asked (other, after, stands, (called, count, call, reads)) =
+    let same = heads_are_unique bytes other head after rest stands has in
+    subst (ReadsBy rest asked) (sym call ∙ ap judged_head same.0 ∙ is) (subst (λ r. called_for r called count ≡ Ok asked) same.1 reads)
 
 -- a request with a head within the limits has one reply
 one_reply : (S : RbacState) (bytes : List ℕ) (head : RequestHead) (rest : List ℕ) → HasHead bytes head rest → (reply : Reply) → Replies S bytes reply → reply ≡ reply_to S head rest
@@ -74,20 +103,23 @@ module _ {S : Type 0} (shown : Held S → State) where
       → IsToldInPlace shown old Then status body new
   in_place old new status body First Then step (inl memory) = inl memory
   in_place old new status body First Then step (inr (inl (is, told, (asked, for, broke)))) = inr (inl (is, told, (asked, step asked for, broke)))
-  in_place old new status body First Then step (inr (inr shut)) = inr (inr shut)
+  in_place old new status body First Then step (inr (inr (is, told, shut, same, (asked, for)))) = inr (inr (is, told, shut, same, (asked, step asked for)))
 
   tells_called : (old new : Opened S) (bytes rest : List ℕ) (head : RequestHead) (called : Function) (count : ℕ) (made : Made) → HasHead (bytes ++ rest) head rest
       → judged_head head ≡ Ok (called, count) → ComesOf shown old (called_for rest called count) made new → Tells shown old (bytes ++ rest) made.status (bytes_in made.body) new
   unfolding reply_to
-  tells_called old new bytes rest head called count made has is (inl told) =
-      inl (reply_of old.facts (length (take count rest)) (called_for rest called count), inl (head, rest, has, rw is refl), told (length (take count rest)))
-  tells_called old new bytes rest head called count made has is (inr place) =
-      inr (in_place old new made.status (bytes_in made.body) (IsRead (called_for rest called count)) (Asks (bytes ++ rest)) (λ asked read. (head, rest, has, (called, count, is, read))) place)
+  tells_called old new bytes rest head called count made has is (told, closed) = (
+    elim told [
+      | inl told ↦ inl (reply_of old.facts (length (take count rest)) (called_for rest called count), inl (head, rest, has, rw is refl), told (length (take count rest)))
+      | inr place ↦ inr (in_place old new made.status (bytes_in made.body) (IsRead (called_for rest called count)) (Asks (bytes ++ rest)) (λ asked read. (head, rest, has, (called, count, is, read))) place)
+    ],
+    λ shut. ((closed shut).0, λ asked asks. (closed shut).1 asked (asked_by (bytes ++ rest) rest head (Ok (called, count)) has is asked asks)),
+  )
 
   leaves_called : (why : Cause) (old new : Opened S) (bytes rest : List ℕ) (head : RequestHead) (called : Function) (count : ℕ) → HasHead (bytes ++ rest) head rest
       → judged_head head ≡ Ok (called, count) → LeavesUntold shown why old (IsRead (called_for rest called count)) new → LeavesUntold shown why old (Asks (bytes ++ rest)) new
   leaves_called cause.Read old new bytes rest head called count has is left = left
-  leaves_called cause.Memory old new bytes rest head called count has is (asked, read, accepted, reaches) = (asked, (head, rest, has, (called, count, is, read)), accepted, reaches)
+  leaves_called cause.Memory old new bytes rest head called count has is (asked, read, works, accepted, reaches) = (asked, (head, rest, has, (called, count, is, read)), works, accepted, reaches)
   leaves_called cause.Write old new bytes rest head called count has is left = absurd left
   leaves_called (cause.Line n) old new bytes rest head called count has is left = absurd left
   leaves_called cause.Store old new bytes rest head called count has is left = absurd left
@@ -130,44 +162,58 @@ module _ {S : Type 0} (shown : Held S → State) where
       → told ≡ status → body ≡ head_body status → Replied office source mid told body office
   unfolding reply_to
   made_head office source mid status told body (bytes, first, inl (head, has, is)) same text =
-      let (later, all) = with_left-later bytes mid in (
+      let (later, all) = with_left-later bytes mid in
+      let stands = subst (λ l. HasHead l head later) (sym all) (HasHead-append bytes later head has) in (
         bytes,
         first.0,
         within_head office.facts source mid bytes first,
-        inl (
-          record { status = status; body = head_body status; after = office.facts; taken = 0 },
-          inl (head, later, subst (λ l. HasHead l head later) (sym all) (HasHead-append bytes later head has), rw is refl),
-          (same, text, stays shown office),
+        (
+          inl (
+            record { status = status; body = head_body status; after = office.facts; taken = 0 },
+            inl (head, later, stands, rw is refl),
+            (same, text, stays shown office),
+          ),
+          asks_nothing office office (Asks (with_left bytes mid)) told body refl (asked_by (with_left bytes mid) later head (Err status) stands is),
         ),
       )
   made_head office source mid status told body (bytes, first, inr refuses) same text = (
     bytes,
     first.0,
     within_head office.facts source mid bytes first,
-    inl (
-      record { status = status; body = head_body status; after = office.facts; taken = 0 },
-      inr (refused_have_no_head bytes mid (Err status) refuses, which refuses, refl, refl),
-      (same, text, stays shown office),
+    (
+      inl (
+        record { status = status; body = head_body status; after = office.facts; taken = 0 },
+        inr (refused_have_no_head bytes mid (Err status) refuses, which_refused bytes mid status refuses, refl, refl),
+        (same, text, stays shown office),
+      ),
+      asks_nothing office office (Asks (with_left bytes mid)) told body refl
+          (λ asked (head, rest, has, call). refused_have_no_head bytes mid (Err status) refuses head rest has),
     ),
   )
-    where
-      which : RefusesBytes bytes mid (Err status) → (status ≡ 400) ⊎ (status ≡ 431)
-      which (inl (bad, why)) = inl bad
-      which (inr (large, why)) = inr large
 
   -- reading stopped within the head
   pub made_stopped : (office : Opened S) (source mid : Option (List ℕ)) (status : ℕ) (body : List ℕ) → ((taken : List ℕ) × TakesHead source mid taken) → status ≡ 503 → body ≡ refusal_text Memory
       → Replied office source mid status body office
-  made_stopped office source mid status body (bytes, first) same text = (bytes, first.0, within_head office.facts source mid bytes first, inr (inl (same, text, stays shown office)))
+  made_stopped office source mid status body (bytes, first) same text = (
+    bytes,
+    first.0,
+    within_head office.facts source mid bytes first,
+    (inr (inl (same, text, stays shown office)), has_no_memory office office (Asks (with_left bytes mid)) status body refl same text),
+  )
 
   pub left_stopped : (office : Opened S) (source mid : Option (List ℕ)) → ((taken : List ℕ) × TakesHead source mid taken) → Untold cause.Read office source mid office
-  left_stopped office source mid (bytes, first) = (bytes, first.0, within_head office.facts source mid bytes first, stays shown office)
+  left_stopped office source mid (bytes, first) = (bytes, first.0, within_head office.facts source mid bytes first, refl)
 
   -- ---- writing
 
   -- before a byte was read
   pub made_at_once : (office : Opened S) (source : Option (List ℕ)) (status : ℕ) (body : List ℕ) → Consumes source source [] → status ≡ 503 → body ≡ refusal_text Memory → Replied office source source status body office
-  made_at_once office source status body none same text = ([], none, λ head rest has. omega arith, inr (inl (same, text, stays shown office)))
+  made_at_once office source status body none same text = (
+    [],
+    none,
+    (λ head rest has. omega arith, λ past. omega arith),
+    (inr (inl (same, text, stays shown office)), has_no_memory office office (Asks (with_left [] source)) status body refl same text),
+  )
 
   -- a reply that was written
   pub sent : (old new : Opened S) (source end written now_written : Option (List ℕ)) (status told : ℕ) (body : List ℕ) → Replied old source end status body new → told ≡ status

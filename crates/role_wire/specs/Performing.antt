@@ -1,5 +1,5 @@
 -- What an office does for one request.
-use Rattle.std.specs.Prelude.{◌≡◌, ◌⊎◌, true, ℕ, List, None, Ok, Err}
+use Rattle.std.specs.Prelude.{◌≡◌, ◌⊎◌, true, false, ℕ, List, None, Ok, Err}
 use Rattle.sqlite.specs.Held.{Held}
 use Rattle.sqlite.specs.State.{State}
 use Rattle.rbac_sets.specs.Asked.{Asked}
@@ -25,20 +25,22 @@ abbrev pub IsAccepted : RbacState → Requested → Type 0
 IsAccepted S requested = (asked : Asked) × (requested ≡ Change asked) × (asked_verdict S asked ≡ None)
 
 module _ {S : Type 0} (shown : Held S → State) where
-  -- it was done or answered, which this text tells
+  -- an open office did or answered it, which this text tells
   pub record Performs (old : Opened S) (requested : Requested) (text : List ℕ) (new : Opened S) : Type 0 where
+    pub is_open : old.is_closed ≡ false
     pub outcome : outcome_of old.facts requested ≡ Ok text
     pub reaches : Reaches shown old (state_after old.facts requested) new
 
-  -- the store was refused for it
+  -- the office was open, and the store was refused for it
   pub record BreaksAt (old : Opened S) (requested : Requested) (new : Opened S) : Type 0 where
+    pub is_open : old.is_closed ≡ false
     pub accepted : IsAccepted old.facts requested
     pub breaks : Breaks shown old old.facts (state_after old.facts requested) new
 
-  -- it was not done: memory was refused, or the store, or the office is closed, or the request is refused
+  -- it was not done: memory was refused, or the store, or the office is closed, or an open one refuses the request
   abbrev pub Declines : Opened S → Requested → Refusal → Opened S → Type 0
   Declines old requested refusal new =
       ((refusal ≡ Memory) × (new ≡ old))
       ⊎ (((refusal ≡ Store) × BreaksAt old requested new)
       ⊎ (((refusal ≡ Closed) × (old.is_closed ≡ true) × (new ≡ old))
-      ⊎ ((outcome_of old.facts requested ≡ Err refusal) × (new ≡ old))))
+      ⊎ ((outcome_of old.facts requested ≡ Err refusal) × (old.is_closed ≡ false) × (new ≡ old))))

@@ -1,13 +1,13 @@
 -- What a request over HTTP is replied, over its head and the bytes behind it.
 use Rattle.std.specs.Prelude.{◌≡◌, ◌⊎◌, ℕ, ◌+◌, ◌≤◌, List, length, nat_lt, take, Result, Ok, Err, if◌then◌else◌}
-use Rattle.httparse.specs.Grammar.{RequestHead, print_request}
+use Rattle.httparse.specs.Grammar.{RequestHead, HasNoRequest, print_request}
 use Rattle.rbac_sets.specs.declared.refusal.Refusal.{Refusal}
 use Rattle.rbac_sets.specs.declared.refusal.Refusal.TheVariants.{BadRequest}
 use Rattle.admin_mgr.specs.RbacState.{RbacState}
 use Rattle.role_json.specs.Request.{body_to}
 use Rattle.role_json.specs.Requested.{Requested}
 use Rattle.role_json.specs.declared.function.Function.{Function}
-use Rattle.role_http.specs.Head.{HasHead}
+use Rattle.role_http.specs.Head.{HasHead, longest_head}
 use Rattle.role_http.specs.Judging.{judged_head}
 use Rattle.role_http.specs.Status.{status_of, head_body}
 use Rattle.role_wire.specs.Outcome.{outcome, after_reading, told_as}
@@ -41,20 +41,28 @@ behind_head S rest (Ok (called, count)) = reply_of S (length (take count rest)) 
 unfoldable pub reply_to : RbacState → RequestHead → List ℕ → Reply
 reply_to S head rest = behind_head S rest (judged_head head)
 
--- the reply to a request in these bytes. Where they begin with no head within the limits, the status is 400 or 431
+-- the bytes begin with no head within the limits
+abbrev pub HasNoHead : List ℕ → Type 0
+HasNoHead bytes = (head : RequestHead) (rest : List ℕ) → ¬ (HasHead bytes head rest)
+
+-- The reply to a request in these bytes. Where they begin with a head past the limits, the status is 431; where they begin with
+-- no head, it is 400 or 431.
 abbrev pub Replies : RbacState → List ℕ → Reply → Type 0
 Replies S bytes reply =
     ((head : RequestHead) × (rest : List ℕ) × HasHead bytes head rest × (reply ≡ reply_to S head rest))
-    ⊎ (((head : RequestHead) (rest : List ℕ) → ¬ (HasHead bytes head rest)) × ((reply.status ≡ 400) ⊎ (reply.status ≡ 431)) × (reply.body ≡ head_body reply.status) × (reply.after ≡ S))
+    ⊎ (HasNoHead bytes × (((reply.status ≡ 400) × HasNoRequest bytes) ⊎ (reply.status ≡ 431)) × (reply.body ≡ head_body reply.status) × (reply.after ≡ S))
 
 -- the request in these bytes asks for this
 abbrev pub Asks : List ℕ → Requested → Type 0
 Asks bytes asked = (head : RequestHead) × (rest : List ℕ) × HasHead bytes head rest
     × ((called : Function) × (count : ℕ) × (judged_head head ≡ Ok (called, count)) × (called_for rest called count ≡ Ok asked))
 
--- of a request in these bytes no byte was taken past its end
+-- of a request in these bytes no byte was taken past its end and, where they begin with no head within the limits, no more
+-- than a head may have
 abbrev pub TakesNoFurther : RbacState → List ℕ → List ℕ → Type 0
-TakesNoFurther S bytes taken = (head : RequestHead) (rest : List ℕ) → HasHead bytes head rest → length taken ≤ length (print_request head) + (reply_to S head rest).taken
+TakesNoFurther S bytes taken =
+    ((head : RequestHead) (rest : List ℕ) → HasHead bytes head rest → length taken ≤ length (print_request head) + (reply_to S head rest).taken)
+    × (HasNoHead bytes → length taken ≤ longest_head)
 
 -- a request with a head within the limits has one reply
 abbrev pub RepliesOnce : Type 0

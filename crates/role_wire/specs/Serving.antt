@@ -1,5 +1,5 @@
 -- What a request over HTTP is told, and what that leaves of the office.
-use Rattle.std.specs.Prelude.{◌≡◌, ◌⊎◌, ◌++◌, ℕ, ◌≤◌, true, List, [], length, Option, Result, Ok}
+use Rattle.std.specs.Prelude.{◌≡◌, ◌⊎◌, ◌++◌, ℕ, ◌≤◌, true, false, List, [], length, Option, Result, Ok}
 use Rattle.std.specs.Io.KnownBytes.{Appends, Consumes}
 use Rattle.sqlite.specs.Held.{Held}
 use Rattle.sqlite.specs.State.{State}
@@ -23,6 +23,11 @@ use Rattle.role_wire.specs.declared.made.Made.{Made}
 abbrev pub IsRead : Result Requested Refusal → Requested → Type 0
 IsRead read asked = read ≡ Ok asked
 
+-- an office that is closed stays as it is, and a request that asks for this is told that it is closed, or that memory was refused
+abbrev pub StaysClosed : {S : Type 0} → Opened S → (Requested → Type 0) → ℕ → List ℕ → Opened S → Type 0
+StaysClosed old AsksFor status body new = old.is_closed ≡ true → (new ≡ old)
+    × ((asked : Requested) → AsksFor asked → ((status ≡ 500) × (body ≡ refusal_text Closed)) ⊎ ((status ≡ 503) × (body ≡ refusal_text Memory)))
+
 module _ {S : Type 0} (shown : Held S → State) where
   -- the reply is told
   abbrev pub IsTold : Opened S → Reply → ℕ → List ℕ → Opened S → Type 0
@@ -34,15 +39,15 @@ module _ {S : Type 0} (shown : Held S → State) where
   IsToldInPlace old AsksFor status body new =
       ((status ≡ 503) × (body ≡ refusal_text Memory) × Reaches shown old old.facts new)
       ⊎ (((status ≡ 500) × (body ≡ refusal_text Store) × ((asked : Requested) × AsksFor asked × BreaksAt shown old asked new))
-      ⊎ ((status ≡ 500) × (body ≡ refusal_text Closed) × (old.is_closed ≡ true) × (new ≡ old)))
+      ⊎ ((status ≡ 500) × (body ≡ refusal_text Closed) × (old.is_closed ≡ true) × (new ≡ old) × ((asked : Requested) × AsksFor asked)))
 
-  -- an accepted command was done
+  -- an open office did an accepted command
   abbrev pub IsDone : Opened S → (Requested → Type 0) → Opened S → Type 0
-  IsDone old AsksFor new = (asked : Requested) × AsksFor asked × IsAccepted old.facts asked × Reaches shown old (state_after old.facts asked) new
+  IsDone old AsksFor new = (asked : Requested) × AsksFor asked × (old.is_closed ≡ false) × IsAccepted old.facts asked × Reaches shown old (state_after old.facts asked) new
 
   -- why no reply was made: nothing was done, or an accepted command whose text found no memory
   abbrev pub LeavesUntold : Cause → Opened S → (Requested → Type 0) → Opened S → Type 0
-  LeavesUntold cause.Read old AsksFor new = Reaches shown old old.facts new
+  LeavesUntold cause.Read old AsksFor new = new ≡ old
   LeavesUntold cause.Memory old AsksFor new = IsDone old AsksFor new
   LeavesUntold _ old AsksFor new = ⊥
 
@@ -50,16 +55,19 @@ module _ {S : Type 0} (shown : Held S → State) where
 
   -- the reply to it is in the making, or what is told in its place. The reply tells nothing of how long the body is
   abbrev pub ComesOf : Opened S → Result Requested Refusal → Made → Opened S → Type 0
-  ComesOf old read made new = ((taken : ℕ) → IsTold old (reply_of old.facts taken read) made.status (bytes_in made.body) new)
-      ⊎ IsToldInPlace old (IsRead read) made.status (bytes_in made.body) new
+  ComesOf old read made new =
+      (((taken : ℕ) → IsTold old (reply_of old.facts taken read) made.status (bytes_in made.body) new)
+      ⊎ IsToldInPlace old (IsRead read) made.status (bytes_in made.body) new)
+      × StaysClosed old (IsRead read) made.status (bytes_in made.body) new
 
   -- ---- whole requests
 
   -- what a request in these bytes is told
   abbrev pub Tells : Opened S → List ℕ → ℕ → List ℕ → Opened S → Type 0
   Tells old bytes status body new =
-      ((reply : Reply) × Replies old.facts bytes reply × IsTold old reply status body new)
-      ⊎ IsToldInPlace old (Asks bytes) status body new
+      (((reply : Reply) × Replies old.facts bytes reply × IsTold old reply status body new)
+      ⊎ IsToldInPlace old (Asks bytes) status body new)
+      × StaysClosed old (Asks bytes) status body new
 
   -- what a stop leaves of the office, and of what was written: nothing, or a part of the reply
   abbrev pub StopsAt : Cause → Opened S → List ℕ → Opened S → Option (List ℕ) → Option (List ℕ) → Type 0

@@ -41,7 +41,9 @@ pub struct Served {
 /// and 51), with 400 a request, a name or a CSV that is badly made, with 404 another function, 405
 /// another method, 411 no length, 413 a body above its limit, 431 a head above its limits, 501 a
 /// Transfer-Encoding. Where memory was refused before anything was done, it is 503; where the store
-/// was refused or the office is closed, 500.
+/// was refused or the office is closed, 500. A closed office stays as it is, and is asked only where a
+/// request was read: a head or a body that is refused keeps its reply. Of a head that is above its
+/// limits at most 8,192 bytes are read.
 ///
 /// # Errors
 ///

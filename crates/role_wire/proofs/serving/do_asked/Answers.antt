@@ -1,9 +1,11 @@
-use Rattle.std.proofs.Common.{inl, inr}
+use Rattle.std.proofs.Common.{inl, inr, Ok}
 use Rattle.sqlite.specs.Held.{state}
 use Rattle.role_json.specs.Answer.{text_of}
 use Rattle.role_json.specs.Requested.{requested}
 use Rattle.role_wire.proofs.Results.{if_ok-then, if_err-then}
-use Rattle.role_wire.proofs.Telling.{performed_told, question_untold, command_untold, declined_told}
+use Rattle.role_wire.specs.Made.{bytes_in}
+use Rattle.role_wire.specs.Serving.{IsRead}
+use Rattle.role_wire.proofs.Telling.{works_on, performed_told, question_untold, command_untold, declined_told}
 use Rattle.role_wire.proofs.serving.do_asked.Goals as goal
 
 pub returns-in-Ok-clause-made : goal.returns-in-Ok-clause-made
@@ -12,7 +14,10 @@ returns-in-Ok-clause-made g c =
     let asked = requested c.args.request.now in
     let text = text_of c.in-Ok.verdict in
     if_ok-then c.tell.result _ _ c.tell.ensures.made (λ made told. elim told [
-      | inl replied ↦ inl (λ taken. performed_told shown c.args.office.now c.perform.new.office asked text _ _ taken c.in-Ok.ensures.done replied.0 replied.1)
+      | inl replied ↦ (
+        inl (λ taken. performed_told shown c.args.office.now c.perform.new.office asked text _ _ taken c.in-Ok.ensures.done replied.0 replied.1),
+        works_on c.args.office.now c.perform.new.office (IsRead (Ok asked)) made.status (bytes_in made.body) c.in-Ok.ensures.done.is_open,
+      )
       | inr untold ↦ question_untold shown c.args.office.now c.perform.new.office asked text made c.in-Ok.ensures.done untold.1 untold.0
     ])
 
