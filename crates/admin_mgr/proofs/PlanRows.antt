@@ -20,4 +20,5 @@ pub mod SetCommandTurns
 pub mod SetRows
 pub mod StepLaws
 pub mod TakePlans
+pub mod TakenTogether
 pub mod TurnLaws

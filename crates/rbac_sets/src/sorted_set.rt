@@ -1,13 +1,13 @@
 //! Sets as lists in order, which take a new entry without memory once room was made for it.
-ghost use Rattle.std.specs.Prelude.{◌≡◌, ◌+◌, ◌<◌, ◌≤◌, ◌↔◌, length, vec_len, vec_capacity, true, false, not, IsTrue, filter, OnOk, IfOk, IfErr};
-ghost use Rattle.std.specs.List.{HoldsAt, list_all, AllWithin};
+ghost use Rattle.std.specs.Prelude.{◌≡◌, ◌+◌, ◌<◌, ◌≤◌, ◌↔◌, length, take, drop, vec_len, vec_capacity, true, false, not, IsTrue, filter, OnOk, IfOk, IfErr};
+ghost use Rattle.std.specs.List.{HoldsAt, list_all, AllWithin, remove_range};
 ghost use Rattle.std.specs.Slice.Iter.{iter_rest};
 ghost use Rattle.std.specs.List.Sorted.{IsStrictlySortedBy, IsPartitionPoint, IsPartitionedBy};
 ghost use Rattle.std.specs.declared.cmp.Ordering.{Ordering};
 ghost use Rattle.std.specs.declared.cmp.Ordering.TheVariants.{Less, Equal, Greater};
 ghost use Rattle.std.specs.Ordering.{is_eq, ordering_index};
 ghost use Rattle.std.specs.FinMap.{IsAntisymmetric};
-ghost use Rattle.rbac_sets.specs.Sets.{IsDisjoint, empty, contains, insert, remove, union, difference, from_list, len, members};
+ghost use Rattle.rbac_sets.specs.Sets.{IsDisjoint, empty, contains, insert, remove, retain, union, difference, from_list, len, members};
 ghost use Rattle.rbac_sets.specs.SortedSet.{set_of};
 
 use crate::refusal::Refusal;
@@ -227,6 +227,17 @@ impl<K: Entry> SortedSet<K> {
         self.entries = without(entries, &other.entries);
     }
 
+    /// Takes the entries that begin with the parts of `prefix`.
+    ///
+    /// What stands behind them is moved once.
+    pub fn remove_with_first<P: Prefix<K>>(&mut self, prefix: P)
+        ensures removed { set_of K.cmp self.new ≡ retain (set_of K.cmp self.old) (λ entry. not (is_eq (P.place prefix entry))) }
+        ensures room { self.old.room ≤ self.new.room }
+    {
+        let (start, count) = span(&self.entries, prefix);
+        self.entries.drain(start..start + count);
+    }
+
     /// The same set, in memory of its own.
     ///
     /// # Errors
@@ -279,10 +290,20 @@ fn run<K: Entry, P: Prefix<K>>(entries: &[K], prefix: P) -> &[K]
     requires { IsStrictlySortedBy K.cmp entries.now }
     ensures { result.now ≡ filter (λ entry. is_eq (P.place prefix entry)) entries.now }
 {
+    let (start, count) = span(entries, prefix);
+    &entries[start..start + count]
+}
+
+// Where the entries that begin with these parts start, and how many they are.
+fn span<K: Entry, P: Prefix<K>>(entries: &[K], prefix: P) -> (usize, usize)
+    requires { IsStrictlySortedBy K.cmp entries.now }
+    ensures within { result.0 + result.1 ≤ length entries.now }
+    ensures those { take result.1 (drop result.0 entries.now) ≡ filter (λ entry. is_eq (P.place prefix entry)) entries.now }
+    ensures others { remove_range entries.now result.0 (result.0 + result.1) ≡ filter (λ entry. not (is_eq (P.place prefix entry))) entries.now }
+{
     let start = entries.partition_point(|entry| prefix.compare(entry).is_lt());
-    let rest = &entries[start..];
-    let count = count_first(rest, prefix);
-    &rest[..count]
+    let count = count_first(&entries[start..], prefix);
+    (start, count)
 }
 
 // How many entries begin with these parts, where they stand first. Its time grows with the logarithm of

@@ -1,14 +1,19 @@
 //! Changes of the sets and relations in place, in room that was made before.
-ghost use Rattle.std.specs.Prelude.{◌≡◌, ◌∷◌, [], ◌<◌, ℕ, Some, IfErr, OnOk, get_or};
+ghost use Rattle.std.specs.Prelude.{◌≡◌, List, ◌∷◌, [], ◌<◌, ◌≤◌, ℕ, Some, IfErr, OnOk, get_or, length, take, drop};
 ghost use Rattle.rbac_sets.specs.declared.table.TheConstants.Table.{COUNT};
+ghost use Rattle.rbac_sets.specs.declared.row.TheConstants.Row.{ACTIVATED_ROLE};
+ghost use Rattle.rbac_sets.specs.declared.row.Change.{Change};
 ghost use Rattle.rbac_sets.specs.declared.row.Change.TheVariants.{Put, Take};
 ghost use Rattle.role_order.specs.Planned.{Fits, changed};
 ghost use Rattle.admin_mgr.specs.Stepping.{with_row, without_row, with_edges, after_change, after_changes, IsFree, AreFree, HasRoom, Spends, table_put, puts_of};
 ghost use Rattle.admin_mgr.specs.Planned.{order_of, HasRoomIn};
+ghost use Rattle.admin_mgr.specs.Changes.{takes};
+ghost use Rattle.admin_mgr.specs.Listing.{pair_row, takes_first};
 
 use crate::relations::Relations;
-use rbac_sets::{Change, Refusal, Row, Table};
+use rbac_sets::{Change, Name, Probe, Refusal, Row, Table};
 use role_order::OrderPlan;
+use std::collections::VecDeque;
 
 impl Relations {
     // Makes room for the rows that the changes put, but for those of the role hierarchy.
@@ -48,15 +53,21 @@ impl Relations {
         self.order.make_room(plan)
     }
 
-    // Makes the changes one after the other, but for the rows of the role hierarchy.
+    // Makes the changes one after the other, but for the rows of the role hierarchy. The roles that were
+    // activated in a session go together.
     pub(crate) fn change(&mut self, changes: Vec<Change>)
         requires free { AreFree self.old.facts changes.items }
         requires room { HasRoom self.old.room changes.items }
         ensures facts { self.new.facts ≡ after_changes self.old.facts changes.items }
         ensures order { order_of self.new ≡ order_of self.old }
     {
-        for change in changes {
-            self.apply(change);
+        let mut changes = VecDeque::from_vec(changes);
+        while !changes.is_empty() {
+            let taken = self.take_roles(changes.as_slices().0);
+            pass(&mut changes, taken);
+            if let Some(change) = changes.pop_front() {
+                self.apply(change);
+            }
         }
     }
 
@@ -67,6 +78,28 @@ impl Relations {
         ensures { self.new.facts ≡ with_edges self.old.facts (changed self.old.facts.edges plan) }
     {
         self.order.commit(plan);
+    }
+
+    // Makes the first of the changes, where they take the roles that were activated in a session, each of
+    // them, and says how many they are. Otherwise it makes none.
+    #[tactic(auto, unfolding(crate::specs::Stepping::after_changes))]
+    fn take_roles(&mut self, changes: &[Change]) -> usize
+        ensures within { result ≤ length changes.now }
+        ensures facts { self.new.facts ≡ after_changes self.old.facts (take result changes.now) }
+        ensures room { (others : List Change) → HasRoom self.old.room others → HasRoom self.new.room others }
+        ensures order { order_of self.new ≡ order_of self.old }
+    {
+        let Some(Change::Take(Row::PairRow(Row::ACTIVATED_ROLE, session, _))) = changes.first()
+        else {
+            return 0;
+        };
+        let roles = self.active.with_first(session);
+        let count = roles.len();
+        if !takes_first(changes, roles) {
+            return 0;
+        }
+        self.active.remove_with_first(session);
+        count
     }
 
     // Makes one change.
@@ -163,6 +196,42 @@ impl Relations {
             }
             _ => {}
         }
+    }
+}
+
+// Passes over the first changes, as many as `count`, which are made.
+fn pass(changes: &mut VecDeque<Change>, count: usize)
+    requires { count ≤ length changes.old.items }
+    ensures { changes.new.items ≡ drop count changes.old.items }
+{
+    changes.drain(..count);
+}
+
+// Whether the first of the changes take the rows of these activated roles, one after the other.
+#[tactic(auto, using(crate::proofs::PlanRows::TakenTogether::too_few))]
+fn takes_first(changes: &[Change], roles: &[(Name, Name)]) -> bool
+    ensures { result ≡ takes_first changes.now roles.now }
+{
+    if changes.len() < roles.len() {
+        return false;
+    }
+    for at in 0..roles.len() {
+        if !takes_role(&changes[at], &roles[at]) {
+            return false;
+        }
+    }
+    true
+}
+
+// Whether the change takes the row of this activated role.
+fn takes_role(change: &Change, role: &(Name, Name)) -> bool
+    ensures { result ≡ takes change.now (pair_row ACTIVATED_ROLE role.now) }
+{
+    match change {
+        Change::Take(Row::PairRow(Row::ACTIVATED_ROLE, session, taken)) => {
+            (session, taken).compare(role).is_eq()
+        }
+        _ => false,
     }
 }
 

@@ -1,8 +1,11 @@
-use Rattle.std.proofs.Common.{◌≡◌}
+use Rattle.std.proofs.Common.{◌≡◌, length}
 use Rattle.admin_mgr.specs.Stepping.{after_changes, AreFree, HasRoom}
 use Rattle.admin_mgr.specs.Planned.{order_of}
 use Rattle.admin_mgr.proofs.relations.Relations.change.Given as goal
 
-abbrev pub invariant-loop-change : goal.invariant-loop-change
-invariant-loop-change l = (after_changes l.self.facts l.change-iterator.rest.items ≡ after_changes l.fn.self.facts l.fn.changes.items)
-    × AreFree l.self.facts l.change-iterator.rest.items × HasRoom l.self.room l.change-iterator.rest.items × (order_of l.self ≡ order_of l.fn.self)
+abbrev pub invariant-loop-self : goal.invariant-loop-self
+invariant-loop-self l = (after_changes l.self.facts l.changes.items ≡ after_changes l.fn.self.facts l.fn.changes.items)
+    × AreFree l.self.facts l.changes.items × HasRoom l.self.room l.changes.items × (order_of l.self ≡ order_of l.fn.self)
+
+abbrev pub decreases-loop-self : goal.decreases-loop-self
+decreases-loop-self l = length l.changes.items
