@@ -5,6 +5,7 @@ pub mod InheritLaws
 pub mod KeepLaws
 pub mod NumberLaws
 pub mod RefusingLaws
+pub mod RoleLaws
 pub mod SeparationLaws
 pub mod SessionCommandLaws
 pub mod TouchLaws

@@ -11,7 +11,7 @@ use Rattle.rbac_sets.specs.Sets.{Bytes, Names, Pair, contains, len}
 use Rattle.rbac_sets.specs.declared.row.Row.{Row}
 use Rattle.admin_mgr.specs.RbacState.{RbacState, members_of}
 use Rattle.admin_mgr.specs.Rows.{has_row}
-use Rattle.admin_mgr.specs.Authorization.{is_authorized}
+use Rattle.admin_mgr.specs.Authorization.{authorized_roles, is_authorized, session_roles, is_session_role}
 use Rattle.admin_mgr.specs.Separation.{static_violation, dynamic_violation}
 use Rattle.admin_mgr.specs.After.{after}
 use Rattle.admin_mgr.specs.Verdict.{verdict}
@@ -52,6 +52,15 @@ StaticTest = (S : RbacState) → IsWellFormed S → (static_violation S ≡ None
 -- no dynamic set is named exactly where none is violated
 abbrev pub DynamicTest : Type 0
 DynamicTest = (S : RbacState) → (dynamic_violation S ≡ None) ↔ IsDynamicallySeparated S
+
+-- where the relations are well formed, the roles for which a user is authorized are all roles that are there: their set
+-- leaves none out
+abbrev pub AuthorizedRolesAreThere : Type 0
+AuthorizedRolesAreThere = (S : RbacState) → IsWellFormed S → (user role : Bytes) → contains (authorized_roles S user) role ≡ is_authorized S user role
+
+-- and so are the roles of a session
+abbrev pub SessionRolesAreThere : Type 0
+SessionRolesAreThere = (S : RbacState) → IsWellFormed S → (session role : Bytes) → contains (session_roles S session) role ≡ is_session_role S session role
 
 -- ---- an import that is made twice
 

@@ -1,5 +1,5 @@
 //! What holds of the sets and relations, however they are stored.
-ghost use Rattle.admin_mgr.specs.Laws.{SubsetForm, RowsDetermine, AcceptedIsGood, StaticTest, DynamicTest, ImportTwice};
+ghost use Rattle.admin_mgr.specs.Laws.{SubsetForm, RowsDetermine, AcceptedIsGood, StaticTest, DynamicTest, AuthorizedRolesAreThere, SessionRolesAreThere, ImportTwice};
 ghost use Rattle.admin_mgr.specs.Asked.{CommandsGoByAsked};
 ghost use Rattle.admin_mgr.specs.Checked.{GoodRowsAreRead};
 ghost use Rattle.admin_mgr.specs.CommandLaws.{VerdictsRefuseCommands, AssignedByCommand, GrantedByCommand, VersionStays};
@@ -34,6 +34,14 @@ pub fn static_test()
 #[tactic(auto, using(crate::proofs::Verdicts::SeparationLaws::dynamic_test))]
 pub fn dynamic_test()
     ensures { DynamicTest }
+{}
+
+/// The roles for which a user is authorized, and those of a session, are roles that are there: the sets
+/// authorized_roles and session_roles, which keep to the roles of the state, leave none out.
+#[tactic(auto, using(crate::proofs::Verdicts::RoleLaws::authorized_roles_are_there, crate::proofs::Verdicts::RoleLaws::session_roles_are_there))]
+pub fn reached_roles_are_there()
+    ensures authorized { AuthorizedRolesAreThere }
+    ensures session { SessionRolesAreThere }
 {}
 
 /// An import of assignments that is made again changes nothing, whatever the state was: it assigns no
