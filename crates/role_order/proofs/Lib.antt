@@ -8,4 +8,5 @@ pub mod Ranking
 pub mod Removing
 pub mod Runs
 pub mod StoredClosure
+pub mod Unions
 pub mod Walks

@@ -13,6 +13,7 @@ pub use plan::OrderPlan;
 mod building;
 mod checking;
 pub mod laws;
+mod lost;
 mod naming;
 pub mod order;
 pub mod plan;

@@ -8,20 +8,21 @@ ghost use Rattle.role_order.specs.Order.{HasPair};
 ghost use Rattle.role_order.specs.Removal.{HasWay, AreSuspects, AreLost, junior_count};
 
 use crate::building::push;
+use crate::lost::LostPairs;
 use crate::naming::{is_same, run};
 use rbac_sets::{Name, NameSet, PairSet, Refusal};
 use std::alloc::Global;
 
 // Whether `z` is `b`, or has a pair with it that is not taken.
-fn goes_on(pairs: &PairSet, takes: &PairSet, z: &Name, b: &Name) -> bool
-    ensures { IsTrue result ↔ ((z.now ≡ b.now) ⊎ (HasPair (set_of pair_cmp pairs.now) z.now b.now × (HasPair (set_of pair_cmp takes.now) z.now b.now → ⊥))) }
+fn goes_on(pairs: &PairSet, takes: &LostPairs, z: &Name, b: &Name) -> bool
+    ensures { IsTrue result ↔ ((z.now ≡ b.now) ⊎ (HasPair (set_of pair_cmp pairs.now) z.now b.now × (HasPair takes.now z.now b.now → ⊥))) }
 {
-    is_same(z, b) || (pairs.contains((z, b)) && !takes.contains((z, b)))
+    is_same(z, b) || (!takes.contains(z, b) && pairs.contains((z, b)))
 }
 
 // Whether one of the edges that are left leads from `a` to `b`, or to a name with a pair to `b` that is not taken.
-fn has_way(left: &PairSet, pairs: &PairSet, takes: &PairSet, a: &Name, b: &Name) -> bool
-    ensures { IsTrue result ↔ HasWay (set_of pair_cmp left.now) (set_of pair_cmp pairs.now) (set_of pair_cmp takes.now) a.now b.now }
+fn has_way(left: &PairSet, pairs: &PairSet, takes: &LostPairs, a: &Name, b: &Name) -> bool
+    ensures { IsTrue result ↔ HasWay (set_of pair_cmp left.now) (set_of pair_cmp pairs.now) takes.now a.now b.now }
 {
     for edge in run(left, a) {
         if goes_on(pairs, takes, &edge.1, b) {
@@ -36,13 +37,13 @@ fn lost_in_row(
     alloc: Global,
     left: &PairSet,
     pairs: &PairSet,
-    takes: &PairSet,
+    takes: &LostPairs,
     a: &Name,
     below: &NameSet,
 ) -> Result<PairSet, Refusal>
     ensures lost { IfOk result (λ lost. (x y : Bytes) → HasPair (set_of pair_cmp lost) x y
         ↔ ((x ≡ a.now) × (IsTrue (contains (set_of name_cmp below.now) y)
-        × (HasWay (set_of pair_cmp left.now) (set_of pair_cmp pairs.now) (set_of pair_cmp takes.now) a.now y → ⊥)))) }
+        × (HasWay (set_of pair_cmp left.now) (set_of pair_cmp pairs.now) takes.now a.now y → ⊥)))) }
     ensures cause { IfErr result (λ refusal. refusal ≡ Refusal.Memory) }
 {
     let mut lost = PairSet::new(alloc);
@@ -67,13 +68,12 @@ pub fn lost_pairs(
     ensures lost { IfOk result (λ takes. AreLost (set_of pair_cmp left.now) (set_of pair_cmp pairs.now) (set_of pair_cmp takes)) }
     ensures cause { IfErr result (λ refusal. refusal ≡ Refusal.Memory) }
 {
-    let mut takes = PairSet::new(alloc);
+    let mut takes = LostPairs::new(alloc);
     for a in above {
         let lost = lost_in_row(alloc, left, pairs, &takes, a, below)?;
-        takes.reserve(lost.len())?;
-        takes.merge_reserved(lost);
+        takes.add(alloc, lost)?;
     }
-    Ok(takes)
+    takes.into_pairs()
 }
 
 // How many names `a` has a pair with.

@@ -15,14 +15,14 @@ returns-then-goes_on c =
 
 pub loop-edge-preserved : goal.loop-edge-preserved
 loop-edge-preserved c =
-    all_more (λ (q : Pair). (q.1 ≡ c.args.b.now) ⊎ (HasPair (set_of pair_cmp c.args.pairs.now) q.1 c.args.b.now × (HasPair (set_of pair_cmp c.args.takes.now) q.1 c.args.b.now → ⊥)) → ⊥)
+    all_more (λ (q : Pair). (q.1 ≡ c.args.b.now) ⊎ (HasPair (set_of pair_cmp c.args.pairs.now) q.1 c.args.b.now × (HasPair c.args.takes.now q.1 c.args.b.now → ⊥)) → ⊥)
     c.run-edge-items.result.now c.loop-edge.edge-index c.edge-item.result c.loop-edge-test.true c.edge-item.is
     (λ s. let t = c.if-goes_on.ensures.1 s in cc) c.loop-edge.invariant
 
 pub returns : goal.returns
 returns c = (
   λ t. cc,
-  λ s. absurd (all_done (λ (q : Pair). (q.1 ≡ c.args.b.now) ⊎ (HasPair (set_of pair_cmp c.args.pairs.now) q.1 c.args.b.now × (HasPair (set_of pair_cmp c.args.takes.now) q.1 c.args.b.now → ⊥)) → ⊥)
+  λ s. absurd (all_done (λ (q : Pair). (q.1 ≡ c.args.b.now) ⊎ (HasPair (set_of pair_cmp c.args.pairs.now) q.1 c.args.b.now × (HasPair c.args.takes.now q.1 c.args.b.now → ⊥)) → ⊥)
       c.run-edge-items.result.now c.loop-edge.edge-index c.loop-edge-test.false
       c.loop-edge.invariant (c.args.a.now, s.0) ((c.run-edge-items.ensures.members (c.args.a.now, s.0)).1 (s.1, refl)) s.2),
 )

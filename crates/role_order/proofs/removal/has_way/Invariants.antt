@@ -7,4 +7,4 @@ use Rattle.role_order.proofs.removal.has_way.Given as goal
 
 abbrev pub invariant-loop-edge : goal.invariant-loop-edge
 invariant-loop-edge l = (p : Pair) → Contains (take l.edge-index l.edge-items) p
-    → ((p.1 ≡ l.b) ⊎ (HasPair (set_of pair_cmp l.pairs) p.1 l.b × (HasPair (set_of pair_cmp l.takes) p.1 l.b → ⊥))) → ⊥
+    → ((p.1 ≡ l.b) ⊎ (HasPair (set_of pair_cmp l.pairs) p.1 l.b × (HasPair l.takes p.1 l.b → ⊥))) → ⊥

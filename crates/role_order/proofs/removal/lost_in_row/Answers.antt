@@ -18,19 +18,19 @@ pub push-requires : goal.push-requires
 push-requires c = λ p h.
     let rise : IsStrictlySortedBy name_cmp c.as_slice-b-items.result.now = subst (IsStrictlySortedBy name_cmp) (sym c.as_slice-b-items.ensures) (members-rise name_cmp _) in
     (λ i. pair_cmp p (c.in_ok-copy.ensures.ok i, c.in_ok-copy-2.ensures.ok i))
-    ∙ row_above (λ _ _. ⊥) (HasWay (set_of pair_cmp c.args.left.now) (set_of pair_cmp c.args.pairs.now) (set_of pair_cmp c.args.takes.now) c.args.a.now) c.args.a.now c.as_slice-b-items.result.now c.loop-b.b-index c.b-item.result
+    ∙ row_above (λ _ _. ⊥) (HasWay (set_of pair_cmp c.args.left.now) (set_of pair_cmp c.args.pairs.now) c.args.takes.now c.args.a.now) c.args.a.now c.as_slice-b-items.result.now c.loop-b.b-index c.b-item.result
     (set_of pair_cmp c.loop-b.lost) c.loop-b-test.true c.b-item.is c.loop-b.invariant rise (λ x y o. absurd o) p h
 
 pub loop-b-preserved : goal.loop-b-preserved
 loop-b-preserved c =
     elim c.if-not-has_way.branch [
       | then-not-has_way+in_ok-copy+in_ok-copy-2+in_ok-push w ↦ rw w.lost-is
-          (row_more (λ _ _. ⊥) (HasWay (set_of pair_cmp c.args.left.now) (set_of pair_cmp c.args.pairs.now) (set_of pair_cmp c.args.takes.now) c.args.a.now) c.args.a.now c.as_slice-b-items.result.now c.loop-b.b-index c.b-item.result
+          (row_more (λ _ _. ⊥) (HasWay (set_of pair_cmp c.args.left.now) (set_of pair_cmp c.args.pairs.now) c.args.takes.now c.args.a.now) c.args.a.now c.as_slice-b-items.result.now c.loop-b.b-index c.b-item.result
           (set_of pair_cmp c.loop-b.lost) c.loop-b-test.true c.b-item.is c.loop-b.invariant _
           (w.in_ok-push.ensures.ok ∙ (λ i. insert (set_of pair_cmp c.loop-b.lost) (w.in_ok-copy.ensures.ok i, w.in_ok-copy-2.ensures.ok i)))
           (λ way. let t = w.if-not-has_way.ensures.1 way in cc))
       | else-not-has_way w ↦ rw w.lost-is
-          (row_skip (λ _ _. ⊥) (HasWay (set_of pair_cmp c.args.left.now) (set_of pair_cmp c.args.pairs.now) (set_of pair_cmp c.args.takes.now) c.args.a.now) c.args.a.now c.as_slice-b-items.result.now c.loop-b.b-index c.b-item.result
+          (row_skip (λ _ _. ⊥) (HasWay (set_of pair_cmp c.args.left.now) (set_of pair_cmp c.args.pairs.now) c.args.takes.now c.args.a.now) c.args.a.now c.as_slice-b-items.result.now c.loop-b.b-index c.b-item.result
           (set_of pair_cmp c.loop-b.lost) c.loop-b-test.true c.b-item.is c.loop-b.invariant
           (w.if-not-has_way.ensures.0 refl))
     ]

@@ -1,0 +1,92 @@
+//! The pairs that are found to be lost where an edge goes, one role's after the other's.
+ghost use Rattle.std.specs.Prelude.{◌≡◌, ◌||◌, IfOk, IfErr, OnOk};
+ghost use Rattle.rbac_sets.specs.Sets.{IsDisjoint, pair_cmp, contains, empty, union};
+ghost use Rattle.rbac_sets.specs.SortedSet.{set_of};
+
+use rbac_sets::{Name, PairSet, Refusal};
+use std::alloc::Global;
+use std::marker::Model;
+use std::mem;
+
+// How many pairs stand apart at most when more are added.
+const MOST_APART: usize = 16_384;
+
+// The pairs that are lost as far as they were found. The latest stand apart from the earlier ones, so that
+// the pairs of one role more are merged with few others, and not with all.
+#[derive(Drop)]
+pub struct LostPairs {
+    earlier: PairSet,
+    latest: PairSet,
+}
+
+impl Model for LostPairs {
+    ghost use Rattle.rbac_sets.specs.Sets.{IsDisjoint, Pairs, coded_pair, coded_set, pair_cmp, union};
+    ghost use Rattle.rbac_sets.specs.SortedSet.{set_of};
+
+    ghost Value = { Pairs };
+
+    ghost coded = { coded_set coded_pair };
+
+    ghost view = { λ lost. union (set_of pair_cmp lost.earlier) (set_of pair_cmp lost.latest) };
+
+    ghost invariant = { λ lost. IsDisjoint (set_of pair_cmp lost.earlier) (set_of pair_cmp lost.latest) };
+}
+
+impl LostPairs {
+    // No pairs. It takes no memory yet.
+    pub fn new(alloc: Global) -> LostPairs
+        ensures { result ≡ empty }
+    {
+        LostPairs {
+            earlier: PairSet::new(alloc),
+            latest: PairSet::new(alloc),
+        }
+    }
+
+    // Whether the pair of `a` and `b` is one of them.
+    pub fn contains(&self, a: &Name, b: &Name) -> bool
+        ensures { result ≡ contains self.now (a.now, b.now) }
+    {
+        self.latest.contains((a, b)) || self.earlier.contains((a, b))
+    }
+
+    // Adds pairs that are none of them yet.
+    pub fn add(&mut self, alloc: Global, pairs: PairSet) -> Result<(), Refusal>
+        requires { IsDisjoint self.old (set_of pair_cmp pairs) }
+        ensures ok { OnOk result (self.new ≡ union self.old (set_of pair_cmp pairs)) }
+        ensures cause { IfErr result (λ refusal. refusal ≡ Refusal.Memory) }
+    {
+        self.join(alloc)?;
+        self.latest.reserve(pairs.len())?;
+        self.latest.merge_reserved(pairs);
+        Ok(())
+    }
+
+    // Puts the latest to the earlier ones, where they are many.
+    fn join(&mut self, alloc: Global) -> Result<(), Refusal>
+        ensures keeps { self.new ≡ self.old }
+        ensures cause { IfErr result (λ refusal. refusal ≡ Refusal.Memory) }
+    {
+        if self.latest.len() <= MOST_APART {
+            return Ok(());
+        }
+        self.earlier.reserve(self.latest.len())?;
+        let latest = mem::replace(&mut self.latest, PairSet::new(alloc));
+        self.earlier.merge_reserved(latest);
+        Ok(())
+    }
+
+    // All of them as one set.
+    pub fn into_pairs(self) -> Result<PairSet, Refusal>
+        ensures ok { IfOk result (λ pairs. set_of pair_cmp pairs ≡ self) }
+        ensures cause { IfErr result (λ refusal. refusal ≡ Refusal.Memory) }
+    {
+        let LostPairs {
+            mut earlier,
+            latest,
+        } = self;
+        earlier.reserve(latest.len())?;
+        earlier.merge_reserved(latest);
+        Ok(earlier)
+    }
+}
