@@ -351,12 +351,35 @@ impl Office {
         }
     }
 
-    /// Makes the changes of a plan.
+    /// Takes the roles that were activated in a session, where the first of the changes take each of them, and says
+    /// how many they are. Otherwise it takes none.
+    fn take_roles(&mut self, changes: &[Change]) -> usize {
+        let Some(Change::Take(Row::Pair(Pairs::Active, session, _))) = changes.first() else {
+            return 0;
+        };
+        let start = self.active.partition_point(|it| it.0 < *session);
+        let rest = &self.active[start..];
+        let roles = &rest[..rest.partition_point(|it| it.0 == *session)];
+        let takes = |change: &Change, role: &Pair| {
+            matches!(change, Change::Take(Row::Pair(Pairs::Active, a, b)) if *a == role.0 && *b == role.1)
+        };
+        let count = roles.len();
+        if changes.len() < count || !roles.iter().zip(changes).all(|(role, change)| takes(change, role)) {
+            return 0;
+        }
+        self.active.drain(start..start + count);
+        count
+    }
+
+    /// Makes the changes of a plan. The roles that were activated in a session go together.
     pub fn commit(&mut self, plan: Plan) {
-        for change in plan.changes {
-            match change {
-                Change::Put(row) => self.put(row),
-                Change::Take(row) => self.take(row),
+        let mut changes = plan.changes.into_iter();
+        loop {
+            let taken = self.take_roles(changes.as_slice());
+            match changes.nth(taken) {
+                Some(Change::Put(row)) => self.put(row),
+                Some(Change::Take(row)) => self.take(row),
+                None => break,
             }
         }
         match plan.order {

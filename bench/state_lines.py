@@ -243,6 +243,21 @@ def all_sessions_end(sizes):
     time("lockUserAccount/all-sessions", "lockUserAccount", user(20))
 
 
+def a_role_of_all_goes(sizes):
+    """Deletes a role that all users have and that is granted each permission."""
+    for number in range(sizes.sets):
+        say("deleteSsdSet", f"set{number:02}")
+    say("addRole", "role-of-all")
+    for number in range(sizes.users):
+        say("deassignUser", user(number), sizes.assigned(number))
+        say("assignUser", user(number), "role-of-all")
+    for number in range(sizes.permissions):
+        permission = sizes.permission(number)
+        say("revokePermission", *permission, role(number * 7 % sizes.roles))
+        say("grantPermission", *permission, "role-of-all")
+    time("deleteRole/of-all", "deleteRole", "role-of-all")
+
+
 def limits(part):
     """Each command at the limits, or at a part of them."""
     sizes = Sizes(part)
@@ -254,6 +269,7 @@ def limits(part):
         on_sets(sizes)
         on_sessions(sizes)
     all_sessions_end(sizes)
+    a_role_of_all_goes(sizes)
 
 
 def rows_and_report():
