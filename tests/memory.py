@@ -193,7 +193,8 @@ def refuse_row_in_memory(bench, row, most):
         bench.judge(f"{what}: what it says", faults)
         counts[f"replay --memory: ended with {end_of(done)}"] += 1
         counts["allocations refused in memory"] += 1
-    bench.same(f"{row} in memory, nothing refused", run(count + 1), whole)
+    # A pipe gives a long input in other pieces from run to run, and that takes some allocations more or fewer.
+    bench.same(f"{row} in memory, nothing refused", run(MOST), whole)
     return counts
 
 
