@@ -27,3 +27,7 @@ is_session_role S session role = any (λ active. geq S.edges active role) (activ
 -- SessionRoles, session_roles: the roles that were activated in the session, and those below them
 unfoldable pub session_roles : RbacState → Bytes → Names
 session_roles S session = retain S.roles (is_session_role S session)
+
+-- CheckAccess, of a session, an operation and an object: a role of the session is granted the permission
+unfoldable pub has_access : RbacState → Bytes → Bytes → Bytes → Bool
+has_access S session operation object = any (λ role. contains S.grants (object, operation, role)) (session_roles S session)

@@ -1,6 +1,6 @@
 -- The changes of a plan, written row by row: sets of rows that go or come, the rows of sessions that end, and the rows of an
 -- edge with the pairs of the order.
-use Rattle.std.specs.Prelude.{ℕ, Bool, true, false, not, ◌&&◌, List, [], ◌∷◌, map, filter, if◌then◌else◌}
+use Rattle.std.specs.Prelude.{ℕ, Bool, not, List, [], ◌∷◌, map, filter, if◌then◌else◌}
 use Rattle.std.specs.List.{flat_map}
 use Rattle.rbac_sets.specs.Sets.{Bytes, Pair, Triple, Pairs, contains, members}
 use Rattle.rbac_sets.specs.declared.row.Row.{Row}
@@ -10,7 +10,6 @@ use Rattle.rbac_sets.specs.declared.row.Change.{Change}
 use Rattle.rbac_sets.specs.declared.row.Change.TheVariants.{Put, Take}
 use Rattle.admin_mgr.specs.RbacState.{RbacState}
 use Rattle.admin_mgr.specs.Held.{run_of}
-use Rattle.admin_mgr.specs.Changes.{takes}
 
 -- the row of a pair, by the kind of pairs that it is
 abbrev pub pair_row : ℕ → Pair → Row
@@ -27,12 +26,6 @@ take_all row entries = map (λ entry. Take (row entry)) entries
 -- the row of each entry comes
 abbrev pub put_all : {K : Type 0} → (K → Row) → List K → List Change
 put_all row entries = map (λ entry. Put (row entry)) entries
-
--- the first of the changes take the rows of these activated roles, one after the other
-abbrev pub takes_first : List Change → List Pair → Bool
-takes_first changes [] = true
-takes_first [] (role ∷ roles) = false
-takes_first (change ∷ changes) (role ∷ roles) = takes change (pair_row ACTIVATED_ROLE role) && takes_first changes roles
 
 -- a session's row goes, and the rows of the roles that were activated in it
 abbrev pub session_rows : RbacState → Pair → List Change

@@ -50,7 +50,7 @@ impl State {
     ///
     /// # Errors
     ///
-    /// The first of the command's refusals that holds, in the order that `judge` has. `Memory` where
+    /// The first of the command's refusals that holds, in the order of docs/MODEL.md. `Memory` where
     /// memory for the plan was refused. The state is kept in any case.
     pub fn plan(&self, alloc: Global, command: &Command) -> Result<Plan, Refusal>
         ensures accepted { IfOk result (λ plan. verdict self.now.facts command.now ≡ None) }

@@ -63,7 +63,7 @@ impl State {
         }
     }
 
-    /// The state that is stored as these rows, in an office of this version.
+    /// The state that is stored as these rows, in an office of this version, which is 1 or 2.
     ///
     /// # Errors
     ///
@@ -120,7 +120,7 @@ impl State {
         let _ = &self.relations;
     }
 
-    /// What holds of the names of every state.
+    /// Each name in a row of the state is a name, as `is_good` says that the state is good.
     pub fn is_named(&self)
         ensures { AreNamed self.now.facts }
     {

@@ -1,5 +1,5 @@
 //! Changes of the sets and relations in place, in room that was made before.
-ghost use Rattle.std.specs.Prelude.{◌≡◌, List, ◌∷◌, [], ◌<◌, ◌≤◌, ℕ, Some, IfErr, OnOk, get_or, length, take, drop};
+ghost use Rattle.std.specs.Prelude.{◌≡◌, List, ◌∷◌, [], ◌<◌, ◌≤◌, ℕ, Some, IfErr, OnOk, get_or, length, take, drop, IsTrue, ◌↔◌};
 ghost use Rattle.rbac_sets.specs.declared.table.TheConstants.Table.{COUNT};
 ghost use Rattle.rbac_sets.specs.declared.row.TheConstants.Row.{ACTIVATED_ROLE};
 ghost use Rattle.rbac_sets.specs.declared.row.Change.{Change};
@@ -8,7 +8,7 @@ ghost use Rattle.role_order.specs.Planned.{Fits, changed};
 ghost use Rattle.admin_mgr.specs.Stepping.{with_row, without_row, with_edges, after_change, after_changes, IsFree, AreFree, HasRoom, Spends, table_put, puts_of};
 ghost use Rattle.admin_mgr.specs.Planned.{order_of, HasRoomIn};
 ghost use Rattle.admin_mgr.specs.Changes.{takes};
-ghost use Rattle.admin_mgr.specs.Listing.{pair_row, takes_first};
+ghost use Rattle.admin_mgr.specs.Listing.{pair_row, take_all};
 
 use crate::relations::Relations;
 use rbac_sets::{Change, Name, Probe, Refusal, Row, Table};
@@ -207,10 +207,9 @@ fn pass(changes: &mut VecDeque<Change>, count: usize)
     changes.drain(..count);
 }
 
-// Whether the first of the changes take the rows of these activated roles, one after the other.
-#[tactic(auto, using(crate::proofs::PlanRows::TakenTogether::too_few))]
+// Whether the changes begin with those that take the rows of these activated roles, in their order.
 fn takes_first(changes: &[Change], roles: &[(Name, Name)]) -> bool
-    ensures { result ≡ takes_first changes.now roles.now }
+    ensures { IsTrue result ↔ (take (length roles.now) changes.now ≡ take_all (pair_row ACTIVATED_ROLE) roles.now) }
 {
     if changes.len() < roles.len() {
         return false;

@@ -1,6 +1,6 @@
-use Rattle.std.proofs.Common.{◌≡◌, true, rules, arith, sym}
+use Rattle.std.proofs.Common.{refl, arith, sym}
 use Rattle.admin_mgr.specs.View.{view_of}
-use Rattle.admin_mgr.specs.Listing.{pair_row, takes_first}
+use Rattle.admin_mgr.specs.Listing.{pair_row}
 use Rattle.rbac_sets.specs.Table.{number_of}
 use Rattle.rbac_sets.specs.declared.table.Table.TheVariants.{ActivatedRoles}
 use Rattle.rbac_sets.specs.declared.row.TheConstants.Row.{ACTIVATED_ROLE}
@@ -11,13 +11,11 @@ use Rattle.admin_mgr.proofs.relations.Relations.take_roles.Goals as goal
 
 pub returns-clause-within : goal.returns-clause-within
 returns-clause-within c =
-    let are_taken : takes_first c.args.changes.now c.with_first-roles.result.now ≡ true = search rules in
-    enough c.args.changes.now c.with_first-roles.result.now are_taken
+    enough c.args.changes.now c.with_first-roles.result.now (c.if-not-takes_first.ensures.0 refl)
 
 pub returns-clause-facts : goal.returns-clause-facts
 returns-clause-facts c =
-    let are_taken : takes_first c.args.changes.now c.with_first-roles.result.now ≡ true = search rules in
-    let left = session_left (view_of c.self.inside).facts c.in-Some-Take-PairRow-eq8-default-default.session c.args.changes.now c.with_first-roles.result.now c.with_first-roles.ensures are_taken in
+    let left = session_left (view_of c.self.inside).facts c.in-Some-Take-PairRow-eq8-default-default.session c.args.changes.now c.with_first-roles.result.now c.with_first-roles.ensures (c.if-not-takes_first.ensures.0 refl) in
     rw (← c.self.view_is, c.remove_with_first.ensures.removed) (sym left)
 
 pub returns-clause-room : goal.returns-clause-room
