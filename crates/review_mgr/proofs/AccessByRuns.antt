@@ -10,12 +10,12 @@ use Rattle.rbac_sets.proofs.SetLaws.{any-Decides, contains-retain, tie_Decides}
 use Rattle.rbac_sets.proofs.Members.{members-retain}
 use Rattle.rbac_sets.proofs.Lists.{any_filter}
 use Rattle.admin_mgr.specs.RbacState.{RbacState, has_session}
-use Rattle.admin_mgr.specs.Authorization.{session_roles, is_session_role}
+use Rattle.admin_mgr.specs.Authorization.{session_roles, is_session_role, has_access}
 use Rattle.admin_mgr.specs.Good.{IsGood}
 use Rattle.admin_mgr.specs.Held.{run_of, is_reached}
 use Rattle.admin_mgr.proofs.Verdicts.HeldLaws.{session_reached}
 use Rattle.review_mgr.specs.Questions.{has_operation}
-use Rattle.review_mgr.specs.Review.{has_access, permission_of, is_grant_of}
+use Rattle.review_mgr.specs.Review.{permission_of, is_grant_of}
 
 -- a role that is granted the permission is reached from what was activated
 pub access_reached : (S : RbacState) → IsGood S → (session operation object : Bytes) →

@@ -1,13 +1,13 @@
 -- The text of the report.
-use Rattle.std.proofs.Common.{◌≡◌, ℕ, ◌+◌, ◌<◌, List, [], ◌∷◌, ◌++◌, length, take, drop, get_or, zero, ◌≤◌, suc, arith, refl, sym, ◌∙◌, ap, append_assoc}
+use Rattle.std.proofs.Common.{◌≡◌, ℕ, ◌+◌, ◌<◌, List, [], ◌∷◌, ◌++◌, length, take, drop, get_or, zero, ◌≤◌, suc, arith, refl, sym, ◌∙◌, ap, subst, append_assoc}
 use Rattle.std.specs.declared.cmp.Ordering.{Ordering}
 use Rattle.std.specs.FinSet.{FinSet}
-use Rattle.std.proofs.lemmas.List.{take_more, append-nil, take-append-drop}
+use Rattle.std.proofs.lemmas.List.{take_more, append-nil, length-append, take-append-drop}
 use Rattle.rbac_sets.specs.Sets.{Bytes, len, members}
 use Rattle.rbac_sets.proofs.Members.{len-members}
 use Rattle.admin_mgr.specs.RbacState.{RbacState}
 use Rattle.std.specs.Prelude.{OnErr, Result, Ok, Err, Option}
-use Rattle.std.specs.Prelude.{◌-◌, replicate}
+use Rattle.std.specs.Prelude.{◌-◌, replicate, codes}
 use Rattle.std.proofs.lemmas.Str.{encode_ascii}
 use Rattle.std.specs.List.{repeat}
 use Rattle.std.specs.Fmt.{styled_decimal, format_spec, padded_integral, char_count}
@@ -15,7 +15,7 @@ use Rattle.std.specs.Io.KnownBytes.{Appends}
 use Rattle.std.proofs.Math.Seq.{drop-cons}
 use Rattle.rbac_sets.proofs.Runs.{take_whole}
 use Rattle.rbac_sets.proofs.Known.{Appends-more}
-use Rattle.review_mgr.specs.Report.{column, columns, heading, line_of, lines_of, report}
+use Rattle.review_mgr.specs.Report.{column, columns, counts_of, heading, line_of, lines_of, report}
 
 -- a list of the members is as long as the set has members
 pub counted : {K : Type 0} {R : K → K → Ordering} (s : FinSet R) (items : List K) (number : ℕ) → number ≡ length items → items ≡ members s → number ≡ len s
@@ -41,13 +41,14 @@ lines-more S roles i role within is =
 
 -- ---- a start of the report
 
--- what was written so far, and a start of what is written next, are a start of the report
-pub begun : (old between new : Option (List ℕ)) (whole so_far next after : List ℕ) → Appends old between so_far → (part rest : List ℕ) × (next ≡ part ++ rest) × Appends between new part
-    → whole ≡ so_far ++ (next ++ after) → (part rest : List ℕ) × (whole ≡ part ++ rest) × Appends old new part
-begun old between new whole so_far next after written (part, rest, is, more) all = (
+-- what was written so far, and a start of what is written next that is not the whole, are a start of the report that is not the whole
+pub begun : (old between new : Option (List ℕ)) (whole so_far next after : List ℕ) → Appends old between so_far → (part rest : List ℕ) × (next ≡ part ++ rest) × (1 ≤ length rest) × Appends between new part
+    → whole ≡ so_far ++ (next ++ after) → (part rest : List ℕ) × (whole ≡ part ++ rest) × (1 ≤ length rest) × Appends old new part
+begun old between new whole so_far next after written (part, rest, is, some, more) all = (
   so_far ++ part,
   rest ++ after,
   all ∙ ap (λ l. so_far ++ (l ++ after)) is ∙ ap (λ l. so_far ++ l) (append_assoc part rest after) ∙ sym (append_assoc so_far part (rest ++ after)),
+  omega (arith, length-append rest after, some),
   Appends-more old between new so_far part written more,
 )
 
@@ -67,6 +68,25 @@ report-step S roles i role all within is = report-split S roles i all
 pub report-whole : (S : RbacState) (roles : List Bytes) (i : ℕ) → roles ≡ members S.roles → length roles ≤ i → heading ++ lines_of S (take i roles) ≡ report S
 unfolding report
 report-whole S roles i all past = ap (λ l. heading ++ lines_of S l) (take_whole i roles past ∙ all)
+
+-- the report has a byte at least
+pub report-some : (S : RbacState) → 1 ≤ length (report S)
+unfolding report
+report-some S = omega (arith, length-append heading (lines_of S (members S.roles)))
+
+-- and so have a line, and the lines from a role on
+counts-some : (numbers : List ℕ) (name : Bytes) → 1 ≤ length (counts_of numbers name)
+counts-some numbers name = omega (arith, length-append (columns numbers) (codes "  " ++ (name ++ codes "\n")))
+
+line-some : (S : RbacState) (role : Bytes) → 1 ≤ length (line_of S role)
+unfolding line_of
+line-some S role = search (counts-some)
+
+pub lines-some : (S : RbacState) (roles : List Bytes) (i : ℕ) (role : Bytes) → i < length roles → 1 ≤ length (lines_of S (drop i roles))
+lines-some S roles i role within =
+    let first = get_or roles i role in
+    let rest = lines_of S (drop (suc i) roles) in
+    subst (λ l. 1 ≤ length (lines_of S l)) (sym (drop-cons roles i role within)) (omega (arith, length-append (line_of S first) rest, line-some S first))
 
 -- ---- what is known of an error
 

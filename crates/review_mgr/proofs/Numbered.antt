@@ -1,23 +1,22 @@
 -- What the numbers of the roles tell of them.
 use Rattle.std.proofs.Common.{◌≡◌, ℕ, ◌+◌, Bool, false, cond, List, [], length, get_or, map, refl, sym, ◌∙◌, ap, subst, inl, inr}
-use Rattle.std.specs.Prelude.{IsTrue, Some, count_by, nat_eq}
-use Rattle.std.specs.List.{list_any, slice_get}
-use Rattle.std.specs.Cmp.{both_ways}
+use Rattle.std.specs.Prelude.{IsTrue, count_by}
+use Rattle.std.specs.List.{list_any}
 use Rattle.std.specs.FinMap as finmap
-use Rattle.std.proofs.lemmas.Bool.{and_parts, and_from, eqb-true, eq-eqb}
+use Rattle.std.proofs.lemmas.Bool.{and_parts, and_from}
 use Rattle.std.proofs.lemmas.List.{get_or-map}
 use Rattle.std.proofs.lemmas.Option.{slice_get_within, get_or_from_slice_get}
-use Rattle.rbac_sets.specs.Sets.{Bytes, Names, Pair, Pairs, Triple, Triples, name_cmp, pair_cmp, same_name, contains, insert, members, retain, image, seconds, count, len}
+use Rattle.rbac_sets.specs.Sets.{Bytes, Names, Pair, Pairs, Triple, Triples, name_cmp, pair_cmp, contains, insert, members, retain, image, seconds, count, len}
 use Rattle.rbac_sets.specs.NameOrder.{name_total, name_exact, pair_total, pair_exact, triple_total, triple_exact}
-use Rattle.rbac_sets.proofs.SetLaws.{contains-retain, from_members, same_members, seconds-Decides, tie_Decides}
-use Rattle.rbac_sets.proofs.Members.{count-len, members-rise}
+use Rattle.rbac_sets.proofs.SetLaws.{contains-retain, same_members, seconds-Decides}
+use Rattle.rbac_sets.proofs.Members.{count-len}
 use Rattle.rbac_sets.proofs.Lists.{count_map}
 use Rattle.role_order.specs.Order.{HasPair, Geq, IsClosure, geq, seniors, juniors}
 use Rattle.role_order.specs.Runs.{run_of}
 use Rattle.role_order.proofs.Leading.{first_step}
 use Rattle.role_order.proofs.Deciding.{geq-Decides, at_or_above-are, juniors-same, not_own_senior}
 use Rattle.role_order.proofs.Runs.{run-count}
-use Rattle.order_table.specs.Table.{Table, count_above, entry, number_in, table_of}
+use Rattle.order_table.specs.Table.{Table, count_above, number_in, table_of}
 use Rattle.order_table.proofs.Roles.{number, placed}
 use Rattle.review_mgr.specs.Numbering.{assigned_runs, granted_runs, grant_numbers}
 use Rattle.review_mgr.proofs.Counts.{count-numbers, count-runs}

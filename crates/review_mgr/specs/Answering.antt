@@ -2,8 +2,8 @@
 use Rattle.std.specs.Prelude.{ℕ, Bool, List, Option, Some}
 use Rattle.rbac_sets.specs.Sets.{Bytes, Names, Pair, Pairs, members}
 use Rattle.admin_mgr.specs.RbacState.{RbacState, members_of, cardinality_of}
-use Rattle.admin_mgr.specs.Authorization.{authorized_users, authorized_roles, authorized_permissions, session_roles}
-use Rattle.review_mgr.specs.Review.{has_access, assigned_users, assigned_roles, user_permissions, session_permissions, role_operations_on_object, user_operations_on_object, permission_roles, role_sets}
+use Rattle.admin_mgr.specs.Authorization.{authorized_users, authorized_roles, authorized_permissions, session_roles, has_access}
+use Rattle.review_mgr.specs.Review.{assigned_users, assigned_roles, user_permissions, session_permissions, role_operations_on_object, user_operations_on_object, permission_roles, role_sets}
 use Rattle.review_mgr.specs.declared.query.Query.{Query}
 use Rattle.review_mgr.specs.declared.query.Query.TheVariants.{CheckAccess, AssignedUsers, AssignedRoles, AuthorizedUsers, AuthorizedRoles, RolePermissions, UserPermissions, SessionRoles, SessionPermissions, RoleOperationsOnObject, UserOperationsOnObject, SsdRoleSets, SsdRoleSetRoles, SsdRoleSetCardinality, DsdRoleSets, DsdRoleSetRoles, DsdRoleSetCardinality, PermissionRoles}
 use Rattle.review_mgr.specs.declared.query.Answer.{Answer}

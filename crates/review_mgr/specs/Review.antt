@@ -15,10 +15,6 @@ abbrev pub is_grant_of : Bytes → Bytes → Triple → Bool
 is_grant_of object operation grant = eq_by_cmp pair_cmp (permission_of grant) (object, operation)
 
 module _ (S : RbacState) where
-  -- CheckAccess: a role of the session is granted the permission
-  unfoldable pub has_access : Bytes → Bytes → Bytes → Bool
-  has_access session operation object = any (λ role. contains S.grants (object, operation, role)) (session_roles S session)
-
   -- AssignedUsers, assigned_users: the users that are assigned to the role
   unfoldable pub assigned_users : Bytes → Names
   assigned_users role = firsts S.assignments role

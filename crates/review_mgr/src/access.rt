@@ -1,11 +1,12 @@
 //! The access decision.
 ghost use Rattle.std.specs.Prelude.{◌≡◌, Some, None, filter, IfOk, IfErr};
 ghost use Rattle.rbac_sets.specs.Sets.{contains, members};
+ghost use Rattle.admin_mgr.specs.Authorization.{has_access};
 ghost use Rattle.admin_mgr.specs.Held.{run_of};
 ghost use Rattle.admin_mgr.specs.RbacState.{has_session};
 ghost use Rattle.review_mgr.specs.declared.query.Query.TheVariants.{CheckAccess};
 ghost use Rattle.review_mgr.specs.Questions.{has_operation, refused};
-ghost use Rattle.review_mgr.specs.Review.{has_access, is_grant_of};
+ghost use Rattle.review_mgr.specs.Review.{is_grant_of};
 
 use crate::lookup::{activated_in, has_operation, has_session};
 use crate::meeting::is_granted;

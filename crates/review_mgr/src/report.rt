@@ -139,10 +139,11 @@ fn line_of(alloc: Global, state: &State, numbers: &Numbers, role: &Name) -> Resu
 /// # Errors
 ///
 /// `Store` where a write to the sink failed, or took no byte. `Memory` where memory for the numbers of
-/// the roles or for a line was refused. What was written then is the start of the report.
+/// the roles or for a line was refused. What was written then is the start of the report, and not the
+/// whole.
 pub fn report_roles<W: Sink>(alloc: Global, state: &State, sink: &mut W) -> Result<(), Refusal>
     ensures ok { OnOk result (Appends (W.written sink.old) (W.written sink.new) (report state.now.facts)) }
-    ensures part { OnErr result ((part rest : List ℕ) × (report state.now.facts ≡ part ++ rest) × Appends (W.written sink.old) (W.written sink.new) part) }
+    ensures part { OnErr result ((part rest : List ℕ) × (report state.now.facts ≡ part ++ rest) × (1 ≤ length rest) × Appends (W.written sink.old) (W.written sink.new) part) }
     ensures cause { IfErr result (λ refusal. (refusal ≡ Refusal.Memory) ⊎ (refusal ≡ Refusal.Store)) }
     ensures store { result ≡ Err Refusal.Store → HasRisen (W.failed sink.old) (W.failed sink.new) ⊎ HasRisen (W.idle sink.old) (W.idle sink.new) }
 {
@@ -158,7 +159,7 @@ pub fn report_roles<W: Sink>(alloc: Global, state: &State, sink: &mut W) -> Resu
 // Writes a text.
 fn write_text<W: Sink>(sink: &mut W, text: &str) -> Result<(), Refusal>
     ensures ok { OnOk result (Appends (W.written sink.old) (W.written sink.new) text.now) }
-    ensures part { OnErr result ((part rest : List ℕ) × (text.now ≡ part ++ rest) × Appends (W.written sink.old) (W.written sink.new) part) }
+    ensures part { OnErr result ((part rest : List ℕ) × (text.now ≡ part ++ rest) × (1 ≤ length rest) × Appends (W.written sink.old) (W.written sink.new) part) }
     ensures failures { W.failed sink.old ≤ W.failed sink.new }
     ensures cause { IfErr result (λ refusal. refusal ≡ Refusal.Store) }
     ensures idle { W.idle sink.old ≤ W.idle sink.new }

@@ -7,11 +7,11 @@ use Rattle.rbac_sets.proofs.Known.{Appends-none, Appends-more}
 use Rattle.rbac_sets.proofs.Counting.{risen_since}
 use Rattle.role_order.proofs.Walks.{member_at}
 use Rattle.review_mgr.specs.Report.{heading, line_of, lines_of, report}
-use Rattle.review_mgr.proofs.Columns.{begun, report-split, report-step, report-whole, on_err, lines-more}
+use Rattle.review_mgr.proofs.Columns.{begun, report-some, lines-some, report-split, report-step, report-whole, on_err, lines-more}
 use Rattle.review_mgr.proofs.report.report_roles.Goals as goal
 
 pub returns-in_err-numbers-clause-part : goal.returns-in_err-numbers-clause-part
-returns-in_err-numbers-clause-part g c = on_err _ c.from_residual.result ([], report c.args.state.now.facts, refl, Appends-none (g.W.Sink.written c.args.sink.now))
+returns-in_err-numbers-clause-part g c = on_err _ c.from_residual.result ([], report c.args.state.now.facts, refl, report-some c.args.state.now.facts, Appends-none (g.W.Sink.written c.args.sink.now))
 
 pub returns-in_err-write_text-clause-part : goal.returns-in_err-write_text-clause-part
 unfolding report
@@ -50,6 +50,7 @@ returns-in_err-line-clause-part g c = on_err _ c.from_residual-in_err-line.resul
   heading ++ lines_of c.args.state.now.facts (take c.loop-role.role-index c.as_slice-role-items.result.now),
   lines_of c.args.state.now.facts (drop c.loop-role.role-index c.as_slice-role-items.result.now),
   report-split c.args.state.now.facts c.as_slice-role-items.result.now c.loop-role.role-index (c.as_slice-role-items.ensures ∙ ap members c.roles.ensures),
+  lines-some c.args.state.now.facts c.as_slice-role-items.result.now c.loop-role.role-index c.role-item.result c.loop-role-test.true,
   c.loop-role.invariant.written,
 )
 
