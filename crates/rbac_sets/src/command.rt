@@ -7,7 +7,8 @@ use crate::sets::NameSet;
 ///
 /// What each one does, when it is refused and in which order the refusals are judged stands in
 /// docs/MODEL.md. `asc` is the ascendant and `desc` the descendant of an inheritance, `cardinality`
-/// is the number of members of a set from which on they may not come together.
+/// is the number of members of a set from which on they may not come together. With each change the
+/// sessions end whose user is gone or locked, or isn't authorized any more for an activated role.
 #[derive(Drop)]
 pub enum Command {
     /// AddUser: makes a user.

@@ -6,7 +6,7 @@ use crate::kind::Kind;
 use crate::name::Name;
 use std::alloc::{AllocError, AllocFailed};
 
-/// Why a call was refused. A refused call changes nothing, but for what `Store` says of an office.
+/// Why a call was refused. A refused call changes nothing, but for what `Store` says.
 #[derive(Debug, Drop)]
 pub enum Refusal {
     /// 1: a text is no name.
@@ -85,7 +85,8 @@ pub enum Refusal {
     UserLocked,
     /// 40: memory was refused.
     Memory,
-    /// 41: the store refused a call, or a sink or a source failed.
+    /// 41: the store refused a call, or a sink failed or took no byte. An office is closed then, and a
+    /// stop leaves the state before the command or the one after it; a sink may hold the start of a text.
     Store,
     /// 42: the office is closed.
     Closed,

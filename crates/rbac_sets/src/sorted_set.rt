@@ -191,7 +191,8 @@ impl<K: Entry> SortedSet<K> {
         run(&self.entries, prefix)
     }
 
-    /// Puts an entry above all that are there, in the room that was made, without a search.
+    /// Puts an entry above all that are there, in the room that was made, without a search. It takes no
+    /// memory and can't fail.
     pub fn push_last(&mut self, entry: K)
         requires above { (x : K) → contains (set_of K.cmp self.old) x ≡ true → K.cmp x entry ≡ Less }
         requires room { 1 ≤ self.old.room }
