@@ -3,3 +3,4 @@ pub mod Texts
 pub mod Transactions
 pub mod Migration
 pub mod Once
+pub mod SameTrees

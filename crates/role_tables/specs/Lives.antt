@@ -1,12 +1,12 @@
 -- What holds over every list of lives of one office: what each opening finds, and what stays away once it was taken.
 use Rattle.std.specs.Prelude.{◌≡◌, ◌≢◌, ◌⊎◌, ◌↔◌, Bool, true, false, if◌then◌else◌, List, [], ◌∷◌, ◌++◌, map, filter, Contains, Some, None, Ok, Err, is_ok, IsTrue}
 use Rattle.std.specs.List.{list_any}
-use Rattle.rbac_sets.specs.Sets.{Bytes, any, contains}
+use Rattle.rbac_sets.specs.Sets.{Bytes, contains}
 use Rattle.rbac_sets.specs.declared.command.Command.{Command}
 use Rattle.rbac_sets.specs.declared.refusal.Refusal.TheVariants.{Memory, Store, Closed}
 use Rattle.role_order.specs.Order.{geq}
 use Rattle.admin_mgr.specs.RbacState.{RbacState}
-use Rattle.admin_mgr.specs.Authorization.{session_roles}
+use Rattle.admin_mgr.specs.Authorization.{session_roles, has_access}
 use Rattle.admin_mgr.specs.After.{after}
 use Rattle.admin_mgr.specs.Verdict.{verdict}
 use Rattle.admin_mgr.specs.Run.{run, tally}
@@ -79,10 +79,6 @@ pub record IsWithoutAssignment (T : RbacState) (user role : Bytes) : Type 0 wher
   pub assignment : contains T.assignments (user, role) ≡ false
   pub sessions : (session active : Bytes) → IsTrue (contains T.sessions (session, user)) → IsTrue (contains T.active (session, active)) →
       (other : Bytes) × (other ≢ role) × IsTrue (contains T.assignments (user, other)) × IsTrue (geq T.edges other active)
-
--- CheckAccess of a session, an operation and an object that are there: a role of the session is granted the permission
-abbrev pub has_access : RbacState → Bytes → Bytes → Bytes → Bool
-has_access S session operation object = any (λ role. contains S.grants (object, operation, role)) (session_roles S session)
 
 -- the permission isn't granted to the role, and a session that has access to it has it through another grant
 pub record IsWithoutGrant (T : RbacState) (object operation role : Bytes) : Type 0 where

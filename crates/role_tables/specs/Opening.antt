@@ -12,8 +12,11 @@ use Rattle.sqlite.specs.Order as sql
 use Rattle.sqlite.specs.Order.{column}
 use Rattle.sqlite.specs.State.{State, IsUnchanged}
 use Rattle.admin_mgr.specs.RbacState.{RbacState}
-use Rattle.admin_mgr.specs.Checked.{RefusesRows, IsStateOf}
+use Rattle.admin_mgr.specs.Good.{IsGood}
+use Rattle.admin_mgr.specs.Named as names
+use Rattle.admin_mgr.specs.Checked.{AreRowsOf, RefusesRows, IsStateOf}
 use Rattle.role_tables.specs.OfficeTables.{StoredTable, Meta, Locks, is_wanted, row_tables}
+use Rattle.role_tables.specs.StoredState.{stored_rows}
 use Rattle.role_tables.specs.Found.{Found, is_text, text_of, is_whole, has_names, row_in, held_in}
 
 -- the values that were found, none where the table or a column isn't there
@@ -154,3 +157,18 @@ is_opening_refusal _ = false
 -- version
 abbrev pub RefusedFindNone : Type 0
 RefusedFindNone = (found : Found) (refusal : Refusal) (S : RbacState) → RefusesFound found refusal → refusal ≢ Memory → IsStateFound found S → ⊥
+
+-- Each table of the state's version was found with its rows of the state, each once and in some order, and meta_row with the
+-- one row of the version. Nothing is said of how the tables were made.
+pub record HasRowsOf (found : Found) (S : RbacState) : Type 0 where
+  pub rows : List Row
+  pub rows_are : AreRowsOf S rows
+  pub tables : (kind : StoredTable) → IsTrue (is_wanted S.version kind) → (values : List sql.Row) × (found kind ≡ Some values) × IsPermutation (stored_rows S.version rows kind) values
+
+-- where the rows of a good state with names for texts were found, nothing is refused for them
+abbrev pub GoodRowsAreFound : Type 0
+GoodRowsAreFound = (found : Found) (S : RbacState) (refusal : Refusal) → IsGood S → names.AreNamed S → HasRowsOf found S → RefusesFound found refusal → refusal ≡ Memory
+
+-- and no other state
+abbrev pub FoundAlone : Type 0
+FoundAlone = (found : Found) (S T : RbacState) → IsGood S → names.AreNamed S → HasRowsOf found S → IsStateFound found T → T ≡ S

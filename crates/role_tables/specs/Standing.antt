@@ -1,7 +1,7 @@
 -- What a connection holds of a state, and what a stop leaves.
 use Rattle.std.specs.Prelude.{◌≡◌, ◌⊎◌, false, IsTrue, List, Result, OnOk, OnErr}
 use Rattle.sqlite.specs.Tree.{Trees}
-use Rattle.sqlite.specs.Effect.{Database}
+use Rattle.sqlite.specs.Effect.{Database, IsDatabase}
 use Rattle.sqlite.specs.State.{State, HasCleanDisk}
 use Rattle.sqlite.specs.declared.error.Error.{Error}
 use Rattle.admin_mgr.specs.RbacState.{RbacState}
@@ -28,6 +28,14 @@ pub record Rests (s : State) (Is : Database → Type 0) : Type 0 where
 -- the state stands in the tables, and a stop would leave it there
 abbrev pub Stands : State → RbacState → Type 0
 Stands s S = Rests s (λ db. HoldsState db S)
+
+-- a database of the trees that are left holds the state, whatever schema was read from them
+abbrev pub SameTreesHoldSame : Type 0
+SameTreesHoldSame = (S : RbacState) (trees : Trees) (db : Database) → LeavesState S trees → IsDatabase db → db.trees ≡ trees → HoldsState db S
+
+-- where the connection is open outside a transaction on the trees that a stop left, the state stands in the tables
+abbrev pub FindsWhatWasLeft : State → Type 0
+FindsWhatWasLeft s = (S : RbacState) (trees : Trees) → LeavesState S trees → IsTrue s.is_open → s.in_transaction ≡ false → s.now.trees ≡ trees → Stands s S
 
 -- it is true of whatever good state stands in the tables
 abbrev pub WhateverStands : State → (RbacState → Type 0) → Type 0

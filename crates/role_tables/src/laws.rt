@@ -1,10 +1,13 @@
-//! What holds of an office over every list of its lives, however often it was stopped, and of what is found
-//! where it can't be opened.
+//! What holds of an office over every list of its lives, however often it was stopped, of what is found where
+//! it can't be opened, and of what a stop left in the next connection.
+ghost use Rattle.sqlite.specs.Held.{state};
 ghost use Rattle.role_tables.specs.Lives.{OpeningsAreGood, OpeningsFollow, LastIsSound, DeassignedStays, RevokedStays};
 ghost use Rattle.role_tables.specs.Lives.{OneCall, EarlierArePossible, SoFarIsLeft, OpenLeavesSoFar, OpenGoesOn, ClosedStays, SoFarGoesOn};
-ghost use Rattle.role_tables.specs.Opening.{RefusedFindNone};
+ghost use Rattle.role_tables.specs.Opening.{FoundAlone, GoodRowsAreFound, RefusedFindNone};
+ghost use Rattle.role_tables.specs.Standing.{FindsWhatWasLeft, SameTreesHoldSame};
 
 use admin_mgr::laws::{accepted_good, effects, empty_states, migrated_good};
+use sqlite::{Alter, Connection};
 
 /// Each opening finds a good state: that after a prefix of the accepted commands of the life before,
 /// but for the version, which holds every acknowledged one. The same holds of the last life's state so
@@ -39,7 +42,27 @@ pub fn calls()
 
 /// An opening that is refused for what it finds, and not for want of memory or by the store, has found no
 /// good state: none has exactly these rows, each once, under the one row of its version, however the
-/// tables were made.
+/// tables were made. Where each table has its rows of a good state whose texts are names, each once, and
+/// the table of the version its one row, nothing is refused for them, and no other state is found.
 pub fn refused_openings()
-    ensures { RefusedFindNone }
+    ensures none { RefusedFindNone }
+    ensures good { GoodRowsAreFound }
+    ensures alone { FoundAlone }
 {}
+
+/// The trees alone tell what state a database holds: two databases of the same trees, whatever schemas
+/// were read from them, hold the same states.
+pub fn same_trees()
+    ensures { SameTreesHoldSame }
+{}
+
+/// What a stop left stands in the next connection: where it left the trees of a database that holds a
+/// state, that state stands in the tables of each connection that is open outside a transaction on
+/// these trees. So where the state is good and its texts are names, `open` answers it there, or is
+/// refused for want of memory or by the store.
+pub fn reopened<S: Alter>(conn: &Connection<S>)
+    ensures { FindsWhatWasLeft (state S.Store conn.now) }
+{
+    conn.is_autocommit();
+    conn.schema();
+}

@@ -74,11 +74,15 @@ impl<S: Alter> Office<S> {
         ensures done { WhereItStood S.Store self.old self.new (OnOk result (Stands (state S.Store self.new.conn) (after self.old.facts command.now))) }
         ensures undone { WhereItStood S.Store self.old self.new (IfErr result (λ _. HoldsAsBefore (state S.Store self.old.conn) (state S.Store self.new.conn))) }
         ensures stop { WhereItStood S.Store self.old self.new (LeavesAsIn (state S.Store self.new.conn) self.old.facts (event_of command.now result ∷ [])) }
+
+        // So each state that a stop may leave is one of names, as a next opening wants it.
+        ensures named { result ≡ Err Refusal.Store → AreNamed (after self.old.facts command.now) }
     {
         if self.is_closed {
             return Err(Refusal::Closed);
         }
         let plan = self.state.plan(alloc, command)?;
+        plan.is_named();
         self.state.make_room(&plan)?;
         match write_changes(&mut self.conn, plan.changes()) {
             Ok(()) => {
@@ -108,6 +112,16 @@ impl<S: Alter> Office<S> {
             return Err(Refusal::Closed);
         }
         Ok(&self.state)
+    }
+
+    /// The law of the type, for one office, closed or not: its state is good, and its names are names.
+    ///
+    /// As `State::is_good` it does nothing and gives nothing when it runs.
+    pub fn is_good(&self)
+        ensures { IsGood self.now.facts × AreNamed self.now.facts }
+    {
+        self.state.is_good();
+        self.state.is_named();
     }
 
     /// Whether the store has refused a call. It takes no memory.

@@ -15,7 +15,9 @@ use std::alloc::Global;
 /// A connection on which no office was made or opened, handed back, and why.
 #[derive(Drop)]
 pub struct Unopened<S: Alter> {
+    /// Why.
     pub refusal: Refusal,
+    /// The connection, as the call that was refused leaves it.
     pub conn: Connection<S>,
 }
 

@@ -9,7 +9,7 @@ use Rattle.rbac_sets.specs.declared.command.Command.TheVariants.{DeassignUser, R
 use Rattle.role_order.specs.Order.{geq}
 use Rattle.admin_mgr.specs.RbacState.{RbacState}
 use Rattle.admin_mgr.specs.Assignment.{end_sessions}
-use Rattle.admin_mgr.specs.Authorization.{authorized_users, is_authorized, session_roles}
+use Rattle.admin_mgr.specs.Authorization.{authorized_users, is_authorized, session_roles, has_access}
 use Rattle.admin_mgr.specs.After.{changed, after}
 use Rattle.admin_mgr.specs.Life.{assigns, grants_to}
 use Rattle.role_tables.specs.Lives.{DeassignedStays, RevokedStays}
@@ -67,6 +67,7 @@ module _ (laws : GoodnessLaws) (effects : EffectLaws) where
           (after_deassignment user role) (λ S was. was) _ before last T reached.are_lives (reached_opens laws before last T reached) in_force
 
   pub revoked_stays : RevokedStays
+  unfolding has_access
   revoked_stays before last T reached object operation role in_force = record {
     grant = away;
     access = λ session allowed.

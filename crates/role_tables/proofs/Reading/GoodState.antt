@@ -33,7 +33,7 @@ use Rattle.admin_mgr.proofs.PlanRows.RowLaws.{rows_determine}
 use Rattle.role_tables.specs.OfficeTables.{StoredTable, Meta, Names, Pairs, Grants, Sets, Locks, meta_row, cells, table_of, is_wanted, row_tables}
 use Rattle.role_tables.specs.StoredState.{stored, is_of, cells_of, stored_rows, HoldsState}
 use Rattle.role_tables.specs.Found.{Found, is_whole, has_names, row_in, held_in}
-use Rattle.role_tables.specs.Opening.{values, versions, is_known_version, HasFive, HasKnownVersions, version_in, HasLocks, IsOffice, AreWhole, AreNamed, rows_at, rows_in_all, rows_found, RefusesFound, IsStateFound}
+use Rattle.role_tables.specs.Opening.{values, versions, is_known_version, HasFive, HasKnownVersions, version_in, HasLocks, IsOffice, AreWhole, AreNamed, rows_at, rows_in_all, rows_found, RefusesFound, IsStateFound, HasRowsOf, GoodRowsAreFound, FoundAlone}
 use Rattle.role_tables.proofs.OfficeTables.Changes.{same_code}
 use Rattle.role_tables.proofs.OfficeTables.Looking.{rows_wanted}
 use Rattle.role_tables.proofs.Reading.Held.{holds_found}
@@ -257,18 +257,12 @@ flat_permutation f h (table ∷ tables) all = IsPermutation-append (f table) (h 
 
 -- ---- what is found
 
-module _ (db : Database) (S : RbacState) (good : IsGood S) (is_named : names.AreNamed S) (held : HoldsState db S) where
-  abbrev found : Found
-  found = held_in db
+module _ (found : Found) (S : RbacState) (good : IsGood S) (is_named : names.AreNamed S) (has : HasRowsOf found S) where
+  known_all : list_all (is_known S.version) has.rows ≡ true
+  known_all = (readable_of_good S has.rows good has.rows_are).known
 
-  rows : List Row
-  rows = held.rows
-
-  known_all : list_all (is_known S.version) held.rows ≡ true
-  known_all = (readable_of_good S held.rows good held.rows_are).known
-
-  proper : AllProper held.rows
-  proper = each_proper held.rows (λ row among. held.rows_are.rows_are row ∙ among)
+  proper : AllProper has.rows
+  proper = each_proper has.rows (λ row among. has.rows_are.rows_are row ∙ among)
     where
       each_proper : (rows : List Row) → ((row : Row) → IsTrue (is_among rows row) → IsTrue (has_row S row)) → AllProper rows
       each_proper [] there = tt
@@ -276,20 +270,20 @@ module _ (db : Database) (S : RbacState) (good : IsGood S) (is_named : names.Are
           (proper_row S good is_named row (there row (or_left (same_row row row) (is_among rows row) (same_row-self row))), each_proper rows (λ other among. there other (or_right (same_row row other) (is_among rows other) among)))
 
   abbrev Finds : StoredTable → Type 0
-  Finds kind = IsSome (found kind) × IsPermutation (stored_rows S.version held.rows kind) (values found kind)
+  Finds kind = IsSome (found kind) × IsPermutation (stored_rows S.version has.rows kind) (values found kind)
 
   finds : (kind : StoredTable) → IsTrue (is_wanted S.version kind) → Finds kind
   finds kind w =
-      let it = holds_found (is_wanted S.version) db (stored_rows S.version held.rows) held.tables kind w in
+      let it = has.tables kind w in
       so (found kind) it.0 it.1 it.2
     where
-      so : (o : Option (List sql.Row)) (rows : List sql.Row) → o ≡ Some rows → IsPermutation (stored_rows S.version held.rows kind) rows → IsSome o × IsPermutation (stored_rows S.version held.rows kind) (elim o [ Some rows ↦ rows | None ↦ [] ])
+      so : (o : Option (List sql.Row)) (rows : List sql.Row) → o ≡ Some rows → IsPermutation (stored_rows S.version has.rows kind) rows → IsSome o × IsPermutation (stored_rows S.version has.rows kind) (elim o [ Some rows ↦ rows | None ↦ [] ])
       so None rows is same = absurd (cc)
-      so (Some others) rows is same = (refl, (let e : others ≡ rows = cc in subst (IsPermutation (stored_rows S.version held.rows kind)) (sym e) same))
+      so (Some others) rows is same = (refl, (let e : others ≡ rows = cc in subst (IsPermutation (stored_rows S.version has.rows kind)) (sym e) same))
 
   -- the one row of meta_row
   metas : values found Meta ≡ cells (meta_row (codes "rbac") S.version) ∷ []
-  metas = one_permutation _ _ (subst (λ l. IsPermutation (cells (meta_row (codes "rbac") S.version) ∷ map cells_of l) (values found Meta)) (none_of_meta held.rows) (finds Meta refl).1)
+  metas = one_permutation _ _ (subst (λ l. IsPermutation (cells (meta_row (codes "rbac") S.version) ∷ map cells_of l) (values found Meta)) (none_of_meta has.rows) (finds Meta refl).1)
 
   numbers : versions (values found Meta) ≡ pos S.version ∷ []
   numbers = ap versions metas
@@ -317,13 +311,13 @@ module _ (db : Database) (S : RbacState) (good : IsGood S) (is_named : names.Are
   locks : HasLocks found
   locks = elim good.version [ inl one ↦ inl (version_is ∙ one) | inr two ↦ inr (finds Locks (rw two refl)).0 ]
 
-  judged : (kind : StoredTable) → (list_all (is_whole kind) (stored_rows S.version held.rows kind) ≡ true) × (list_all (has_names kind) (stored_rows S.version held.rows kind) ≡ true)
-  judged Meta = rw (none_of_meta held.rows) (refl, refl)
-  judged Names = let it = all_of_kind S.version Names held.rows known_all proper in (it.0, it.1)
-  judged Pairs = let it = all_of_kind S.version Pairs held.rows known_all proper in (it.0, it.1)
-  judged Grants = let it = all_of_kind S.version Grants held.rows known_all proper in (it.0, it.1)
-  judged Sets = let it = all_of_kind S.version Sets held.rows known_all proper in (it.0, it.1)
-  judged Locks = let it = all_of_kind S.version Locks held.rows known_all proper in (it.0, it.1)
+  judged : (kind : StoredTable) → (list_all (is_whole kind) (stored_rows S.version has.rows kind) ≡ true) × (list_all (has_names kind) (stored_rows S.version has.rows kind) ≡ true)
+  judged Meta = rw (none_of_meta has.rows) (refl, refl)
+  judged Names = let it = all_of_kind S.version Names has.rows known_all proper in (it.0, it.1)
+  judged Pairs = let it = all_of_kind S.version Pairs has.rows known_all proper in (it.0, it.1)
+  judged Grants = let it = all_of_kind S.version Grants has.rows known_all proper in (it.0, it.1)
+  judged Sets = let it = all_of_kind S.version Sets has.rows known_all proper in (it.0, it.1)
+  judged Locks = let it = all_of_kind S.version Locks has.rows known_all proper in (it.0, it.1)
 
   wanted_so : (kind : StoredTable) → IsTrue (is_wanted (version_in found) kind) → IsTrue (is_wanted S.version kind)
   wanted_so kind w = subst (λ v. IsTrue (is_wanted v kind)) version_is w
@@ -338,12 +332,12 @@ module _ (db : Database) (S : RbacState) (good : IsGood S) (is_named : names.Are
   named kind w = sym (list_all-IsPermutation (has_names kind) _ _ (finds kind (wanted_so kind w)).1) ∙ (judged kind).1
 
   -- the rows that are read of one table
-  read_at : (table : StoredTable) → IsTrue (is_wanted S.version table) → (table ≢ Meta) → IsPermutation (by_table table held.rows) (rows_at table found)
+  read_at : (table : StoredTable) → IsTrue (is_wanted S.version table) → (table ≢ Meta) → IsPermutation (by_table table has.rows) (rows_at table found)
   read_at table w other =
-      let is : map (row_in table) (stored_rows S.version held.rows table) ≡ by_table table held.rows = plain table other ∙ (all_of_kind S.version table held.rows known_all proper).2 in
+      let is : map (row_in table) (stored_rows S.version has.rows table) ≡ by_table table has.rows = plain table other ∙ (all_of_kind S.version table has.rows known_all proper).2 in
       subst (λ l. IsPermutation l (rows_at table found)) is (IsPermutation-map (row_in table) _ _ (finds table w).1)
     where
-      plain : (table : StoredTable) → table ≢ Meta → map (row_in table) (stored_rows S.version held.rows table) ≡ map (row_in table) (map cells_of (filter (is_of table) held.rows))
+      plain : (table : StoredTable) → table ≢ Meta → map (row_in table) (stored_rows S.version has.rows table) ≡ map (row_in table) (map cells_of (filter (is_of table) has.rows))
       plain Meta other = absurd (other refl)
       plain Names other = refl
       plain Pairs other = refl
@@ -351,17 +345,17 @@ module _ (db : Database) (S : RbacState) (good : IsGood S) (is_named : names.Are
       plain Sets other = refl
       plain Locks other = refl
 
-  read_all : (version : ℕ) → (version ≡ S.version) → IsPermutation (flat_map (λ table. by_table table held.rows) (row_tables version)) (rows_in_all found (row_tables version))
-  read_all version is = flat_permutation (λ table. by_table table held.rows) (λ table. rows_at table found) (row_tables version) (rows_wanted (λ table. IsPermutation (by_table table held.rows) (rows_at table found)) version (subst (λ v. (v ≡ 1) ⊎ (v ≡ 2)) (sym is) good.version)
+  read_all : (version : ℕ) → (version ≡ S.version) → IsPermutation (flat_map (λ table. by_table table has.rows) (row_tables version)) (rows_in_all found (row_tables version))
+  read_all version is = flat_permutation (λ table. by_table table has.rows) (λ table. rows_at table found) (row_tables version) (rows_wanted (λ table. IsPermutation (by_table table has.rows) (rows_at table found)) version (subst (λ v. (v ≡ 1) ⊎ (v ≡ 2)) (sym is) good.version)
       (λ table w other. read_at table (subst (λ v. IsTrue (is_wanted v table)) is w) other))
 
-  read_rows : IsPermutation held.rows (rows_found found)
+  read_rows : IsPermutation has.rows (rows_found found)
   read_rows =
-      let split_rows : IsPermutation (flat_map (λ table. by_table table held.rows) (row_tables S.version)) held.rows = subst (λ l. IsPermutation l held.rows) (sym (split_is S.version held.rows)) (split_all S.version held.rows known_all) in
-      subst (λ v. IsPermutation held.rows (rows_in_all found (row_tables v))) (sym version_is) (IsPermutation-trans _ _ _ (IsPermutation-sym _ _ split_rows) (read_all S.version refl))
+      let split_rows : IsPermutation (flat_map (λ table. by_table table has.rows) (row_tables S.version)) has.rows = subst (λ l. IsPermutation l has.rows) (sym (split_is S.version has.rows)) (split_all S.version has.rows known_all) in
+      subst (λ v. IsPermutation has.rows (rows_in_all found (row_tables v))) (sym version_is) (IsPermutation-trans _ _ _ (IsPermutation-sym _ _ split_rows) (read_all S.version refl))
 
   of_state : (others : List Row) → IsPermutation (rows_found found) others → AreRowsOf S others
-  of_state others same = rows_of_same S held.rows others (IsPermutation-trans held.rows (rows_found found) others read_rows same) held.rows_are
+  of_state others same = rows_of_same S has.rows others (IsPermutation-trans has.rows (rows_found found) others read_rows same) has.rows_are
 
   -- the state is found, so nothing is refused but for want of memory
   is_found : IsStateFound found S
@@ -374,11 +368,28 @@ module _ (db : Database) (S : RbacState) (good : IsGood S) (is_named : names.Are
     state = record { version_is = sym version_is; stored = of_state (rows_found found) (IsPermutation-refl (rows_found found)); good = good };
   }
 
-  pub memory_alone : (refusal : Refusal) → RefusesFound found refusal → refusal ≡ Memory
-  memory_alone = found_refused found S is_found
+  nothing_refused : (refusal : Refusal) → RefusesFound found refusal → refusal ≡ Memory
+  nothing_refused = found_refused found S is_found
 
   -- and the state is the one
-  pub same_state : (T : RbacState) → IsStateFound found T → T ≡ S
-  same_state T it =
+  no_other : (T : RbacState) → IsStateFound found T → T ≡ S
+  no_other T it =
       let ours = of_state it.rows it.same in
       rows_determine T S (it.state.version_is ∙ version_is) (λ row. it.state.stored.rows_are row ∙ sym (ours.rows_are row))
+
+pub good_rows_are_found : GoodRowsAreFound
+good_rows_are_found found S refusal good is_named has = nothing_refused found S good is_named has refusal
+
+pub found_alone : FoundAlone
+found_alone found S T good is_named has = no_other found S good is_named has T
+
+-- ---- a database that holds the state
+
+has_rows : (db : Database) (S : RbacState) → HoldsState db S → HasRowsOf (held_in db) S
+has_rows db S held = record { rows = held.rows; rows_are = held.rows_are; tables = holds_found (is_wanted S.version) db (stored_rows S.version held.rows) held.tables }
+
+pub memory_alone : (db : Database) (S : RbacState) → IsGood S → names.AreNamed S → HoldsState db S → (refusal : Refusal) → RefusesFound (held_in db) refusal → refusal ≡ Memory
+memory_alone db S good is_named held = nothing_refused (held_in db) S good is_named (has_rows db S held)
+
+pub same_state : (db : Database) (S : RbacState) → IsGood S → names.AreNamed S → HoldsState db S → (T : RbacState) → IsStateFound (held_in db) T → T ≡ S
+same_state db S good is_named held = no_other (held_in db) S good is_named (has_rows db S held)

@@ -1,4 +1,5 @@
-use Rattle.std.proofs.Common.{rules, ◌≡◌, ◌⊎◌, ◌∷◌, [], inl, None, Some, sym, ap, subst, refl, ◌∙◌, Err}
+use Rattle.std.proofs.Common.{rules, ◌≡◌, ◌⊎◌, ◌∷◌, [], inl, false, None, Some, sym, ap, subst, refl, ◌∙◌, Err}
+use Rattle.std.proofs.lemmas.Bool.{true≢false}
 use Rattle.sqlite.specs.Held.{state}
 use Rattle.admin_mgr.specs.After.{after}
 use Rattle.admin_mgr.specs.Good.{IsGood}
@@ -8,6 +9,8 @@ use Rattle.rbac_sets.specs.declared.refusal.Refusal.TheVariants.{Memory, Store}
 use Rattle.role_tables.specs.Office.{Answers, event_of}
 use Rattle.role_tables.specs.Standing.{Stands, LeavesAsIn}
 use Rattle.role_tables.proofs.Reading.Standing.{leaves_either}
+use Rattle.admin_mgr.specs.Named.{AreNamed}
+use Rattle.admin_mgr.proofs.StateAfter.NamedLaws.{named_turns}
 use Rattle.role_tables.proofs.Events.{plan_refused, leaves_unchanged, leaves_done, leaves_stopped}
 use Rattle.role_tables.proofs.office.Office.apply.Goals as goal
 
@@ -74,3 +77,21 @@ returns-in_err-make_room-clause-stop g c working clean stands =
     subst (λ h. LeavesAsIn (state g.S.Store h) c.args.self.now.facts (event_of c.args.command.now c.from_residual-in_err-make_room.result ∷ [])) conn_is
     (subst (λ r. LeavesAsIn (state g.S.Store c.args.self.now.conn) c.args.self.now.facts (event_of c.args.command.now r ∷ [])) (sym is)
     (leaves_unchanged g.S.Store c.args.self.now c.args.command.now Memory (inl refl) stands))
+
+pub returns-in_err-plan-clause-named : goal.returns-in_err-plan-clause-named
+returns-in_err-plan-clause-named g c store =
+    let is : c.from_residual.result ≡ Err c.in_err-plan.field-0.0 = search rules in
+    let facts : c.self.inside.state.facts ≡ c.args.self.now.facts = search rules in
+    let working : c.args.self.now.is_closed ≡ false = search rules in
+    let its : c.in_err-plan.field-0.0 ≡ Store = cc in
+    let answered = subst (λ r. Answers c.args.self.now c.args.command.now (Err r) c.args.self.now) its
+    (plan_refused c.args.self.now c.args.command.now c.in_err-plan.field-0.0
+    (subst (λ S. (c.in_err-plan.field-0.0 ≡ Memory) ⊎ (verdict S c.args.command.now ≡ Some c.in_err-plan.field-0.0)) facts c.in_err-plan.ensures.refused)) in
+    absurd (true≢false (sym answered.1 ∙ working))
+
+pub returns-in-Err-clause-named : goal.returns-in-Err-clause-named
+returns-in-Err-clause-named g c store =
+    let S = c.args.self.now.facts in
+    let facts : c.self.inside.state.facts ≡ S = search rules in
+    let planned : IsPlanOf S c.args.command.now c.in_ok-plan.plan = subst (λ S. IsPlanOf S c.args.command.now c.in_ok-plan.plan) facts c.in_ok-plan.ensures.planned in
+    named_turns S (after S c.args.command.now) c.in_ok-plan.plan.changes.items planned.leads.rows (subst AreNamed facts c.self.invariant.2) c.is_named.ensures
