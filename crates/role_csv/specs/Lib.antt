@@ -1,3 +1,4 @@
 pub mod Assignments
 pub mod Export
 pub mod Records
+pub mod TextLaws

@@ -18,6 +18,7 @@
 pub use reading::read_assignments;
 pub use writing::write_assignments;
 
+pub mod laws;
 pub mod reading;
 mod records;
 pub mod writing;

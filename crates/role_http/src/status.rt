@@ -10,7 +10,7 @@ const BAD_REQUEST: &str = "{\"code\":34,\"error\":\"BadRequest\"}";
 const UNKNOWN_FUNCTION: &str = "{\"code\":35,\"error\":\"UnknownFunction\"}";
 
 /// The status by which a refusal is told: 400 for what is badly made, 404 for a function that isn't there,
-/// 503 for want of memory, 500 where the store failed or is closed, and 409 for what the standard refuses.
+/// 503 for want of memory, 500 where the store failed or is closed, and 409 for every other refusal.
 pub fn status_of(refusal: &Refusal) -> StatusCode
     ensures { result ≡ status_of refusal.now }
 {

@@ -4,7 +4,7 @@ ghost use Rattle.role_json.specs.Function.{function_named, name_of, takes_csv};
 
 /// A function that a request may call: the functions of the standard, those of this office on
 /// objects, permissions and locks, and the import of assignments. It names the function alone; the
-/// arguments are those of `Command` or `Query`.
+/// arguments are those of `Command` or `Query`, which say more of each.
 #[derive(Clone, Copy, Debug, PartialEq, Eq)]
 pub enum Function {
     /// AddUser: makes a user.

@@ -28,5 +28,6 @@ pub mod answer;
 mod commands;
 mod fields;
 pub mod function;
+pub mod laws;
 mod queries;
 pub mod request;
