@@ -27,6 +27,7 @@ use Rattle.role_wire.specs.OfficeLines.{AnswersLine, FailsLine, FailsRequest, to
 use Rattle.role_wire.specs.Outcome.{outcome_of, state_after, told_as, unless, answer_to, after_line}
 use Rattle.role_wire.specs.Performing.{Declines}
 use Rattle.role_wire.specs.declared.lines.Unanswered.{Unanswered}
+use Rattle.role_wire.specs.declared.lines.Unanswered.TheVariants as unanswered
 use Rattle.role_wire.proofs.Performed.{stays}
 
 -- ---- what refuses a request
@@ -90,7 +91,7 @@ module _ {S : Type 0} (shown : Held S → State) where
   pub judged_refusal : (old new : Opened S) (asked : Requested) (refusal : Refusal) → Declines shown old asked refusal new
       → IfOk (told_of refusal) (Told old asked new) × IfErr (told_of refusal) (λ unanswered. FailsRequest shown old asked unanswered new)
   judged_refusal old new asked refusal (inl (is, same)) = rw is (tt, inl same)
-  judged_refusal old new asked refusal (inr (inl (is, broke))) = rw is (tt, (broke.breaks.is_closed, inr broke.breaks))
+  judged_refusal old new asked refusal (inr (inl (is, broke))) = rw is (tt, (broke.breaks.is_closed, inr (broke.accepted, broke.breaks)))
   judged_refusal old new asked refusal (inr (inr (inl (is, shut, same)))) = rw is (tt, (rw same shut, inl (shut, same)))
   judged_refusal old new asked refusal (inr (inr (inr (is, works, same)))) = judged_so old new asked refusal (is_judged old.facts asked refusal is) is same
 
@@ -101,9 +102,11 @@ module _ {S : Type 0} (shown : Held S → State) where
   unfolding answer_to after_line
   line_answered old new line text asked read is reaches = record { text_is = rw read is; reaches = rw read reaches }
 
-  pub line_failed : (old new : Opened S) (line : List ℕ) (asked : Requested) (unanswered : Unanswered) → request line ≡ Ok asked → FailsRequest shown old asked unanswered new → FailsLine shown old line unanswered new
+  pub line_failed : (old new : Opened S) (line : List ℕ) (asked : Requested) (why : Unanswered) → request line ≡ Ok asked → FailsRequest shown old asked why new → FailsLine shown old line why new
   unfolding after_line
-  line_failed old new line asked unanswered read failed = rw read failed
+  line_failed old new line asked unanswered.Memory read failed = rw read failed
+  line_failed old new line asked unanswered.Store read (closed, inl shut) = (closed, inl shut)
+  line_failed old new line asked unanswered.Store read (closed, inr (accepted, broke)) = (closed, inr ((asked, read, accepted), rw read broke))
 
   -- a line that asks for nothing
   pub line_unread : (office : Opened S) (line : List ℕ) (refusal : Refusal) → (refusal ≡ Memory) ⊎ (request line ≡ Err refusal)

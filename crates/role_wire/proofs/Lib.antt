@@ -1,11 +1,13 @@
 pub mod Answering
 pub mod Calling
+pub mod Commanded
 pub mod Judged
 pub mod Performed
 pub mod ReadSoFar
 pub mod Replayed
 pub mod Requesting
 pub mod Results
+pub mod Running
 pub mod Splitting
 pub mod Stopping
 pub mod Telling

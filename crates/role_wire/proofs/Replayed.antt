@@ -9,6 +9,7 @@ use Rattle.role_wire.specs.Keeping.{Keeps, Reaches, Breaks}
 use Rattle.role_wire.specs.Lines.{line_feed, with_line_feeds}
 use Rattle.role_wire.specs.OfficeLines.{AnswersLine, FailsLine}
 use Rattle.role_wire.specs.Outcome.{answer_to, after_line, answers_to, answer_lines, after_lines, asking_lines}
+use Rattle.role_wire.specs.Performing.{AsksAccepted}
 use Rattle.role_wire.specs.Replay.{AreAnswered, IsReplayed, IsStopped, LeavesLine}
 use Rattle.role_wire.specs.Replaying.{IsAnswered, LeavesNext, IsHalted}
 use Rattle.role_wire.specs.declared.lines.Cause.{Cause}
@@ -102,7 +103,7 @@ module _ {S : Type 0} (shown : Held S → State) where
       (rest, ap (λ t. t ++ line_feed ∷ []) (sym (is.text_is ∙ ap (λ s. answer_to s line) first.state)) ∙ whole, some),
     )
     next_left Store ((closed, inl (shut, same)), none) = absurd (let no = sym shut ∙ (first.is_closed ∙ works) in cc)
-    next_left Store ((closed, inr broke), none) = (further_broken broke, none)
+    next_left Store ((closed, inr (accepted, broke)), none) = (subst (λ s. AsksAccepted s line) first.state accepted, further_broken broke, none)
     next_left Memory (inl (inl same), none) = (inl (same_state same), none)
     next_left Memory (inl (inr reaches), none) = (inr (further reaches), none)
     next_left Memory (inr (text, is), none) = (inr (further is.reaches), none)

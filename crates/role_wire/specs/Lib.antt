@@ -8,5 +8,6 @@ pub mod Reading
 pub mod Replay
 pub mod Replaying
 pub mod Reply
+pub mod Running
 pub mod Serving
 pub mod Stop

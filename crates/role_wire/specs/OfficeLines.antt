@@ -14,6 +14,7 @@ use Rattle.role_json.specs.declared.answer.Verdict.TheVariants.{Refused}
 use Rattle.role_tables.specs.Office.{Opened}
 use Rattle.role_wire.specs.Keeping.{Breaks, Reaches}
 use Rattle.role_wire.specs.Outcome.{answer_to, after_line, outcome_of, state_after, told_as}
+use Rattle.role_wire.specs.Performing.{IsAccepted, AsksAccepted}
 
 module _ {S : Type 0} (shown : Held S → State) where
   -- the office answers what was asked by this text
@@ -26,17 +27,17 @@ module _ {S : Type 0} (shown : Held S → State) where
     pub reaches : Reaches shown old (after_line old.facts line) new
 
   -- It gives no answer to what was asked for. For want of memory: then it was done, or nothing was. For the store, which was
-  -- refused for the command, or was before.
-  abbrev pub FailsFor : Opened S → RbacState → Unanswered → Opened S → Type 0
-  FailsFor old to Memory new = (new ≡ old) ⊎ Reaches shown old to new
-  FailsFor old to Store new = (new.is_closed ≡ true) × (((old.is_closed ≡ true) × (new ≡ old)) ⊎ Breaks shown old old.facts to new)
+  -- refused before, or for what was asked for; then that is a command that is accepted.
+  abbrev pub FailsFor : Opened S → (accepted : Type 0) → RbacState → Unanswered → Opened S → Type 0
+  FailsFor old accepted to Memory new = (new ≡ old) ⊎ Reaches shown old to new
+  FailsFor old accepted to Store new = (new.is_closed ≡ true) × (((old.is_closed ≡ true) × (new ≡ old)) ⊎ (accepted × Breaks shown old old.facts to new))
 
   -- no answer to a request, or to a line
   abbrev pub FailsRequest : Opened S → Requested → Unanswered → Opened S → Type 0
-  FailsRequest old asked = FailsFor old (state_after old.facts asked)
+  FailsRequest old asked = FailsFor old (IsAccepted old.facts asked) (state_after old.facts asked)
 
   abbrev pub FailsLine : Opened S → List ℕ → Unanswered → Opened S → Type 0
-  FailsLine old line = FailsFor old (after_line old.facts line)
+  FailsLine old line = FailsFor old (AsksAccepted old.facts line) (after_line old.facts line)
 
 -- how a refusal of a line that asks for nothing is told, or why nothing is
 abbrev pub told_unread : Refusal → Result Verdict Unanswered

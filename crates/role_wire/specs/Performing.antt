@@ -8,6 +8,7 @@ use Rattle.rbac_sets.specs.declared.refusal.Refusal.TheVariants.{Memory, Store, 
 use Rattle.admin_mgr.specs.Asked.{asked_verdict}
 use Rattle.admin_mgr.specs.RbacState.{RbacState}
 use Rattle.review_mgr.specs.declared.query.Query.{Query}
+use Rattle.role_json.specs.Request.{request}
 use Rattle.role_json.specs.Requested.{Requested, Change, Ask}
 use Rattle.role_tables.specs.Office.{Opened}
 use Rattle.role_wire.specs.Keeping.{Breaks, Reaches}
@@ -23,6 +24,10 @@ IsQuestion requested = (query : Query) × (requested ≡ Ask query)
 -- the request is a command that is accepted in this state
 abbrev pub IsAccepted : RbacState → Requested → Type 0
 IsAccepted S requested = (asked : Asked) × (requested ≡ Change asked) × (asked_verdict S asked ≡ None)
+
+-- the line asks for a command that is accepted in this state
+abbrev pub AsksAccepted : RbacState → List ℕ → Type 0
+AsksAccepted S line = (asked : Requested) × (request line ≡ Ok asked) × IsAccepted S asked
 
 module _ {S : Type 0} (shown : Held S → State) where
   -- an open office did or answered it, which this text tells

@@ -8,6 +8,7 @@ use Rattle.role_tables.specs.Office.{Opened}
 use Rattle.role_wire.specs.Keeping.{Breaks, Reaches}
 use Rattle.role_wire.specs.Lines.{line_feed, split_lines, with_line_feeds, AllFit}
 use Rattle.role_wire.specs.Outcome.{answer_to, answers_to, answer_lines, after_lines, asking_lines}
+use Rattle.role_wire.specs.Performing.{AsksAccepted}
 use Rattle.role_wire.specs.Replay.{IsNext, LeavesOff}
 use Rattle.role_wire.specs.declared.lines.Cause.{Cause}
 use Rattle.role_wire.specs.declared.lines.Cause.TheVariants.{Write, Store, Memory}
@@ -19,11 +20,13 @@ pub record IsAnswered (S : RbacState) (input : List ℕ) (written now_written : 
   pub count : answered ≡ length (asking_lines input)
 
 module _ {S : Type 0} (shown : Held S → State) where
-  -- what a stop leaves of the line at which it came, behind those that are done: this part of its answer was written
+  -- What a stop leaves of the line at which it came, behind those that are done: this part of its answer was written. The store
+  -- is refused for a command alone that is accepted in the state after those lines.
   abbrev pub LeavesNext : Cause → Opened S → List (List ℕ) → List ℕ → List ℕ → Opened S → Type 0
   LeavesNext Write old done line part new = Reaches shown old (after_lines old.facts (done ++ line ∷ [])) new
       × ((rest : List ℕ) × (answer_to (after_lines old.facts done) line ++ line_feed ∷ [] ≡ part ++ rest) × (1 ≤ length rest))
-  LeavesNext Store old done line part new = Breaks shown old (after_lines old.facts done) (after_lines old.facts (done ++ line ∷ [])) new × (part ≡ [])
+  LeavesNext Store old done line part new = AsksAccepted (after_lines old.facts done) line
+      × Breaks shown old (after_lines old.facts done) (after_lines old.facts (done ++ line ∷ [])) new × (part ≡ [])
   LeavesNext Memory old done line part new =
       (Reaches shown old (after_lines old.facts done) new ⊎ Reaches shown old (after_lines old.facts (done ++ line ∷ [])) new) × (part ≡ [])
   LeavesNext _ old done line part new = ⊥

@@ -39,8 +39,9 @@ use std::alloc::Global;
 /// - `Write`: a write failed, or took no byte. A part of the next answer may be written, and what
 ///   its line asks for is done.
 /// - `Memory`: memory was refused. What the next line asks for may be done.
-/// - `Store`: the store was refused for the command of the next line. The office is closed; the
-///   tables hold what they held before, and a stop leaves the state before the command or after it.
+/// - `Store`: the store was refused for the command of the next line, which is accepted in the state
+///   after the lines before. The office is closed; the tables hold what they held before, and a stop
+///   leaves the state before the command or after it.
 pub fn replay<S: Alter, R: Source, W: Sink>(
     alloc: Global,
     office: &mut Office<S>,

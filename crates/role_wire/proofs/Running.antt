@@ -1,0 +1,74 @@
+-- Lines run the commands for which they ask.
+use Rattle.std.proofs.Common.{◌≡◌, ℕ, List, [], ◌∷◌, map, Option, Some, None, Result, Ok, Err, refl, sym, ap, subst, ◌∙◌}
+use Rattle.std.specs.List.{cons_option}
+use Rattle.rbac_sets.specs.Asked.{Asked, asked_of}
+use Rattle.rbac_sets.specs.declared.command.Command.{Command}
+use Rattle.rbac_sets.specs.declared.refusal.Refusal.{Refusal}
+use Rattle.admin_mgr.specs.Asked.{asked_verdict, asked_tally, GoesByAsked}
+use Rattle.admin_mgr.specs.Assignment.{Tally}
+use Rattle.admin_mgr.specs.RbacState.{RbacState}
+use Rattle.admin_mgr.specs.Run.{next, run, verdicts}
+use Rattle.admin_mgr.specs.Verdict.{verdict}
+use Rattle.admin_mgr.proofs.Verdicts.AskedLaws.{commands_go_by_asked}
+use Rattle.role_json.specs.Request.{request}
+use Rattle.role_json.specs.Requested.{Requested, Change, Ask}
+use Rattle.role_wire.specs.Outcome.{accepted_text, unless, told_as, outcome_of, state_after, after_reading, answer_to, after_line, answers_to, after_lines}
+use Rattle.role_wire.specs.Running.{command_read, commands_in, command_answers, AskFor, TellsVerdict, TellVerdicts, LinesRunCommands, LinesTellVerdicts}
+
+-- a command that asks for this leads where the request leads
+leads : (S : RbacState) (command : Command) (asked : Asked) → asked_of command ≡ asked → state_after S (Change asked) ≡ next S command
+unfolding state_after next
+leads S command asked same =
+    let law : GoesByAsked S command = commands_go_by_asked S command in
+    subst (λ a. state_after S (Change a) ≡ next S command) same (rw (law.verdict_is, law.after_is) refl)
+
+-- ---- the state
+
+-- behind what was read of the first line
+run_read : (S : RbacState) (read : Result Requested Refusal) (lines : List (List ℕ)) → ((T : RbacState) (commands : List Command) → AskFor lines commands → after_lines T lines ≡ run T commands)
+    → (commands : List Command) → map asked_of commands ≡ cons_option (command_read read) (commands_in lines) → after_lines (after_reading S read) lines ≡ run S commands
+unfolding state_after run
+run_read S (Ok (Change asked)) lines later [] same = absurd (cc)
+run_read S (Ok (Change asked)) lines later (command ∷ commands) same =
+    let first : asked_of command ≡ asked = cc in
+    let rest : map asked_of commands ≡ commands_in lines = cc in
+    ap (λ T. after_lines T lines) (leads S command asked first) ∙ later (next S command) commands rest
+run_read S (Ok (Ask query)) lines later commands same = later S commands same
+run_read S (Err refusal) lines later commands same = later S commands same
+
+pub lines_run_commands : LinesRunCommands
+unfolding after_lines after_line run
+lines_run_commands S [] [] same = refl
+lines_run_commands S [] (command ∷ commands) same = absurd (cc)
+lines_run_commands S (line ∷ lines) commands same = run_read S (request line) lines (λ T commands same. lines_run_commands T lines commands same) commands same
+
+-- ---- the answers
+
+tells_unless : (told : Option Refusal) (asked : Asked) (tally : Tally) → TellsVerdict asked told (told_as (unless told (accepted_text asked tally)))
+tells_unless None asked tally = (tally, refl)
+tells_unless (Some refusal) asked tally = refl
+
+-- what is answered to a command tells the verdict
+tells : (S : RbacState) (command : Command) (asked : Asked) → asked_of command ≡ asked → TellsVerdict asked (verdict S command) (told_as (outcome_of S (Change asked)))
+unfolding outcome_of
+tells S command asked same = subst (λ v. TellsVerdict asked v (told_as (outcome_of S (Change asked)))) (sym ((commands_go_by_asked S command).verdict_is ∙ ap (asked_verdict S) same))
+    (tells_unless (asked_verdict S asked) asked (asked_tally S asked))
+
+-- behind what was read of the first line
+told_read : (S : RbacState) (line : List ℕ) (read : Result Requested Refusal) (lines : List (List ℕ)) → request line ≡ read
+    → ((T : RbacState) (commands : List Command) → AskFor lines commands → TellVerdicts (commands_in lines) (verdicts T commands) (command_answers T lines))
+    → (commands : List Command) → map asked_of commands ≡ cons_option (command_read read) (commands_in lines) → TellVerdicts (commands_in (line ∷ lines)) (verdicts S commands) (command_answers S (line ∷ lines))
+unfolding verdicts answers_to answer_to after_line state_after
+told_read S line (Ok (Change asked)) lines is later [] same = absurd (cc)
+told_read S line (Ok (Change asked)) lines is later (command ∷ commands) same =
+    let first : asked_of command ≡ asked = cc in
+    let rest : map asked_of commands ≡ commands_in lines = cc in
+    rw is (tells S command asked first, subst (λ T. TellVerdicts (commands_in lines) (verdicts (next S command) commands) (command_answers T lines)) (sym (leads S command asked first)) (later (next S command) commands rest))
+told_read S line (Ok (Ask query)) lines is later commands same = rw is (later S commands same)
+told_read S line (Err refusal) lines is later commands same = rw is (later S commands same)
+
+pub lines_tell_verdicts : LinesTellVerdicts
+unfolding verdicts answers_to
+lines_tell_verdicts S [] [] same = tt
+lines_tell_verdicts S [] (command ∷ commands) same = absurd (cc)
+lines_tell_verdicts S (line ∷ lines) commands same = told_read S line (request line) lines refl (λ T commands same. lines_tell_verdicts T lines commands same) commands same

@@ -1,0 +1,64 @@
+-- The commands that lines ask for, one after the other.
+use Rattle.std.specs.Prelude.{◌≡◌, ℕ, Bool, true, false, List, [], ◌∷◌, map, filter, filter_map, zip, Option, Some, None, is_some, Result, Ok, Err}
+use Rattle.std.specs.List.{list_any}
+use Rattle.rbac_sets.specs.Asked.{Asked, Single, Import, asked_of}
+use Rattle.rbac_sets.specs.declared.command.Command.{Command}
+use Rattle.rbac_sets.specs.declared.refusal.Refusal.{Refusal}
+use Rattle.admin_mgr.specs.Assignment.{Tally}
+use Rattle.admin_mgr.specs.RbacState.{RbacState}
+use Rattle.admin_mgr.specs.Run.{run, verdicts}
+use Rattle.role_json.specs.Answer.{refusal_text}
+use Rattle.role_json.specs.Request.{request}
+use Rattle.role_json.specs.Requested.{Requested, Change, Ask}
+use Rattle.role_wire.specs.Outcome.{accepted_text, answers_to, after_lines}
+
+-- the command that was read, where one was
+abbrev pub command_read : Result Requested Refusal → Option Asked
+command_read (Ok (Change asked)) = Some asked
+command_read (Ok (Ask query)) = None
+command_read (Err refusal) = None
+
+-- the command that the line asks for, where it asks for one
+abbrev pub line_command : List ℕ → Option Asked
+line_command line = command_read (request line)
+
+-- what those of the lines ask for that ask for a command, in their order
+abbrev pub commands_in : List (List ℕ) → List Asked
+commands_in lines = filter_map line_command lines
+
+-- what those lines are answered
+abbrev pub command_answers : RbacState → List (List ℕ) → List (List ℕ)
+command_answers S lines = map (λ (answer : List ℕ × List ℕ). answer.1) (filter (λ answer. is_some (line_command answer.0)) (zip lines (answers_to S lines)))
+
+-- these are commands that ask for the same
+abbrev pub AskFor : List (List ℕ) → List Command → Type 0
+AskFor lines commands = map asked_of commands ≡ commands_in lines
+
+-- the text tells the verdict on what was asked for: its refusal, or that it was accepted, with what became of the records of an
+-- import
+abbrev pub TellsVerdict : Asked → Option Refusal → List ℕ → Type 0
+TellsVerdict asked (Some refusal) text = text ≡ refusal_text refusal
+TellsVerdict asked None text = (tally : Tally) × (text ≡ accepted_text asked tally)
+
+-- each text tells the verdict at its place, and there are as many
+abbrev pub TellVerdicts : List Asked → List (Option Refusal) → List (List ℕ) → Type 0
+TellVerdicts [] [] [] = Unit {0}
+TellVerdicts (asked ∷ more) (told ∷ verdicts) (text ∷ texts) = TellsVerdict asked told text × TellVerdicts more verdicts texts
+TellVerdicts _ _ _ = ⊥
+
+-- the state after lines is that after the commands for which they ask
+abbrev pub LinesRunCommands : Type 0
+LinesRunCommands = (S : RbacState) (lines : List (List ℕ)) (commands : List Command) → AskFor lines commands → after_lines S lines ≡ run S commands
+
+-- and those lines are answered by the verdicts on these commands
+abbrev pub LinesTellVerdicts : Type 0
+LinesTellVerdicts = (S : RbacState) (lines : List (List ℕ)) (commands : List Command) → AskFor lines commands → TellVerdicts (commands_in lines) (verdicts S commands) (command_answers S lines)
+
+-- it is asked for an import
+abbrev pub is_import : Asked → Bool
+is_import (Single command) = false
+is_import (Import pairs) = true
+
+-- there are such commands wherever the lines ask for no import
+abbrev pub LinesHaveCommands : Type 0
+LinesHaveCommands = (lines : List (List ℕ)) → list_any is_import (commands_in lines) ≡ false → (commands : List Command) × AskFor lines commands
