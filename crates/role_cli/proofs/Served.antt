@@ -1,5 +1,5 @@
 -- Connections one after another.
-use Rattle.std.proofs.Common.{◌≡◌, ℕ, inl, inr, List, [], ◌∷◌, Option, Result, Ok, Err, refl, sym, subst}
+use Rattle.std.proofs.Common.{◌≡◌, ℕ, suc, inl, inr, List, [], ◌∷◌, length, Option, Result, Ok, Err, refl, ap, subst}
 use Rattle.std.specs.Prelude.{IfErr, IfOk}
 use Rattle.sqlite.specs.Held.{Held}
 use Rattle.sqlite.specs.State.{State}
@@ -11,11 +11,11 @@ use Rattle.role_cli.specs.Serving.{AreServed, IsServed}
 
 -- a further connection
 pub served_then : {S : Type 0} (shown : Held S → State) (old mid new : Opened S) (offices : List (Opened S))
-    → AreServed shown old offices mid → IsServed shown mid new → (all : List (Opened S)) × AreServed shown old all new
-served_then shown old mid new [] same next = (new ∷ [], (subst (λ o. IsServed shown o new) same next, refl))
+    → AreServed shown old offices mid → IsServed shown mid new → (all : List (Opened S)) × AreServed shown old all new × (length all ≡ suc (length offices))
+served_then shown old mid new [] same next = (new ∷ [], (subst (λ o. IsServed shown o new) same next, refl), refl)
 served_then shown old mid new (first ∷ rest) served next =
     let all = served_then shown first mid new rest served.1 next in
-    (first ∷ all.0, (served.0, all.1))
+    (first ∷ all.0, (served.0, all.1), ap suc all.2)
 
 -- one request, served or stopped, was one connection
 pub of_request : {S : Type 0} (shown : Held S → State) (old new : Opened S) (left now_left written now_written : Option (List ℕ)) (result : Result Served Stop)

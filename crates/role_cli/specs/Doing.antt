@@ -3,6 +3,8 @@ use Rattle.std.specs.Prelude.{⊤, ◌≡◌, ◌++◌, ℕ, Bool, true, false, 
 use Rattle.std.specs.Fmt.{decimal}
 use Rattle.std.specs.Io.KnownBytes.{Appends, Consumes, IsAtEnd}
 use Rattle.admin_mgr.specs.RbacState.{RbacState}
+use Rattle.admin_mgr.specs.Good.{IsGood}
+use Rattle.admin_mgr.specs.Named.{AreNamed}
 use Rattle.admin_mgr.specs.declared.plan.Report.{Report}
 use Rattle.review_mgr.specs.Report.{report}
 use Rattle.role_csv.specs.Export.{exported}
@@ -40,9 +42,9 @@ IsDoneOver s (choice.Export _) remaining now_remaining written now_written = App
 IsDoneOver s (choice.Report _) remaining now_remaining written now_written = Appends written now_written (report s)
 IsDoneOver s (choice.Check _) remaining now_remaining written now_written = Appends written now_written (codes "good\n")
 
--- over an office of some state, the choice was done
+-- over an office of some good state, whose names are names, the choice was done
 abbrev pub IsDoneOverSome : Choice → Option (List ℕ) → Option (List ℕ) → Option (List ℕ) → Option (List ℕ) → Type 0
-IsDoneOverSome c remaining now_remaining written now_written = (s : RbacState) × IsDoneOver s c remaining now_remaining written now_written
+IsDoneOverSome c remaining now_remaining written now_written = (s : RbacState) × IsGood s × AreNamed s × IsDoneOver s c remaining now_remaining written now_written
 
 -- it was done: a replay in memory over a new office, all else over the office of the file
 abbrev pub IsDone : Choice → Option (List ℕ) → Option (List ℕ) → Option (List ℕ) → Option (List ℕ) → Type 0

@@ -1,5 +1,5 @@
 -- What a server leaves of an office, one connection after another.
-use Rattle.std.specs.Prelude.{◌≡◌, ◌⊎◌, ℕ, List, [], ◌∷◌, Option}
+use Rattle.std.specs.Prelude.{◌≡◌, ◌⊎◌, ◌≤◌, ℕ, List, [], ◌∷◌, Option, length}
 use Rattle.sqlite.specs.Held.{Held}
 use Rattle.sqlite.specs.State.{State}
 use Rattle.role_tables.specs.Office.{Opened}
@@ -18,3 +18,10 @@ module _ {S : Type 0} (shown : Held S → State) where
   abbrev pub AreServed : Opened S → List (Opened S) → Opened S → Type 0
   AreServed old [] new = new ≡ old
   AreServed old (next ∷ rest) new = IsServed old next × AreServed next rest new
+
+  -- so many connections at most left the office as it is, one after another, and exactly so many where all were served
+  pub record AreServedUpTo (limit : ℕ) (All : Type 0) (old new : Opened S) : Type 0 where
+    pub offices : List (Opened S)
+    pub served : AreServed old offices new
+    pub within : length offices ≤ limit
+    pub all : All → length offices ≡ limit

@@ -40,7 +40,7 @@ pub fn run<R: Source, W: Sink, E: Sink>(
     err: &mut E,
 ) -> u8
     ensures status { (result ≡ 0) ⊎ ((result ≡ 1) ⊎ (result ≡ 2)) }
-    ensures done { result ≡ 0 → AsksHelp program (map (λ s. s.now) words.entry.now)
+    ensures done { result ≡ 0 → (AsksHelp program (map (λ s. s.now) words.entry.now) × (source.new ≡ source.old))
         ⊎ ((choice : Choice) × Chooses (subcommand_of program (map (λ s. s.now) words.entry.now)) choice
         × IsDone choice (R.remaining source.old) (R.remaining source.new) (W.written out.old) (W.written out.new)) }
     ensures refused { result ≡ 2 → (source.new ≡ source.old) × (out.new ≡ out.old) }

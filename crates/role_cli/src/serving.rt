@@ -1,11 +1,10 @@
 //! One connection of a server after another.
-ghost use Rattle.std.specs.Prelude.{◌≡◌, ◌⊎◌, List, OnOk, IfOk, string_bytes};
+ghost use Rattle.std.specs.Prelude.{◌≡◌, ◌⊎◌, IsOk, OnOk, IfOk, string_bytes};
 ghost use Rattle.std.specs.Io.KnownBytes.{Appends};
 ghost use Rattle.sqlite.specs.Held.{state};
 ghost use Rattle.role_http.specs.Route.{routes};
-ghost use Rattle.role_tables.specs.Office.{Opened};
 ghost use Rattle.role_cli.specs.Doing.{listening_line};
-ghost use Rattle.role_cli.specs.Serving.{AreServed, IsServed};
+ghost use Rattle.role_cli.specs.Serving.{AreServedUpTo, IsServed};
 
 use crate::failure::Failure;
 use matchit::Router;
@@ -34,8 +33,8 @@ const DISCARDED_AT_ONCE: usize = 8192;
 /// How often they are read: 4 MiB in all.
 const MOST_DISCARDS: u32 = 512;
 
-/// Serves as many connections of the listener as `limit` says, one after the other, each by
-/// `serve_one` of `role_wire`, and gives the exit status. A read or a write of a connection waits at
+/// Serves as many connections of the listener as `limit` says, which may be any number, one after the
+/// other, each by `serve_one` of `role_wire`, and gives the exit status. A read or a write of a connection waits at
 /// most five seconds. Where a connection is stopped, it counts as served, and the next is taken.
 ///
 /// The status is 0 where all were served. It is 1, and `err` has a line that says why, after an
@@ -50,7 +49,7 @@ pub fn serve_on<S: Alter, E: Sink>(
     err: &mut E,
 ) -> u8
     ensures status { (result ≡ 0) ⊎ (result ≡ 1) }
-    ensures left { (offices : List (Opened S)) × AreServed (state S.Store) office.old offices office.new }
+    ensures left { AreServedUpTo (state S.Store) limit (result ≡ 0) office.old office.new }
 {
     match serve_all(alloc, office, listener, limit) {
         Ok(()) => 0,
@@ -75,7 +74,7 @@ pub(crate) fn serve<S: Alter, W: Sink>(
     out: &mut W,
 ) -> Result<(), Failure>
     ensures said { OnOk result (Appends (W.written out.old) (W.written out.new) (listening_line port)) }
-    ensures left { (offices : List (Opened S)) × AreServed (state S.Store) office.old offices office.new }
+    ensures left { AreServedUpTo (state S.Store) limit (IsOk result) office.old office.new }
 {
     let Ok(listener) = TcpListener::bind(rt, ("127.0.0.1", port)) else {
         return Err(Failure::NotListening);
@@ -112,7 +111,7 @@ fn serve_all<S: Alter>(
     listener: &TcpListener,
     limit: u32,
 ) -> Result<(), Failure>
-    ensures { (offices : List (Opened S)) × AreServed (state S.Store) office.old offices office.new }
+    ensures { AreServedUpTo (state S.Store) limit (IsOk result) office.old office.new }
 {
     let router = match one_route(alloc) {
         Ok(router) => router,

@@ -40,6 +40,7 @@ pub(crate) fn over<S: Alter, R: Source, W: Sink>(
 {
     match office_of(rt.alloc(), conn, choice) {
         Ok(mut office) => {
+            office.is_good();
             let done = over_office(rt, &mut office, choice, source, out);
             (done, office.into_connection())
         }

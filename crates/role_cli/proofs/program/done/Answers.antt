@@ -17,3 +17,19 @@ returns-in-Export-clause-done g c =
 pub returns-in-Report-clause-done : goal.returns-in-Report-clause-done
 returns-in-Report-clause-done g c =
     on_ok-then c.over_file-in-Report.result _ _ c.over_file-in-Report.ensures.done (of_file _ _ _ _ _ (rw c.in-Report.is))
+
+pub returns-in-Serve-clause-done : goal.returns-in-Serve-clause-done
+returns-in-Serve-clause-done g c =
+    on_ok-then c.over_file-in-Serve.result _ _ c.over_file-in-Serve.ensures.done (of_file _ _ _ _ _ (rw c.in-Serve.is))
+
+pub returns-in-Import-clause-done : goal.returns-in-Import-clause-done
+returns-in-Import-clause-done g c =
+    on_ok-then c.over_file-in-Import.result _ _ c.over_file-in-Import.ensures.done (of_file _ _ _ _ _ (rw c.in-Import.is))
+
+pub returns-in-Check-clause-done : goal.returns-in-Check-clause-done
+returns-in-Check-clause-done g c =
+    on_ok-then c.over_file-in-Check.result _ _ c.over_file-in-Check.ensures.done (of_file _ _ _ _ _ (rw c.in-Check.is))
+
+pub returns-in-Migrate-clause-done : goal.returns-in-Migrate-clause-done
+returns-in-Migrate-clause-done g c =
+    on_ok-then c.over_file-in-Migrate.result _ _ c.over_file-in-Migrate.ensures.done (of_file _ _ _ _ _ (rw c.in-Migrate.is))
