@@ -120,7 +120,7 @@ impl State {
         let _ = &self.relations;
     }
 
-    /// Each name in a row of the state is a name, as `is_good` says that the state is good.
+    /// The law of the type, for one state: each name in its rows is a name. As `is_good` it does nothing.
     pub fn is_named(&self)
         ensures { AreNamed self.now.facts }
     {

@@ -85,8 +85,8 @@ pub enum Refusal {
     UserLocked,
     /// 40: memory was refused.
     Memory,
-    /// 41: the store refused a call, or a sink failed or took no byte. An office is closed then, and a
-    /// stop leaves the state before the command or the one after it; a sink may hold the start of a text.
+    /// 41: the store refused a call. An office is closed then, and a stop leaves the state before the
+    /// command or the one after it. Or a sink failed or took no byte: it may hold the start of a text.
     Store,
     /// 42: the office is closed.
     Closed,

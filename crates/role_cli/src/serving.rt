@@ -34,8 +34,9 @@ const DISCARDED_AT_ONCE: usize = 8192;
 const MOST_DISCARDS: u32 = 512;
 
 /// Serves as many connections of the listener as `limit` says, which may be any number, one after the
-/// other, each by `serve_one` of `role_wire`, and gives the exit status. A read or a write of a connection waits at
-/// most five seconds. Where a connection is stopped, it counts as served, and the next is taken.
+/// other, each by `serve_one` of `role_wire`, and gives the exit status. A read or a write of a
+/// connection waits at most five seconds. Where a connection is stopped, it counts as served, and the
+/// next is taken.
 ///
 /// The status is 0 where all were served. It is 1, and `err` has a line that says why, after an
 /// answer with the status 500, since the office is closed then, where a connection can't be
