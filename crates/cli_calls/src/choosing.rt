@@ -20,15 +20,23 @@ fn show_choice(alloc: Global, choice: &Choice) -> Result<String, AllocError> {
     }
 }
 
-// What the words of a line choose, or why they choose nothing.
-fn chosen(alloc: Global, line: &str) -> Result<String, AllocError> {
-    let words: Vec<&str> = line.split_whitespace().collect(alloc)?;
-    match choose(alloc, &words) {
-        Ok(choice) => show_choice(alloc, &choice),
+// A choice, or why there is none, as a text.
+fn show(alloc: Global, choice: &Result<Choice, Unchosen>) -> Result<String, AllocError> {
+    match choice {
+        Ok(choice) => show_choice(alloc, choice),
         Err(Unchosen::Either) => String::from_str(alloc, "either"),
         Err(Unchosen::Fault(_)) => String::from_str(alloc, "fault"),
         Err(Unchosen::Memory) => String::from_str(alloc, "memory"),
     }
+}
+
+// What the words of a line choose, or why they choose nothing.
+fn chosen(alloc: Global, line: &str) -> Result<String, AllocError> {
+    let words: Vec<&str> = line.split_whitespace().collect(alloc)?;
+    let choice = choose(alloc, &words);
+    let text = show(alloc, &choice);
+    drop(choice);
+    text
 }
 
 #[test]

@@ -17,13 +17,8 @@ const DONE: &str = "HTTP/1.1 200 OK\r\nContent-Type: application/json\r\nContent
 
 // An empty office in memory.
 fn empty_office(alloc: Global) -> Option<Office<MemStore>> {
-    let Ok(conn) = Connection::open_in_memory(alloc) else {
-        return None;
-    };
-    match create(alloc, conn) {
-        Ok(office) => Some(office),
-        Err(_) => None,
-    }
+    let conn = Connection::open_in_memory(alloc).ok()?;
+    create(alloc, conn).ok()
 }
 
 // A client whose request is sent, and which waits at most five seconds for its reply.
@@ -47,7 +42,11 @@ fn is_replied(rt: &HostRuntime, office: &mut Office<MemStore>, reply: &str) -> i
 // Whether the request of a client is done.
 fn is_served(rt: &HostRuntime) -> io::Result<bool> {
     match empty_office(rt.alloc()) {
-        Some(mut office) => is_replied(rt, &mut office, DONE),
+        Some(mut office) => {
+            let is_replied = is_replied(rt, &mut office, DONE);
+            drop(office);
+            is_replied
+        }
         None => Ok(false),
     }
 }

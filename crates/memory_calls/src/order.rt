@@ -2,6 +2,7 @@
 //! repository.
 ghost use Rattle.role_order.specs.Planned.{Fits};
 
+use crate::comparing::{are, are_pairs};
 use rbac_sets::{Name, NameSet, PairSet, Refusal};
 use role_order::{OrderPlan, RoleOrder};
 use std::alloc::Global;
@@ -33,8 +34,7 @@ fn boss_over_clerk(alloc: Global) -> Result<RoleOrder, Refusal> {
 
 // Whether this is the one pair of the set.
 fn is_only_pair(pairs: &PairSet, first: &str, second: &str) -> bool {
-    pairs.len() == 1
-        && pairs.iter().all(|pair| pair.0.as_str() == first && pair.1.as_str() == second)
+    are_pairs(pairs.as_slice(), &[(first, second)])
 }
 
 fn has_its_rows(order: &RoleOrder) -> bool {
@@ -44,13 +44,15 @@ fn has_its_rows(order: &RoleOrder) -> bool {
 #[test]
 fn rows_make_an_order(rt: HostRuntime) -> Result<(), Fail> {
     let order = boss_over_clerk(rt.alloc())?;
-    assert!(rt; has_its_rows(&order));
+    let has_its_rows = has_its_rows(&order);
+    drop(order);
+    assert!(rt; has_its_rows);
     Ok(())
 }
 
 // Whether this is the one name of the set.
 fn is_only(names: &NameSet, text: &str) -> bool {
-    names.len() == 1 && names.iter().all(|name| name.as_str() == text)
+    are(names.as_slice(), &[text])
 }
 
 fn clerk_is_below_boss(alloc: Global, order: &RoleOrder) -> Result<bool, Refusal> {
@@ -73,7 +75,9 @@ fn tells_who_is_above_and_below(alloc: Global, order: &RoleOrder) -> Result<bool
 fn a_junior_and_a_senior(rt: HostRuntime) -> Result<(), Fail> {
     let alloc = rt.alloc();
     let order = boss_over_clerk(alloc)?;
-    assert!(rt; tells_who_is_above_and_below(alloc, &order)?);
+    let told = tells_who_is_above_and_below(alloc, &order);
+    drop(order);
+    assert!(rt; told?);
     Ok(())
 }
 
@@ -120,7 +124,9 @@ fn goes_on_to_a_temp(alloc: Global, order: &mut RoleOrder) -> Result<bool, Refus
 fn an_edge_is_put_and_taken(rt: HostRuntime) -> Result<(), Fail> {
     let alloc = rt.alloc();
     let mut order = boss_over_clerk(alloc)?;
-    assert!(rt; goes_on_to_a_temp(alloc, &mut order)?);
+    let told = goes_on_to_a_temp(alloc, &mut order);
+    drop(order);
+    assert!(rt; told?);
     Ok(())
 }
 
@@ -188,20 +194,31 @@ fn is_above(alloc: Global, order: &RoleOrder, first: u64, second: u64) -> Result
     Ok(order.geq(&first, &second))
 }
 
-// Whether the chains are joined and parted by one edge, each role of one with each of the other.
+// Whether the edge joins the chains, each role of one with each of the other.
+fn joins(alloc: Global, order: &mut RoleOrder, last: &Name, first: &Name) -> Result<bool, Refusal> {
+    let is_put = add(alloc, order, last, first)? == (262_144, 0, 262_144);
+    Ok(is_put && order.pairs().len() == 523_776 && is_above(alloc, order, 0, 1_023)?)
+}
+
+// Whether the chains are parted where the edge is taken.
+fn parts(alloc: Global, order: &mut RoleOrder, last: &Name, first: &Name) -> Result<bool, Refusal> {
+    let is_taken = remove(alloc, order, last, first)? == (0, 262_144, 262_144);
+    Ok(is_taken && order.pairs().len() == 261_632)
+}
+
+// Whether the chains are joined and parted by one edge.
 fn joins_and_parts(alloc: Global, order: &mut RoleOrder) -> Result<bool, Refusal> {
     let last = role(alloc, 511)?;
     let first = role(alloc, 512)?;
-    let is_put = add(alloc, order, &last, &first)? == (262_144, 0, 262_144);
-    let is_whole = order.pairs().len() == 523_776 && is_above(alloc, order, 0, 1_023)?;
-    let is_taken = remove(alloc, order, &last, &first)? == (0, 262_144, 262_144);
-    Ok(is_put && is_whole && is_taken && order.pairs().len() == 261_632)
+    Ok(joins(alloc, order, &last, &first)? && parts(alloc, order, &last, &first)?)
 }
 
 #[test]
 fn joins_two_chains_of_512(rt: HostRuntime) -> Result<(), Fail> {
     let alloc = rt.alloc();
     let mut order = chains(alloc)?;
-    assert!(rt; joins_and_parts(alloc, &mut order)?);
+    let told = joins_and_parts(alloc, &mut order);
+    drop(order);
+    assert!(rt; told?);
     Ok(())
 }

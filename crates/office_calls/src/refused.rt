@@ -93,7 +93,11 @@ fn is_replied(alloc: Global, office: &mut Office<MemStore>) -> bool {
 // The lines on an office, where one is made.
 fn lines_stop_well(alloc: Global) -> bool {
     match empty_office(alloc) {
-        Some(mut office) => are_answered(alloc, &mut office),
+        Some(mut office) => {
+            let are_answered = are_answered(alloc, &mut office);
+            drop(office);
+            are_answered
+        }
         None => true,
     }
 }
@@ -101,7 +105,11 @@ fn lines_stop_well(alloc: Global) -> bool {
 // The request on an office, where one is made.
 fn requests_stop_well(alloc: Global) -> bool {
     match empty_office(alloc) {
-        Some(mut office) => is_replied(alloc, &mut office),
+        Some(mut office) => {
+            let is_replied = is_replied(alloc, &mut office);
+            drop(office);
+            is_replied
+        }
         None => true,
     }
 }

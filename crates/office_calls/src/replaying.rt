@@ -40,13 +40,8 @@ const CONFLICT: &str =
 
 // An empty office in memory.
 pub(super) fn empty_office(alloc: Global) -> Option<Office<MemStore>> {
-    let Ok(conn) = Connection::open_in_memory(alloc) else {
-        return None;
-    };
-    match create(alloc, conn) {
-        Ok(office) => Some(office),
-        Err(_) => None,
-    }
+    let conn = Connection::open_in_memory(alloc).ok()?;
+    create(alloc, conn).ok()
 }
 
 // Whether the lines get these answers, and as many.
@@ -61,7 +56,11 @@ fn are_answered(alloc: Global, office: &mut Office<MemStore>) -> bool {
 
 fn lines_are_answered(alloc: Global) -> bool {
     match empty_office(alloc) {
-        Some(mut office) => are_answered(alloc, &mut office),
+        Some(mut office) => {
+            let are_answered = are_answered(alloc, &mut office);
+            drop(office);
+            are_answered
+        }
         None => false,
     }
 }
@@ -96,14 +95,23 @@ fn is_left(source: &mut MemorySource<'_>, bytes: &[u8]) -> bool {
     }
 }
 
-fn requests_are_replied(alloc: Global) -> bool {
-    let Some(mut office) = empty_office(alloc) else {
-        return false;
-    };
+// Whether one request is done, the next is refused, and what stands behind them is left.
+fn are_replied(alloc: Global, office: &mut Office<MemStore>) -> bool {
     let mut source = MemorySource::new(REQUESTS.as_bytes());
-    is_done(alloc, &mut office, &mut source)
-        && is_refused(alloc, &mut office, &mut source)
+    is_done(alloc, office, &mut source)
+        && is_refused(alloc, office, &mut source)
         && is_left(&mut source, b"behind")
+}
+
+fn requests_are_replied(alloc: Global) -> bool {
+    match empty_office(alloc) {
+        Some(mut office) => {
+            let are_replied = are_replied(alloc, &mut office);
+            drop(office);
+            are_replied
+        }
+        None => false,
+    }
 }
 
 #[test]

@@ -1,6 +1,6 @@
 //! Each call that takes memory, over a store in memory: what it answers with memory enough. `Office::apply`
 //! is called by the tests from outside.
-use role_tables::{Office, create, create_v1, migrate, open};
+use role_tables::{Office, Unopened, create, create_v1, migrate, open};
 use sqlite::{Connection, MemStore};
 use std::alloc::Global;
 
@@ -12,22 +12,26 @@ fn has_no_users(office: &Office<MemStore>, version: u32) -> bool {
     }
 }
 
-fn is_created(alloc: Global) -> bool {
-    let Ok(conn) = Connection::open_in_memory(alloc) else {
-        return false;
+// Whether there is an office, of this version and with no users.
+fn is_empty_office(made: Result<Office<MemStore>, Unopened<MemStore>>, version: u32) -> bool {
+    let is_empty = match &made {
+        Ok(office) => has_no_users(office, version),
+        Err(_) => false,
     };
-    match create(alloc, conn) {
-        Ok(office) => has_no_users(&office, 2),
+    drop(made);
+    is_empty
+}
+
+fn is_created(alloc: Global) -> bool {
+    match Connection::open_in_memory(alloc) {
+        Ok(conn) => is_empty_office(create(alloc, conn), 2),
         Err(_) => false,
     }
 }
 
 fn is_created_in_version_1(alloc: Global) -> bool {
-    let Ok(conn) = Connection::open_in_memory(alloc) else {
-        return false;
-    };
-    match create_v1(alloc, conn) {
-        Ok(office) => has_no_users(&office, 1),
+    match Connection::open_in_memory(alloc) {
+        Ok(conn) => is_empty_office(create_v1(alloc, conn), 1),
         Err(_) => false,
     }
 }
@@ -35,29 +39,20 @@ fn is_created_in_version_1(alloc: Global) -> bool {
 // A connection with an empty office of version 1.
 fn first_office(alloc: Global) -> Option<Connection<MemStore>> {
     let conn = Connection::open_in_memory(alloc).ok()?;
-    match create_v1(alloc, conn) {
-        Ok(office) => Some(office.into_connection()),
-        Err(_) => None,
-    }
+    Some(create_v1(alloc, conn).ok()?.into_connection())
 }
 
 fn is_opened(alloc: Global) -> bool {
-    let Some(conn) = first_office(alloc) else {
-        return false;
-    };
-    match open(alloc, conn) {
-        Ok(again) => has_no_users(&again, 1),
-        Err(_) => false,
+    match first_office(alloc) {
+        Some(conn) => is_empty_office(open(alloc, conn), 1),
+        None => false,
     }
 }
 
 fn is_migrated(alloc: Global) -> bool {
-    let Some(conn) = first_office(alloc) else {
-        return false;
-    };
-    match migrate(alloc, conn) {
-        Ok(second) => has_no_users(&second, 2),
-        Err(_) => false,
+    match first_office(alloc) {
+        Some(conn) => is_empty_office(migrate(alloc, conn), 2),
+        None => false,
     }
 }
 

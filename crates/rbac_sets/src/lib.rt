@@ -44,5 +44,3 @@ pub mod sink;
 pub mod sorted_set;
 pub mod source;
 pub mod table;
-#[cfg(test)]
-mod tests;

@@ -6,22 +6,35 @@ use role_csv::{read_assignments, write_assignments};
 use std::alloc::Global;
 use std::test::Fail;
 
+// Whether the pairs are these, in this order.
+fn are_pairs(pairs: &[(Name, Name)], want: &[(&str, &str)]) -> bool {
+    pairs.len() == want.len()
+        && pairs.iter().zip(want).all(|(pair, texts)| pair.0.as_str() == texts.0
+            && pair.1.as_str() == texts.1)
+}
+
 // Whether the text lists these pairs, in this order.
 fn lists(alloc: Global, text: &[u8], want: &[(&str, &str)]) -> Result<bool, Refusal> {
     let pairs = read_assignments(alloc, text)?;
-    Ok(
-        pairs.len() == want.len()
-            && pairs.iter().zip(want).all(|(pair, texts)| pair.0.as_str() == texts.0
-                && pair.1.as_str() == texts.1),
-    )
+    let are_listed = are_pairs(&pairs, want);
+    drop(pairs);
+    Ok(are_listed)
+}
+
+// The record of a refusal, if there is one.
+fn record_of(read: &Result<Vec<(Name, Name)>, Refusal>) -> Option<u32> {
+    match read {
+        Err(Refusal::BadCsv(number)) => Some(*number),
+        _ => None,
+    }
 }
 
 // The record for which the text is refused, if it is.
 fn bad_record(alloc: Global, text: &[u8]) -> Option<u32> {
-    match read_assignments(alloc, text) {
-        Err(Refusal::BadCsv(number)) => Some(number),
-        _ => None,
-    }
+    let read = read_assignments(alloc, text);
+    let record = record_of(&read);
+    drop(read);
+    record
 }
 
 #[test]
@@ -74,31 +87,30 @@ fn apply(alloc: Global, state: &mut State, command: &Command) -> Result<(), Refu
     Ok(())
 }
 
-// Makes a user and a role, and assigns the user to it.
-fn assign(alloc: Global, state: &mut State, user: &str, role: &str) -> Result<(), Refusal> {
-    for command in [
-        Command::AddUser {
-            user: Name::new(alloc, user)?,
-        },
-        Command::AddRole {
-            role: Name::new(alloc, role)?,
-        },
-        Command::AssignUser {
-            user: Name::new(alloc, user)?,
-            role: Name::new(alloc, role)?,
-        },
-    ] {
-        apply(alloc, state, &command)?;
-    }
-    Ok(())
+// Has a command done, and lets it go.
+fn obey(alloc: Global, state: &mut State, command: Command) -> Result<(), Refusal> {
+    let done = apply(alloc, state, &command);
+    drop(command);
+    done
 }
 
-// Two users with a role each.
-fn staff(alloc: Global) -> Result<State, Refusal> {
-    let mut state = State::empty(alloc);
-    assign(alloc, &mut state, "bob", "boss")?;
-    assign(alloc, &mut state, "ann", "clerk, \"junior\"")?;
-    Ok(state)
+fn add_user(alloc: Global, state: &mut State, user: &str) -> Result<(), Refusal> {
+    let user = Name::new(alloc, user)?;
+    obey(alloc, state, Command::AddUser { user })
+}
+
+fn add_role(alloc: Global, state: &mut State, role: &str) -> Result<(), Refusal> {
+    let role = Name::new(alloc, role)?;
+    obey(alloc, state, Command::AddRole { role })
+}
+
+// Makes a user and a role, and assigns the user to it.
+fn assign(alloc: Global, state: &mut State, user: &str, role: &str) -> Result<(), Refusal> {
+    add_user(alloc, state, user)?;
+    add_role(alloc, state, role)?;
+    let user = Name::new(alloc, user)?;
+    let role = Name::new(alloc, role)?;
+    obey(alloc, state, Command::AssignUser { user, role })
 }
 
 // Whether the export of the state is this one.
@@ -108,10 +120,19 @@ fn is_exported(alloc: Global, state: &State) -> Result<bool, Refusal> {
     Ok(sink.as_slice() == export().as_bytes())
 }
 
+// Makes two users with a role each, and tells whether they are exported.
+fn are_exported(alloc: Global, state: &mut State) -> Result<bool, Refusal> {
+    assign(alloc, state, "bob", "boss")?;
+    assign(alloc, state, "ann", "clerk, \"junior\"")?;
+    is_exported(alloc, state)
+}
+
 #[test]
 fn assignments_are_exported_in_byte_order(rt: HostRuntime) -> Result<(), Fail> {
     let alloc = rt.alloc();
-    let state = staff(alloc)?;
-    assert!(rt; is_exported(alloc, &state)?);
+    let mut state = State::empty(alloc);
+    let are_exported = are_exported(alloc, &mut state);
+    drop(state);
+    assert!(rt; are_exported?);
     Ok(())
 }

@@ -1,5 +1,5 @@
 //! Each review function, and the access decision.
-use super::small_office::{are, are_pairs, small_office};
+use super::small_office::{small_office, tells, tells_pairs};
 use admin_mgr::State;
 use rbac_sets::{Name, Refusal};
 use review_mgr::check_access;
@@ -9,16 +9,18 @@ use std::test::Fail;
 
 fn users_of_clerk(alloc: Global, state: &State) -> Result<bool, Refusal> {
     let clerk = Name::new(alloc, "clerk")?;
-    let assigned = assigned_users(alloc, state, &clerk)?;
-    let authorized = authorized_users(alloc, state, &clerk)?;
-    Ok(are(&assigned, &["bob"]) && are(&authorized, &["ann", "bob"]))
+    Ok(
+        tells(assigned_users(alloc, state, &clerk), &["bob"])?
+            && tells(authorized_users(alloc, state, &clerk), &["ann", "bob"])?,
+    )
 }
 
 fn roles_of_ann(alloc: Global, state: &State) -> Result<bool, Refusal> {
     let ann = Name::new(alloc, "ann")?;
-    let assigned = assigned_roles(alloc, state, &ann)?;
-    let authorized = authorized_roles(alloc, state, &ann)?;
-    Ok(are(&assigned, &["boss"]) && are(&authorized, &["boss", "clerk"]))
+    Ok(
+        tells(assigned_roles(alloc, state, &ann), &["boss"])?
+            && tells(authorized_roles(alloc, state, &ann), &["boss", "clerk"])?,
+    )
 }
 
 fn tells_of_users_and_roles(alloc: Global, state: &State) -> Result<bool, Refusal> {
@@ -29,27 +31,28 @@ fn tells_of_users_and_roles(alloc: Global, state: &State) -> Result<bool, Refusa
 fn of_users_and_roles(rt: HostRuntime) -> Result<(), Fail> {
     let alloc = rt.alloc();
     let state = small_office(alloc)?;
-    assert!(rt; tells_of_users_and_roles(alloc, &state)?);
+    let told = tells_of_users_and_roles(alloc, &state);
+    drop(state);
+    assert!(rt; told?);
     Ok(())
 }
 
 fn permissions_of_boss(alloc: Global, state: &State) -> Result<bool, Refusal> {
     let boss = Name::new(alloc, "boss")?;
-    let pairs = role_permissions(alloc, state, &boss)?;
-    Ok(are_pairs(&pairs, &[("safe", "open"), ("safe", "view")]))
+    let told = role_permissions(alloc, state, &boss);
+    tells_pairs(told, &[("safe", "open"), ("safe", "view")])
 }
 
 fn permissions_of_bob(alloc: Global, state: &State) -> Result<bool, Refusal> {
     let bob = Name::new(alloc, "bob")?;
-    let pairs = user_permissions(alloc, state, &bob)?;
-    Ok(are_pairs(&pairs, &[("safe", "open")]))
+    let told = user_permissions(alloc, state, &bob);
+    tells_pairs(told, &[("safe", "open")])
 }
 
 fn roles_of_opening(alloc: Global, state: &State) -> Result<bool, Refusal> {
     let safe = Name::new(alloc, "safe")?;
     let open = Name::new(alloc, "open")?;
-    let roles = permission_roles(alloc, state, &safe, &open)?;
-    Ok(are(&roles, &["clerk"]))
+    tells(permission_roles(alloc, state, &safe, &open), &["clerk"])
 }
 
 fn tells_of_permissions(alloc: Global, state: &State) -> Result<bool, Refusal> {
@@ -64,22 +67,24 @@ fn tells_of_permissions(alloc: Global, state: &State) -> Result<bool, Refusal> {
 fn of_permissions(rt: HostRuntime) -> Result<(), Fail> {
     let alloc = rt.alloc();
     let state = small_office(alloc)?;
-    assert!(rt; tells_of_permissions(alloc, &state)?);
+    let told = tells_of_permissions(alloc, &state);
+    drop(state);
+    assert!(rt; told?);
     Ok(())
 }
 
 fn operations_of_clerk(alloc: Global, state: &State) -> Result<bool, Refusal> {
     let clerk = Name::new(alloc, "clerk")?;
     let safe = Name::new(alloc, "safe")?;
-    let operations = role_operations_on_object(alloc, state, &clerk, &safe)?;
-    Ok(are(&operations, &["open"]))
+    let told = role_operations_on_object(alloc, state, &clerk, &safe);
+    tells(told, &["open"])
 }
 
 fn operations_of_ann(alloc: Global, state: &State) -> Result<bool, Refusal> {
     let ann = Name::new(alloc, "ann")?;
     let safe = Name::new(alloc, "safe")?;
-    let operations = user_operations_on_object(alloc, state, &ann, &safe)?;
-    Ok(are(&operations, &["open", "view"]))
+    let told = user_operations_on_object(alloc, state, &ann, &safe);
+    tells(told, &["open", "view"])
 }
 
 fn tells_of_operations(alloc: Global, state: &State) -> Result<bool, Refusal> {
@@ -90,24 +95,28 @@ fn tells_of_operations(alloc: Global, state: &State) -> Result<bool, Refusal> {
 fn of_operations(rt: HostRuntime) -> Result<(), Fail> {
     let alloc = rt.alloc();
     let state = small_office(alloc)?;
-    assert!(rt; tells_of_operations(alloc, &state)?);
+    let told = tells_of_operations(alloc, &state);
+    drop(state);
+    assert!(rt; told?);
     Ok(())
 }
 
 fn static_sets(alloc: Global, state: &State) -> Result<bool, Refusal> {
     let pay = Name::new(alloc, "pay")?;
-    let sets = ssd_role_sets(alloc, state)?;
-    let roles = ssd_role_set_roles(alloc, state, &pay)?;
-    let cardinality = ssd_role_set_cardinality(state, &pay)?;
-    Ok(are(&sets, &["pay"]) && are(&roles, &["clerk", "temp"]) && cardinality == 2)
+    Ok(
+        tells(ssd_role_sets(alloc, state), &["pay"])?
+            && tells(ssd_role_set_roles(alloc, state, &pay), &["clerk", "temp"])?
+            && ssd_role_set_cardinality(state, &pay)? == 2,
+    )
 }
 
 fn dynamic_sets(alloc: Global, state: &State) -> Result<bool, Refusal> {
     let till = Name::new(alloc, "till")?;
-    let sets = dsd_role_sets(alloc, state)?;
-    let roles = dsd_role_set_roles(alloc, state, &till)?;
-    let cardinality = dsd_role_set_cardinality(state, &till)?;
-    Ok(are(&sets, &["till"]) && are(&roles, &["boss", "temp"]) && cardinality == 2)
+    Ok(
+        tells(dsd_role_sets(alloc, state), &["till"])?
+            && tells(dsd_role_set_roles(alloc, state, &till), &["boss", "temp"])?
+            && dsd_role_set_cardinality(state, &till)? == 2,
+    )
 }
 
 fn tells_of_separation(alloc: Global, state: &State) -> Result<bool, Refusal> {
@@ -118,20 +127,21 @@ fn tells_of_separation(alloc: Global, state: &State) -> Result<bool, Refusal> {
 fn of_separation(rt: HostRuntime) -> Result<(), Fail> {
     let alloc = rt.alloc();
     let state = small_office(alloc)?;
-    assert!(rt; tells_of_separation(alloc, &state)?);
+    let told = tells_of_separation(alloc, &state);
+    drop(state);
+    assert!(rt; told?);
     Ok(())
 }
 
 fn roles_of_session(alloc: Global, state: &State) -> Result<bool, Refusal> {
     let session = Name::new(alloc, "s1")?;
-    let roles = session_roles(alloc, state, &session)?;
-    Ok(are(&roles, &["boss", "clerk"]))
+    tells(session_roles(alloc, state, &session), &["boss", "clerk"])
 }
 
 fn permissions_of_session(alloc: Global, state: &State) -> Result<bool, Refusal> {
     let session = Name::new(alloc, "s1")?;
-    let pairs = session_permissions(alloc, state, &session)?;
-    Ok(are_pairs(&pairs, &[("safe", "open"), ("safe", "view")]))
+    let told = session_permissions(alloc, state, &session);
+    tells_pairs(told, &[("safe", "open"), ("safe", "view")])
 }
 
 fn may_open(alloc: Global, state: &State) -> Result<bool, Refusal> {
@@ -153,6 +163,8 @@ fn tells_of_sessions(alloc: Global, state: &State) -> Result<bool, Refusal> {
 fn of_sessions(rt: HostRuntime) -> Result<(), Fail> {
     let alloc = rt.alloc();
     let state = small_office(alloc)?;
-    assert!(rt; tells_of_sessions(alloc, &state)?);
+    let told = tells_of_sessions(alloc, &state);
+    drop(state);
+    assert!(rt; told?);
     Ok(())
 }

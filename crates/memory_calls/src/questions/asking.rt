@@ -1,5 +1,6 @@
 //! Questions with an answer of each form.
-use super::small_office::{are, are_pairs, small_office};
+use super::small_office::small_office;
+use crate::comparing::{are, are_pairs};
 use admin_mgr::State;
 use rbac_sets::{Name, Refusal};
 use review_mgr::{Answer, Query, ask};
@@ -28,21 +29,34 @@ fn is_granted(answer: &Answer) -> bool {
     matches!(answer, Answer::Access(true))
 }
 
+// Asks, and lets the question go.
+fn answer_to(alloc: Global, state: &State, query: Query) -> Result<Answer, Refusal> {
+    let answer = ask(alloc, state, &query);
+    drop(query);
+    answer
+}
+
 fn asks_for_sets(alloc: Global, state: &State) -> Result<bool, Refusal> {
-    let answer = ask(alloc, state, &Query::SsdRoleSets)?;
-    Ok(is_pay(&answer))
+    let answer = answer_to(alloc, state, Query::SsdRoleSets)?;
+    let told = is_pay(&answer);
+    drop(answer);
+    Ok(told)
 }
 
 fn asks_for_permissions(alloc: Global, state: &State) -> Result<bool, Refusal> {
     let user = Name::new(alloc, "bob")?;
-    let answer = ask(alloc, state, &Query::UserPermissions { user })?;
-    Ok(is_opening_the_safe(&answer))
+    let answer = answer_to(alloc, state, Query::UserPermissions { user })?;
+    let told = is_opening_the_safe(&answer);
+    drop(answer);
+    Ok(told)
 }
 
 fn asks_for_a_number(alloc: Global, state: &State) -> Result<bool, Refusal> {
     let set = Name::new(alloc, "till")?;
-    let answer = ask(alloc, state, &Query::DsdRoleSetCardinality { set })?;
-    Ok(is_2(&answer))
+    let answer = answer_to(alloc, state, Query::DsdRoleSetCardinality { set })?;
+    let told = is_2(&answer);
+    drop(answer);
+    Ok(told)
 }
 
 fn access(alloc: Global) -> Result<Query, Refusal> {
@@ -54,9 +68,10 @@ fn access(alloc: Global) -> Result<Query, Refusal> {
 }
 
 fn asks_for_access(alloc: Global, state: &State) -> Result<bool, Refusal> {
-    let query = access(alloc)?;
-    let answer = ask(alloc, state, &query)?;
-    Ok(is_granted(&answer))
+    let answer = answer_to(alloc, state, access(alloc)?)?;
+    let told = is_granted(&answer);
+    drop(answer);
+    Ok(told)
 }
 
 fn asks(alloc: Global, state: &State) -> Result<bool, Refusal> {
@@ -72,20 +87,30 @@ fn asks(alloc: Global, state: &State) -> Result<bool, Refusal> {
 fn a_question_is_answered(rt: HostRuntime) -> Result<(), Fail> {
     let alloc = rt.alloc();
     let state = small_office(alloc)?;
-    assert!(rt; asks(alloc, &state)?);
+    let told = asks(alloc, &state);
+    drop(state);
+    assert!(rt; told?);
     Ok(())
+}
+
+fn has_no_role(answer: &Result<Answer, Refusal>) -> bool {
+    matches!(answer, Err(Refusal::NoRole))
 }
 
 fn is_refused(alloc: Global, state: &State) -> Result<bool, Refusal> {
     let role = Name::new(alloc, "cook")?;
-    let refusal = ask(alloc, state, &Query::AssignedUsers { role }).err();
-    Ok(matches!(refusal, Some(Refusal::NoRole)))
+    let answer = answer_to(alloc, state, Query::AssignedUsers { role });
+    let told = has_no_role(&answer);
+    drop(answer);
+    Ok(told)
 }
 
 #[test]
 fn a_question_is_refused(rt: HostRuntime) -> Result<(), Fail> {
     let alloc = rt.alloc();
     let state = small_office(alloc)?;
-    assert!(rt; is_refused(alloc, &state)?);
+    let told = is_refused(alloc, &state);
+    drop(state);
+    assert!(rt; told?);
     Ok(())
 }

@@ -27,6 +27,8 @@ fn is_reported(alloc: Global, state: &State) -> Result<bool, Refusal> {
 fn the_small_office_is_reported(rt: HostRuntime) -> Result<(), Fail> {
     let alloc = rt.alloc();
     let state = small_office(alloc)?;
-    assert!(rt; is_reported(alloc, &state)?);
+    let told = is_reported(alloc, &state);
+    drop(state);
+    assert!(rt; told?);
     Ok(())
 }

@@ -9,21 +9,21 @@ use std::alloc::Global;
 // The command of these words.
 pub(super) fn read_command(alloc: Global, text: &str) -> Result<Command, Refusal> {
     let words: Vec<&str> = text.split_whitespace().collect(alloc)?;
-    match words.as_slice() {
+    let command = read_words(alloc, &words);
+    drop(words);
+    command
+}
+
+fn read_words(alloc: Global, words: &[&str]) -> Result<Command, Refusal> {
+    match words {
         ["importAssignments", records @ ..] => read_import(alloc, records),
         [function, name] => of_name(function, Name::new(alloc, name)?),
-        [function, first, second] => {
-            let first = Name::new(alloc, first)?;
-            match second.parse::<u32>() {
-                Ok(number) => of_number(function, first, number),
-                Err(_) => of_pair(function, first, Name::new(alloc, second)?),
-            }
-        }
+        [function, first, second] => match second.parse::<u32>() {
+            Ok(number) => of_number(function, Name::new(alloc, first)?, number),
+            Err(_) => read_pair(alloc, function, first, second),
+        },
         [function, first, second, third] => match third.parse::<u32>() {
-            Ok(number) => {
-                let roles = read_names(alloc, second)?;
-                of_members(function, Name::new(alloc, first)?, roles, number)
-            }
+            Ok(number) => read_members(alloc, function, first, second, number),
             Err(_) => read_triple(alloc, function, first, second, third),
         },
         _ => Err(Refusal::BadRequest),
@@ -33,13 +33,17 @@ pub(super) fn read_command(alloc: Global, text: &str) -> Result<Command, Refusal
 // The names of a list, each once.
 fn read_names(alloc: Global, text: &str) -> Result<NameSet, Refusal> {
     let mut set = NameSet::new(alloc);
-    if text == "-" {
-        return Ok(set);
-    }
-    for part in text.split(',') {
-        put_name(&mut set, Name::new(alloc, part)?)?;
+    if text != "-" {
+        put_names(alloc, &mut set, text)?;
     }
     Ok(set)
+}
+
+fn put_names(alloc: Global, set: &mut NameSet, text: &str) -> Result<(), Refusal> {
+    for part in text.split(',') {
+        put_name(set, Name::new(alloc, part)?)?;
+    }
+    Ok(())
 }
 
 fn put_name(set: &mut NameSet, name: Name) -> Result<(), Refusal> {
@@ -52,11 +56,24 @@ fn put_name(set: &mut NameSet, name: Name) -> Result<(), Refusal> {
 
 fn read_import(alloc: Global, records: &[&str]) -> Result<Command, Refusal> {
     let mut pairs = Vec::new(alloc);
-    for record in records {
-        let (user, role) = record.split_once('/').ok_or(Refusal::BadRequest)?;
-        pairs.push((Name::new(alloc, user)?, Name::new(alloc, role)?))?;
-    }
+    push_records(alloc, &mut pairs, records)?;
     Ok(Command::ImportAssignments(pairs))
+}
+
+fn push_records(
+    alloc: Global,
+    pairs: &mut Vec<(Name, Name)>,
+    records: &[&str],
+) -> Result<(), Refusal> {
+    for record in records {
+        pairs.push(read_record(alloc, record)?)?;
+    }
+    Ok(())
+}
+
+fn read_record(alloc: Global, record: &str) -> Result<(Name, Name), Refusal> {
+    let (user, role) = record.split_once('/').ok_or(Refusal::BadRequest)?;
+    Ok((Name::new(alloc, user)?, Name::new(alloc, role)?))
 }
 
 fn of_name(function: &str, name: Name) -> Result<Command, Refusal> {
@@ -73,6 +90,12 @@ fn of_name(function: &str, name: Name) -> Result<Command, Refusal> {
         "unlockUserAccount" => Command::UnlockUserAccount { user: name },
         _ => return Err(Refusal::BadRequest),
     })
+}
+
+fn read_pair(alloc: Global, function: &str, first: &str, second: &str) -> Result<Command, Refusal> {
+    let first = Name::new(alloc, first)?;
+    let second = Name::new(alloc, second)?;
+    of_pair(function, first, second)
 }
 
 fn of_pair(function: &str, first: Name, second: Name) -> Result<Command, Refusal> {
@@ -127,6 +150,17 @@ fn of_number(function: &str, set: Name, cardinality: u32) -> Result<Command, Ref
         "setDsdSetCardinality" => Command::SetDsdSetCardinality { set, cardinality },
         _ => return Err(Refusal::BadRequest),
     })
+}
+
+fn read_members(
+    alloc: Global,
+    function: &str,
+    set: &str,
+    roles: &str,
+    cardinality: u32,
+) -> Result<Command, Refusal> {
+    let roles = read_names(alloc, roles)?;
+    of_members(function, Name::new(alloc, set)?, roles, cardinality)
 }
 
 fn of_members(

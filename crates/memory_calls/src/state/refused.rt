@@ -81,23 +81,30 @@ fn left() -> &'static str {
     LEFT
 }
 
+fn push_name(text: &mut String, name: &Name) -> Result<(), AllocError> {
+    text.push_str(" ")?;
+    text.push_str(name.as_str())
+}
+
 fn push_names(text: &mut String, about: &str, names: &NameSet) -> Result<(), AllocError> {
     if names.is_empty() {
         return Ok(());
     }
     text.push_str(about)?;
     for name in names.iter() {
-        text.push(' ')?;
-        text.push_str(name.as_str())?;
+        push_name(text, name)?;
     }
-    text.push('\n')
+    text.push_str("\n")
+}
+
+fn push_part(text: &mut String, part: &Name) -> Result<(), AllocError> {
+    text.push_str("/")?;
+    text.push_str(part.as_str())
 }
 
 fn push_pair(text: &mut String, first: &Name, second: &Name) -> Result<(), AllocError> {
-    text.push(' ')?;
-    text.push_str(first.as_str())?;
-    text.push('/')?;
-    text.push_str(second.as_str())
+    push_name(text, first)?;
+    push_part(text, second)
 }
 
 fn push_pairs(text: &mut String, about: &str, pairs: &PairSet) -> Result<(), AllocError> {
@@ -108,7 +115,7 @@ fn push_pairs(text: &mut String, about: &str, pairs: &PairSet) -> Result<(), All
     for (first, second) in pairs.iter() {
         push_pair(text, first, second)?;
     }
-    text.push('\n')
+    text.push_str("\n")
 }
 
 fn push_grants(text: &mut String, grants: &GrantSet) -> Result<(), AllocError> {
@@ -118,10 +125,17 @@ fn push_grants(text: &mut String, grants: &GrantSet) -> Result<(), AllocError> {
     text.push_str("grants")?;
     for (object, operation, role) in grants.iter() {
         push_pair(text, object, operation)?;
-        text.push('/')?;
-        text.push_str(role.as_str())?;
+        push_part(text, role)?;
     }
-    text.push('\n')
+    text.push_str("\n")
+}
+
+fn push_count(text: &mut String, set: &Name, count: u32) -> Result<(), AllocError> {
+    push_name(text, set)?;
+    for _ in 0..count {
+        text.push_str("+")?;
+    }
+    Ok(())
 }
 
 fn push_counts(text: &mut String, about: &str, counts: &CountSet) -> Result<(), AllocError> {
@@ -130,13 +144,9 @@ fn push_counts(text: &mut String, about: &str, counts: &CountSet) -> Result<(), 
     }
     text.push_str(about)?;
     for (set, count) in counts.iter() {
-        text.push(' ')?;
-        text.push_str(set.as_str())?;
-        for _ in 0..*count {
-            text.push('+')?;
-        }
+        push_count(text, set, *count)?;
     }
-    text.push('\n')
+    text.push_str("\n")
 }
 
 fn push_core(text: &mut String, state: &State) -> Result<(), AllocError> {
@@ -186,10 +196,10 @@ fn apply(alloc: Global, state: &mut State, command: &Command) -> Result<(), Refu
 
 // Reads a command, and has it done.
 pub(super) fn obey(alloc: Global, state: &mut State, text: &str) -> Result<(), Refusal> {
-    match read_command(alloc, text) {
-        Ok(command) => apply(alloc, state, &command),
-        Err(refusal) => Err(refusal),
-    }
+    let command = read_command(alloc, text)?;
+    let done = apply(alloc, state, &command);
+    drop(command);
+    done
 }
 
 // Has a command done. Where memory is refused, nothing may have changed, other commands are done, and
@@ -221,11 +231,18 @@ fn is_left(alloc: Global, state: &State) -> Result<bool, Fail> {
     Ok(text.as_str() == left())
 }
 
+// Has all commands done, and tells whether the state is what is left then.
+fn leaves_what_it_should(rt: &impl Abort, alloc: Global, state: &mut State) -> Result<bool, Fail> {
+    insist_on_all(rt, alloc, state)?;
+    is_left(alloc, state)
+}
+
 #[test]
 fn refused_memory_changes_nothing(rt: HostRuntime) -> Result<(), Fail> {
     let alloc = rt.alloc();
     let mut state = State::empty(alloc);
-    insist_on_all(&rt, alloc, &mut state)?;
-    assert!(rt; is_left(alloc, &state)?);
+    let told = leaves_what_it_should(&rt, alloc, &mut state);
+    drop(state);
+    assert!(rt; told?);
     Ok(())
 }

@@ -1,67 +1,38 @@
 //! States of stored rows.
+use crate::rows::{Line, rows_of};
 use admin_mgr::State;
-use rbac_sets::{Name, Refusal, Row};
+use rbac_sets::{Refusal, Row};
 use std::alloc::Global;
 use std::test::Fail;
-
-// A row in short: its form, its kind, and its first names.
-type Line = (char, u8, &'static str, &'static str);
 
 // Ann is a clerk and in a session as one; an auditor inherits from a clerk, who may open the safe. Bob is
 // locked, and nobody may be authorized for all of three roles.
 const BANK: &[Line] = &[
-    ('n', Row::USER, "ann", ""),
-    ('n', Row::USER, "bob", ""),
-    ('l', 0, "bob", ""),
-    ('n', Row::ROLE, "clerk", ""),
-    ('n', Row::ROLE, "auditor", ""),
-    ('n', Row::OBJECT, "safe", ""),
-    ('p', Row::PERMISSION, "safe", "open"),
-    ('g', 0, "safe", "open"),
-    ('p', Row::ASSIGNMENT, "ann", "clerk"),
-    ('p', Row::INHERITANCE, "auditor", "clerk"),
-    ('p', Row::CLOSURE_PAIR, "auditor", "clerk"),
-    ('p', Row::SESSION, "desk", "ann"),
-    ('p', Row::ACTIVATED_ROLE, "desk", "clerk"),
-    ('s', Row::STATIC_CARDINALITY, "duty", ""),
-    ('p', Row::STATIC_MEMBER, "duty", "clerk"),
-    ('p', Row::STATIC_MEMBER, "duty", "auditor"),
-    ('s', Row::DYNAMIC_CARDINALITY, "till", ""),
-    ('p', Row::DYNAMIC_MEMBER, "till", "clerk"),
-    ('p', Row::DYNAMIC_MEMBER, "till", "auditor"),
-    ('p', Row::ASSIGNMENT, "bob", "clerk"),
+    ('n', Row::USER, "ann", "", ""),
+    ('n', Row::USER, "bob", "", ""),
+    ('l', 0, "bob", "", ""),
+    ('n', Row::ROLE, "clerk", "", ""),
+    ('n', Row::ROLE, "auditor", "", ""),
+    ('n', Row::OBJECT, "safe", "", ""),
+    ('p', Row::PERMISSION, "safe", "open", ""),
+    ('g', 0, "safe", "open", "clerk"),
+    ('p', Row::ASSIGNMENT, "ann", "clerk", ""),
+    ('p', Row::INHERITANCE, "auditor", "clerk", ""),
+    ('p', Row::CLOSURE_PAIR, "auditor", "clerk", ""),
+    ('p', Row::SESSION, "desk", "ann", ""),
+    ('p', Row::ACTIVATED_ROLE, "desk", "clerk", ""),
+    ('s', Row::STATIC_CARDINALITY, "duty", "", ""),
+    ('p', Row::STATIC_MEMBER, "duty", "clerk", ""),
+    ('p', Row::STATIC_MEMBER, "duty", "auditor", ""),
+    ('s', Row::DYNAMIC_CARDINALITY, "till", "", ""),
+    ('p', Row::DYNAMIC_MEMBER, "till", "clerk", ""),
+    ('p', Row::DYNAMIC_MEMBER, "till", "auditor", ""),
+    ('p', Row::ASSIGNMENT, "bob", "clerk", ""),
 ];
-
-// The row: grants are to clerks, and cardinalities are 2.
-fn row_of(alloc: Global, line: &Line) -> Result<Row, Refusal> {
-    let first = Name::new(alloc, line.2)?;
-    match line.0 {
-        'n' => Ok(Row::NameRow(line.1, first)),
-        'p' => Ok(Row::PairRow(line.1, first, Name::new(alloc, line.3)?)),
-        'g' => Ok(Row::GrantRow(first, Name::new(alloc, line.3)?, Name::new(alloc, "clerk")?)),
-        's' => Ok(Row::SetRow(line.1, first, 2)),
-        _ => Ok(Row::LockedRow(first)),
-    }
-}
 
 // A function, so that a proof needs not look at all lines.
 fn bank() -> &'static [Line] {
     BANK
-}
-
-fn push_row(alloc: Global, rows: &mut Vec<Row>, line: &Line) -> Result<(), Refusal> {
-    let row = row_of(alloc, line)?;
-    rows.push(row)?;
-    Ok(())
-}
-
-// The rows of these lines.
-fn rows_of(alloc: Global, lines: &[Line]) -> Result<Vec<Row>, Refusal> {
-    let mut rows = Vec::new(alloc);
-    for line in lines {
-        push_row(alloc, &mut rows, line)?;
-    }
-    Ok(rows)
 }
 
 fn counts(state: &State) -> [usize; 9] {
@@ -91,16 +62,20 @@ fn counts_of_sets(state: &State) -> [usize; 4] {
 fn rows_make_a_state(rt: HostRuntime) -> Result<(), Fail> {
     let alloc = rt.alloc();
     let state = State::of_rows(alloc, 2, rows_of(alloc, bank())?)?;
-    assert_eq!(rt; state.version(), 2);
-    assert_eq!(rt; counts(&state), [2, 1, 2, 1, 1, 1, 2, 1, 1]);
-    assert_eq!(rt; counts_of_sets(&state), [2, 1, 2, 1]);
+    let version = state.version();
+    let counts = counts(&state);
+    let counts_of_sets = counts_of_sets(&state);
+    drop(state);
+    assert_eq!(rt; version, 2);
+    assert_eq!(rt; counts, [2, 1, 2, 1, 1, 1, 2, 1, 1]);
+    assert_eq!(rt; counts_of_sets, [2, 1, 2, 1]);
     Ok(())
 }
 
 // The number of the check that fails, and 0 where none does.
-fn number_of(answer: Result<State, Refusal>) -> u32 {
+fn number_of(answer: &Result<State, Refusal>) -> u32 {
     match answer {
-        Err(Refusal::Damaged(number)) => number,
+        Err(Refusal::Damaged(number)) => *number,
         _ => 0,
     }
 }
@@ -109,7 +84,10 @@ fn number_of(answer: Result<State, Refusal>) -> u32 {
 fn rows_of_locks_are_refused_in_version_1(rt: HostRuntime) -> Result<(), Fail> {
     let alloc = rt.alloc();
     let rows = rows_of(alloc, bank())?;
-    assert_eq!(rt; number_of(State::of_rows(alloc, 1, rows)), 1);
+    let answer = State::of_rows(alloc, 1, rows);
+    let number = number_of(&answer);
+    drop(answer);
+    assert_eq!(rt; number, 1);
     Ok(())
 }
 
@@ -119,10 +97,13 @@ fn rows_of_what_is_not_there_are_refused(rt: HostRuntime) -> Result<(), Fail> {
     let rows = rows_of(
         alloc,
         &[
-            ('n', Row::USER, "ann", ""),
-            ('p', Row::ASSIGNMENT, "ann", "clerk"),
+            ('n', Row::USER, "ann", "", ""),
+            ('p', Row::ASSIGNMENT, "ann", "clerk", ""),
         ],
     )?;
-    assert_eq!(rt; number_of(State::of_rows(alloc, 2, rows)), 3);
+    let answer = State::of_rows(alloc, 2, rows);
+    let number = number_of(&answer);
+    drop(answer);
+    assert_eq!(rt; number, 3);
     Ok(())
 }

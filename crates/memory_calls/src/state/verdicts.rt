@@ -1,11 +1,12 @@
 //! Verdicts that name a set, and what is told of an import.
 use super::naming::read_command;
 use super::refused::obey;
-use admin_mgr::{Report, State};
+use admin_mgr::{Plan, Report, State};
 use rbac_sets::{Command, Refusal};
 use std::alloc::Global;
 use std::test::Fail;
 
+// Ann may not become an approver as well.
 fn begin(alloc: Global, state: &mut State) -> Result<(), Refusal> {
     for text in [
         "addUser ann",
@@ -18,13 +19,6 @@ fn begin(alloc: Global, state: &mut State) -> Result<(), Refusal> {
         obey(alloc, state, text)?;
     }
     Ok(())
-}
-
-// Ann may not become an approver as well.
-fn clerks(alloc: Global) -> Result<State, Refusal> {
-    let mut state = State::empty(alloc);
-    begin(alloc, &mut state)?;
-    Ok(state)
 }
 
 // The static set that a refusal names.
@@ -46,14 +40,23 @@ fn is_refused(alloc: Global, state: &State, command: &Command) -> bool {
 // Whether Ann may not become an approver for the set pay.
 fn is_kept_out(alloc: Global, state: &State) -> Result<bool, Refusal> {
     let command = read_command(alloc, "assignUser ann approver")?;
-    Ok(is_refused(alloc, state, &command))
+    let told = is_refused(alloc, state, &command);
+    drop(command);
+    Ok(told)
+}
+
+fn begins_and_keeps_out(alloc: Global, state: &mut State) -> Result<bool, Refusal> {
+    begin(alloc, state)?;
+    is_kept_out(alloc, state)
 }
 
 #[test]
 fn a_violated_set_is_named(rt: HostRuntime) -> Result<(), Fail> {
     let alloc = rt.alloc();
-    let state = clerks(alloc)?;
-    assert!(rt; is_kept_out(alloc, &state)?);
+    let mut state = State::empty(alloc);
+    let told = begins_and_keeps_out(alloc, &mut state);
+    drop(state);
+    assert!(rt; told?);
     Ok(())
 }
 
@@ -68,18 +71,39 @@ fn tells_of_records(report: &Report) -> bool {
             .all(|told| told.0 == 3 && told.1 == 24)
 }
 
-// Whether the plan of the import tells so, and has one change.
+// Whether the plan tells so, and has one change.
+fn has_one_change(plan: &Plan) -> bool {
+    tells_of_records(plan.report()) && plan.changes().len() == 1
+}
+
+// Whether the plan of the command does.
+fn plans_one_change(alloc: Global, state: &State, command: &Command) -> Result<bool, Refusal> {
+    let plan = state.plan(alloc, command)?;
+    let told = has_one_change(&plan);
+    drop(plan);
+    Ok(told)
+}
+
+// Whether the plan of the import does.
 fn is_planned(alloc: Global, state: &State) -> Result<bool, Refusal> {
     let text = "importAssignments bob/approver ann/clerk ann/approver";
     let command = read_command(alloc, text)?;
-    let plan = state.plan(alloc, &command)?;
-    Ok(tells_of_records(plan.report()) && plan.changes().len() == 1)
+    let told = plans_one_change(alloc, state, &command);
+    drop(command);
+    told
+}
+
+fn begins_and_plans(alloc: Global, state: &mut State) -> Result<bool, Refusal> {
+    begin(alloc, state)?;
+    is_planned(alloc, state)
 }
 
 #[test]
 fn an_import_tells_of_its_records(rt: HostRuntime) -> Result<(), Fail> {
     let alloc = rt.alloc();
-    let state = clerks(alloc)?;
-    assert!(rt; is_planned(alloc, &state)?);
+    let mut state = State::empty(alloc);
+    let told = begins_and_plans(alloc, &mut state);
+    drop(state);
+    assert!(rt; told?);
     Ok(())
 }

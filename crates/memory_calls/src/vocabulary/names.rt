@@ -1,5 +1,6 @@
 //! Which texts are names, and their order.
-use crate::{Name, Refusal};
+use rbac_sets::{Name, Refusal};
+use std::alloc::Global;
 use std::cmp::Ordering;
 use std::test::Fail;
 
@@ -10,6 +11,12 @@ const OF_65_BYTES: &str = "0123456789abcdef0123456789abcdef0123456789abcdef01234
 const OF_32_LETTERS: &str = "éééééééééééééééééééééééééééééééé";
 
 const OF_33_LETTERS: &str = "ééééééééééééééééééééééééééééééééé";
+
+fn keeps(alloc: Global, text: &str) -> Result<bool, Refusal> {
+    let name = Name::new(alloc, text)?;
+    let copy = name.copy(alloc)?;
+    Ok(name.as_str() == text && copy.as_str() == text)
+}
 
 #[test]
 fn keeps_the_text_of_a_name(rt: HostRuntime) -> Result<(), Fail> {
@@ -23,12 +30,13 @@ fn keeps_the_text_of_a_name(rt: HostRuntime) -> Result<(), Fail> {
         OF_64_BYTES,
         OF_32_LETTERS,
     ] {
-        let name = Name::new(rt.alloc(), text)?;
-        assert_eq!(rt; name.as_str(), text);
-        let copy = name.copy(rt.alloc())?;
-        assert_eq!(rt; copy.as_str(), text);
+        assert!(rt; keeps(rt.alloc(), text)?, "at {text:?}");
     }
     Ok(())
+}
+
+fn refuses(alloc: Global, text: &str) -> bool {
+    matches!(Name::new(alloc, text), Err(Refusal::BadName))
 }
 
 #[test]
@@ -44,19 +52,30 @@ fn refuses_what_is_no_name(rt: HostRuntime) {
         OF_65_BYTES,
         OF_33_LETTERS,
     ] {
-        let refusal = Name::new(rt.alloc(), text).err();
-        assert!(rt; matches!(refusal, Some(Refusal::BadName)), "at {text:?}");
+        assert!(rt; refuses(rt.alloc(), text), "at {text:?}");
     }
+}
+
+fn are_in_order(lesser: &Name, greater: &Name, copy: &Name) -> bool {
+    lesser.cmp(greater) == Ordering::Less
+        && greater.cmp(lesser) == Ordering::Greater
+        && lesser != greater
+        && greater == copy
+}
+
+fn orders(alloc: Global, lesser: &str, greater: &str) -> Result<bool, Refusal> {
+    let lesser = Name::new(alloc, lesser)?;
+    let greater = Name::new(alloc, greater)?;
+    let copy = greater.copy(alloc)?;
+    Ok(are_in_order(&lesser, &greater, &copy))
 }
 
 #[test]
 fn orders_names_by_bytes(rt: HostRuntime) -> Result<(), Fail> {
     for (lesser, greater) in [("a", "b"), ("a", "aa"), ("B", "a"), ("z", "é"), ("ab", "b")] {
-        let lesser = Name::new(rt.alloc(), lesser)?;
-        let greater = Name::new(rt.alloc(), greater)?;
-        assert!(rt; lesser.cmp(&greater) == Ordering::Less && lesser != greater);
         assert!(rt;
-            greater.cmp(&lesser) == Ordering::Greater && greater == greater.copy(rt.alloc())?
+            orders(rt.alloc(), lesser, greater)?,
+            "{lesser} before {greater}"
         );
     }
     Ok(())

@@ -1,5 +1,5 @@
 //! Streams over memory, over std's readers and writers, and over ones that fail.
-use crate::{Fault, MemorySink, MemorySource, Reader, Sink, Source, Writer};
+use rbac_sets::{Fault, MemorySink, MemorySource, Reader, Sink, Source, Writer};
 use std::io;
 use std::test::Fail;
 
@@ -47,6 +47,17 @@ impl io::Write for Full {
     }
 }
 
+// Whether the next read of three bytes answers so, and leaves so many failures.
+fn reads(source: &mut impl Source, answer: Result<usize, Fault>, failures: u64) -> bool {
+    let mut buffer = [0; 3];
+    source.read(&mut buffer) == answer && source.failures() == failures
+}
+
+// Whether a write of the piece answers so, and leaves so many failures.
+fn writes(sink: &mut impl Sink, piece: &[u8], answer: Result<usize, Fault>, failures: u64) -> bool {
+    sink.write(piece) == answer && sink.failures() == failures
+}
+
 // Whether the source gives `abcdefg` to buffers of three bytes, and then nothing more.
 fn gives_its_pieces(source: &mut impl Source) -> bool {
     for piece in ["abc", "def", "g", "", ""] {
@@ -65,22 +76,24 @@ fn gives_its_pieces(source: &mut impl Source) -> bool {
 // Whether the sink takes `ab`, nothing and `cde` whole.
 fn takes_its_pieces(sink: &mut impl Sink) -> bool {
     for piece in ["ab", "", "cde"] {
-        if sink.write(piece.as_bytes()) != Ok(piece.len()) {
+        if !writes(sink, piece.as_bytes(), Ok(piece.len()), 0) {
             return false;
         }
     }
-    sink.failures() == 0
+    true
+}
+
+// Whether nothing is read into no place, and `ab` into the front of three.
+fn fills_the_front(source: &mut MemorySource<'_>) -> bool {
+    let mut buffer = [0; 3];
+    source.read(&mut []) == Ok(0) && source.read(&mut buffer) == Ok(2) && buffer == *b"ab\0"
 }
 
 #[test]
 fn sources_are_read_to_their_end(rt: HostRuntime) {
     assert!(rt; gives_its_pieces(&mut MemorySource::new(b"abcdefg")));
     assert!(rt; gives_its_pieces(&mut Reader::new(b"abcdefg".as_slice())));
-    let mut source = MemorySource::new(b"ab");
-    assert_eq!(rt; source.read(&mut []), Ok(0));
-    let mut buffer = [0; 3];
-    assert_eq!(rt; source.read(&mut buffer), Ok(2));
-    assert_eq!(rt; buffer, *b"ab\0");
+    assert!(rt; fills_the_front(&mut MemorySource::new(b"ab")));
 }
 
 #[test]
@@ -99,19 +112,14 @@ fn a_failed_call_is_counted(rt: HostRuntime) {
     let mut source = Reader::new(Failing { calls: 0 });
     let mut sink = Writer::new(Failing { calls: 0 });
     for (answer, failures) in [(Ok(1), 0), (Err(Fault), 1), (Ok(1), 1)] {
-        let mut buffer = [0; 3];
-        assert_eq!(rt; source.read(&mut buffer), answer);
-        assert_eq!(rt; source.failures(), failures);
-        assert_eq!(rt; sink.write(b"abc"), answer);
-        assert_eq!(rt; sink.failures(), failures);
+        assert!(rt; reads(&mut source, answer, failures));
+        assert!(rt; writes(&mut sink, b"abc", answer, failures));
     }
 }
 
 #[test]
 fn a_write_that_takes_no_byte_has_failed(rt: HostRuntime) {
     let mut sink = Writer::new(Full);
-    assert_eq!(rt; sink.write(b""), Ok(0));
-    assert_eq!(rt; sink.failures(), 0);
-    assert_eq!(rt; sink.write(b"a"), Err(Fault));
-    assert_eq!(rt; sink.failures(), 1);
+    assert!(rt; writes(&mut sink, b"", Ok(0), 0));
+    assert!(rt; writes(&mut sink, b"a", Err(Fault), 1));
 }

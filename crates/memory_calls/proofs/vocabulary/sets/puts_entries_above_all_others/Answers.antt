@@ -2,7 +2,7 @@ use Rattle.std.proofs.Common.{◌≡◌, true, sym, ap, ◌∙◌, rules}
 use Rattle.std.specs.Ordering.{is_lt}
 use Rattle.rbac_sets.specs.NameOrder.{name_total, name_exact}
 use Rattle.rbac_sets.proofs.InOrder.{above-empty, above-insert, less_of}
-use Rattle.rbac_sets.proofs.tests.sets.puts_entries_above_all_others.Goals as goal
+use Rattle.memory_calls.proofs.vocabulary.sets.puts_entries_above_all_others.Goals as goal
 
 pub push_last-requires-clause-above : goal.push_last-requires-clause-above
 push_last-requires-clause-above g c = rw (c.reserve.ensures.keeps, c.new-set.ensures) (above-empty name_total name_exact c.in_ok-ann.ann)
