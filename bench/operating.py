@@ -1,7 +1,7 @@
 #!/usr/bin/env python3
 """bench/operating.py: measures what docs/OPERATING.md tells of a served office, on the built program, and prints it.
 
-It takes the program that RBAC_PROGRAM names, else crates/rbac/out/rbac, and works in a folder of its own, which TMPDIR places.
+It takes the program that RBAC_PROGRAM names, else release/rbac, and works in a folder of its own, which TMPDIR places.
 All runs of the program are on one core. Each time is that of the processor, which other work beside it changes little, and
 the best of three.
 """
@@ -17,7 +17,7 @@ from contextlib import closing
 from pathlib import Path
 
 BENCH = Path(__file__).resolve().parent
-PROGRAM = os.path.abspath(os.environ.get("RBAC_PROGRAM", BENCH / "../crates/rbac/out/rbac"))
+PROGRAM = os.path.abspath(os.environ.get("RBAC_PROGRAM", BENCH / "../release/rbac"))
 RUNS = 3
 DECISIONS = 200_000
 # So many commands of a kind are done, one after the other, where bytes are counted.

@@ -2,8 +2,10 @@
 use Rattle.std.specs.Prelude.{◌≡◌, ◌⊎◌, ℕ, false, List, Option}
 use Rattle.std.specs.Io.KnownBytes.{Consumes, IsAtEnd}
 use Rattle.sqlite.specs.Held.{state}
-use Rattle.sqlite.specs.Steps.{over_memory}
-use Rattle.sqlite_trees.specs.declared.memory.MemStore.{MemStore}
+use Rattle.sqlite.specs.Files.{over_files}
+use Rattle.sqlite_disk.specs.declared.Disk.{Ghosts}
+use Rattle.sqlite_store.specs.declared.store.FileStore.{FileStore}
+use Rattle.role_cli.specs.declared.memory_file.MemoryFile.{MemoryFile}
 use Rattle.admin_mgr.specs.RbacState.{RbacState, empty_state}
 use Rattle.rbac_sets.specs.declared.refusal.Refusal.TheVariants.{Memory, Store}
 use Rattle.role_tables.specs.Office.{Opened}
@@ -18,16 +20,16 @@ abbrev pub first_state : RbacState
 first_state = empty_state 2
 
 -- an open office in memory, whose state is the first and stands in its tables
-pub record IsNewOffice (office : Opened MemStore) : Type 0 where
+pub record IsNewOffice {g : Ghosts MemoryFile} (office : Opened (FileStore MemoryFile g)) : Type 0 where
   pub state_is : office.facts ≡ first_state
   pub is_closed : office.is_closed ≡ false
-  pub stands : Stands (state over_memory office.conn) first_state
+  pub stands : Stands (state over_files office.conn) first_state
 
 -- the replay stopped over an office that was new, once these bytes were read
-abbrev pub FailsOverNew : Failure → List ℕ → Type 0 → Option (List ℕ) → Option (List ℕ) → Type 0
-FailsOverNew (Stopped stop) taken at_end written now_written =
-    (first left : Opened MemStore) × IsNewOffice first × IsHalted (state over_memory) first left taken at_end written now_written stop.cause stop.answered
-FailsOverNew _ taken at_end written now_written = ⊥
+abbrev pub FailsOverNew : Ghosts MemoryFile → Failure → List ℕ → Type 0 → Option (List ℕ) → Option (List ℕ) → Type 0
+FailsOverNew g (Stopped stop) taken at_end written now_written =
+    (first left : Opened (FileStore MemoryFile g)) × IsNewOffice first × IsHalted (state over_files) first left taken at_end written now_written stop.cause stop.answered
+FailsOverNew g _ taken at_end written now_written = ⊥
 
 -- no office could be made, for want of memory
 abbrev pub IsUnmade : Failure → Type 0
@@ -35,9 +37,9 @@ IsUnmade (Refused refusal) = (refusal ≡ Memory) ⊎ (refusal ≡ Store)
 IsUnmade _ = ⊥
 
 -- a replay in memory failed: it stopped over a new office, or none could be made and nothing was touched
-abbrev pub FailsInMemory : Failure → Type 0 → Option (List ℕ) → Option (List ℕ) → Option (List ℕ) → Option (List ℕ) → Type 0
-FailsInMemory failure untouched remaining now_remaining written now_written =
-    ((taken : List ℕ) × Consumes remaining now_remaining taken × FailsOverNew failure taken (IsAtEnd now_remaining) written now_written)
+abbrev pub FailsInMemory : Ghosts MemoryFile → Failure → Type 0 → Option (List ℕ) → Option (List ℕ) → Option (List ℕ) → Option (List ℕ) → Type 0
+FailsInMemory g failure untouched remaining now_remaining written now_written =
+    ((taken : List ℕ) × Consumes remaining now_remaining taken × FailsOverNew g failure taken (IsAtEnd now_remaining) written now_written)
     ⊎ (IsUnmade failure × untouched)
 
 -- a write was the cause of the stop

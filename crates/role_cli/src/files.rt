@@ -1,4 +1,4 @@
-//! Offices in files: the one module that names the store of files.
+//! Offices in files: how they are opened, made, closed and put back.
 ghost use Rattle.std.specs.Prelude.{◌≤◌, ◌+◌, OnOk};
 ghost use Rattle.role_wire.specs.Replay.{most_reads};
 ghost use Rattle.role_cli.specs.Doing.{IsDoneOverSome};

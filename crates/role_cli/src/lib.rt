@@ -10,6 +10,7 @@ mod command_line;
 mod failure;
 mod files;
 mod memory;
+mod memory_file;
 pub mod program;
 pub mod serving;
 mod work;

@@ -7,20 +7,32 @@ ghost use Rattle.role_wire.specs.Replaying.{IsAnswered};
 ghost use Rattle.role_cli.specs.InMemory.{FailsInMemory, IsCaused, IsNewOffice, IsUnmade, first_state};
 
 use crate::failure::Failure;
+use crate::memory_file::MemoryFile;
 use rbac_sets::{Refusal, Sink, Source};
 use role_tables::{Office, create};
 use role_wire::{Count, replay};
-use sqlite::{Connection, MemStore};
+use sqlite::{Connection, FileStore, Files, Options};
+use sqlite_disk::Disk;
 use std::alloc::Global;
+
+/// How the store keeps the office. Its pages are in memory anyway, so it keeps copies of few, and
+/// its log is short: with more of both a replay is no faster. Any seed will do for the salts of the
+/// log, since nobody opens these files again.
+const OPTIONS: Options = Options {
+    cache_pages: 64,
+    spill_pages: 64,
+    checkpoint_frames: 64,
+    seed: 1,
+};
 
 /// Answers the lines of `source` in `sink`, as `replay` of `role_wire` does, from an office of
 /// version 2 without a user and a role on. The office is in memory, and goes when the replay is over.
 ///
 /// # Errors
 ///
-/// `Stopped` as `replay` stops. `Refused` before it, where memory doesn't suffice for an office:
-/// with `Memory`, or with `Store` where its tables could not be made. Nothing was read or written
-/// then.
+/// `Stopped` as `replay` stops; an allocation of its files that fails is a refusal by the store.
+/// `Refused` before it, where memory doesn't suffice for an office: with `Memory`, or with `Store`
+/// where its tables could not be made. Nothing was read or written then.
 pub(crate) fn replay_memory<R: Source, W: Sink>(
     alloc: Global,
     source: &mut R,
@@ -29,7 +41,7 @@ pub(crate) fn replay_memory<R: Source, W: Sink>(
     ensures ok { IfOk result (λ count. (input : List ℕ) × Consumes (R.remaining source.old) (R.remaining source.new) input
         × IsAnswered first_state input (W.written sink.old) (W.written sink.new) count.answered) }
     ensures end { OnOk result (IsAtEnd (R.remaining source.new)) }
-    ensures stopped { IfErr result (λ failure. FailsInMemory failure ((source.new ≡ source.old) × (sink.new ≡ sink.old))
+    ensures stopped { IfErr result (λ failure. FailsInMemory ⟦<MemoryFile as Disk>⟧ failure ((source.new ≡ source.old) × (sink.new ≡ sink.old))
         (R.remaining source.old) (R.remaining source.new) (W.written sink.old) (W.written sink.new)) }
     ensures caused { IfErr result (λ failure. IsCaused failure
         (HasRisen (W.failed sink.old) (W.failed sink.new) ⊎ HasRisen (W.idle sink.old) (W.idle sink.new))
@@ -43,12 +55,16 @@ pub(crate) fn replay_memory<R: Source, W: Sink>(
     }
 }
 
-// A new office over a store in memory.
-fn new_office(alloc: Global) -> Result<Office<MemStore>, Failure>
+// A new office over the store of files, on two files in memory.
+fn new_office(alloc: Global) -> Result<Office<FileStore<MemoryFile>>, Failure>
     ensures ok { IfOk result IsNewOffice }
     ensures err { IfErr result IsUnmade }
 {
-    let Ok(conn) = Connection::open_in_memory(alloc) else {
+    let files = Files {
+        log: MemoryFile::new(alloc),
+        db: MemoryFile::new(alloc),
+    };
+    let Ok(conn) = Connection::open_files(alloc, files, OPTIONS) else {
         return Err(Failure::Refused(Refusal::Memory));
     };
     match create(alloc, conn) {

@@ -13,7 +13,9 @@ use crate::choice::{Choice, Place, Unchosen, choose};
 use crate::failure::{Failure, tell, tell_no_memory};
 use crate::files::{make_in_file, over_file};
 use crate::memory::replay_memory;
+use crate::memory_file::MemoryFile;
 use rbac_sets::{Sink, Source};
+use sqlite_disk::Disk;
 use std::alloc::Global;
 
 /// The status of a program that did what it was asked.
@@ -47,7 +49,7 @@ pub fn run<R: Source, W: Sink, E: Sink>(
     ensures unchosen { result ≡ 2 → (takes program (map (λ s. s.now) words.entry.now) ≡ false) ⊎ ReplaysBothOrNeither (subcommand_of program (map (λ s. s.now) words.entry.now)) }
     ensures stopped { result ≡ 1 → ((source.new ≡ source.old) × (out.new ≡ out.old))
         ⊎ ((choice : Choice) × Chooses (subcommand_of program (map (λ s. s.now) words.entry.now)) choice × (is_in_memory choice ≡ true → (failure : Failure)
-        × FailsInMemory failure ((source.new ≡ source.old) × (out.new ≡ out.old)) (R.remaining source.old) (R.remaining source.new) (W.written out.old) (W.written out.new)
+        × FailsInMemory ⟦<MemoryFile as Disk>⟧ failure ((source.new ≡ source.old) × (out.new ≡ out.old)) (R.remaining source.old) (R.remaining source.new) (W.written out.old) (W.written out.new)
         × IsCaused failure
         (HasRisen (W.failed out.old) (W.failed out.new) ⊎ HasRisen (W.idle out.old) (W.idle out.new))
         (HasRisen (R.failed source.old) (R.failed source.new) ⊎ IsAtBound (R.reads source.old) (R.reads source.new)))) }
@@ -75,7 +77,7 @@ fn done<R: Source, W: Sink>(
     out: &mut W,
 ) -> Result<(), Failure>
     ensures done { OnOk result (IsDone choice.now (R.remaining source.old) (R.remaining source.new) (W.written out.old) (W.written out.new)) }
-    ensures stopped { is_in_memory choice.now ≡ true → IfErr result (λ failure. FailsInMemory failure ((source.new ≡ source.old) × (out.new ≡ out.old))
+    ensures stopped { is_in_memory choice.now ≡ true → IfErr result (λ failure. FailsInMemory ⟦<MemoryFile as Disk>⟧ failure ((source.new ≡ source.old) × (out.new ≡ out.old))
         (R.remaining source.old) (R.remaining source.new) (W.written out.old) (W.written out.new)) }
     ensures caused { is_in_memory choice.now ≡ true → IfErr result (λ failure. IsCaused failure
         (HasRisen (W.failed out.old) (W.failed out.new) ⊎ HasRisen (W.idle out.old) (W.idle out.new))
