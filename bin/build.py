@@ -1,0 +1,183 @@
+#!/usr/bin/env python3
+"""bin/build: proves the crates that the program stands on, builds it, and lays it into out/release.
+
+Crates that don't stand on each other are proved side by side. A crate that was proved by an earlier run here is
+proved again only if a file of its own, or a library below it, has changed since. A line on standard error
+says every ten seconds how far it is. `bin/rbac --build` is the command for this.
+"""
+
+import contextlib
+import hashlib
+import os
+import re
+import shutil
+import subprocess
+import sys
+import threading
+import time
+from concurrent.futures import FIRST_COMPLETED, ThreadPoolExecutor, wait
+
+import kit
+
+OUT = f"{kit.TOP}/out/build"
+# Measured on four processors, with nothing else to do.
+LASTS = "It takes about an hour on four processors from nothing."
+# The seconds between two lines that say how far the build is.
+PAUSE = 10
+CHECKED = re.compile(r"checked (?:\w+::)?(\S+), (\d+ of \d+)")
+
+
+def say(text):
+    """Prints a line that says how far the build is."""
+    print(f"rbac: {text}", file=sys.stderr, flush=True)
+
+
+def sum_of(folder):
+    """Returns a digest of all files in a folder."""
+    total = hashlib.sha256()
+    for at, folders, files in os.walk(folder):
+        folders.sort()
+        for name in sorted(files):
+            with open(f"{at}/{name}", "rb") as file:
+                total.update(repr((os.path.relpath(f"{at}/{name}", folder), file.read())).encode())
+    return total.hexdigest()
+
+
+class Failed(Exception):
+    """A crate that isn't proved, or that can't be built."""
+
+
+class Build:
+    """A build of some crates: what is known of each, and what is being done."""
+
+    def __init__(self, crates):
+        self.kit, self.start, self.crates = kit.folder(), time.monotonic(), crates
+        self.left = list(crates)
+        # What is being proved: of each crate the last function that was, and how many of how many.
+        self.doing, self.lock = {}, threading.Lock()
+        self.sums = {}
+
+    def at(self, crate):
+        """Returns the folder in which the work on a crate is kept."""
+        return f"{OUT}/{crate.name}"
+
+    def library(self, crate):
+        """Returns the built library of a crate."""
+        return f"{self.at(crate)}/{crate.name}.rlib"
+
+    def key(self, crate):
+        """Returns a digest of all that the crate is built from."""
+        return hashlib.sha256(repr((kit.identity(), crate.digest(), [self.sums[it.name] for it in crate.below()])).encode()).hexdigest()
+
+    def rattle(self, crate, verb, *words):
+        """Runs rattle in the crate's folder, and follows what it says; raises Failed if it refuses the crate."""
+        words = [f"{self.kit}/bin/rattle", verb, *words]
+        with open(f"{self.at(crate)}/log", "a", encoding="utf-8") as log:
+            how = {"cwd": crate.folder, "stdin": subprocess.DEVNULL, "stdout": subprocess.PIPE, "stderr": subprocess.STDOUT}
+            with subprocess.Popen(words, text=True, errors="replace", **how) as ran:
+                for line in ran.stdout:
+                    log.write(line)
+                    found = CHECKED.match(line)
+                    if found:
+                        self.doing[crate.name] = found[2], found[1]
+        if ran.returncode:
+            raise Failed(f"{crate.name}: rattle {verb} ended with status {ran.returncode}; {self.at(crate)}/log has its words")
+
+    def prove(self, crate, jobs):
+        """Proves a crate and builds its library, or of the program the object file and the executable."""
+        at, words = self.at(crate), crate.words(self.kit, self.library)
+        shutil.rmtree(at, ignore_errors=True)
+        os.makedirs(at)
+        logic = ["--logic-built", f"{self.kit}/logic_built"]
+        cut = [] if crate.is_program else ["--statements"]
+        self.rattle(crate, "check", *words, *logic, *cut, "--jobs", str(jobs), "--progress", "-o", f"{at}/checked")
+        self.doing[crate.name] = "all functions proved", "the build of it"
+        words += ["--crate-checked", f"{at}/checked"]
+        if not crate.is_program:
+            self.rattle(crate, "build", *words, *cut, "-o", self.library(crate))
+        else:
+            toolchain = ["--toolchain", f"{self.kit}/toolchain"]
+            self.rattle(crate, "build", *words, *toolchain, "--backend", "llvm", "-o", f"{at}/rbac.o")
+            with_c = [f"{self.kit}/c/{it}" for it in ("libos_c.a", "liblibc_c.a")]
+            link = [f"{self.kit}/bin/rattle-link", "--target", "x86_64-unknown-linux-gnu", *toolchain]
+            subprocess.run([*link, "-o", f"{at}/rbac", f"{at}/rbac.o", *with_c], check=True, stdin=subprocess.DEVNULL)
+        shutil.rmtree(f"{at}/checked")
+
+    def make(self, crate, jobs):
+        """Proves and builds a crate, unless an earlier run did so from the same files."""
+        key, kept = self.key(crate), f"{self.at(crate)}/key"
+        with contextlib.suppress(OSError):
+            if kit.read(kept) == key:
+                self.sums[crate.name] = sum_of(self.library(crate))
+                return
+        self.doing[crate.name] = "0 functions", "its start"
+        self.prove(crate, jobs)
+        if self.key(crate) != key:
+            raise Failed(f"{crate.name}: a file of it changed while it was proved")
+        if not crate.is_program:
+            self.sums[crate.name] = sum_of(self.library(crate))
+        with open(kept, "w", encoding="utf-8") as file:
+            file.write(key)
+
+    def tell(self, is_done):
+        """Says every few seconds how far the build is."""
+        while not is_done.wait(PAUSE):
+            parts = [f"{name} {count}, at {function}" for name, (count, function) in sorted(self.doing.items())]
+            if parts:
+                minutes, seconds = divmod(int(time.monotonic() - self.start), 60)
+                rest = len(self.left) - len(parts)
+                say(f"{minutes} min {seconds:02} s: {'; '.join(parts)}; then {rest} of {len(self.crates)} crates")
+
+    def run(self):
+        """Proves and builds all crates, and says how far it is."""
+        is_done = threading.Event()
+        teller = threading.Thread(target=self.tell, args=[is_done])
+        teller.start()
+        try:
+            self.make_all()
+        finally:
+            is_done.set()
+            teller.join()
+
+    def make_all(self):
+        """Proves and builds all crates, side by side where they don't stand on each other."""
+        running, lanes, done = {}, kit.lanes(), set()
+        with ThreadPoolExecutor(lanes) as pool:
+            while self.left:
+                begun = running.values()
+                ready = [it for it in self.left if it not in begun and all(below in done for below in it.below())]
+                for at, crate in enumerate(ready[: lanes - len(running)]):
+                    jobs = max(1, min(4, (lanes - len(running)) // (len(ready) - at)))
+                    running[pool.submit(self.make, crate, jobs)] = crate
+                for it in wait(running, return_when=FIRST_COMPLETED).done:
+                    crate = running.pop(it)
+                    it.result()
+                    self.doing.pop(crate.name, None)
+                    self.left.remove(crate)
+                    done.add(crate)
+
+
+def digest():
+    """Returns the digest of the sources."""
+    return subprocess.run([f"{kit.TOP}/bin/release", "--digest"], stdout=subprocess.PIPE, text=True, check=True).stdout.strip()
+
+
+def main():
+    """Builds the program."""
+    program = kit.crates()["rbac"]
+    claimed, build = digest(), Build([*program.below(), program])
+    say(f"proving {len(build.crates)} crates and building the program. {LASTS}")
+    try:
+        build.run()
+        made = f"{build.at(program)}/rbac"
+        subprocess.run([f"{kit.TOP}/bin/release", "--record", made, claimed, f"{kit.TOP}/out/release"], check=True)
+        if digest() != claimed:
+            raise Failed("the sources changed meanwhile: build again")
+    except (Failed, OSError, subprocess.CalledProcessError) as error:
+        sys.exit(f"rbac: the build failed: {error}")
+    minutes, seconds = divmod(int(time.monotonic() - build.start), 60)
+    say(f"built in {minutes} min {seconds:02} s")
+
+
+if __name__ == "__main__":
+    main()
