@@ -25,7 +25,7 @@ from machine.questions import QUESTIONS
 from machine.replaying import Replay
 
 TESTS = Path(__file__).resolve().parent
-PROGRAM = os.environ.get("RBAC_PROGRAM", str(TESTS / "../crates/rbac/out/rbac"))
+PROGRAM = os.environ.get("RBAC_PROGRAM", str(TESTS / "../release/rbac"))
 LINES = 500
 WORKERS = 2
 SECONDS = 120

@@ -12,7 +12,7 @@ import subprocess
 import sys
 
 TESTS = os.path.dirname(os.path.abspath(__file__))
-PROGRAM = os.environ.get("RBAC_PROGRAM", f"{TESTS}/../crates/rbac/out/rbac")
+PROGRAM = os.environ.get("RBAC_PROGRAM", f"{TESTS}/../release/rbac")
 SECONDS = 20
 ROWS = ["first-run", "assign-and-deassign", "bad-requests", "longest-line"]
 

@@ -35,7 +35,7 @@ def check_length(bench):
 
 
 def check_two_commands(bench):
-    """Of the two commands the first prints what is written down beside its input, and the second is that of the gate."""
+    """Of the two commands the first prints what is written down beside its input, and the gate is the second with `--proofs`."""
     first, second = re.findall(r"^    (bin/.*)$", markdown.section(PAGE, "## Two commands"), re.M)
     (bench.folder / "examples").symlink_to(ROOT / "examples")
     (path,) = re.findall(r"< (\S+)\.jsonl$", first)
@@ -43,7 +43,8 @@ def check_two_commands(bench):
     with Shell(bench) as reader:
         reader.shows(first, (ROOT / f"{path}.answers").read_text(encoding="utf-8"))
     gate = (ROOT / ".ci/run").read_text(encoding="utf-8").splitlines()[-1]
-    bench.same("the gate runs the second command", gate.endswith(f"exec {second}"), True)
+    bench.same("the gate runs the second command", gate.endswith(f"exec {second} --proofs"), True)
+    bench.same("the page names the gate", f"`{second} --proofs`" in PAGE, True)
 
 
 def check_first_minutes(bench):

@@ -7,7 +7,7 @@ from dataclasses import dataclass
 from pathlib import Path
 
 TESTS = Path(__file__).resolve().parent.parent
-PROGRAM = os.path.abspath(os.environ.get("RBAC_PROGRAM", TESTS / "../crates/rbac/out/rbac"))
+PROGRAM = os.path.abspath(os.environ.get("RBAC_PROGRAM", TESTS / "../release/rbac"))
 SECONDS = 60
 
 
