@@ -82,14 +82,21 @@ impl State {
     {
         let made = Gathered::of_rows(alloc, version, rows)?;
         if let Some(refusal) = made.early_refusal() {
+            drop(made);
             return Err(refusal);
         }
         let relations = made.into_relations(alloc)?;
-        let late = late_refusal(alloc, &relations)?;
-        if let Some(refusal) = late {
-            return Err(refusal);
+        match late_refusal(alloc, &relations) {
+            Ok(None) => Ok(State { relations }),
+            Ok(Some(refusal)) => {
+                drop(relations);
+                Err(refusal)
+            }
+            Err(refusal) => {
+                drop(relations);
+                Err(refusal)
+            }
         }
-        Ok(State { relations })
     }
 
     /// A state of version 1 taken into version 2, with the same sets and relations and no user locked.

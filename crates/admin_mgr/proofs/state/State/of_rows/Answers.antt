@@ -53,13 +53,13 @@ pub late_refusal-requires : goal.late_refusal-requires
 late_refusal-requires c =
     roles_there c.args.version c.args.rows.items c.in_ok-made.made c.in_ok-relations.relations.facts c.in_ok-made.ensures.ok.0 (sym c.early_refusal.ensures ∙ none_unless_some _ c.in_default.not-Some) c.in_ok-relations.ensures.facts
 
-pub returns-in-Some-late-clause-err : goal.returns-in-Some-late-clause-err
-returns-in-Some-late-clause-err c =
+pub returns-in-Ok-Some-clause-err : goal.returns-in-Ok-Some-clause-err
+returns-in-Ok-Some-clause-err c =
     let made = c.in_ok-made.ensures.ok in
     let facts : c.in_ok-relations.relations.facts ≡ (gathered c.args.version c.args.rows.items).facts = c.in_ok-relations.ensures.facts ∙ ap (λ (g : Gathered). g.facts) made.0 in
-    let told = sym (c.in_ok-late.ensures.ok ∙ ap late_refusal facts) ∙ c.in-Some-late.is in
-    refuses_rows c.args.version c.args.rows.items c.in-Some-late.refusal made.1
-    (late_told c.args.version c.args.rows.items made.1 c.in-Some-late.refusal
+    let told = sym (c.in-Ok-Some.ensures.ok ∙ ap late_refusal facts) ∙ c.in-Ok-Some.field-0-is in
+    refuses_rows c.args.version c.args.rows.items c.in-Ok-Some.refusal made.1
+    (late_told c.args.version c.args.rows.items made.1 c.in-Ok-Some.refusal
     (to_seven c.args.version c.args.rows.items c.in_ok-made.made made.0 (sym c.early_refusal.ensures ∙ none_unless_some _ c.in_default.not-Some) c.in_ok-relations.ensures.order) told)
 
 -- where nothing is refused, the relations are the state of the rows
@@ -70,13 +70,13 @@ is_state version rows made S known is readable early order facts late =
     subst (IsStateOf version rows) (sym same) (is_state_of version rows readable known
     (late_passed version rows readable (to_seven version rows made is early order) (sym (ap late_refusal same) ∙ late)))
 
-pub returns-clause-ok : goal.returns-clause-ok
-returns-clause-ok c =
+pub returns-in-Ok-None-clause-ok : goal.returns-in-Ok-None-clause-ok
+returns-in-Ok-None-clause-ok c =
     is_state c.args.version c.args.rows.items c.in_ok-made.made c.in_ok-relations.relations.facts c.requires c.in_ok-made.ensures.ok.0 c.in_ok-made.ensures.ok.1 (sym c.early_refusal.ensures ∙ none_unless_some _ c.in_default.not-Some)
-    c.in_ok-relations.ensures.order c.in_ok-relations.ensures.facts (sym c.in_ok-late.ensures.ok ∙ none_unless_some _ c.in_default-late.not-Some)
+    c.in_ok-relations.ensures.order c.in_ok-relations.ensures.facts (sym c.in-Ok-None.ensures.ok ∙ c.in-Ok-None.field-0-is)
 
 pub invariant_of-result : goal.invariant_of-result
 invariant_of-result c =
     let is = is_state c.args.version c.args.rows.items c.in_ok-made.made c.in_ok-relations.relations.facts c.requires c.in_ok-made.ensures.ok.0 c.in_ok-made.ensures.ok.1 (sym c.early_refusal.ensures ∙ none_unless_some _ c.in_default.not-Some)
-    c.in_ok-relations.ensures.order c.in_ok-relations.ensures.facts (sym c.in_ok-late.ensures.ok ∙ none_unless_some _ c.in_default-late.not-Some) in
+    c.in_ok-relations.ensures.order c.in_ok-relations.ensures.facts (sym c.in-Ok-None.ensures.ok ∙ c.in-Ok-None.field-0-is) in
     (is.good, named_rows _ c.args.rows.items is.stored c.in_ok-made.ensures.named)
