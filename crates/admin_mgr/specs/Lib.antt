@@ -30,5 +30,6 @@ pub mod SeparationOfDuty
 pub mod StateLaws
 pub mod Stepping
 pub mod Tested
+pub mod Together
 pub mod Verdict
 pub mod View

@@ -11,6 +11,7 @@ use std::marker::Model;
 
 mod changing;
 pub(crate) mod gathered;
+mod together;
 
 // The sets and relations of core RBAC, of the role hierarchy and of separation of duty, between the
 // changes of one command: they may be anything.

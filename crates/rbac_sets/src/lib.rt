@@ -33,6 +33,7 @@ pub use sink::{MemorySink, Sink, Writer, write_all};
 pub use sorted_set::{Entry, Prefix, Probe, SortedSet, place};
 pub use source::{Fault, MemorySource, Reader, Source};
 pub use table::Table;
+pub use taking::Taking;
 
 pub mod command;
 pub mod kind;
@@ -44,3 +45,4 @@ pub mod sink;
 pub mod sorted_set;
 pub mod source;
 pub mod table;
+pub mod taking;

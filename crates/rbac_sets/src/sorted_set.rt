@@ -11,6 +11,7 @@ ghost use Rattle.rbac_sets.specs.Sets.{IsDisjoint, empty, contains, insert, remo
 ghost use Rattle.rbac_sets.specs.SortedSet.{set_of};
 
 use crate::refusal::Refusal;
+use crate::taking::Taking;
 use std::alloc::Global;
 use std::cmp::Ordering;
 use std::collections::VecDeque;
@@ -228,15 +229,24 @@ impl<K: Entry> SortedSet<K> {
         self.entries = without(entries, &other.entries);
     }
 
-    /// Takes the entries that begin with the parts of `prefix`.
-    ///
-    /// What stands behind them is moved once.
-    pub fn remove_with_first<P: Prefix<K>>(&mut self, prefix: P)
-        ensures removed { set_of K.cmp self.new ≡ retain (set_of K.cmp self.old) (λ entry. not (is_eq (P.place prefix entry))) }
-        ensures room { self.old.room ≤ self.new.room }
+    /// Starts to take entries one after another: gives the set out, from which they are taken, and
+    /// leaves none here. It allocates nothing.
+    pub fn start_taking(&mut self) -> Taking<K>
+        ensures taking { set_of K.cmp result ≡ set_of K.cmp self.old }
+        ensures room { self.old.room ≤ result.room }
+        ensures left { set_of K.cmp self.new ≡ empty }
     {
-        let (start, count) = span(&self.entries, prefix);
-        self.entries.drain(start..start + count);
+        let nothing = Vec::new(*self.entries.allocator());
+        Taking::new(mem::replace(&mut self.entries, nothing))
+    }
+
+    // The set of entries that stand in their order.
+    pub(crate) fn of_entries(entries: Vec<K>) -> SortedSet<K>
+        requires { IsStrictlySortedBy K.cmp entries.items }
+        ensures entries { result.in_order ≡ entries.items }
+        ensures room { vec_len entries + result.room ≡ vec_capacity entries }
+    {
+        SortedSet { entries }
     }
 
     /// The same set, in memory of its own.
@@ -300,7 +310,6 @@ fn span<K: Entry, P: Prefix<K>>(entries: &[K], prefix: P) -> (usize, usize)
     requires { IsStrictlySortedBy K.cmp entries.now }
     ensures within { result.0 + result.1 ≤ length entries.now }
     ensures those { take result.1 (drop result.0 entries.now) ≡ filter (λ entry. is_eq (P.place prefix entry)) entries.now }
-    ensures others { remove_range entries.now result.0 (result.0 + result.1) ≡ filter (λ entry. not (is_eq (P.place prefix entry))) entries.now }
 {
     let start = entries.partition_point(|entry| prefix.compare(entry).is_lt());
     let count = count_first(&entries[start..], prefix);

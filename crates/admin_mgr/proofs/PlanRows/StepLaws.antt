@@ -38,7 +38,7 @@ unfolding after_changes
 steps_nothing S = record { fits = tt; leads = refl }
 
 -- where one list leads after another
-after_append : (S : RbacState) (xs ys : List Change) → after_changes S (xs ++ ys) ≡ after_changes (after_changes S xs) ys
+pub after_append : (S : RbacState) (xs ys : List Change) → after_changes S (xs ++ ys) ≡ after_changes (after_changes S xs) ys
 unfolding after_changes
 after_append S [] ys = refl
 after_append S (x ∷ xs) ys = after_append (after_change S x) xs ys

@@ -1,58 +1,20 @@
--- The roles that were activated in a session go together, where the first of the changes take them.
-use Rattle.std.proofs.Common.{◌≡◌, ℕ, zero, suc, ◌+◌, ◌<◌, ◌≤◌, true, List, [], ◌∷◌, ◌++◌, length, get_or, map, take, drop, refl, sym, ◌∙◌, ap, subst, arith}
-use Rattle.std.specs.Prelude.{filter, not}
-use Rattle.std.proofs.lemmas.Bool.{true≢false}
-use Rattle.std.proofs.lemmas.List.{take_more, map_more, get_or-take, get_or-map, take-append-le, length-take, length-map}
-use Rattle.rbac_sets.specs.Sets.{Bytes, Pair, members, retain, same_name}
-use Rattle.rbac_sets.specs.NameOrder.{pair_total, pair_exact}
+-- Rows that go one after the other are taken together.
+use Rattle.std.proofs.Common.{◌≡◌, ℕ, zero, suc, ◌+◌, ◌<◌, ◌≤◌, List, [], ◌∷◌, ◌++◌, length, get_or, take, drop, refl, sym, ◌∙◌, ap, subst, arith}
+use Rattle.std.proofs.lemmas.List.{take_more, take-append-le}
 use Rattle.rbac_sets.specs.declared.row.Row.{Row}
-use Rattle.rbac_sets.specs.declared.row.TheConstants.Row.{ACTIVATED_ROLE}
 use Rattle.rbac_sets.specs.declared.row.Change.{Change}
-use Rattle.rbac_sets.specs.declared.row.Change.TheVariants.{Put, Take}
+use Rattle.rbac_sets.specs.declared.row.Change.TheVariants.{Take}
 use Rattle.admin_mgr.specs.RbacState.{RbacState}
-use Rattle.admin_mgr.specs.Changes.{takes}
-use Rattle.admin_mgr.specs.Listing.{pair_row, take_all}
-use Rattle.admin_mgr.specs.Stepping.{after_change, after_changes, AreFree, HasRoom, Spends, puts_of}
-use Rattle.admin_mgr.proofs.PlanRows.CommitLaws.{same_row-self, same_row-is}
+use Rattle.admin_mgr.specs.Stepping.{without_row, after_change, after_changes, AreFree, HasRoom, Spends, puts_of}
 use Rattle.admin_mgr.proofs.PlanRows.RoomLaws.{room_left, spends_none}
-use Rattle.admin_mgr.proofs.PlanRows.RunLaws.{steps_take_some}
-use Rattle.admin_mgr.proofs.PlanRows.SetRows.{active_rows}
+use Rattle.admin_mgr.proofs.PlanRows.StepLaws.{after_append}
 
--- a change that takes a row is its taking
-is_taking : (change : Change) (row : Row) → takes change row ≡ true → change ≡ Take row
-is_taking (Put other) row h = absurd (true≢false (sym h))
-is_taking (Take other) row h = ap Take (sym (same_row-is other row h))
-
--- the taking of an activated role's row
-abbrev pub taking : Pair → Change
-taking role = Take (pair_row ACTIVATED_ROLE role)
-
--- where the first changes are the takings of the first roles, and the next takes the next, there is one more of them
-pub one_more : (changes : List Change) (roles : List Pair) (at : ℕ) (change : Change) (role : Pair) → at < length changes → at < length roles
-    → change ≡ get_or changes at change → role ≡ get_or roles at role → takes change (pair_row ACTIVATED_ROLE role) ≡ true
-    → take at changes ≡ map taking (take at roles) → take (at + 1) changes ≡ map taking (take (at + 1) roles)
-one_more changes roles at change role within of is_change is_role taken front =
-    take_more changes at change within
-    ∙ (λ i. front i ++ (sym is_change ∙ is_taking change (pair_row ACTIVATED_ROLE role) taken ∙ ap taking is_role) i ∷ [])
-    ∙ sym (map_more taking roles at role of)
-
--- where the first changes are the takings of all roles, each takes its role
-pub each_taken : (changes : List Change) (roles : List Pair) (at : ℕ) (change : Change) (role : Pair) → at < length changes → at < length roles
-    → change ≡ get_or changes at change → role ≡ get_or roles at role → take (length roles) changes ≡ map taking roles → takes change (pair_row ACTIVATED_ROLE role) ≡ true
-each_taken changes roles at change role within of is_change is_role all =
-    let is : change ≡ taking role = is_change ∙ sym (get_or-take (length roles) changes at change of) ∙ ap (λ list. get_or list at change) all ∙ get_or-map taking roles at role change of ∙ ap taking (sym is_role) in
-    ap (λ one. takes one (pair_row ACTIVATED_ROLE role)) is ∙ same_row-self (pair_row ACTIVATED_ROLE role)
-
--- there are no fewer changes than roles then
-pub enough : (changes : List Change) (roles : List Pair) → take (length roles) changes ≡ map taking roles → length roles ≤ length changes
-enough changes roles all = omega (arith, ap length all, length-take (length roles) changes, length-map roles taking)
-
--- they lead to the state without the roles that were activated in the session
-pub session_left : (S : RbacState) (session : Bytes) (changes : List Change) (roles : List Pair) → roles ≡ filter (λ role. same_name role.0 session) (members S.active)
-    → take (length roles) changes ≡ take_all (pair_row ACTIVATED_ROLE) roles → after_changes S (take (length roles) changes) ≡ record S { active = retain S.active (λ role. not (same_name role.0 session)) }
-session_left S session changes roles is same =
-    ap (after_changes S) (same ∙ ap (take_all (pair_row ACTIVATED_ROLE)) is)
-    ∙ (steps_take_some active_rows pair_total pair_exact S (λ role. same_name role.0 session)).leads
+-- one more row goes
+pub taken_more : (S : RbacState) (changes : List Change) (n : ℕ) (change : Change) (row : Row) → n < length changes → change ≡ get_or changes n change → change ≡ Take row
+    → after_changes S (take (n + 1) changes) ≡ without_row (after_changes S (take n changes)) row
+unfolding after_changes
+taken_more S changes n change row within at takes =
+    ap (after_changes S) (take_more changes n change within ∙ ap (λ (last : Change). take n changes ++ last ∷ []) (sym at ∙ takes)) ∙ after_append S (take n changes) (Take row ∷ [])
 
 -- ---- the changes behind the first n
 

@@ -11,7 +11,8 @@ ghost use Rattle.admin_mgr.specs.Changes.{takes};
 ghost use Rattle.admin_mgr.specs.Listing.{pair_row, take_all};
 
 use crate::relations::Relations;
-use rbac_sets::{Change, Name, Probe, Refusal, Row, Table};
+use crate::relations::together::Together;
+use rbac_sets::{Change, Refusal, Row, Table};
 use role_order::OrderPlan;
 use std::collections::VecDeque;
 
@@ -53,8 +54,8 @@ impl Relations {
         self.order.make_room(plan)
     }
 
-    // Makes the changes one after the other, but for the rows of the role hierarchy. The roles that were
-    // activated in a session go together.
+    // Makes the changes one after the other, but for the rows of the role hierarchy. Rows that go one after
+    // the other are taken together.
     pub(crate) fn change(&mut self, changes: Vec<Change>)
         requires free { AreFree self.old.facts changes.items }
         requires room { HasRoom self.old.room changes.items }
@@ -63,7 +64,7 @@ impl Relations {
     {
         let mut changes = VecDeque::from_vec(changes);
         while !changes.is_empty() {
-            let taken = self.take_roles(changes.as_slices().0);
+            let taken = self.take_together(changes.as_slices().0);
             pass(&mut changes, taken);
             if let Some(change) = changes.pop_front() {
                 self.apply(change);
@@ -80,25 +81,40 @@ impl Relations {
         self.order.commit(plan);
     }
 
-    // Makes the first of the changes, where they take the roles that were activated in a session, each of
-    // them, and says how many they are. Otherwise it makes none.
-    #[tactic(auto, unfolding(crate::specs::Stepping::after_changes))]
-    fn take_roles(&mut self, changes: &[Change]) -> usize
+    // Takes the rows with which the changes begin, as far as a command may take many of their sets, and says how
+    // many they are. A row that goes alone is left.
+    fn take_together(&mut self, changes: &[Change]) -> usize
         ensures within { result ≤ length changes.now }
         ensures facts { self.new.facts ≡ after_changes self.old.facts (take result changes.now) }
         ensures room { (others : List Change) → HasRoom self.old.room others → HasRoom self.new.room others }
         ensures order { order_of self.new ≡ order_of self.old }
     {
-        let Some(Change::Take(Row::PairRow(Row::ACTIVATED_ROLE, session, _))) = changes.first()
-        else {
+        let [Change::Take(_), Change::Take(_), ..] = changes else {
             return 0;
         };
-        let roles = self.active.with_first(session);
-        let count = roles.len();
-        if !takes_first(changes, roles) {
-            return 0;
-        }
-        self.active.remove_with_first(session);
+        let mut sets = Together {
+            assignments: self.assignments.start_taking(),
+            grants: self.grants.start_taking(),
+            sessions: self.sessions.start_taking(),
+            active: self.active.start_taking(),
+            ssd_members: self.ssd_members.start_taking(),
+            dsd_members: self.dsd_members.start_taking(),
+        };
+        let count = sets.take_first(changes);
+        let Together {
+            assignments,
+            grants,
+            sessions,
+            active,
+            ssd_members,
+            dsd_members,
+        } = sets;
+        self.assignments = assignments.into_set();
+        self.grants = grants.into_set();
+        self.sessions = sessions.into_set();
+        self.active = active.into_set();
+        self.ssd_members = ssd_members.into_set();
+        self.dsd_members = dsd_members.into_set();
         count
     }
 
@@ -204,33 +220,8 @@ fn pass(changes: &mut VecDeque<Change>, count: usize)
     requires { count ≤ length changes.old.items }
     ensures { changes.new.items ≡ drop count changes.old.items }
 {
-    changes.drain(..count);
-}
-
-// Whether the changes begin with those that take the rows of these activated roles, in their order.
-fn takes_first(changes: &[Change], roles: &[(Name, Name)]) -> bool
-    ensures { IsTrue result ↔ (take (length roles.now) changes.now ≡ take_all (pair_row ACTIVATED_ROLE) roles.now) }
-{
-    if changes.len() < roles.len() {
-        return false;
-    }
-    for at in 0..roles.len() {
-        if !takes_role(&changes[at], &roles[at]) {
-            return false;
-        }
-    }
-    true
-}
-
-// Whether the change takes the row of this activated role.
-fn takes_role(change: &Change, role: &(Name, Name)) -> bool
-    ensures { result ≡ takes change.now (pair_row ACTIVATED_ROLE role.now) }
-{
-    match change {
-        Change::Take(Row::PairRow(Row::ACTIVATED_ROLE, session, taken)) => {
-            (session, taken).compare(role).is_eq()
-        }
-        _ => false,
+    if count > 0 {
+        changes.drain(..count);
     }
 }
 

@@ -1,6 +1,6 @@
 //! Sets of each kind of entry, filled in the room that was reserved.
 use crate::comparing::{are, are_pairs};
-use rbac_sets::{CountSet, Entry, GrantSet, Name, NameSet, PairSet, Refusal, SortedSet};
+use rbac_sets::{CountSet, Entry, GrantSet, Name, NameSet, PairSet, Refusal, SortedSet, Taking};
 use std::alloc::Global;
 use std::test::Fail;
 
@@ -289,6 +289,56 @@ fn merges_and_takes_whole_sets(rt: HostRuntime) -> Result<(), Fail> {
     let mut set = pairs(alloc, &[("b", "x"), ("d", "x"), ("f", "x")])?;
     assert!(rt; merges(alloc, &mut set)?);
     assert!(rt; takes_all(alloc, &mut set)?);
+    Ok(())
+}
+
+// Takes each of these pairs that is there, and says how many were.
+fn take_each(taking: &mut Taking<(Name, Name)>, pairs: &PairSet) -> u32 {
+    let mut count: u32 = 0;
+    for pair in pairs.iter() {
+        if taking.take(pair) {
+            count = count.saturating_add(1);
+        }
+    }
+    count
+}
+
+fn take_pairs(
+    alloc: Global,
+    taking: &mut Taking<(Name, Name)>,
+    texts: &[(&str, &str)],
+) -> Result<u32, Refusal> {
+    let those = pairs(alloc, texts)?;
+    let count = take_each(taking, &those);
+    drop(those);
+    Ok(count)
+}
+
+// Takes pairs that stand behind one another, and then some that stand before them.
+fn takes_in_turn(alloc: Global, set: &mut PairSet) -> Result<bool, Refusal> {
+    let mut taking = set.start_taking();
+    let is_empty = set.is_empty();
+    let later = take_pairs(alloc, &mut taking, &[("b", "x"), ("d", "x"), ("e", "x")]);
+    let earlier = take_pairs(alloc, &mut taking, &[("a", "x"), ("c", "x"), ("c", "y")]);
+    *set = taking.into_set();
+    Ok(
+        is_empty
+            && later? == 3
+            && earlier? == 2
+            && are_pairs(set.as_slice(), &[("f", "x"), ("g", "x")]),
+    )
+}
+
+#[test]
+fn takes_entries_one_after_another(rt: HostRuntime) -> Result<(), Fail> {
+    let alloc = rt.alloc();
+    let all = ["a", "b", "c", "d", "e", "f", "g"];
+    let mut set = PairSet::new(alloc);
+    set.reserve(all.len())?;
+    for first in all {
+        put(&mut set, pair(alloc, first, "x")?);
+    }
+    assert!(rt; takes_in_turn(alloc, &mut set)?);
     Ok(())
 }
 

@@ -1,0 +1,57 @@
+//! Rows that are taken together: what stands behind them is moved once.
+ghost use Rattle.std.specs.Prelude.{◌≡◌, ◌≤◌, List, true, false, length, take};
+ghost use Rattle.rbac_sets.specs.declared.row.Change.{Change};
+ghost use Rattle.rbac_sets.specs.declared.row.Change.TheVariants.{Take};
+ghost use Rattle.admin_mgr.specs.RbacState.{RbacState};
+ghost use Rattle.admin_mgr.specs.Stepping.{after_changes, without_row};
+ghost use Rattle.admin_mgr.specs.Together.{with_sets, HaveRoomOf};
+
+use rbac_sets::{Change, Name, Row, Taking};
+
+// The sets of which one command may take many rows, while it takes them.
+pub(crate) struct Together {
+    pub(crate) assignments: Taking<(Name, Name)>,
+    pub(crate) grants: Taking<(Name, Name, Name)>,
+    pub(crate) sessions: Taking<(Name, Name)>,
+    pub(crate) active: Taking<(Name, Name)>,
+    pub(crate) ssd_members: Taking<(Name, Name)>,
+    pub(crate) dsd_members: Taking<(Name, Name)>,
+}
+
+impl Together {
+    // Takes the rows with which the changes begin, as far as they are rows of these sets or of the role
+    // hierarchy, and says how many they are. Rows of the hierarchy are left to its plan.
+    pub(crate) fn take_first(&mut self, changes: &[Change]) -> usize
+        ensures within { result ≤ length changes.now }
+        ensures taken { (S : RbacState) → with_sets S self.new ≡ after_changes (with_sets S self.old) (take result changes.now) }
+        ensures room { HaveRoomOf self.old self.new }
+    {
+        let mut count = 0;
+        while let Some(Change::Take(row)) = changes.get(count)
+            && self.take(row)
+        {
+            count += 1;
+        }
+        count
+    }
+
+    // Takes the row, if it is one of these sets or of the role hierarchy, and says whether it is.
+    #[tactic(auto, unfolding(crate::specs::Stepping::without_row))]
+    fn take(&mut self, row: &Row) -> bool
+        ensures taken { result ≡ true → (S : RbacState) → with_sets S self.new ≡ without_row (with_sets S self.old) row.now }
+        ensures left { result ≡ false → self.new ≡ self.old }
+        ensures room { HaveRoomOf self.old self.new }
+    {
+        match row {
+            Row::PairRow(Row::ASSIGNMENT, a, b) => self.assignments.take((a, b)),
+            Row::PairRow(Row::STATIC_MEMBER, a, b) => self.ssd_members.take((a, b)),
+            Row::PairRow(Row::DYNAMIC_MEMBER, a, b) => self.dsd_members.take((a, b)),
+            Row::PairRow(Row::SESSION, a, b) => self.sessions.take((a, b)),
+            Row::PairRow(Row::ACTIVATED_ROLE, a, b) => self.active.take((a, b)),
+            Row::GrantRow(a, b, c) => self.grants.take((a, b, c)),
+            Row::PairRow(Row::INHERITANCE | Row::CLOSURE_PAIR, _, _) => false,
+            _ => return false,
+        };
+        true
+    }
+}

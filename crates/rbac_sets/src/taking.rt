@@ -1,0 +1,150 @@
+//! Entries that are taken from a set one after another.
+ghost use Rattle.std.specs.Prelude.{◌≡◌, ◌↔◌, ◌+◌, ◌≤◌, IsTrue, length, vec_len, vec_capacity};
+ghost use Rattle.std.specs.List.{AllWithin};
+ghost use Rattle.std.specs.List.Sorted.{IsStrictlySortedBy};
+ghost use Rattle.std.specs.declared.cmp.Ordering.TheVariants.{Less};
+ghost use Rattle.rbac_sets.specs.Sets.{contains, remove};
+ghost use Rattle.rbac_sets.specs.SortedSet.{set_of};
+ghost use Rattle.rbac_sets.specs.Taking.{around, IsPassed, StandsFirst};
+
+use crate::sorted_set::{Entry, Probe, SortedSet};
+use std::marker::Model;
+
+/// A set from which entries are taken, one after another.
+///
+/// If they are taken in their order, each entry that stays is moved at most once, and what stands
+/// behind the last of them only at the end. `SortedSet::start_taking` starts it, and `into_set`
+/// gives the set back. Nothing is allocated. A contract sees the entries that are left, in their
+/// order, and the room for more; `set_of` is the set of these entries.
+#[derive(Drop)]
+pub struct Taking<K: Entry> {
+    // The entries before `start` and those from `end` on are left. What stands between them was taken.
+    entries: Vec<K>,
+    start: usize,
+    end: usize,
+}
+
+impl<K: Entry> Model for Taking<K> {
+    ghost use Rattle.std.specs.Prelude.{◌≤◌, ◌-◌, vec_len, vec_capacity};
+    ghost use Rattle.std.specs.List.Sorted.{IsStrictlySortedBy};
+    ghost use Rattle.rbac_sets.specs.SortedSet.{Stored, stored_code};
+    ghost use Rattle.rbac_sets.specs.Taking.{around};
+
+    ghost Value = { Stored K };
+
+    ghost coded = { stored_code K.code };
+
+    ghost view = { λ t. record { in_order = around t.start t.end t.entries.items; room = vec_capacity t.entries - vec_len t.entries } };
+
+    ghost invariant = { λ t. (t.start ≤ t.end) × (t.end ≤ vec_len t.entries) × IsStrictlySortedBy K.cmp (around t.start t.end t.entries.items) };
+}
+
+impl<K: Entry> Taking<K> {
+    /// Starts to take entries of these, which stand in their order.
+    pub(crate) fn new(entries: Vec<K>) -> Taking<K>
+        requires { IsStrictlySortedBy K.cmp entries.items }
+        ensures entries { result.in_order ≡ entries.items }
+        ensures room { vec_len entries + result.room ≡ vec_capacity entries }
+    {
+        Taking {
+            entries,
+            start: 0,
+            end: 0,
+        }
+    }
+
+    /// Takes the entry that `probe` looks for, and says whether it was there.
+    pub fn take<P: Probe<K>>(&mut self, probe: P) -> bool
+        ensures was_there { result ≡ contains (set_of K.cmp self.old) (P.entry probe) }
+        ensures removed { set_of K.cmp self.new ≡ remove (set_of K.cmp self.old) (P.entry probe) }
+        ensures room { self.old.room ≤ self.new.room }
+    {
+        let (start, end) = move_gap(&mut self.entries, self.start, self.end, probe);
+        self.start = start;
+        self.end = end;
+        let is_there = is_first(&self.entries[self.end..], probe);
+        if is_there {
+            self.end += 1;
+        }
+        is_there
+    }
+
+    /// The set of the entries that are left.
+    pub fn into_set(self) -> SortedSet<K>
+        ensures left { set_of K.cmp result ≡ set_of K.cmp self }
+        ensures room { self.room ≤ result.room }
+    {
+        let Taking {
+            mut entries,
+            start,
+            end,
+        } = self;
+        entries.drain(start..end);
+        SortedSet::of_entries(entries)
+    }
+}
+
+// Whether all entries, which stand in their order, stand before the one that `probe` looks for.
+fn are_before<K: Entry, P: Probe<K>>(entries: &[K], probe: P) -> bool
+    requires { IsStrictlySortedBy K.cmp entries.now }
+    ensures { IsTrue result ↔ AllWithin (λ y. K.cmp y (P.entry probe) ≡ Less) entries.now 0 (length entries.now) }
+{
+    match entries.last() {
+        Some(last) => probe.compare(last).is_lt(),
+        None => true,
+    }
+}
+
+// Whether the first of the entries is the one that `probe` looks for.
+fn is_first<K: Entry, P: Probe<K>>(entries: &[K], probe: P) -> bool
+    ensures { IsTrue result ↔ StandsFirst K.cmp (P.entry probe) entries.now }
+{
+    match entries.first() {
+        Some(first) => probe.compare(first).is_eq(),
+        None => false,
+    }
+}
+
+// Moves the gap from `start` to `end` in entries in order to where the entry that `probe` looks for stands or would
+// stand, and gives its new ends.
+fn move_gap<K: Entry, P: Probe<K>>(
+    entries: &mut Vec<K>,
+    start: usize,
+    end: usize,
+    probe: P,
+) -> (usize, usize)
+    requires gap { (start ≤ end) × (end ≤ vec_len entries.old) }
+    requires sorted { IsStrictlySortedBy K.cmp (around start end entries.old.items) }
+    ensures gap { (result.0 ≤ result.1) × (result.1 ≤ vec_len entries.new) }
+    ensures same { around result.0 result.1 entries.new.items ≡ around start end entries.old.items }
+    ensures passed { IsPassed K.cmp (P.entry probe) result.0 result.1 entries.new.items }
+    ensures len { vec_len entries.new ≤ vec_len entries.old }
+    ensures capacity { vec_capacity entries.new ≡ vec_capacity entries.old }
+{
+    if start < end && are_before(&entries[..start], probe) {
+        let passed = pass(entries, start, end, probe);
+        return (start + passed, end + passed);
+    }
+    entries.drain(start..end);
+    let at = entries.partition_point(|entry| probe.compare(entry).is_lt());
+    (at, at)
+}
+
+// Moves those entries that stand from `end` on and before the one that `probe` looks for to `start`, and
+// says how many they are.
+fn pass<K: Entry, P: Probe<K>>(entries: &mut Vec<K>, start: usize, end: usize, probe: P) -> usize
+    requires gap { (start ≤ end) × (end ≤ vec_len entries.old) }
+    requires below { AllWithin (λ y. K.cmp y (P.entry probe) ≡ Less) entries.old.items 0 start }
+    ensures within { end + result ≤ vec_len entries.new }
+    ensures same { around (start + result) (end + result) entries.new.items ≡ around start end entries.old.items }
+    ensures passed { IsPassed K.cmp (P.entry probe) (start + result) (end + result) entries.new.items }
+    ensures len { vec_len entries.new ≡ vec_len entries.old }
+    ensures capacity { vec_capacity entries.new ≡ vec_capacity entries.old }
+{
+    let mut passed = 0;
+    while end + passed < entries.len() && probe.compare(&entries[end + passed]).is_lt() {
+        entries.swap(start + passed, end + passed);
+        passed += 1;
+    }
+    passed
+}
