@@ -1,8 +1,8 @@
 /* The twin of tables.rt.bench by C SQLite, with the same statements in the same transactions.
  *
- *   tables replay FILE    makes an office in the file, or in memory where it is `:memory:`, and does the
- *                         transactions of the input: `= LABEL`, then `+ TABLE VALUES` for each row that is
- *                         put and `- TABLE VALUES` for each that is taken, then `.`
+ *   tables replay FILE    makes an office in the file, and does the transactions of the input: `= LABEL`,
+ *                         then `+ TABLE VALUES` for each row that is put and `- TABLE VALUES` for each that is
+ *                         taken, then `.`
  *   tables open FILE      reads all rows of an office into sorted vectors
  *   tables sum FILE       prints how many rows each table has, and a sum of them all in their order
  *

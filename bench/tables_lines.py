@@ -5,14 +5,13 @@
 `import`    10,000 records, all pairs of 100 users and 100 roles
 `joining`   two chains of 512 roles are made, and joined by one edge
 `deleting`  three users with 1,000 assignments and 300 sessions of 32 roles each are deleted
-`memory`    400 users more are added, assigned and deleted where there are 19,500 users with a role each
 `limits`    no commands, but the rows of an office at the limits of version 2, as statements of one
             transaction, with no separation of duty set; `limits-sets` has 64 static and 64 dynamic ones
 """
 
 import sys
 
-COMMITS, MANY, FEW = 1_000, 19_500, 400
+COMMITS = 1_000
 SESSIONS, ACTIVE, ASSIGNED = 300, 32, 1_000
 USERS, ROLES, OBJECTS, PERMISSIONS, GRANTS, EDGES = 20_000, 1_024, 2_000, 5_000, 20_000, 4_096
 SETS, MEMBERS, RECORDS = 64, 32, 10_000
@@ -82,22 +81,6 @@ def deleting():
         time("deleteUser", user(number))
 
 
-def memory():
-    """One or two rows in each transaction, where there are many."""
-    say("addRole", role(0))
-    for number in range(MANY):
-        say("addUser", user(number))
-    for first in range(0, MANY, RECORDS):
-        records = [f"{user(it)} {role(0)}" for it in range(first, min(first + RECORDS, MANY))]
-        say("importAssignments", *records)
-    for number in range(FEW):
-        time("addUser", user(MANY + number))
-    for number in range(FEW):
-        time("assignUser", user(MANY + number), role(0))
-    for number in range(FEW):
-        time("deleteUser", user(number * (MANY // FEW)))
-
-
 def put(table, *values):
     """Prints the statement that puts a row."""
     print("+", table, *values)
@@ -150,7 +133,7 @@ def limits(has_sets):
 
 def main():
     """Prints the lines that are asked for."""
-    what = {"commits": commits, "import": imports, "joining": joining, "deleting": deleting, "memory": memory}
+    what = {"commits": commits, "import": imports, "joining": joining, "deleting": deleting}
     what |= {"limits": lambda: limits(False), "limits-sets": lambda: limits(True)}
     what[sys.argv[1]]()
 
