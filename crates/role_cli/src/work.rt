@@ -167,7 +167,10 @@ fn imported<S: Alter>(alloc: Global, office: &mut Office<S>, text: &[u8]) -> Res
     ensures { IfOk result (λ line. IsImportLine (string_bytes line)) }
 {
     let pairs = read_assignments(alloc, text)?;
-    import_pairs(alloc, office, &Command::ImportAssignments(pairs))
+    let command = Command::ImportAssignments(pairs);
+    let line = import_pairs(alloc, office, &command);
+    drop(command);
+    line
 }
 
 // Does the import, and gives the line that answers.
