@@ -24,6 +24,7 @@ MODULES = [
     "readme",
     "manual",
     "operating",
+    "integrating",
 ]
 WORKERS = 2
 

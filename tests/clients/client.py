@@ -1,0 +1,46 @@
+"""The Python client, and the page that describes it."""
+
+import json
+import sys
+
+from pages import markdown
+from program.bench import PROGRAM, TESTS
+from program.web import HOST
+
+sys.path.insert(0, str(TESTS.parent / "clients/python"))
+import rbac
+
+PAGE = markdown.page("INTEGRATING.md")
+
+# How long a call may take if it is meant to be answered, and if it is not.
+PATIENT, HASTY = 20, 0.3
+
+
+def office_at(port, timeout=PATIENT):
+    """A client over HTTP."""
+    return rbac.Office(f"http://{HOST}:{port}", timeout)
+
+
+def lines_of(office):
+    """A client over the lines of `rbac replay` with this argument."""
+    return rbac.Lines([PROGRAM, "replay", office], PATIENT)
+
+
+def raised(call, *given, **named):
+    """The name of the class that a call raises, or what it returns."""
+    try:
+        return call(*given, **named)
+    except rbac.Error as error:
+        return type(error).__name__
+    except ValueError:
+        return "ValueError"
+
+
+def outcome(call, *given, **named):
+    """The outcome of a call, as the text of the answer that it stands for."""
+    try:
+        value = call(*given, **named)
+        answer = {"ok": True} if value is None else {"ok": True, "value": value}
+    except rbac.Refused as refused:
+        answer = {"code": refused.code, "error": refused.name, **refused.details}
+    return json.dumps(answer, ensure_ascii=False, separators=(",", ":"), sort_keys=True)

@@ -1,0 +1,72 @@
+"""The page of integrating: its commands print what it shows, and its tables and numbers are those of the sources."""
+
+import re
+
+from . import markdown, sources, verdicts
+from .shell import Shell
+
+PAGE = markdown.page("INTEGRATING.md")
+MOST_LINES = 200
+
+# The languages of the blocks that tests/clients.py runs, and that of those that are run here.
+ELSEWHERE, HERE = {"python", "sh", "go", "java"}, {"console"}
+
+
+def check_length(bench):
+    """The page is short."""
+    bench.same("the page is short", len(PAGE.splitlines()) <= MOST_LINES, True)
+
+
+def check_commands(bench):
+    """The commands of the page, from its top to its end, print what is below them."""
+    (bench.folder / "examples").symlink_to(sources.ROOT / "examples")
+    with Shell(bench) as reader:
+        for block in markdown.blocks(PAGE, "console"):
+            reader.console(block)
+
+
+def check_languages(bench):
+    """Each block of the page is of a language that is run."""
+    bench.same("the languages", set(re.findall(r"^```(\w+)$", PAGE, re.M)), ELSEWHERE | HERE)
+    bench.same("blocks without a language", PAGE.count("```"), 2 * len(re.findall(r"^```\w+$", PAGE, re.M)))
+
+
+def check_names(bench):
+    """Each refusal that the page names by its code has the name of the sources."""
+    names = {code: name for code, (name, _) in sources.refusals().items()}
+    found = re.findall(r"\b(\d+) ([A-Z][a-z]+[A-Z]\w+|Store)\b", PAGE)
+    bench.same("refusals are named", len(found) > 30, True)
+    for code, name in found:
+        bench.same(f"the name of {code}", name, names[int(code)])
+
+
+def check_repeated(bench):
+    """The table of repeated commands has each command, with a refusal that can refuse it, or with nothing."""
+    (table,) = markdown.tables(markdown.section(PAGE, "## 3. After a timeout"))
+    cells = [cell for row in table for cell in (row[:2], row[2:])]
+    listed = [(function, refused) for functions, refused in cells for function in functions.split(", ")]
+    bench.same("the commands", sorted(function for function, _ in listed), sorted(sources.command_keys()))
+    for function, refused in listed:
+        can = refused == "nothing" or refused.split()[0] in verdicts.refusals()[function]
+        bench.same(f"{function} can be refused by {refused}", can, True)
+
+
+def check_decisions(bench):
+    """The table of decisions has each refusal of checkAccess, and each status that its request can get, and allows once."""
+    (table,) = markdown.tables(markdown.section(PAGE, "## 1. Allow or deny"))
+    text = " ".join(row[0] for row in table)
+    codes = re.findall(r"\b(\d+) [A-Z]", text)
+    bench.same("the refusals of checkAccess", sorted(codes), sorted(verdicts.refusals()["checkAccess"]))
+    statuses = {int(status) for status in re.findall(r"\b\d{3}\b", text)}
+    bench.same("statuses that the server does not have", statuses - sources.statuses(), set())
+    bench.same("how often it allows", [row[1] for row in table].count("allow"), 1)
+    bench.same("what it allows", table[0][:2], ['200 and exactly `{"ok":true,"value":true}`', "allow"])
+
+
+def check_numbers(bench):
+    """The limits that the page names are those of the sources."""
+    limits = {kind: number for kind, (number, _) in sources.limits().items()}
+    most = f"at most {limits['session']:,} sessions, and a session {limits['activeRole']} activated roles"
+    bench.same("the limits of sessions", most in markdown.in_one_line(PAGE), True)
+    bench.same("the seconds of a wait", f"can hold it for {sources.patience()} seconds" in markdown.in_one_line(PAGE), True)
+    bench.same("the number of functions", f"the {len(sources.functions())} functions" in PAGE, True)
