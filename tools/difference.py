@@ -1,0 +1,92 @@
+#!/usr/bin/env python3
+"""Prints what differs between two dumps of offices, as a text.
+
+    difference.py FIRST SECOND
+
+FIRST and SECOND are files that tools/dump.sql has made, such as those of one office on two days. A line that begins with
+`-` has what only the first office holds, one that begins with `+` what only the second one holds. Each name stands in
+double quotes. Of a role or a user that went, each grant and each assignment is listed as well. The last line counts.
+
+The status is 0 if nothing differs, 1 if something does, and 2 if a file can't be read as a dump.
+"""
+
+import json
+import sys
+
+# What each function of a dump says, in the order in which differences are printed. {roles} stands for one role of the list:
+# there is a line for each.
+FACTS = {
+    "addUser": ["user {user}"],
+    "addRole": ["role {role}"],
+    "addInheritance": ["inheritance: {asc} is an immediate ascendant of {desc}"],
+    "addPermObj": ["object {object}"],
+    "addPermission": ["permission: {operation} on {object}"],
+    "grantPermission": ["grant: {operation} on {object} to the role {role}"],
+    "createSsdSet": [
+        "static set {set} of cardinality {cardinality}",
+        "member of the static set {set}: the role {roles}",
+    ],
+    "createDsdSet": [
+        "dynamic set {set} of cardinality {cardinality}",
+        "member of the dynamic set {set}: the role {roles}",
+    ],
+    "assignUser": ["assignment: the user {user} to the role {role}"],
+    "createSession": [
+        "session {session} of the user {user}",
+        "activated role of the session {session}: {roles}",
+    ],
+    "lockUserAccount": ["lock of the user {user}"],
+}
+
+
+def quoted(value):
+    """A name in double quotes, as JSON; a number as it is."""
+    return json.dumps(value, ensure_ascii=False)
+
+
+def facts_of(line):
+    """What a line of a dump says: pairs of a template and its text."""
+    request = json.loads(line)
+    values = {key: quoted(value) for key, value in request.items()}
+    for template in FACTS[request["fn"]]:
+        for role in request["roles"] if "{roles}" in template else [None]:
+            yield template, template.format(**{**values, "roles": quoted(role)})
+
+
+def read(path):
+    """All that a dump says."""
+    facts, number = set(), 0
+    try:
+        with open(path, "rb") as lines:
+            for number, line in enumerate(lines, 1):
+                facts.update(facts_of(line.decode()))
+    except OSError as fault:
+        raise SystemExit(stop(f"{path}: {fault.strerror}"))
+    except (ValueError, KeyError, TypeError, AttributeError):
+        raise SystemExit(stop(f"{path}: line {number} is not one of a dump"))
+    return facts
+
+
+def stop(reason):
+    """Says why nothing is compared, and gives the status."""
+    print(f"difference.py: {reason}", file=sys.stderr)
+    return 2
+
+
+def main(arguments):
+    """Prints the difference of the two dumps, and gives the status."""
+    if len(arguments) != 2:
+        print(__doc__, file=sys.stderr)
+        return 2
+    sys.stdout.reconfigure(encoding="utf-8")
+    first, second = map(read, arguments)
+    order = [template for templates in FACTS.values() for template in templates]
+    marked = [("-", fact) for fact in first - second] + [("+", fact) for fact in second - first]
+    for mark, (_, text) in sorted(marked, key=lambda one: (order.index(one[1][0]), one[1][1], one[0] == "+")):
+        print(mark, text)
+    print(f"{len(first - second)} only in the first, {len(second - first)} only in the second")
+    return 1 if marked else 0
+
+
+if __name__ == "__main__":
+    sys.exit(main(sys.argv[1:]))

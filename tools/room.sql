@@ -1,0 +1,18 @@
+-- Room: how many there are of each kind, and how many more the version of the office allows. CSV.
+--
+--     sqlite3 -readonly 'file:COPY?immutable=1' < tools/room.sql
+--
+-- Run it in the folder of the repository, on a copy that `rbac check` calls good. It reads the copy and does not write it.
+--
+-- version               1 or 2
+-- kind                  as in the table of limits in docs/API.md; `record` and `byte`, limits of an import, are left out
+-- count, limit, left    how many there are, may be, and may still come
+-- `member` is counted for the set that has the most members, `activeRole` for the session that has the most activated roles.
+
+.bail on
+.read tools/office.sql
+.headers off
+.print version,kind,count,limit,left
+
+SELECT number, kind, count, most, most - count
+FROM (SELECT number, kind, count, iif(number = 1, most_1, most_2) AS most FROM room, version);
