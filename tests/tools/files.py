@@ -1,0 +1,166 @@
+"""The picture, the evidence and the difference, over the bank of the examples."""
+
+import hashlib
+import html
+import os
+import re
+from pathlib import Path
+
+from program.bench import PROGRAM
+from program.offices import Office
+
+from . import wanted
+from .offices import odd_lines
+from .running import REPORTS, ROOT, TOOLS, is_there, keeping, refuses, report, run, run_script, run_tool
+
+BANK = ROOT / "examples/bank.jsonl"
+PICTURE = ROOT / "docs/bank.svg"
+
+DAY = "2026-01-02"
+
+# The file that each report has in the evidence.
+FILES = {
+    "permissions": "permissions.csv",
+    "near": "near.csv",
+    "sessions": "sessions.csv",
+    "room": "room.csv",
+    "dump": "dump.jsonl",
+    "picture": "roles.dot",
+}
+
+
+def office_of(bench, lines, name="office"):
+    """An office that lines have made."""
+    office = Office(bench, name)
+    office.replay(lines)
+    return office
+
+
+def bank(bench):
+    """The bank of the examples."""
+    return office_of(bench, BANK.read_bytes().splitlines(keepends=True))
+
+
+def pairs_of_lines(texts):
+    """The texts of a picture, two for each node, in order."""
+    return sorted(zip(texts[::2], texts[1::2], strict=True))
+
+
+def texts_of_svg(svg):
+    """The texts that a picture shows."""
+    return [html.unescape(text).replace("\xa0", " ") for text in re.findall(r"<text [^>]*>(.*?)</text>", svg, re.S)]
+
+
+def draw(dot):
+    """The picture that Graphviz makes of a text."""
+    return run(["dot", "-Tsvg"], dot.encode())
+
+
+def shows(bench, what, office):
+    """The picture of an office has a node for each role and each set, and a line for each inheritance and each member."""
+    state, dot = office.model.state, report(bench, "picture", office.path)
+    members = sum(len(roles) for sets in (state.static_sets, state.dynamic_sets) for roles, _ in sets.values())
+    bench.same(f"the lines of the picture of {what}", dot.count(" -> "), len(state.edges) + members)
+    if not is_there("dot"):
+        return
+    done = draw(dot)
+    bench.same(f"the end of dot for {what}", (done.err, done.status), (b"", 0))
+    bench.same(f"the picture of {what}", pairs_of_lines(texts_of_svg(done.out.decode())), wanted.labels(state))
+
+
+def draws_bank(bench):
+    """The bank and an office of odd names as pictures. The picture of the pages is that of the bank."""
+    office = bank(bench)
+    shows(bench, "the bank", office)
+    shown = texts_of_svg(PICTURE.read_text(encoding="utf-8"))
+    bench.same("the texts of docs/bank.svg", pairs_of_lines(shown), wanted.labels(office.model.state))
+    shows(bench, "odd names", office_of(bench, odd_lines(), "odd"))
+
+
+def digest(path):
+    """The SHA-256 of a file."""
+    return hashlib.sha256(Path(path).read_bytes()).hexdigest()
+
+
+def makes_evidence(bench):
+    """The evidence has the date, what the check said, and the digests of the copy, the program and each report."""
+    office, folder = bank(bench), bench.folder / "evidence"
+    wanted_reports = {FILES[name]: run_tool(name, office.path).out for name in REPORTS}
+    before = bench.contents()
+    done = run_script("evidence.py", DAY, office.path, folder)
+    bench.same("the end of the evidence", (done.out, done.err, done.status), (b"", b"", 0))
+    bench.same("what the evidence makes", bench.contents(), {**before, "evidence": "d"})
+    made = {path.name: path.read_bytes() for path in folder.iterdir()}
+    first, second, third, *lines = made.pop("evidence.txt").decode().splitlines()
+    bench.same("the reports", made, wanted_reports)
+    bench.same("the date and the check", (DAY in first, second), (True, "# rbac check: good"))
+    version = run(["sqlite3", "--version"]).out.decode().split()[0]
+    bench.same("the version of sqlite3", third, f"# sqlite3: {version}")
+    named = {os.path.realpath(folder / name): told for told, name in (line.split("  ", 1) for line in lines)}
+    paths = map(os.path.realpath, [office.path, PROGRAM, *(folder / name for name in made)])
+    bench.same("the digests", named, {path: digest(path) for path in paths})
+    checking = ["sha256sum", "--check", "--strict", "--quiet", "evidence.txt"]
+    done = run(checking, folder=folder)
+    bench.same("what sha256sum says", (done.out, done.err, done.status), (b"", b"", 0))
+    (folder / "room.csv").write_bytes(made["room.csv"] + b"more\n")
+    done = run(checking, folder=folder)
+    bench.same("what sha256sum says of a changed report", (done.out, done.status), (b"room.csv: FAILED\n", 1))
+
+
+def refuses_evidence(bench):
+    """No evidence is made of other arguments, into a folder that is there, or if the program is missing."""
+    office, new = bank(bench), bench.path("new")
+    for words in ([], [DAY], [DAY, office.path], ["today", office.path, new], ["2026-02-30", office.path, new]):
+        done = keeping(bench, f"evidence of {words}", run_script, "evidence.py", *words)
+        ended = done.out, done.status, b"evidence.py DATE COPY FOLDER" in done.err
+        bench.same(f"the end of evidence of {words}", ended, (b"", 2, True))
+    os.mkdir(bench.path("there"))
+    done = run_script("evidence.py", DAY, office.path, bench.path("there"))
+    refuses(bench, "a folder that is there", done, "File exists")
+    done = run(["env", "RBAC_PROGRAM=/nowhere", str(TOOLS / "evidence.py"), DAY, office.path, new])
+    refuses(bench, "a program that is missing", done, "nowhere")
+    bench.same("no folder is made", os.path.exists(new), False)
+
+
+def refuses_differences(bench):
+    """Files that are no dumps, and other arguments: the status is 2, and nothing is compared."""
+    good = bench.write("good", BANK.read_bytes().splitlines(keepends=True)[0])
+    no_dumps = {
+        "a CSV text": b"user,role\n",
+        "no UTF-8": b"\xff\n",
+        "a question": b'{"fn":"ssdRoleSets"}\n',
+        "a key that is missing": b'{"fn":"assignUser","user":"ann"}\n',
+        "a list": b"[]\n",
+        "no function": b'{"user":"ann"}\n',
+    }
+    for name, content in no_dumps.items():
+        done = run_script("difference.py", good, bench.write("bad", content))
+        refuses(bench, name, done, "line 1 is not one of a dump")
+        bench.same(f"the status of {name}", done.status, 2)
+    done = run_script("difference.py", good, bench.path("missing"))
+    refuses(bench, "a missing file", done, "No such file")
+    bench.same("the status of a missing file", done.status, 2)
+    done = run_script("difference.py", good)
+    bench.same("one file alone", (done.out, done.status, b"difference.py FIRST SECOND" in done.err), (b"", 2, True))
+
+
+def says_usage(bench):
+    """Each tool begins with how it is run, and says that it reads the copy and does not write it."""
+    for name in REPORTS:
+        text = (TOOLS / f"{name}.sql").read_text(encoding="utf-8")
+        head = text.split("\n\n", 1)[0]
+        usage = f"sqlite3 -readonly 'file:COPY?immutable=1' < tools/{name}.sql"
+        bench.same(f"{name} says how it is run", usage in head, True)
+        bench.same(f"{name} says that it only reads", "It reads the copy and does not write it." in head, True)
+    listed = {path.name for path in TOOLS.iterdir() if path.is_file()}
+    bench.same("the tools", listed, {*(f"{name}.sql" for name in REPORTS), "office.sql", "difference.py", "evidence.py"})
+
+
+def jobs_without_sqlite():
+    """Those that need no program of others."""
+    return [(refuses_differences,), (says_usage,)]
+
+
+def jobs():
+    """Each of these."""
+    return [(draws_bank,), (makes_evidence,), (refuses_evidence,), *jobs_without_sqlite()]

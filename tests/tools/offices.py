@@ -1,0 +1,255 @@
+"""Random offices, made by the program: each report is what the model says, and what the program itself answers."""
+
+import json
+import os
+import random
+from collections import Counter
+
+from machine.drawing import WEIGHTS, Draws
+from machine.replaying import Replay
+from machine.state import authorized_roles
+from machine.texts import json_text, rows
+from program.offices import Office, read_rows, same_rows
+
+from . import wanted
+from .running import records, report, run_script
+
+# So many offices there are, in so many jobs.
+OFFICES, JOBS = 200, 8
+
+# An office is made of so many random lines, without those that do not change it.
+LINES = (80, 220)
+
+# By these commands an office grows. They are chosen four times as often as in other random lines.
+GROWING = ["addUser", "addRole", "addPermObj", "addPermission", "grantPermission", "assignUser", "addInheritance"]
+GROWING += ["createSession"]
+
+# Of one office in so many all is compared, of the others the dump alone. So many further lines make a difference.
+ONE_IN, FURTHER = 4, 40
+
+# What has to be met in some of the offices.
+MET = [
+    "lines of permissions",
+    "lines of near",
+    "lines of sessions",
+    "dynamic sets that a user could violate",
+    "locked users",
+]
+
+# Names that mean something in one of the forms that the tools write or read.
+ODD_NAMES = [
+    '"', "\\", "'", '\\"', "|", ",", ";", " ", "-", "--", "#", "%s%d", "$x", "{role}", "{roles}", "=1+1", "&amp;", "&lt;",
+    "<b>", "<", "]", "\\n", "\\N", "\\G", "rbac", "NULL", "\u00e9", "\u0085", "\u2028", "\ufeff", "\U0001f600", "n" * 64,
+]
+
+
+class Building(Draws):
+    """Random lines of commands, mostly of those by which an office grows."""
+
+    weights = {function: weight * 4 if function in GROWING else weight for function, weight in WEIGHTS.items()}
+
+    def draw_function(self):
+        return self.random.choices(list(self.weights), list(self.weights.values()))[0]
+
+
+def accepted(draws, count):
+    """Of so many random lines those that change the state."""
+    kept = []
+    for _ in range(count):
+        before = draws.state
+        _, line, _ = draws.draw()
+        if draws.state is not before:
+            kept.append(line + b"\n")
+    return kept
+
+
+def line_of(function, **arguments):
+    """A request line."""
+    return json_text({"fn": function, **arguments}).encode() + b"\n"
+
+
+def odd_lines():
+    """Lines that make an office in which each odd name is that of a user, a role, an object, and so on."""
+    names = ODD_NAMES
+    adding = [("addUser", "user"), ("addRole", "role"), ("addPermObj", "object")]
+    lines = [line_of(function, **{key: name}) for function, key in adding for name in names]
+    for first, second, third in zip(names, names[1:], names[2:]):
+        lines += [
+            line_of("addPermission", object=first, operation=second),
+            line_of("grantPermission", object=first, operation=second, role=third),
+            line_of("addInheritance", asc=first, desc=third),
+            line_of("createSsdSet", set=first, roles=[second, third], cardinality=2),
+            line_of("createDsdSet", set=second, roles=[first, third, second], cardinality=3),
+            line_of("assignUser", user=first, role=third),
+            line_of("createSession", user=first, roles=[third], session=second),
+        ]
+    return [
+        *lines,
+        # By this the user is authorized for a role in two ways.
+        line_of("assignUser", user=names[0], role=names[0]),
+        line_of("createSession", user=names[0], roles=[], session="none"),
+        line_of("lockUserAccount", user=names[5]),
+    ]
+
+
+def answers(bench, path, lines):
+    """What the program answers to lines, each as JSON."""
+    done = bench.run(["replay", path], b"".join(lines))
+    bench.same("the end of a replay", (done.err, done.status), (b"", 0))
+    return [json.loads(line) for line in done.out.splitlines()]
+
+
+def compare_reports(bench, what, path, state):
+    """Each report of an office, as rows, is what the model says of its state. Gives the rows by the names of the reports."""
+    found = {}
+    for name in ("permissions", "near", "sessions", "room"):
+        found[name], _ = records(report(bench, name, path))
+        bench.same(f"{name} of {what}", found[name], getattr(wanted, name)(state))
+    return found
+
+
+def ask_permissions(bench, what, path, state, found):
+    """What users and sessions may do by the reports is what the program answers: by review functions and by checkAccess."""
+    told = {("user", user): set() for user in sorted(state.users)}
+    told |= {("session", name): set() for name in sorted(state.sessions)}
+    for user, _, ob, op, _, _ in found["permissions"]:
+        told["user", user].add((ob, op))
+    for name, _, _, ob, op, _ in found["sessions"]:
+        told["session", name] |= {(ob, op)} if ob else set()
+    given = answers(bench, path, [line_of(f"{key}Permissions", **{key: name}) for key, name in told])
+    for ((key, name), pairs), answer in zip(told.items(), given, strict=True):
+        bench.same(f"what the {key} {name} may do in {what}", sorted(pairs), [tuple(pair) for pair in answer["value"]])
+    asked = [(name, ob, op) for name in sorted(state.sessions) for ob, op in sorted(state.permissions)]
+    given = answers(bench, path, [line_of("checkAccess", session=name, object=ob, operation=op) for name, ob, op in asked])
+    allowed = [(ob, op) in told["session", name] for name, ob, op in asked]
+    bench.same(f"accesses in {what}", allowed, [answer["value"] for answer in given])
+
+
+def try_sets(bench, what, path, state, found):
+    """A dynamic set that a user could violate by the report is violated by a session with the members that are listed.
+
+    A user who could violate none gets a session with all roles. Both are tried in a copy of the office.
+    """
+    could = {}
+    for left, kind, name, _, holder, user, _, member, _ in found["near"]:
+        if (kind, holder) == ("dynamic", "user") and int(left) <= 0:
+            could.setdefault((user, name), set()).add(member)
+    violating = {user for user, _ in could}
+    tried = [(user, roles) for (user, _), roles in sorted(could.items()) if user not in state.locked]
+    tried += [(user, authorized_roles(state, user)) for user in sorted(state.users - state.locked - violating)]
+    lines = []
+    for user, roles in tried:
+        lines.append(line_of("createSession", user=user, roles=sorted(roles), session="probe"))
+        lines.append(line_of("deleteSession", user=user, session="probe"))
+    for (user, roles), answer in zip(tried, answers(bench, path, lines)[::2], strict=True):
+        is_violating = answer.get("code") == 25 and (user, answer["set"]) in could
+        what_came = is_violating if user in violating else answer == {"ok": True}
+        bench.same(f"a session of {user} in {what} with {sorted(roles)}", what_came, True)
+
+
+def dump_of(bench, path):
+    """The dump of an office."""
+    return report(bench, "dump", path)
+
+
+def replay_dump(bench, what, path, state):
+    """The dump makes the same office in a new file: each line is accepted, and all rows are those of the model."""
+    text = dump_of(bench, path)
+    new = bench.path("new")
+    bench.ends(["init", new], makes=["new"])
+    done = bench.run(["replay", new], text.encode())
+    count = text.count("\n")
+    bench.same(f"the answers to the dump of {what}", (done.out, done.err), (b'{"ok":true}\n' * count, b""))
+    same_rows(bench, f"the rows of the dump of {what}", read_rows(new), rows(state.but(version=2)))
+    return text, new
+
+
+def compare_difference(bench, what, before, after):
+    """The difference of two dumps, each with its state, is that of the states."""
+    paths = [bench.write(name, text.encode()) for name, (text, _) in (("first", before), ("second", after))]
+    first, second = (wanted.sentences(state) for _, state in (before, after))
+    done = run_script("difference.py", *paths)
+    *lines, count = done.out.decode().split("\n")[:-1]
+    told = [f"- {one}" for one in first - second] + [f"+ {one}" for one in second - first]
+    bench.same(f"the difference of {what}", sorted(lines), sorted(told))
+    bench.same(
+        f"the end of the difference of {what}",
+        (count, done.err, done.status),
+        (f"{len(first - second)} only in the first, {len(second - first)} only in the second", b"", 1 if told else 0),
+    )
+
+
+def counts_of(state, found):
+    """What is counted of an office that is looked at in full."""
+    violating = {(row[2], row[5]) for row in found["near"] if row[1] == "dynamic" and row[4] == "user" and int(row[0]) <= 0}
+    return {
+        "offices in full": 1,
+        "lines of permissions": len(found["permissions"]),
+        "lines of near": len(found["near"]),
+        "lines of sessions": len(found["sessions"]),
+        "dynamic sets that a user could violate": len(violating),
+        "locked users": len(state.locked),
+    }
+
+
+def try_office(bench, seed):
+    """One random office, of which the dump is looked at, or all. Gives what is counted of it."""
+    what, draws, office = f"office {seed}", Building(seed), Office(bench)
+    office.replay(accepted(draws, random.Random(seed).randrange(*LINES)))
+    state, path = office.model.state, office.path
+    text, new = replay_dump(bench, what, path, state)
+    same_rows(bench, f"the rows of {what} and of its dump", read_rows(new), read_rows(path))
+    counts = Counter({"random offices": 1, "rows of random offices": sum(map(len, rows(state).values()))})
+    if seed % ONE_IN == 0:
+        found = compare_reports(bench, what, path, state)
+        ask_permissions(bench, what, path, state, found)
+        bench.same(f"the dump of the dump of {what}", dump_of(bench, new), text)
+        try_sets(bench, what, new, state, found)
+        office.replay(accepted(draws, FURTHER))
+        compare_difference(bench, what, (text, state), (dump_of(bench, path), office.model.state))
+        counts.update(counts_of(state, found))
+    for name in bench.contents():
+        os.remove(bench.path(name))
+    return counts
+
+
+def try_offices(bench, first, count):
+    """So many random offices from this seed on."""
+    counts = Counter()
+    for seed in range(first, first + count):
+        counts.update(try_office(bench, seed))
+    return counts
+
+
+def try_odd_names(bench):
+    """An office with names that mean something in CSV, JSON, SQL, Graphviz, a shell or a spreadsheet."""
+    office, lines = Office(bench), odd_lines()
+    bench.same("the answers to odd names", answers(bench, office.path, lines), [{"ok": True}] * len(lines))
+    for line in lines:
+        office.model.answer(line)
+    state, path = office.model.state, office.path
+    found = compare_reports(bench, "odd names", path, state)
+    ask_permissions(bench, "odd names", path, state, found)
+    text, new = replay_dump(bench, "odd names", path, state)
+    try_sets(bench, "odd names", new, state, found)
+    compare_difference(bench, "odd names", ("", Replay().state), (text, state))
+
+
+def try_version_1(bench):
+    """An office of version 1 has its own limits, and is made anew in version 2 by its dump."""
+    office = Office(bench)
+    office.replay([line for line in accepted(Building(1), 200) if b"lockUser" not in line])
+    office.become_version_1()
+    state, path = office.model.state, office.path
+    compare_reports(bench, "version 1", path, state)
+    replay_dump(bench, "version 1", path, state)
+    # A table of locks that stays beside an office of version 1 is none of it.
+    office.change(["CREATE TABLE locked_row (a TEXT NOT NULL, PRIMARY KEY (a)) STRICT"])
+    office.change([f"INSERT INTO locked_row VALUES ('{sorted(state.users)[0]}')"])
+    bench.same("the dump without these locks", "lockUserAccount" in dump_of(bench, path), False)
+
+
+def jobs():
+    """The offices, shared by some jobs, and those of a special sort."""
+    count = OFFICES // JOBS
+    return [(try_odd_names,), (try_version_1,), *((try_offices, job * count, count) for job in range(JOBS))]

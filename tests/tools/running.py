@@ -1,0 +1,75 @@
+"""Runs the tools over the file of an office, which has to stay as it is."""
+
+import csv
+import io
+import re
+import shutil
+import subprocess
+from urllib.parse import quote
+
+from program.bench import SECONDS, TESTS, Done
+
+ROOT = TESTS.parent
+TOOLS = ROOT / "tools"
+
+# The tools that sqlite3 runs over an office.
+REPORTS = ["permissions", "near", "sessions", "room", "dump", "picture"]
+
+# The programs of others that the tools need.
+NEEDED = ["sqlite3", "dot"]
+
+
+def is_there(program):
+    """Whether a program of others can be found."""
+    return shutil.which(program) is not None
+
+
+def run(words, given=b"", folder=ROOT):
+    """Runs a command, in the folder of the repository if no other is given."""
+    done = subprocess.run(words, input=given, cwd=folder, capture_output=True, timeout=SECONDS, check=False)
+    return Done(done.stdout, done.stderr, done.returncode)
+
+
+def run_tool(name, path, folder=ROOT):
+    """Runs a tool over a file as its header says."""
+    statements = (TOOLS / f"{name}.sql").read_bytes()
+    return run(["sqlite3", "-readonly", f"file:{quote(path)}?immutable=1"], statements, folder)
+
+
+def run_script(name, *words):
+    """Runs a tool that is a script."""
+    return run([str(TOOLS / name), *map(str, words)])
+
+
+def keeping(bench, what, function, *given):
+    """What a function gives, counting whether each file in the folder of the bench stays to the byte."""
+    before = bench.contents()
+    done = function(*given)
+    after = bench.contents()
+    changed = [name for name in {**before, **after} if before.get(name) != after.get(name)]
+    bench.same(f"the files that {what} has changed", changed, [])
+    return done
+
+
+def report(bench, name, path):
+    """What a tool reports of an office. It has to end well, and to change no file."""
+    done = keeping(bench, name, run_tool, name, path)
+    bench.same(f"the end of {name}", (done.err, done.status), (b"", 0))
+    return done.out.decode()
+
+
+def records(text):
+    """The records of a CSV text behind its heading, and the heading."""
+    heading, *rows = csv.reader(io.StringIO(text, newline=""))
+    return [tuple(row) for row in rows], heading
+
+
+def refuses(bench, what, done, message):
+    """Counts whether a tool says in one line why it refuses, and reports nothing."""
+    said = done.err.decode()
+    faults = []
+    if done.status == 0 or done.out:
+        faults.append(f"it ended with status {done.status}, and printed {done.out[:100]}")
+    if not re.search(message, said) or said.count("\n") != 1:
+        faults.append(f"it said {said!r}")
+    bench.judge(f"{what} is refused", faults)

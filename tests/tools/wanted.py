@@ -1,0 +1,120 @@
+"""What the reports have to say of a state, by the plain model."""
+
+from machine.state import assigned_roles, authorized_users, below
+from machine.texts import json_text, rows
+from pages import sources
+
+# How a difference names the rows of each table and kind. The pairs of the closure are in no dump.
+SENTENCES = {
+    ("name_row", 1): "user {}",
+    ("name_row", 2): "role {}",
+    ("name_row", 3): "object {}",
+    ("pair_row", 1): "permission: {1} on {0}",
+    ("pair_row", 2): "assignment: the user {} to the role {}",
+    ("pair_row", 3): "inheritance: {} is an immediate ascendant of {}",
+    ("pair_row", 5): "member of the static set {}: the role {}",
+    ("pair_row", 6): "member of the dynamic set {}: the role {}",
+    ("pair_row", 7): "session {} of the user {}",
+    ("pair_row", 8): "activated role of the session {}: {}",
+    ("set_row", 1): "static set {} of cardinality {}",
+    ("set_row", 2): "dynamic set {} of cardinality {}",
+}
+
+
+def having(state, roles):
+    """Pairs of one of these roles and of a role that it gives: itself, or a junior."""
+    return {(role, given) for role in roles for given in below(state, role)}
+
+
+def given_permissions(state, roles):
+    """Rows of a role, a permission that it gives, and the role to which that is granted."""
+    pairs = having(state, roles)
+    return {(role, ob, op, given) for role, given in pairs for ob, op, to in state.grants if to == given}
+
+
+def permissions(state):
+    """The rows of the permissions."""
+    found = [
+        (user, "yes" if user in state.locked else "no", ob, op, assigned, granted)
+        for user in state.users
+        for assigned, ob, op, granted in given_permissions(state, assigned_roles(state, user))
+    ]
+    return sorted(found, key=lambda row: (row[0], *row[2:]))
+
+
+def sessions(state):
+    """The rows of the sessions."""
+    found = []
+    for session, (user, active) in state.sessions.items():
+        if not active:
+            found.append((session, user, "", "", "", ""))
+        for role in active:
+            given = given_permissions(state, [role])
+            found += [(session, user, *row) for row in given or [(role, "", "", "")]]
+    return sorted(found)
+
+
+def held(state, members, roles):
+    """Pairs of a member of a set that one of these roles gives, and of that role."""
+    return {(given, role) for role, given in having(state, roles) if given in members}
+
+
+def near(state):
+    """The rows that say how near users and sessions are to sets."""
+    users = [("user", user, assigned_roles(state, user)) for user in state.users]
+    actives = [("session", session, active) for session, (_, active) in state.sessions.items()]
+    found = []
+    for kind, sets, holders in [("static", state.static_sets, users), ("dynamic", state.dynamic_sets, users + actives)]:
+        for name, (members, cardinality) in sets.items():
+            for sort, holder, roles in holders:
+                pairs = held(state, members, roles)
+                count = len({member for member, _ in pairs})
+                row = (cardinality - count, kind, name, cardinality, sort, holder, count)
+                found += [(*row, member, role) for member, role in pairs]
+    order = sorted(found, key=lambda row: (row[0], *row[1:3], *row[4:6], *row[7:]))
+    return [tuple(map(str, row)) for row in order]
+
+
+def room(state):
+    """The rows that say how much room there is."""
+    sets = [roles for sets in (state.static_sets, state.dynamic_sets) for roles, _ in sets.values()]
+    counts = {
+        "user": len(state.users),
+        "role": len(state.roles),
+        "object": len(state.objects),
+        "permission": len(state.permissions),
+        "grant": len(state.grants),
+        "assignment": len(state.assignments),
+        "edge": len(state.edges),
+        "ssdSet": len(state.static_sets),
+        "dsdSet": len(state.dynamic_sets),
+        "member": max(map(len, sets), default=0),
+        "session": len(state.sessions),
+        "activeRole": max((len(active) for _, active in state.sessions.values()), default=0),
+    }
+    most = {kind: limits[0 if state.version == 2 else 1] for kind, limits in sources.limits().items()}
+    found = [(state.version, kind, count, most[kind], most[kind] - count) for kind, count in counts.items()]
+    return [tuple(map(str, row)) for row in found]
+
+
+def sentences(state):
+    """All that a difference can name of a state."""
+    found = {f"lock of the user {json_text(user)}" for user in state.locked}
+    for ob, op, role in map(lambda grant: map(json_text, grant), state.grants):
+        found.add(f"grant: {op} on {ob} to the role {role}")
+    for table in ("name_row", "pair_row", "set_row"):
+        for kind, *parts in rows(state)[table]:
+            if (table, kind) in SENTENCES:
+                found.add(SENTENCES[table, kind].format(*map(json_text, parts)))
+    return found
+
+
+def labels(state):
+    """The lines of the labels of a picture: of each role and each set."""
+    found = []
+    for role in state.roles:
+        assigned = sum(role == one for _, one in state.assignments)
+        found.append((role, f"users: {assigned} assigned, {len(authorized_users(state, role))} authorized"))
+    for kind, sets in (("static", state.static_sets), ("dynamic", state.dynamic_sets)):
+        found += [(f"{kind} set {name}", f"cardinality {cardinality}") for name, (_, cardinality) in sets.items()]
+    return sorted(found)
