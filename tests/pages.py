@@ -25,6 +25,7 @@ MODULES = [
     "manual",
     "operating",
     "integrating",
+    "auditing",
 ]
 WORKERS = 2
 

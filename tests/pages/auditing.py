@@ -1,0 +1,44 @@
+"""The page of auditing: its commands print what it shows, and it names each tool and each view."""
+
+import re
+import shutil
+
+from . import markdown, sources
+from .shell import Shell, runs
+
+PAGE = markdown.page("AUDITING.md")
+TOOLS = sources.ROOT / "tools"
+
+# So many lines the page may have at most.
+MOST_LINES = 200
+
+
+def check_commands(bench):
+    """The commands of the page, from its top to its end, print what stands below them. What needs dot may be left out."""
+    for name in ("tools", "examples"):
+        (bench.folder / name).symlink_to(sources.ROOT / name)
+    with Shell(bench) as reader:
+        # The page names the program by its place in the repository.
+        (bench.folder / "release").symlink_to(bench.folder / "bin")
+        reader.type("unset RBAC_PROGRAM")
+        for command, shown in runs([line for block in markdown.blocks(PAGE, "console") for line in block]):
+            if "| dot " in command and not shutil.which("dot"):
+                print(f"left out, since dot can't be found: {command}")
+            else:
+                reader.shows(command, shown)
+
+
+def check_length(bench):
+    """The page is short."""
+    bench.same("the page is short", len(PAGE.splitlines()) <= MOST_LINES, True)
+
+
+def check_tools(bench):
+    """The page names each tool and no other, and each view that tools/office.sql has for questions of one's own."""
+    named = set(re.findall(r"tools/(\w+\.\w+)", PAGE))
+    bench.same("the tools", sorted(named), sorted(path.name for path in TOOLS.iterdir() if path.is_file()))
+    own = markdown.section(PAGE, "## 4. Your own questions").split("```")[0]
+    made = re.findall(r"^CREATE TEMP (?:VIEW|TABLE) (\w+)", (TOOLS / "office.sql").read_text(encoding="utf-8"), re.M)
+    views = set(re.findall(r"`(\w+)`", own))
+    bench.same("views that are not there", sorted(views - set(made)), [])
+    bench.same("views are named", bool(views), True)
