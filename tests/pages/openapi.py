@@ -1,17 +1,29 @@
-"""The description of the HTTP side by OpenAPI: it holds together, and has what the sources and the page have."""
+"""The description of the HTTP side by OpenAPI: it has what the sources and docs/API.md have, and the program keeps to it."""
 
 import json
 import re
-from importlib import import_module
-from importlib.util import find_spec
+import shutil
+import subprocess
+import sys
 
-from program.web import PHRASES
+from program.web import PHRASES, Server, head, post
 
-from . import markdown, sources, verdicts
-from .api import PARTS, all_pairs
+from . import markdown, sources, validators, verdicts
+from .api import PARTS, all_pairs, sort_of
 
 SPEC = json.loads(markdown.page("openapi.json"))
 COMPONENTS = SPEC["components"]
+
+# The schema of each refusal, and those of accepted answers by their sorts.
+REFUSAL = {"$ref": "#/components/schemas/Refusal"}
+ANSWERS = {
+    "Done": "DoneAnswer",
+    "Imported": "ImportAnswer",
+    "Names": "NamesAnswer",
+    "Permissions": "PermissionsAnswer",
+    "Count": "CountAnswer",
+    "Access": "AccessAnswer",
+}
 
 # The schemas of the values at keys, by their types.
 TYPES = {
@@ -21,7 +33,7 @@ TYPES = {
 }
 
 # The words of a schema.
-WORDS = {"$ref", "allOf", "type", "enum", "format", "description", "example", "required", "properties", "items", "pattern"}
+WORDS = {"$ref", "allOf", "type", "enum", "format", "description", "required", "properties", "items", "pattern"}
 WORDS |= {"minLength", "maxLength", "minItems", "maxItems", "uniqueItems", "minimum", "maximum"}
 
 # The types of JSON as Python has them.
@@ -61,20 +73,35 @@ def references(value):
     return [one for key, item in value.items() for one in ([item] if key == "$ref" else references(item))]
 
 
-def schema_of(holder, sort="application/json"):
-    """The schema of a body or an answer that has one sort of content."""
+def media_of(holder, sort="application/json"):
+    """What is said of a body or an answer that has one sort of content."""
     (media,) = resolved(holder)["content"].items()
     if media[0] != sort:
         raise ValueError(f"{media[0]} and not {sort}")
-    return media[1]["schema"]
+    return media[1]
 
 
-def enumerated(schema, key):
-    """The values that an answer narrows a key of a refusal to, or None."""
-    refusal, told = schema["allOf"]
-    if refusal != {"$ref": "#/components/schemas/Refusal"}:
-        raise ValueError(f"{refusal} is no refusal")
-    return told["properties"].get(key, {}).get("enum")
+def schema_of(holder, sort="application/json"):
+    """The schema of a body or an answer that has one sort of content."""
+    return media_of(holder, sort)["schema"]
+
+
+def sort_of_body(name):
+    """The sort of content that the body of a function has."""
+    return "text/csv" if name == "importAssignments" else "application/json"
+
+
+def example_of(name):
+    """The example of a body and that of its answer."""
+    told = operations()[name]
+    return media_of(told["requestBody"], sort_of_body(name))["example"], media_of(told["responses"]["200"])["example"]
+
+
+def response_of(name, status):
+    """What is said of an answer with a status to a request for a function. A status of no path has a shared answer."""
+    if status in OF_NO_PATH:
+        return COMPONENTS["responses"][name_of(status)]
+    return resolved(operations()[name]["responses"][str(status)])
 
 
 def faults_of(schema, value):
@@ -86,10 +113,14 @@ def faults_of(schema, value):
         return [*faults, f"{value} is no {sort}"]
     if "enum" in schema and value not in schema["enum"]:
         faults.append(f"{value} is none of {schema['enum']}")
+    if sort == "integer" and not schema.get("minimum", value) <= value <= schema.get("maximum", value):
+        faults.append(f"{value} is out of range")
     if sort == "string" and not has_form(schema, "Length", value):
         faults.append(f"{value} has another form")
     if sort == "array":
         faults += [] if has_form(schema, "Items", value) else [f"{value} has another length"]
+        if schema.get("uniqueItems") and any(item in value[:place] for place, item in enumerate(value)):
+            faults.append(f"{value} has an item twice")
         faults += [fault for item in value for fault in faults_of(schema["items"], item)]
     if sort == "object":
         faults += [f"{key} is missing" for key in schema.get("required", []) if key not in value]
@@ -105,17 +136,26 @@ def has_form(schema, word, value):
     return least <= len(value) <= most and (not pattern or bool(re.search(pattern, value)))
 
 
+def check_written(bench):
+    """The description is what bin/openapi writes from docs/API.md."""
+    command = [sys.executable, str(sources.ROOT / "bin/openapi"), "--check"]
+    done = subprocess.run(command, capture_output=True, text=True, check=False)
+    bench.same("what bin/openapi --check says", (done.returncode, done.stderr), (0, ""))
+
+
 def check_valid(bench):
-    """The description is one of OpenAPI 3.0, by a validator where one is installed."""
+    """The description is one of OpenAPI 3.0, by a validator if one is installed, and has the version of VERSION."""
     bench.same("the version of OpenAPI", SPEC["openapi"], "3.0.3")
-    if not find_spec("openapi_spec_validator"):
-        print("openapi: openapi_spec_validator is not there: only the structure of the description is checked")
+    version = (sources.ROOT / "VERSION").read_text(encoding="ascii").strip()
+    bench.same("the version of the description", SPEC["info"]["version"], version)
+    bench.same("what secures it", SPEC["security"], [])
+    faults = validators.faults_of_description(SPEC)
+    if faults is None:
+        print("openapi: no validator of OpenAPI is there (openapi_spec_validator, or jsonschema with openapi-specification)")
         return
-    validator = import_module("openapi_spec_validator")
-    # Earlier releases have it by its second name alone.
-    validate = getattr(validator, "validate", None) or validator.validate_spec
-    validate(SPEC)
-    bench.judge("the validator takes it", [])
+    bench.judge("what a validator says of the description", faults)
+    broken = {**SPEC, "paths": {"/v1/addUser": {"post": {"operationId": 7}}}}
+    bench.same("whether it finds a fault", bool(validators.faults_of_description(broken)), True)
 
 
 def parts_of(schema):
@@ -126,19 +166,24 @@ def parts_of(schema):
 
 def check_structure(bench):
     """Each part of the description has the keys that such a part has, and no others."""
-    bench.same("the parts", set(SPEC), {"openapi", "info", "servers", "tags", "paths", "components"})
+    bench.same("the parts", set(SPEC), {"openapi", "info", "servers", "security", "tags", "paths", "components"})
     bench.same("the shared parts", set(COMPONENTS), {"schemas", "responses"})
-    answers = list(COMPONENTS["responses"].values())
+    accepted, refused, bodies = [], list(COMPONENTS["responses"].values()), []
     for name, told in operations().items():
-        keys = {"operationId", "tags", "description", "requestBody", "responses"}
+        keys = {"operationId", "tags", "summary", "description", "requestBody", "responses"}
         bench.same(f"the parts of {name}", set(told), keys)
         bench.same(f"the parts of the body of {name}", set(told["requestBody"]), {"required", "content"})
-        answers += [answer for answer in told["responses"].values() if "$ref" not in answer]
-    for answer in answers:
-        bench.same("the parts of an answer", set(answer) - {"headers"}, {"description", "content"})
-    holders = [*answers, *(told["requestBody"] for told in operations().values())]
-    medias = [media for holder in holders for media in holder["content"].values()]
-    bench.same("a body without a schema", [media for media in medias if set(media) != {"schema"}], [])
+        accepted.append(told["responses"]["200"])
+        refused += [answer for status, answer in told["responses"].items() if status != "200" and "$ref" not in answer]
+        bodies.append(told["requestBody"])
+    for answer in accepted:
+        bench.same("the parts of an accepted answer", set(answer), {"description", "content"})
+    for answer in refused:
+        parts = set(answer) - {"headers", "x-kinds"}
+        bench.same("the parts of a refusing answer", parts, {"description", "x-codes", "content"})
+        bench.same("the schema of a refusing answer", media_of(answer), {"schema": REFUSAL})
+    medias = [media for holder in [*accepted, *bodies] for media in holder["content"].values()]
+    bench.same("bodies without a schema and an example", [one for one in medias if set(one) != {"schema", "example"}], [])
     schemas = [*COMPONENTS["schemas"].values(), *(media["schema"] for media in medias)]
     parts = [part for schema in schemas for part in parts_of(schema)]
     bench.same("schemas with unknown words", [part for part in parts if set(part) - WORDS], [])
@@ -165,6 +210,9 @@ def check_paths(bench):
         bench.same(f"the name of {name}", told["operationId"], name)
         bench.same(f"the sort of {name}", told["tags"], ["commands" if name in commands else "questions"])
         bench.same(f"what {name} is", told["description"], PARTS[name].text)
+        bench.same(f"the summary of {name} is short", bool(re.fullmatch(r"[A-Z][\w ]{5,60}", told["summary"])), True)
+    summaries = [told["summary"] for told in operations().values()]
+    bench.same("summaries that are there twice", len(summaries) - len(set(summaries)), 0)
     bench.same("the sorts", [tag["name"] for tag in SPEC["tags"]], ["commands", "questions"])
 
 
@@ -192,8 +240,8 @@ def check_answers(bench):
             words.remove("32:byte")  # A longer body is refused by 413 with the head.
         wanted = sources.statuses() - OF_NO_PATH - (set() if words else {CONFLICT})
         bench.same(f"the statuses of {name}", sorted(answers), sorted(map(str, wanted)))
-        reference = f"#/components/responses/{sources.values()[name]}"
-        bench.same(f"the answer of {name}", answers["200"], {"$ref": reference})
+        reference = f"#/components/schemas/{ANSWERS[sources.values()[name]]}"
+        bench.same(f"the answer of {name}", schema_of(answers["200"]), {"$ref": reference})
         for status in wanted - {200, CONFLICT}:
             reference = f"#/components/responses/{name_of(status)}"
             bench.same(f"{status} of {name}", answers[str(status)], {"$ref": reference})
@@ -205,8 +253,8 @@ def same_conflict(bench, name, answer, words):
     """A conflict names the codes and the kinds of its function, and says of them what the page says."""
     codes = list(dict.fromkeys(int(word.split(":")[0]) for word in words))
     kinds = [word.split(":")[1] for word in words if ":" in word]
-    bench.same(f"the codes of {name}", enumerated(schema_of(answer), "code"), codes)
-    bench.same(f"the kinds of {name}", enumerated(schema_of(answer), "kind") or [], kinds)
+    bench.same(f"the codes of {name}", answer["x-codes"], codes)
+    bench.same(f"the kinds of {name}", answer.get("x-kinds", []), kinds)
     said = PARTS[name].refused if name != "importAssignments" else "32 TooMany `record`"
     bench.same(f"what refuses {name}", answer["description"], f"Refused: {said}.")
 
@@ -228,10 +276,11 @@ def check_statuses(bench):
     """Each status by which a request is not accepted has its shared answer, with the codes that it tells."""
     told = verdicts.codes_by_status()
     for status in sources.statuses() - {200, CONFLICT}:
-        codes = enumerated(schema_of(COMPONENTS["responses"][name_of(status)]), "code")
+        codes = COMPONENTS["responses"][name_of(status)]["x-codes"]
         bench.same(f"the codes of {status}", set(codes), told.get(status, {34}))
-    wanted = {name_of(status) for status in sources.statuses() - {200, CONFLICT}} | set(sources.values().values())
+    wanted = {name_of(status) for status in sources.statuses() - {200, CONFLICT}}
     bench.same("the shared answers", set(COMPONENTS["responses"]), wanted)
+    bench.same("the schemas of accepted answers", set(ANSWERS.values()) - set(COMPONENTS["schemas"]), set())
 
 
 def check_sizes(bench):
@@ -250,8 +299,8 @@ def check_sizes(bench):
         bench.same(f"the most of {kind}", f"{sources.limits()[kind][0]:,}" in said, True)
 
 
-def check_examples(bench):
-    """The requests of the page and their answers have the forms that are described here."""
+def check_forms(bench):
+    """The requests of the page and their answers have the forms that are described here, and wrong requests have not."""
     told = operations()
     for line, answer in all_pairs():
         request, given = json.loads(line), json.loads(answer)
@@ -260,8 +309,192 @@ def check_examples(bench):
         operation = told[request["fn"]]
         if request["fn"] != "importAssignments":
             bench.same(f"the form of {line}", faults_of(schema_of(operation["requestBody"]), request), [])
-        holder = operation["responses"]["200" if "ok" in given else str(CONFLICT)]
+        holder = response_of(request["fn"], 200 if "ok" in given else CONFLICT)
         bench.same(f"the form of {answer} to {line}", faults_of(schema_of(holder), given), [])
     schema = schema_of(told["addUser"]["requestBody"])
     for wrong in ({}, {"user": 7}, {"user": ""}, {"user": "a\tb"}, {"user": "u" * 65}):
         bench.same(f"whether {wrong} is a fault", bool(faults_of(schema, wrong)), True)
+
+
+class Answered:
+    """Answers of the program beside their schemas: each is judged here, and all of them by jsonschema at the end."""
+
+    def __init__(self, bench, server):
+        self.bench = bench
+        self.server = server
+        self.cases = []
+
+    def ask(self, request, name, what):
+        """The status of the answer to a request, and the answer, which has the form that is described for it."""
+        said, _, body = self.server.ask(request).partition(b"\r\n\r\n")
+        lines = said.decode().split("\r\n")
+        status, answer = int(lines[0].split()[1]), json.loads(body)
+        told = response_of(name, status)
+        schema = schema_of(told)
+        self.cases.append([schema, answer])
+        faults = faults_of(schema, answer)
+        if "code" in answer and answer["code"] not in told["x-codes"]:
+            faults.append(f"{answer['code']} is none of {told['x-codes']}")
+        if "kind" in answer and answer["kind"] not in told["x-kinds"]:
+            faults.append(f"{answer['kind']} is none of {told['x-kinds']}")
+        fields = dict(line.split(": ") for line in lines[1:])
+        faults += [f"{key} is missing" for key in told.get("headers", {}) if key not in fields]
+        if fields["Content-Type"] not in told["content"]:
+            faults.append(f"the content is {fields['Content-Type']}")
+        self.bench.judge(f"the answer {status} {answer} to {what}", faults)
+        return status, answer
+
+    def call(self, name, body):
+        """The answer to a body for a function."""
+        text = body if isinstance(body, str) else json.dumps(body)
+        return self.ask(post(name, text.encode()), name, f"{name} of {text}")
+
+    def validated(self):
+        """Counts what jsonschema says of all answers, if it is there."""
+        found = validators.faults_by_schema(SPEC, self.cases)
+        if found is None:
+            print("openapi: jsonschema is not there: the answers are not validated by it")
+            return
+        for (_, answer), faults in zip(self.cases, found, strict=True):
+            self.bench.judge(f"what jsonschema says of {answer}", faults)
+        wrong = [[schema, {}] for schema, _ in self.cases]
+        bad = validators.faults_by_schema(SPEC, wrong)
+        self.bench.same("whether jsonschema finds that nothing is an answer", all(bad), True)
+
+
+def body_of(request):
+    """The name of the function of a line, and its body."""
+    arguments = {key: value for key, value in request.items() if key != "fn"}
+    return request["fn"], arguments["csv"] if request["fn"] == "importAssignments" else arguments
+
+
+def check_program(bench):
+    """Sent with the other requests of the page, each example gets its example answer, and each answer has its form."""
+    asked = [body_of(json.loads(line)) for line, _ in all_pairs()]
+    path = bench.path("office")
+    bench.ends(["init", path], makes=["office"])
+    met = {name: [] for name in operations()}
+    with Server(bench, path, len(asked)) as server:
+        answered = Answered(bench, server)
+        for name, body in asked:
+            _, answer = answered.call(name, body)
+            if name in met and body == example_of(name)[0]:
+                met[name].append(answer)
+        server.ends()
+    for name, answers in met.items():
+        bench.same(f"whether the example of {name} is answered so", example_of(name)[1] in answers, True)
+        bench.same(f"the sort of the example of {name}", sort_of(example_of(name)[1]), sources.values()[name])
+    answered.validated()
+
+
+def check_examples_alone(bench):
+    """Sent to a new office, one after the other, the examples get answers of the forms that are described."""
+    path = bench.path("office")
+    bench.ends(["init", path], makes=["office"])
+    with Server(bench, path, len(operations())) as server:
+        answered = Answered(bench, server)
+        statuses = {answered.call(name, example_of(name)[0])[0] for name in operations()}
+        server.ends()
+    bench.same("the statuses of the examples alone", statuses, {200, CONFLICT})
+    answered.validated()
+
+
+def wrong_requests():
+    """Requests that are refused before a function is, with the status that each gets."""
+    body = b'{"user":"ann"}'
+    least = sources.sizes()["bytes of a body of JSON"] + 1
+    line = "POST /v1/addUser HTTP/1.1"
+    yield 400, b"nothing\r\n\r\n"
+    yield 400, post("addUser", b"{")
+    yield 400, post("addUser", b'{"user":7}')
+    yield 400, post("addUser", b'{"user":""}')
+    yield 400, post("importAssignments", b"a,b\n")
+    yield 404, post("fly", body)
+    yield 405, head("GET /v1/addUser HTTP/1.1")
+    yield 411, head(line)
+    yield 413, head(line, f"Content-Length: {least}")
+    yield 413, head("POST /v1/importAssignments HTTP/1.1", f"Content-Length: {sources.sizes()['bytes of a body of CSV'] + 1}")
+    yield 431, head(line, *(f"A{number}: b" for number in range(sources.sizes()["fields of a head"] + 1)))
+    yield 431, head(line, "A: " + "b" * sources.sizes()["bytes of the head of a request"])
+    yield 501, head(line, "Transfer-Encoding: chunked")
+
+
+def check_wrong_requests(bench):
+    """What is no request gets its status, with an answer of the form of this status."""
+    path = bench.path("office")
+    bench.ends(["init", path], makes=["office"])
+    wrong = list(wrong_requests())
+    with Server(bench, path, len(wrong)) as server:
+        answered = Answered(bench, server)
+        for status, request in wrong:
+            name = "importAssignments" if b"importAssignments" in request else "addUser"
+            got, _ = answered.ask(request, name, request[:60])
+            bench.same(f"the status of {request[:60]}", got, status)
+        server.ends()
+    answered.validated()
+
+
+def check_bytes(bench):
+    """A name may have 64 bytes. A longer one of at most 64 characters keeps to the schema, and is refused with 1 BadName."""
+    schema = schema_of(operations()["addUser"]["requestBody"])
+    named = COMPONENTS["schemas"]["Name"]
+    least, most = map(int, re.search(r"UTF-8 of (\d+) to (\d+) bytes", named["description"]).groups())
+    bench.same("the characters of a name", (named["minLength"], named["maxLength"]), (least, most))
+    signs = ["u", "\u00e9", "\u20ac", "\U0001f511"]
+    names = [size // len(sign.encode()) * sign for sign in signs for size in (most, most + 4)]
+    path = bench.path("office")
+    bench.ends(["init", path], makes=["office"])
+    with Server(bench, path, len(names)) as server:
+        answered = Answered(bench, server)
+        for name in names:
+            keeps, fits = not faults_of(schema, {"user": name}), least <= len(name.encode()) <= most
+            _, answer = answered.call("addUser", {"user": name})
+            bench.same(f"the answer to {name}", answer.get("code", 0), 0 if fits else 1)
+            bench.same(f"whether {name} keeps to the schema", keeps, len(name) <= most)
+        server.ends()
+    answered.validated()
+
+
+# Makes a client of a description, calls the functions of standard input in turn, and prints each answer. The client also
+# validates each request and each answer by the description: it has an answer of its own, 400 or 500, for a fault.
+CALLING = r"""
+use strict; use warnings; use OpenAPI::Client; use Mojo::JSON qw(decode_json encode_json);
+my ($path, $base) = @ARGV;
+my $client = OpenAPI::Client->new($path);
+$client->base_url(Mojo::URL->new($base));
+while (my $line = <STDIN>) {
+    my ($name, $body) = @{decode_json $line};
+    $client->can($name) or die "no method $name";
+    my $tx = $client->$name({body => $body}, ref $body ? (json => $body) : ());
+    print encode_json([$tx->res->code + 0, $tx->res->json]), "\n";
+}
+"""
+
+
+def check_client(bench):
+    """A client that OpenAPI::Client makes of the description has each function, and gets the answers of the program."""
+    perl = shutil.which("perl")
+    if not perl or subprocess.run([perl, "-MOpenAPI::Client", "-e", "1"], capture_output=True, check=False).returncode:
+        print("openapi: OpenAPI::Client of Perl is not there: no client is made of the description")
+        return
+    asked = [body_of(json.loads(line)) for line, _ in all_pairs()]
+    asked = [(name, body) for name, body in asked if name in operations() and not isinstance(body, str)]
+    asked = [(name, body) for name, body in asked if not faults_of(schema_of(operations()[name]["requestBody"]), body)]
+    lines = "".join(json.dumps({"fn": name, **body}) + "\n" for name, body in asked)
+    wanted = [json.loads(answer) for answer in bench.run(["replay", "--memory"], lines.encode()).out.splitlines()]
+    path = bench.path("office")
+    bench.ends(["init", path], makes=["office"])
+    with Server(bench, path, len(asked)) as server:
+        done = subprocess.run(
+            [perl, "-e", CALLING, str(markdown.DOCS / "openapi.json"), f"http://127.0.0.1:{server.port}"],
+            input="".join(json.dumps(call) + "\n" for call in [("addUser", {"user": ""}), *asked]),
+            capture_output=True,
+            text=True,
+            check=False,
+        )
+        bench.same("the end of the client", (done.returncode, done.stderr), (0, ""))
+        server.ends()
+    refused, *told = [json.loads(line) for line in done.stdout.splitlines()]
+    bench.same("whether the client itself refuses another form", refused[0] == 400 and "errors" in refused[1], True)
+    for call, answer, got in zip(asked, wanted, told, strict=True):
+        bench.same(f"what the client gets for {call}", got, [200 if "ok" in answer else CONFLICT, answer])
