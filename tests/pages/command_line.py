@@ -40,6 +40,12 @@ def forms():
     return lines
 
 
+def options():
+    """The options of the command line, as they stand in it."""
+    told = [argument(body) for name, body in functions().items() if "Arg::new" in body]
+    return [option for option in told if option.startswith("--")]
+
+
 def ranges():
     """The least and the most of each number of the command line."""
     pattern = r'\.long\("(\w+)"\).*value_parser!\((\w+)\)\.range\((\d+)\.\.(?:=([\d_]+))?\)'

@@ -1,9 +1,12 @@
-"""The manual page: it is drawn without a warning, has each command with its words, and its examples print what it shows."""
+"""The manual page: it is drawn without a warning, has each command with its arguments, and its examples print what it shows."""
 
 import os
 import re
 import shutil
+import signal
 import subprocess
+
+from program.web import Server, post, reply
 
 from . import command_line, markdown, sources
 from .shell import Shell
@@ -11,15 +14,19 @@ from .shell import Shell
 PATH = markdown.DOCS / "rbac.1"
 SOURCE = PATH.read_text(encoding="ascii")
 
-# The programs that draw a page and tell its faults. The first that is there does it.
+# The programs that draw a page and report its faults. Each that is there does it.
 DRAWING = [
     ["man", "--warnings", "--local-file", str(PATH)],
     ["groff", "-man", "-ww", "-z", str(PATH)],
     ["mandoc", "-T", "lint", "-W", "warning", str(PATH)],
 ]
 
+# The sections, in the order of man-pages(7), with COMMANDS before OPTIONS and SIGNALS after FILES.
+SECTIONS = ["NAME", "SYNOPSIS", "DESCRIPTION", "COMMANDS", "OPTIONS", "EXIT STATUS", "FILES", "SIGNALS", "VERSION"]
+SECTIONS += ["STANDARDS", "BUGS", "EXAMPLES", "SEE ALSO"]
+
 # The macros that the page may use, and those that join their words without a space.
-MACROS = {"TH", "SH", "TP", "PP", "SY", "YS", "EX", "EE", "B", "I", "BR", "BI", "IB", "IR"}
+MACROS = {"TH", "SH", "TP", "PP", "SY", "YS", "EX", "EE", "RS", "RE", "B", "I", "BR", "BI", "IB", "IR"}
 JOINING = {"BR", "BI", "IB", "IR"}
 
 # The texts that some escapes stand for.
@@ -57,50 +64,94 @@ def synopsis():
 
 
 def check_drawn(bench):
-    """The page is drawn without a warning, where a program is there that draws pages."""
-    words = next((words for words in DRAWING if shutil.which(words[0])), None)
-    if not words:
-        print("manual: neither man, groff nor mandoc is there: only the macros of the page are checked")
-        return
+    """The page is drawn without a warning by each program that is there and draws pages."""
     settings = {**os.environ, "LC_ALL": "C.UTF-8", "MANWIDTH": "80"}
-    done = subprocess.run(words, capture_output=True, env=settings, stdin=subprocess.DEVNULL, check=False)
-    bench.same(f"what {words[0]} warns of", (done.returncode, done.stderr), (0, b""))
-    if words[0] == "man":
-        for title in re.findall(r"^\.SH (.*)$", SOURCE, re.M):
-            bench.same(f"{title} is drawn", title.encode() in done.stdout, True)
+    there = [words for words in DRAWING if shutil.which(words[0])]
+    if not there:
+        print("manual: neither man, groff nor mandoc is there: only the macros of the page are checked")
+    for words in there:
+        done = subprocess.run(words, capture_output=True, env=settings, stdin=subprocess.DEVNULL, check=False)
+        said = done.stderr if words[0] == "man" else done.stdout + done.stderr
+        bench.same(f"what {words[0]} warns of", (done.returncode, said), (0, b""))
+        if words[0] == "man":
+            for title in SECTIONS:
+                bench.same(f"{title} is drawn", title.encode() in done.stdout, True)
+
+
+def check_name(bench):
+    """apropos finds the page, by its own reader of the section NAME if that is there."""
+    (line,) = section("NAME")
+    name, says = line.split(r" \- ")
+    bench.same("the name", name, "rbac")
+    for word in ("role", "access"):
+        bench.same(f"apropos finds {word}", bool(re.search(rf"\b{word}\b", says)), True)
+    if not shutil.which("lexgrog"):
+        print("manual: lexgrog is not there: what apropos reads is not compared")
+        return
+    done = subprocess.run(["lexgrog", str(PATH)], capture_output=True, text=True, check=False)
+    bench.same("what lexgrog reads", done.stdout.partition(": ")[2], f'"{name} - {says}"\n')
 
 
 def check_macros(bench):
     """Each line is a text or a macro that is known, and what a macro opens is closed."""
     lines = SOURCE.splitlines()
-    bench.same("the first line", bool(re.fullmatch(r'\.TH RBAC 1 \d{4}-\d\d-\d\d Bitzolanu "User commands"', lines[0])), True)
+    version = (sources.ROOT / "VERSION").read_text(encoding="ascii").strip()
+    first = rf'\.TH RBAC 1 \d{{4}}-\d\d-\d\d "Bitzolanu {re.escape(version)}" "User commands"'
+    bench.same("the first line", bool(re.fullmatch(first, lines[0])), True)
+    bench.same("the version", f"This page describes version {version}." in section("VERSION"), True)
     used = [line[1:].split(" ")[0] for line in lines if line.startswith(".")]
     bench.same("unknown macros", set(used) - MACROS, set())
     bench.same("lines that begin with a quote, or are empty", [line for line in lines if not line or line[0] == "'"], [])
-    for first, last in (("SY", "YS"), ("EX", "EE")):
+    for first, last in (("SY", "YS"), ("EX", "EE"), ("RS", "RE")):
         wanted = [first, last] * used.count(first)
         bench.same(f"each {first} is closed", [word for word in used if word in (first, last)], wanted)
-    titles = re.findall(r"^\.SH (.*)$", SOURCE, re.M)
-    wanted = ["NAME", "SYNOPSIS", "DESCRIPTION", "COMMANDS", "EXIT STATUS", "FILES", "EXAMPLES", "SEE ALSO"]
-    bench.same("the sections", titles, wanted)
+    bench.same("the sections", re.findall(r"^\.SH (.*)$", SOURCE, re.M), SECTIONS)
 
 
 def check_commands(bench):
-    """The commands and their words are those that the program reads, in their order."""
+    """The commands and their arguments are those that the program reads, in their order, and so are the options."""
     bench.same("the forms of the synopsis", synopsis(), command_line.forms())
-    bench.same("the forms of the commands", forms(section("COMMANDS")), command_line.forms())
+    bench.same("the forms of the commands", forms(section("COMMANDS")), [*command_line.forms(), "help"])
+    wanted = {*command_line.options(), "-h, --help", "--"}
+    bench.same("the options", sorted(forms(section("OPTIONS"))), sorted(wanted))
 
 
 def check_statuses(bench):
     """The exit statuses, the constant lines of standard error and the causes of a stop are those of the sources."""
     lines = section("EXIT STATUS")
-    bench.same("the exit statuses", {int(form) for form in forms(lines)}, sources.exits())
+    statuses = {form for form in forms(lines) if form.isdigit()}
+    bench.same("the exit statuses", set(map(int, statuses)), sources.exits())
+    wanted = {*sources.error_lines(), "rbac: REFUSAL", "rbac: stop CAUSE after K"}
+    bench.same("the lines of standard error", set(forms(lines)) - statuses, wanted)
     text = " ".join(words_of(line) for line in lines)
-    of_a_server = {line for line in sources.error_lines() if line in text}
-    bench.same("the lines of a server", of_a_server, {"rbac: cannot listen", "rbac: cannot accept", "rbac: closed"})
-    bench.same("the line of a stop", "rbac: stop CAUSE after K" in text, True)
-    causes = set(re.findall(r"\b[A-Z][a-z]+\b", text.partition("whole answers, by")[2].partition(";")[0]))
+    causes = set(re.findall(r"\b[A-Z][a-z]+\b", text.partition("CAUSE is ")[2].partition(" rbac: ")[0]))
     bench.same("the causes", causes, sources.causes())
+
+
+def check_signals(bench):
+    """A signal that the page names ends a server, and what was answered is there. It ignores SIGPIPE."""
+    ending = set(re.findall(r"SIG[A-Z]+", " ".join(section("SIGNALS")))) - {"SIGPIPE"}
+    bench.same("signals are named", bool(ending), True)
+    path = bench.path("office")
+    bench.ends(["init", path], makes=["office"])
+    for place, name in enumerate(["SIGPIPE", *sorted(ending)]):
+        number = getattr(signal, name)
+        # A shell may have told this process to ignore it, which the program would take over.
+        if name != "SIGPIPE":
+            signal.signal(number, signal.SIG_DFL)
+        with Server(bench, path, 2) as server:
+            said = server.ask(post("addUser", b'{"user":"ann%d"}' % place))
+            bench.same(f"the answer before {name}", said, reply(200, b'{"ok":true}'))
+            server.process.send_signal(number)
+            if name == "SIGPIPE":
+                said = server.ask(post("deleteUser", b'{"user":"ann%d"}' % place))
+                bench.same("the answer after SIGPIPE", said, reply(200, b'{"ok":true}'))
+                server.ends()
+            else:
+                server.ends(status=-number)
+                ask = b'{"fn":"deleteUser","user":"ann%d"}' % place
+                done = bench.run(["replay", path], ask)
+                bench.same(f"what is there after {name}", done.out, b'{"ok":true}\n')
 
 
 def check_numbers(bench):
