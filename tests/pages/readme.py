@@ -14,7 +14,8 @@ MOST_LINES = 120
 MOST_FIRST = 5
 
 # The pages of which each path and each link has to lead somewhere.
-LINKED = ["README.md", "docs/API.md", "docs/AUDITING.md", "docs/CONTRACTS.md", "docs/INTEGRATING.md", "docs/OPERATING.md"]
+LINKED = ["README.md", "CHANGELOG.md", "CONTRIBUTING.md", "SECURITY.md"]
+LINKED += [f"docs/{name}.md" for name in ("API", "AUDITING", "CONTRACTS", "INTEGRATING", "OPERATING")]
 
 # Crates that prove nothing by themselves.
 UNPROVED = {"rbac", "memory_calls", "wire_calls", "office_calls", "cli_calls"}

@@ -1,0 +1,401 @@
+#!/usr/bin/env python3
+"""Checks bin/package: the Debian package has the program and the files that belong to it, and they work from there.
+
+    package.py [--times] [WORD]
+
+With WORD only the checks run that have it in their names; with `--times` a line says how long each took. The package is made
+with the program that is checked. What needs a program that can't be found is left out and not counted, and a line says so.
+"""
+
+import gzip
+import hashlib
+import os
+import re
+import shutil
+import subprocess
+import sys
+import tempfile
+import time
+import traceback
+from functools import partial, update_wrapper
+from pathlib import Path
+
+from pages import command_line, markdown, sources
+from program.bench import PROGRAM, Bench
+
+ROOT = sources.ROOT
+VERSION = (ROOT / "VERSION").read_text(encoding="ascii").strip()
+DEB = f"rbac_{VERSION}_amd64.deb"
+SHARE = "usr/share/rbac"
+
+# Where the package has what it has by another name than the repository.
+MOVED = {
+    "usr/share/bash-completion/completions/rbac": "completions/rbac.bash",
+    "usr/share/zsh/vendor-completions/_rbac": "completions/_rbac",
+    "usr/share/fish/vendor_completions.d/rbac.fish": "completions/rbac.fish",
+}
+
+# Functions in place of those of zsh, which print what they are given.
+OF_ZSH = """
+compdef() { :; }
+_arguments() { if [[ $1 == -C ]]; then state=$wanted; else print -rl -- "$@"; fi; }
+_describe() { print -rl -- "${(@P)@[-1]}"; }
+"""
+
+
+def there_is(*programs):
+    """Whether these programs can be found. A line says which can't."""
+    missing = [program for program in programs if not shutil.which(program)]
+    for program in missing:
+        print(f"left out: what needs {program}, which can't be found")
+    return not missing
+
+
+def run(words, folder=None, **settings):
+    """What a command says and its status. Its settings come beside those of this process."""
+    done = subprocess.run(
+        words, cwd=folder, capture_output=True, text=True, env={**os.environ, **settings}, stdin=subprocess.DEVNULL, check=False
+    )
+    return done.returncode, done.stdout, done.stderr
+
+
+class Packages:
+    """Packages that bin/package makes in a folder of its own, of the program that is checked."""
+
+    def __init__(self, folder):
+        self.folder = folder
+        _, digest, _ = run([ROOT / "bin/release", "--digest"])
+        self.release = self.record("release", digest.strip())
+        self.root = folder / "root"
+
+    def record(self, name, digest):
+        """A folder that has the program, as that of the sources with a digest."""
+        path = self.folder / name
+        status, _, said = run([ROOT / "bin/release", "--record", PROGRAM, digest, path])
+        if status:
+            raise ValueError(said)
+        return path
+
+    def make(self, out, *words, release=None, **settings):
+        """What bin/package says as it makes a package in a folder, and its status."""
+        places = {"RELEASE": str(release or self.release), "OUT": str(self.folder / out)}
+        return run([ROOT / "bin/package", *words], self.folder, **places, **settings)
+
+    def deb(self, out):
+        """The path of the package in a folder."""
+        return self.folder / out / DEB
+
+    def unpack(self):
+        """Makes the package, and unpacks it into the folder root: what is wrong, or nothing."""
+        made = self.make("out")
+        if made != (0, f"out/{DEB}\n", ""):
+            return f"bin/package says {made}"
+        _, _, said = run(["dpkg-deb", "-x", self.deb("out"), self.root])
+        return said
+
+    def fields(self):
+        """The fields that describe the package."""
+        _, said, _ = run(["dpkg-deb", "-f", self.deb("out")])
+        return dict(re.findall(r"^(\S+): (.*)$", said, re.M))
+
+
+def check_same_bytes(bench, packages):
+    """Made again with another time, mask and language, and in another folder, the package has the same bytes."""
+    time.sleep(1.1 - time.time() % 1)
+    before = os.umask(0o077)
+    try:
+        made = packages.make("again", TZ="Asia/Tokyo", LC_ALL="C.UTF-8", TMPDIR=str(packages.folder))
+    finally:
+        os.umask(before)
+    bench.same("what bin/package says", made, (0, f"again/{DEB}\n", ""))
+    first, second = (packages.deb(out).read_bytes() for out in ("out", "again"))
+    bench.same("whether both packages are the same", first == second, True)
+    bench.same("what is beside the package", os.listdir(packages.folder / "again"), [DEB])
+
+
+def check_refused(bench, packages):
+    """A program of other sources is refused unless --anyway is given, and one that isn't that of its manifest always is."""
+    other = packages.record("other", "0" * 64)
+    status, out, err = packages.make("other-out", release=other)
+    bench.same("other sources: status and lines", (status, out, err.count("\n")), (1, "", 1))
+    bench.same("other sources: what it says", err.startswith("package: the sources were changed"), True)
+    bench.same("other sources: a package", packages.deb("other-out").exists(), False)
+    made = packages.make("other-out", "--anyway", release=other, SOURCE_DATE_EPOCH="1000000000")
+    bench.same("other sources, --anyway", made, (0, f"other-out/{DEB}\n", ""))
+    _, told, _ = run(["dpkg-deb", "-c", packages.deb("other-out")], TZ="UTC")
+    times = {" ".join(line.split()[3:5]) for line in told.splitlines()}
+    bench.same("the times by SOURCE_DATE_EPOCH", times, {"2001-09-09 01:46"})
+    bench.same("the owners", {line.split()[1] for line in told.splitlines()}, {"root/root"})
+    with (other / "rbac").open("ab") as program:
+        program.write(b"\0")
+    for words in ([], ["--anyway"]):
+        status, _, err = packages.make("changed", *words, release=other)
+        bench.same(f"a changed program: {words}", (status, "was changed" in err), (1, True))
+        bench.same("a changed program: a package", packages.deb("changed").exists(), False)
+    bench.same("another argument", packages.make("changed", "--force")[0], 2)
+
+
+def check_lint(bench, packages):
+    """lintian finds no error."""
+    if there_is("lintian"):
+        allow = ["--allow-root"] if os.geteuid() == 0 else []
+        status, said, err = run(["lintian", *allow, "--fail-on", "error", packages.deb("out")])
+        bench.same("the errors that lintian finds", (status, re.findall(r"^E: .*", said + err, re.M)), (0, []))
+
+
+def check_fields(bench, packages):
+    """The fields are those of the repository and of the program: version, author, the C library that it needs."""
+    fields = packages.fields()
+    bench.same("the name and the version", (fields["Package"], fields["Version"]), ("rbac", VERSION))
+    needed = re.findall(rb"GLIBC_(\d+)\.(\d+)\0", Path(PROGRAM).read_bytes())
+    most = ".".join(map(str, max((int(major), int(minor)) for major, minor in needed)))
+    bench.same("what the package depends on", fields["Depends"], f"libc6 (>= {most})")
+    bench.same("what it suggests", fields["Suggests"], "sqlite3, python3, graphviz")
+    status, authors, _ = run(["git", "log", "--format=%an <%ae>"], ROOT) if shutil.which("git") else (1, "", "")
+    if status == 0:
+        bench.same("whether the maintainer has made a commit", fields["Maintainer"] in authors.splitlines(), True)
+    if there_is("readelf"):
+        _, said, _ = run(["readelf", "-d", packages.root / "usr/bin/rbac"], LC_ALL="C")
+        bench.same("the libraries", re.findall(r"\(NEEDED\).*\[(.*)\]", said), ["libc.so.6"])
+
+
+def check_versions(bench, packages):
+    """The version and its date are the same in VERSION, CHANGELOG.md and the changelog of Debian."""
+    text = (ROOT / "CHANGELOG.md").read_text(encoding="utf-8")
+    bench.same("the newest version", re.findall(r"^## (\S+), ", text, re.M)[0], VERSION)
+    path = packages.root / "usr/share/doc/rbac/changelog.gz"
+    said = gzip.decompress(path.read_bytes()).decode()
+    bench.same("the first line of the changelog", said.splitlines()[0], f"rbac ({VERSION}) unstable; urgency=medium")
+    items = " ".join(re.sub(r"^ +\*?", "", line) for line in said.splitlines())
+    for item in re.findall(r"^- (.*?)(?=^- |^#|\Z)", text, re.M | re.S):
+        bench.same(f"the changelog has {item[:30]}", " ".join(item.split()) in " ".join(items.split()), True)
+    if there_is("dpkg-parsechangelog"):
+        (packages.folder / "changelog").write_text(said, encoding="utf-8")
+        told = run(["dpkg-parsechangelog", "-l", packages.folder / "changelog", "-S", "Version"])
+        bench.same("the version as Debian reads it", told, (0, f"{VERSION}\n", ""))
+
+
+def kept_files():
+    """The files that the package has from folders of the repository, as git has them, or as they are."""
+    folders = [name for name in ("docs", "examples", "tools", "clients", "deploy") if (ROOT / name).is_dir()]
+    paths = [path for name in folders for path in (ROOT / name).rglob("*") if path.is_file()]
+    return {str(path.relative_to(ROOT)) for path in paths if not {"__pycache__"} & set(path.parts) and path.name[0] != "."}
+
+
+def check_files(bench, packages):
+    """Each file is that of the repository, with its rights, and each link leads to a file of the package."""
+    root = packages.root
+    bench.same("whether the program is the one", (root / "usr/bin/rbac").read_bytes() == Path(PROGRAM).read_bytes(), True)
+    page = gzip.decompress((root / "usr/share/man/man1/rbac.1.gz").read_bytes())
+    bench.same("whether the man page is the one", page == (ROOT / "docs/rbac.1").read_bytes(), True)
+    for path, source in MOVED.items():
+        bench.same(f"whether {path} is {source}", (root / path).read_bytes() == (ROOT / source).read_bytes(), True)
+    here = {str(path.relative_to(root / SHARE)): path for path in (root / SHARE).rglob("*") if path.is_file()}
+    bench.same("files that are missing", kept_files() - set(here), set())
+    for name in ("README.md", "SECURITY.md", "CHANGELOG.md", "VERSION", "LICENSE", "release/NOTICES", "release/manifest"):
+        bench.same(f"{name} is there", name in here, True)
+    for name, path in here.items():
+        source = packages.release / "manifest" if name == "release/manifest" else ROOT / name
+        if not path.is_symlink():
+            bench.same(f"whether {name} is that of the repository", path.read_bytes() == source.read_bytes(), True)
+            bench.same(f"whether {name} may be run", os.access(path, os.X_OK), os.access(source, os.X_OK))
+    modes = {oct(path.lstat().st_mode & 0o7777) for path in root.rglob("*") if not path.is_symlink()}
+    bench.same("the rights", modes, {"0o755", "0o644"})
+    links = [path for path in root.rglob("*") if path.is_symlink()]
+    bench.same("links are there", bool(links), True)
+    away = [str(path) for path in links if not path.exists() or not path.resolve().is_relative_to(root.resolve())]
+    bench.same("links that lead nowhere", away, [])
+
+
+def check_sums(bench, packages):
+    """The sums of the package are those of its files."""
+    run(["dpkg-deb", "-e", packages.deb("out"), packages.folder / "control"])
+    told = (packages.folder / "control/md5sums").read_text(encoding="utf-8")
+    files = sorted(path for path in packages.root.rglob("*") if path.is_file() and not path.is_symlink())
+    wanted = [f"{hashlib.md5(path.read_bytes()).hexdigest()}  {path.relative_to(packages.root)}" for path in files]
+    bench.same("the sums", sorted(told.splitlines()), sorted(wanted))
+
+
+def check_places(bench, packages):
+    """Each link of a page leads somewhere in the package."""
+    pages = [path for path in (packages.root / SHARE).rglob("*.md")]
+    for page in pages:
+        links = re.findall(r"\]\(([^):#]+)\)", page.read_text(encoding="utf-8"))
+        bench.same(f"links of {page.name} to nothing", [link for link in links if not (page.parent / link).exists()], [])
+
+
+def check_example(bench, packages):
+    """The first command of README.md prints its answers in the folder of the package, and the tools find the program."""
+    folder = packages.root / SHARE
+    text = (folder / "README.md").read_text(encoding="utf-8")
+    command = re.findall(r"^    (bin/rbac .*)$", markdown.section(text, "## Two commands"), re.M)[0]
+    answers = (folder / "examples/first.answers").read_text(encoding="utf-8")
+    bench.same(f"what {command} prints", run(["sh", "-c", command], folder), (0, answers, ""))
+    if there_is("sqlite3"):
+        office, evidence = packages.folder / "office", packages.folder / "evidence"
+        made = run([packages.root / "usr/bin/rbac", "init", office])
+        bench.same("an office is made", made, (0, "", ""))
+        settings = {key: value for key, value in os.environ.items() if key != "RBAC_PROGRAM"}
+        command = [folder / "tools/evidence.py", "2026-01-01", office, evidence]
+        done = subprocess.run(command, capture_output=True, env=settings, check=False)
+        bench.same("the end of evidence.py", (done.returncode, done.stderr), (0, b""))
+        said = (evidence / "evidence.txt").read_text(encoding="utf-8")
+        bench.same("the digest of the program", hashlib.sha256(Path(PROGRAM).read_bytes()).hexdigest() in said, True)
+
+
+def check_man_page(bench, packages):
+    """man finds the page of the package by its name."""
+    if there_is("man"):
+        status, said, _ = run(["man", "-M", packages.root / "usr/share/man", "rbac"], LC_ALL="C.UTF-8", MANWIDTH="80")
+        bench.same("the page of rbac", (status, said.split("(")[0], f"Bitzolanu {VERSION}" in said), (0, "RBAC", True))
+
+
+def known_commands():
+    """The commands of the program, each with its options and the number of its files, as the sources have them."""
+    known = {}
+    for form in command_line.forms():
+        command, *words = form.split()
+        options, files = known.get(command, (set(), 0))
+        files += sum(word.isupper() and not before.startswith("--") for before, word in zip([command, *words], words))
+        known[command] = (options | {word for word in words if word.startswith("--")}, files)
+    return known
+
+
+def by_bash(path, words):
+    """What bash offers for the last of the words, and whether it offers files."""
+    text = 'source "$1"; shift; compopt() { files=yes; }; COMP_WORDS=("$@"); COMP_CWORD=$(($# - 1)); _rbac'
+    _, said, err = run(["bash", "-c", f'{text}; printf "%s\\n" "${{COMPREPLY[@]}}"; echo "$files"', "bash", path, *words])
+    *offered, files = said.splitlines() or [""]
+    if err:
+        raise ValueError(err)
+    return set(offered) - {""}, bool(files)
+
+
+def by_fish(path, line, folder):
+    """What fish offers at the end of a line, with its descriptions."""
+    words = ["fish", "--no-config", "-c", f"source {path}; complete -C '{line}'"]
+    _, said, err = run(words, folder, HOME=str(folder), XDG_CONFIG_HOME=str(folder), XDG_DATA_HOME=str(folder))
+    if err:
+        raise ValueError(err)
+    return {line.partition("\t")[0]: line.partition("\t")[2] for line in said.splitlines()}
+
+
+def by_zsh(path, state, words):
+    """What zsh is told for the words behind the program, where `state` is what it is about to complete."""
+    text = f"{OF_ZSH}\nwanted={state}; words=({' '.join(words)}); source {path}; _rbac"
+    _, said, err = run(["zsh", "-f", "-c", text])
+    if err:
+        raise ValueError(err)
+    return said.splitlines()
+
+
+def check_bash(bench):
+    """bash offers the commands, the options of each and files for its files, and nothing for a number."""
+    path, known = ROOT / "completions/rbac.bash", known_commands()
+    if not there_is("bash"):
+        return
+    bench.same("the commands by bash", by_bash(path, ["rbac", ""]), ({*known, "help", "-h", "--help"}, False))
+    bench.same("the commands after help by bash", by_bash(path, ["rbac", "help", ""]), ({*known, "help"}, False))
+    for command, (options, files) in known.items():
+        wanted = ({*options, "--help"}, False)
+        bench.same(f"the options of {command} by bash", by_bash(path, ["rbac", command, "--"]), wanted)
+        bench.same(f"the files of {command} by bash", by_bash(path, ["rbac", command, ""]), (set(), files > 0))
+    for option in command_line.ranges():
+        for words in ([f"--{option}", ""], [f"--{option}", "=", "8"]):
+            bench.same(f"what bash offers for {words}", by_bash(path, ["rbac", "serve", *words]), (set(), False))
+
+
+def check_zsh(bench):
+    """zsh is told the commands, the options of each, and as many files as it takes."""
+    path, known = ROOT / "completions/_rbac", known_commands()
+    if not there_is("zsh"):
+        return
+    told = [line.partition(":")[0] for line in by_zsh(path, "command", [])]
+    bench.same("the commands by zsh", told, [*known, "help"])
+    bench.same("the commands after help by zsh", by_zsh(path, "argument", ["help"]), by_zsh(path, "command", []))
+    for command, (options, files) in known.items():
+        told = by_zsh(path, "argument", [command])
+        offered = {option for line in told for option in re.findall(r"^(?:\(.*?\))?(--\w+)", line)}
+        bench.same(f"the options of {command} by zsh", offered, {*options, "--help"})
+        bench.same(f"the files of {command} by zsh", sum(line.endswith(":_files") for line in told), files)
+
+
+def check_fish(bench):
+    """fish offers the commands, the options of each and files for its files, and says of the commands what zsh says."""
+    path, known = ROOT / "completions/rbac.fish", known_commands()
+    if not there_is("fish"):
+        return
+    folder = bench.folder / "fish"
+    folder.mkdir()
+    (folder / "office").touch()
+    commands = by_fish(path, "rbac ", folder)
+    bench.same("the commands by fish", set(commands), {*known, "help"})
+    bench.same("the commands after help by fish", set(by_fish(path, "rbac help ", folder)), {*known, "help"})
+    for command, (options, files) in known.items():
+        bench.same(f"the options of {command} by fish", set(by_fish(path, f"rbac {command} --", folder)), {*options, "--help"})
+        offered = set(by_fish(path, f"rbac {command} o", folder))
+        bench.same(f"the files of {command} by fish", offered, {"office"} if files else set())
+    for option in command_line.ranges():
+        bench.same(f"what fish offers for {option}", by_fish(path, f"rbac serve --{option} ", folder), {})
+    if there_is("zsh"):
+        of_zsh = by_zsh(ROOT / "completions/_rbac", "command", [])
+        bench.same("what is said of the commands", commands, dict(line.split(":", 1) for line in of_zsh))
+
+
+def checks_of(folder):
+    """The checks, each as a function of a bench: first those of the completions, then those of a package that is made here."""
+    yield from (check_bash, check_zsh, check_fish)
+    if not there_is("dpkg-deb"):
+        return
+    packages = Packages(folder)
+    fault = packages.unpack()
+
+    def check_made(bench):
+        bench.judge("whether the package is made", [fault] if fault else [])
+
+    yield check_made
+    if fault:
+        return
+    for check in (
+        check_fields,
+        check_versions,
+        check_files,
+        check_sums,
+        check_places,
+        check_example,
+        check_man_page,
+        check_same_bytes,
+        check_refused,
+        check_lint,
+    ):
+        yield update_wrapper(partial(check, packages=packages), check)
+
+
+def main(words):
+    """Runs the checks over one package, and prints what failed and the count."""
+    word = " ".join(one for one in words if one != "--times")
+    passed, failed = 0, 0
+    with tempfile.TemporaryDirectory() as folder:
+        for check in checks_of(Path(folder)):
+            if word not in check.__name__:
+                continue
+            bench, start = Bench(Path(folder)), time.monotonic()
+            try:
+                check(bench)
+            except Exception:
+                bench.faults.append(traceback.format_exc())
+            passed += bench.passed
+            failed += len(bench.faults)
+            for fault in bench.faults:
+                print(f"FAILED: {check.__name__}: {fault}")
+            if "--times" in words:
+                print(f"{time.monotonic() - start:6.1f} s  {check.__name__}")
+    if passed + failed == 0:
+        print("FAILED: nothing was checked")
+        failed = 1
+    print(f"{passed} passed, {failed} failed")
+    return 1 if failed else 0
+
+
+if __name__ == "__main__":
+    sys.exit(main(sys.argv[1:]))
