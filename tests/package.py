@@ -28,7 +28,7 @@ VERSION = (ROOT / "VERSION").read_text(encoding="ascii").strip()
 DEB = f"rbac_{VERSION}_amd64.deb"
 SHARE = "usr/share/rbac"
 
-# Where the package has what it has by another name than the repository.
+# Files that have another path in the package than in the repository.
 MOVED = {
     "usr/share/bash-completion/completions/rbac": "completions/rbac.bash",
     "usr/share/zsh/vendor-completions/_rbac": "completions/_rbac",
@@ -122,10 +122,10 @@ def check_refused(bench, packages):
     bench.same("other sources: a package", packages.deb("other-out").exists(), False)
     made = packages.make("other-out", "--anyway", release=other, SOURCE_DATE_EPOCH="1000000000")
     bench.same("other sources, --anyway", made, (0, f"other-out/{DEB}\n", ""))
-    _, told, _ = run(["dpkg-deb", "-c", packages.deb("other-out")], TZ="UTC")
-    times = {" ".join(line.split()[3:5]) for line in told.splitlines()}
+    _, listed, _ = run(["dpkg-deb", "-c", packages.deb("other-out")], TZ="UTC")
+    times = {" ".join(line.split()[3:5]) for line in listed.splitlines()}
     bench.same("the times by SOURCE_DATE_EPOCH", times, {"2001-09-09 01:46"})
-    bench.same("the owners", {line.split()[1] for line in told.splitlines()}, {"root/root"})
+    bench.same("the owners", {line.split()[1] for line in listed.splitlines()}, {"root/root"})
     with (other / "rbac").open("ab") as program:
         program.write(b"\0")
     for words in ([], ["--anyway"]):
@@ -171,8 +171,8 @@ def check_versions(bench, packages):
         bench.same(f"the changelog has {item[:30]}", " ".join(item.split()) in " ".join(items.split()), True)
     if there_is("dpkg-parsechangelog"):
         (packages.folder / "changelog").write_text(said, encoding="utf-8")
-        told = run(["dpkg-parsechangelog", "-l", packages.folder / "changelog", "-S", "Version"])
-        bench.same("the version as Debian reads it", told, (0, f"{VERSION}\n", ""))
+        listed = run(["dpkg-parsechangelog", "-l", packages.folder / "changelog", "-S", "Version"])
+        bench.same("the version as Debian reads it", listed, (0, f"{VERSION}\n", ""))
 
 
 def kept_files():
@@ -183,7 +183,10 @@ def kept_files():
 
 
 def check_files(bench, packages):
-    """Each file is that of the repository, with its rights, and each link leads to a file of the package."""
+    """Each file is that of the repository, with its rights, and each link leads to a file of the package.
+
+    Those of deploy/ name the program by its path in the package.
+    """
     root = packages.root
     bench.same("whether the program is the one", (root / "usr/bin/rbac").read_bytes() == Path(PROGRAM).read_bytes(), True)
     page = gzip.decompress((root / "usr/share/man/man1/rbac.1.gz").read_bytes())
@@ -197,7 +200,10 @@ def check_files(bench, packages):
     for name, path in here.items():
         source = packages.release / "manifest" if name == "release/manifest" else ROOT / name
         if not path.is_symlink():
-            bench.same(f"whether {name} is that of the repository", path.read_bytes() == source.read_bytes(), True)
+            content = source.read_bytes()
+            if name.startswith("deploy/"):
+                content = content.replace(b"/usr/local/bin/rbac", b"/usr/bin/rbac")
+            bench.same(f"whether {name} is that of the repository", path.read_bytes() == content, True)
             bench.same(f"whether {name} may be run", os.access(path, os.X_OK), os.access(source, os.X_OK))
     modes = {oct(path.lstat().st_mode & 0o7777) for path in root.rglob("*") if not path.is_symlink()}
     bench.same("the rights", modes, {"0o755", "0o644"})
@@ -210,10 +216,10 @@ def check_files(bench, packages):
 def check_sums(bench, packages):
     """The sums of the package are those of its files."""
     run(["dpkg-deb", "-e", packages.deb("out"), packages.folder / "control"])
-    told = (packages.folder / "control/md5sums").read_text(encoding="utf-8")
+    listed = (packages.folder / "control/md5sums").read_text(encoding="utf-8")
     files = sorted(path for path in packages.root.rglob("*") if path.is_file() and not path.is_symlink())
     wanted = [f"{hashlib.md5(path.read_bytes()).hexdigest()}  {path.relative_to(packages.root)}" for path in files]
-    bench.same("the sums", sorted(told.splitlines()), sorted(wanted))
+    bench.same("the sums", sorted(listed.splitlines()), sorted(wanted))
 
 
 def check_places(bench, packages):
@@ -281,7 +287,7 @@ def by_fish(path, line, folder):
 
 
 def by_zsh(path, state, words):
-    """What zsh is told for the words behind the program, where `state` is what it is about to complete."""
+    """What the completion gives to zsh for the words after the program. `state` is what zsh is about to complete."""
     text = f"{OF_ZSH}\nwanted={state}; words=({' '.join(words)}); source {path}; _rbac"
     _, said, err = run(["zsh", "-f", "-c", text])
     if err:
@@ -306,18 +312,18 @@ def check_bash(bench):
 
 
 def check_zsh(bench):
-    """zsh is told the commands, the options of each, and as many files as it takes."""
+    """zsh gets the commands, the options of each, and as many files as it has."""
     path, known = ROOT / "completions/_rbac", known_commands()
     if not there_is("zsh"):
         return
-    told = [line.partition(":")[0] for line in by_zsh(path, "command", [])]
-    bench.same("the commands by zsh", told, [*known, "help"])
+    listed = [line.partition(":")[0] for line in by_zsh(path, "command", [])]
+    bench.same("the commands by zsh", listed, [*known, "help"])
     bench.same("the commands after help by zsh", by_zsh(path, "argument", ["help"]), by_zsh(path, "command", []))
     for command, (options, files) in known.items():
-        told = by_zsh(path, "argument", [command])
-        offered = {option for line in told for option in re.findall(r"^(?:\(.*?\))?(--\w+)", line)}
+        listed = by_zsh(path, "argument", [command])
+        offered = {option for line in listed for option in re.findall(r"^(?:\(.*?\))?(--\w+)", line)}
         bench.same(f"the options of {command} by zsh", offered, {*options, "--help"})
-        bench.same(f"the files of {command} by zsh", sum(line.endswith(":_files") for line in told), files)
+        bench.same(f"the files of {command} by zsh", sum(line.endswith(":_files") for line in listed), files)
 
 
 def check_fish(bench):

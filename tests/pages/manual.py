@@ -1,4 +1,4 @@
-"""The manual page: it is drawn without a warning, has each command with its arguments, and its examples print what it shows."""
+"""The manual page: it is rendered without a warning, has each command with its arguments, and its examples print what it shows."""
 
 import os
 import re
@@ -14,8 +14,8 @@ from .shell import Shell
 PATH = markdown.DOCS / "rbac.1"
 SOURCE = PATH.read_text(encoding="ascii")
 
-# The programs that draw a page and report its faults. Each that is there does it.
-DRAWING = [
+# The programs that render a page and report its faults. Each that is there does it.
+RENDERING = [
     ["man", "--warnings", "--local-file", str(PATH)],
     ["groff", "-man", "-ww", "-z", str(PATH)],
     ["mandoc", "-T", "lint", "-W", "warning", str(PATH)],
@@ -63,10 +63,10 @@ def synopsis():
     return [" ".join(words_of(line) for line in form.splitlines()) for form in found]
 
 
-def check_drawn(bench):
-    """The page is drawn without a warning by each program that is there and draws pages."""
+def check_rendered(bench):
+    """The page is rendered without a warning by each program that is there and renders pages."""
     settings = {**os.environ, "LC_ALL": "C.UTF-8", "MANWIDTH": "80"}
-    there = [words for words in DRAWING if shutil.which(words[0])]
+    there = [words for words in RENDERING if shutil.which(words[0])]
     if not there:
         print("manual: neither man, groff nor mandoc is there: only the macros of the page are checked")
     for words in there:
@@ -75,7 +75,7 @@ def check_drawn(bench):
         bench.same(f"what {words[0]} warns of", (done.returncode, said), (0, b""))
         if words[0] == "man":
             for title in SECTIONS:
-                bench.same(f"{title} is drawn", title.encode() in done.stdout, True)
+                bench.same(f"{title} is rendered", title.encode() in done.stdout, True)
 
 
 def check_name(bench):

@@ -338,7 +338,8 @@ class Answered:
         if "kind" in answer and answer["kind"] not in told["x-kinds"]:
             faults.append(f"{answer['kind']} is none of {told['x-kinds']}")
         fields = dict(line.split(": ") for line in lines[1:])
-        faults += [f"{key} is missing" for key in told.get("headers", {}) if key not in fields]
+        for key, header in told.get("headers", {}).items():
+            faults += faults_of(header["schema"], fields[key]) if key in fields else [f"{key} is missing"]
         if fields["Content-Type"] not in told["content"]:
             faults.append(f"the content is {fields['Content-Type']}")
         self.bench.judge(f"the answer {status} {answer} to {what}", faults)

@@ -18,16 +18,16 @@ validate = getattr(validator, "validate", None) or validator.validate_spec
 validate(json.load(sys.stdin))
 """
 
-# Prints what is wrong with each value, whose schema may lead into a document. Both are drafts of JSON Schema 4.
+# Prints what is wrong with each value by its schema, whose references lead into a document. They are read as JSON Schema, draft 4.
 BY_SCHEMA = """
 import json, sys, jsonschema
 given = json.load(sys.stdin)
 resolver = jsonschema.RefResolver("", given["document"])
-told = []
+found = []
 for schema, value in given["cases"]:
     validator = jsonschema.Draft4Validator(schema, resolver=resolver)
-    told.append([error.message[:200] for error in validator.iter_errors(value)])
-json.dump(told, sys.stdout)
+    found.append([error.message[:200] for error in validator.iter_errors(value)])
+json.dump(found, sys.stdout)
 """
 
 
