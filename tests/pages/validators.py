@@ -22,7 +22,7 @@ validate(json.load(sys.stdin))
 BY_SCHEMA = """
 import json, sys, jsonschema
 given = json.load(sys.stdin)
-resolver = jsonschema.RefResolver("", given["document"])
+resolver = jsonschema.RefResolver(given["document"].get("id", ""), given["document"])
 found = []
 for schema, value in given["cases"]:
     validator = jsonschema.Draft4Validator(schema, resolver=resolver)
@@ -60,15 +60,15 @@ def faults_by_schema(document, cases):
 
 
 def faults_of_description(spec):
-    """What a validator finds wrong with a description by OpenAPI 3.0, or None if there is no validator."""
+    """What the validators that are there find wrong with a description by OpenAPI 3.0, or None if there is none."""
+    found = []
     if python_with("openapi_spec_validator"):
         try:
             run("openapi_spec_validator", BY_ITSELF, spec)
+            found.append([])
         except ValueError as error:
-            return [str(error)]
-        return []
-    if not OPENAPI.exists():
-        return None
-    schema = json.loads(OPENAPI.read_text(encoding="utf-8"))
-    found = faults_by_schema(schema, [[schema, spec]])
-    return found and found[0]
+            found.append([str(error)])
+    if OPENAPI.exists() and python_with("jsonschema"):
+        schema = json.loads(OPENAPI.read_text(encoding="utf-8"))
+        found += faults_by_schema(schema, [[schema, spec]])
+    return [fault for faults in found for fault in faults] if found else None
