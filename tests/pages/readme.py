@@ -101,6 +101,6 @@ def check_places(bench):
         folder = (ROOT / name).parent
         links = re.findall(r"\]\(([^):#]+)\)", text)
         bench.same(f"links of {name} to nothing", [link for link in links if not (folder / link).exists()], [])
-        paths = re.findall(r"(?<![\w/.])(?:bench|bin|crates|docs|examples|tests|\.ci)/[\w./-]*", text)
+        paths = re.findall(r"(?<![\w/.])(?:bench|bin|crates|deploy|docs|examples|tests|tools|\.ci)/[\w./-]*", text)
         paths = [path.rstrip(".") for path in paths if "NAME" not in path]
         bench.same(f"paths of {name} to nothing", [path for path in paths if not (ROOT / path).exists()], [])
