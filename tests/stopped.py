@@ -23,9 +23,9 @@ def take_own_mounts():
     """Starts this script again with mounts of its own, where the system allows that."""
     if "OWN_MOUNTS" in os.environ:
         return
-    for way in (["unshare", "--mount"], ["unshare", "--map-root-user", "--mount"]):
+    for whose, way in (("root", ["unshare", "--mount"]), ("user", ["unshare", "--map-root-user", "--mount"])):
         if subprocess.run([*way, "true"], check=False, capture_output=True).returncode == 0:
-            os.environ["OWN_MOUNTS"] = "1"
+            os.environ["OWN_MOUNTS"] = whose
             os.execvp(way[0], [*way, sys.executable, *sys.argv])
 
 

@@ -17,7 +17,8 @@ ON_DISK = True
 
 
 class Stranger:
-    """Runs the program as a user for whom permissions count: nobody, where this process is root."""
+    """Runs the program as a user for whom permissions count: nobody, if this process is root, and not only in a namespace
+    of its own."""
 
     def __init__(self, bench):
         self.bench = bench
@@ -25,7 +26,7 @@ class Stranger:
         shutil.copy(PROGRAM, self.program)
         os.chmod(self.program, 0o755)
         self.more = {}
-        if os.geteuid() == 0:
+        if os.geteuid() == 0 and os.environ.get("OWN_MOUNTS") != "user":
             self.more = {"user": NOBODY, "group": NOBODY, "extra_groups": []}
             os.chmod(bench.folder.parent, 0o711)
 
