@@ -19,7 +19,10 @@ from concurrent.futures import FIRST_COMPLETED, ThreadPoolExecutor, wait
 
 import kit
 
-OUT = f"{kit.TOP}/out/build"
+# A library has sources of its own in it. They can't lie below the repository, since `rt ci` refuses any that are none of
+# its crates'.
+CACHE = os.environ.get("XDG_CACHE_HOME") or os.path.expanduser("~/.cache")
+OUT = f"{CACHE}/rbac-build/{hashlib.sha256(kit.TOP.encode()).hexdigest()[:16]}"
 # Measured on four processors, with nothing else to do.
 LASTS = "It takes about an hour on four processors from nothing."
 # The seconds between two lines that say how far the build is.
