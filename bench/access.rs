@@ -16,7 +16,7 @@ struct Question {
     wanted: bool,
 }
 
-/// Whether a role of the session, or one below it, has the grant.
+/// Whether a role of the session, or a junior of it, has the grant.
 fn is_allowed(office: &Office, question: &Question) -> bool {
     let Question { session, operation, object, .. } = question;
     let has_grant = |role: &str| has_triple(&office.grants, object, operation, role);
@@ -25,7 +25,7 @@ fn is_allowed(office: &Office, question: &Question) -> bool {
     })
 }
 
-/// The same, with the refusals: `None` where something is missing.
+/// The same, with the refusals: `None` if something is missing.
 fn check_access(office: &Office, question: &Question) -> Option<bool> {
     let Question { session, operation, object, .. } = question;
     if with_first(&office.sessions, session).is_empty() || !has_name(&office.objects, object) {

@@ -34,7 +34,7 @@ e = some(where (p.eft == allow))
 m = g(r.user, p.role) && r.object == p.object && r.operation == p.operation
 `
 
-// So many questions are asked: each takes milliseconds.
+// The number of questions that are asked: each takes milliseconds.
 const questions = 2000
 
 // The rules, and the adapter that reads the policy of the folder.
@@ -61,7 +61,7 @@ func readQuestions(folder string) [][]string {
 	return asked
 }
 
-// Asks the questions, and prints what came of them.
+// Asks the questions, and prints the results.
 func ask(label string, asked [][]string, enforce func(...interface{}) (bool, error)) {
 	right := 0
 	start := time.Now()

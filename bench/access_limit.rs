@@ -1,5 +1,5 @@
-//! The limit of `access.rt.bench`: what a decision takes where names are numbers in hash tables, and the roles
-//! below each role, the roles of each session and the grants of each permission are bit sets. It reads the same
+//! The limit of `access.rt.bench`: what a decision takes if names are numbers in hash tables, and the juniors
+//! of each role, the roles of each session and the grants of each permission are bit sets. It reads the same
 //! lines and prints the same ones. It has no plans, no limits and no separation of duty.
 
 use std::collections::HashMap;
@@ -11,12 +11,12 @@ const MOST_ROLES: usize = 1_024;
 
 type RoleSet = [u64; MOST_ROLES / 64];
 
-/// Numbers of names, in the order in which they came.
+/// Numbers of names, in the order of their first use.
 #[derive(Default)]
 struct Names(HashMap<String, usize>);
 
 impl Names {
-    /// The number of a name, a new one where it has none.
+    /// The number of a name, a new one if it has none.
     fn number(&mut self, name: &str) -> usize {
         let next = self.0.len();
         *self.0.entry(name.to_string()).or_insert(next)
@@ -28,9 +28,9 @@ struct Office {
     roles: Names,
     objects: Names,
     operations: Names,
-    /// Of each role the roles below it and itself.
+    /// Of each role its juniors and itself.
     below: Vec<RoleSet>,
-    /// Of each session its activated roles and those below them.
+    /// Of each session its activated roles and their juniors.
     sessions: HashMap<String, RoleSet>,
     /// Of each permission, by its object and its operation, the roles to which it is granted.
     granted: HashMap<(usize, usize), RoleSet>,
@@ -127,7 +127,7 @@ struct Question {
     wanted: bool,
 }
 
-/// Asks the questions so many times, and prints how many answers were right and how long it took.
+/// Asks the questions `times` times, and prints how many answers were right and how long it took.
 fn time(label: &str, rounds: u32, office: &Office, questions: &[Question]) {
     let is_right = |question: &&Question| office.check_access(question) == Ok(question.wanted);
     let start = Instant::now();

@@ -112,7 +112,7 @@ def highest(active, edges):
 
 
 def question(session, permission, wanted, label, rounds):
-    """A question of a session for the permission with this number, asked so many times."""
+    """A question of a session for the permission with this number, asked a number of times."""
     yield f"? session{session:04} operation{permission // 2_000} object{permission % 2_000:04} {wanted}"
     yield f"! {label} {rounds}"
 
@@ -143,7 +143,7 @@ def chains_apart():
 
 
 def chains_by_turns():
-    """Two chains, whose names stand by turns in byte order."""
+    """Two chains, whose names alternate in byte order."""
     roles = [f"role{number:04}" for number in range(1_024)]
     yield from two_chains(roles[0::2], roles[1::2])
     yield from question(500, 0, 0, "two-chains-by-turns", 100)
@@ -151,9 +151,9 @@ def chains_by_turns():
 
 
 def side_by_side():
-    """32 roles side by side, each above one that is above 500 others; the last one is above the last of all names
-    too. One permission is granted to 490 roles whose names stand between these 500, and another to those and to
-    the last one, so that none but the last role of a session has it, by the last role below it."""
+    """32 roles side by side, each senior to one that is senior to 500 others; the last one is senior to the last of all
+    names too. One permission is granted to 490 roles whose names are between these 500, and another to those and to
+    the last one, so that only the last role of a session has it, by its last junior."""
     tops, middle, last = [f"a{number:04}" for number in range(32)], "b", "z"
     names = [f"role{number:04}" for number in range(990)]
     between = names[1:980:2]

@@ -1,11 +1,11 @@
 #!/usr/bin/env python3
 """bench/access_postgres.py FOLDER: the decisions of `access` by a PostgreSQL server of its own, over a local socket.
 
-It reads rows.csv and questions.csv, and asks in two ways: `member` by pg_has_role, where users and roles are roles of
+It reads rows.csv and questions.csv, and asks in two ways: `member` by pg_has_role, with users and roles as roles of
 PostgreSQL and each is granted to those that have it, and `stored-closure` by the statement of access_sqlite.py. It
-prints for each way how many answers were right, and the nanoseconds that so many took. The answers are compared by
+prints for each way how many answers were right, and the nanoseconds of that number. The answers are compared by
 one statement over all questions; the time is that of pgbench with one client, which sends the first questions as
-prepared statements. The server is stopped at the end, and its folder goes.
+prepared statements. The server is stopped at the end, and its folder is removed.
 """
 
 import csv
@@ -41,14 +41,14 @@ COLUMNS = {
     "operation": "asked.operation",
     "object": "asked.object",
 }
-# So many questions are timed, each so many times in a round. What it takes to prepare them is in the first time.
+# How many questions are timed, and how often each in a round. The first time includes their preparation.
 QUESTIONS = 1_000
 TIMES = 50
 ROUNDS = 3
 
 
 def find_programs():
-    """The folder of PostgreSQL's programs, or None where it isn't installed."""
+    """The folder of PostgreSQL's programs, or None if it isn't installed."""
     folders = sorted(glob.glob("/usr/lib/postgresql/*/bin"))
     found = shutil.which("initdb", path=os.pathsep.join([*reversed(folders), os.environ["PATH"]]))
     return os.path.dirname(os.path.realpath(found)) if found else None
@@ -66,7 +66,7 @@ class Server:
             os.chown(self.folder, pwd.getpwnam(SERVER_USER).pw_uid, -1)
 
     def run(self, program, *words, source=""):
-        """Runs a program of PostgreSQL, and returns what it says."""
+        """Runs a program of PostgreSQL, and returns its output."""
         told = subprocess.run(
             [f"{self.programs}/{program}", *words],
             input=source,
@@ -154,7 +154,7 @@ def statements_of(way, questions):
 
 
 def main():
-    """Asks in both ways. Where PostgreSQL is missing, it prints nothing."""
+    """Asks in both ways. If PostgreSQL is missing, it prints nothing."""
     folder = sys.argv[1]
     programs = find_programs()
     if not programs:

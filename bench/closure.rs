@@ -96,7 +96,7 @@ impl Hierarchy<'_> {
         names
     }
 
-    /// The pairs that come with this edge.
+    /// The pairs that this edge adds.
     pub fn gained(&self, asc: &str, desc: &str) -> Vec<Pair> {
         let (above, below) = (self.at_or_above(asc), self.at_or_below(desc));
         let mut puts = Vec::new();

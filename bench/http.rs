@@ -1,8 +1,8 @@
 //! The plain Rust twin of `rbac serve`: httparse for the heads, the bodies and answers of `replay.rs`, and the
 //! office of sorted vectors in `office.rs`. It has no file.
 //!
-//! http LINES PORT LIMIT: carries out the lines of the file, listens on the port of 127.0.0.1 and says so,
-//! and answers so many connections, one after the other.
+//! http LINES PORT LIMIT: carries out the lines of the file, listens on the port of 127.0.0.1 and prints so,
+//! and answers LIMIT connections, one after the other.
 
 use std::fs;
 use std::io::{self, Read, Write};
@@ -46,7 +46,7 @@ fn perform(office: &mut Office, asked: Asked, text: &mut Vec<u8>) -> Result<(), 
     Ok(())
 }
 
-/// The status of an answer that tells no value.
+/// The status of an answer without a value.
 fn status_of(untold: &Untold) -> u16 {
     match untold {
         Untold::BadName | Untold::BadRequest | Untold::BadCsv(_) => 400,
@@ -55,7 +55,7 @@ fn status_of(untold: &Untold) -> u16 {
     }
 }
 
-/// Writes the answer to a body, and returns the status that goes with it.
+/// Writes the answer to a body, and returns its status.
 fn answer(office: &mut Office, call: &Call, body: &[u8], text: &mut Vec<u8>) -> u16 {
     match read_body(call.function, body).and_then(|asked| perform(office, asked, text)) {
         Ok(()) => 200,
@@ -63,7 +63,7 @@ fn answer(office: &mut Office, call: &Call, body: &[u8], text: &mut Vec<u8>) -> 
     }
 }
 
-/// Writes the answer that tells why there is no value, and returns its status.
+/// Writes the answer that says why there is no value, and returns its status.
 fn refuse(untold: &Untold, text: &mut Vec<u8>) -> u16 {
     write_untold(text, untold);
     status_of(untold)
@@ -151,7 +151,7 @@ fn main() -> io::Result<()> {
     let listener = TcpListener::bind(("127.0.0.1", port.parse().expect("a port")))?;
     println!("listening on 127.0.0.1:{port}");
     for stream in listener.incoming().take(limit.parse().expect("a number")) {
-        // A connection that comes to nothing counts as answered.
+        // A connection that ends early counts as answered.
         let _ = serve(&mut office, stream?);
     }
     Ok(())

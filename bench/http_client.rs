@@ -1,6 +1,6 @@
 //! http_client REQUEST REPLY COUNT ROUNDS PORT..: sends the request of a file to the ports of 127.0.0.1, COUNT times
 //! to each by turns and all of that ROUNDS times, on a connection of its own each time, and reads until the server
-//! closes it. It prints a line for each round: the nanoseconds that it took with each port. A reply that isn't that
+//! closes it. It prints a line for each round: the nanoseconds with each port. A reply that isn't that
 //! of the other file ends it.
 
 use std::io::{self, Read, Write};
@@ -16,7 +16,7 @@ fn ask(port: u16, request: &[u8], reply: &mut Vec<u8>) -> io::Result<()> {
     Ok(())
 }
 
-/// The nanoseconds that so many requests take, whose replies are all as wanted.
+/// The nanoseconds of this number of requests, whose replies are all as wanted.
 fn time(port: u16, count: u32, request: &[u8], wanted: &[u8]) -> io::Result<u128> {
     let mut reply = Vec::new();
     let start = Instant::now();

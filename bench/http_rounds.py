@@ -65,7 +65,7 @@ def free_port():
 
 
 class Server:
-    """A server that runs, told its port and how many connections it answers by its last words."""
+    """A server that runs. Its arguments name its port and how many connections it answers."""
 
     def __init__(self, words, limit):
         self.port = free_port()
@@ -85,7 +85,7 @@ class Server:
         return b"".join(pieces)
 
     def processor(self):
-        """The nanoseconds that the server has had of a processor. It has one thread."""
+        """The processor time of the server in nanoseconds. It has one thread."""
         with open(f"/proc/{self.process.pid}/schedstat", encoding="ascii") as file:
             return int(file.read().split()[0])
 
@@ -106,8 +106,7 @@ def same_reply(servers, name, asked):
 
 
 def time_request(servers, client, folder, asked, reply):
-    """For each server the nanoseconds that a reply took in each round, and those that the server had of a processor for
-    one."""
+    """For each server the nanoseconds of a reply in each round, and the processor time of the server for one."""
     for name, content in (("request", asked), ("reply", reply)):
         with open(f"{folder}/{name}", "wb") as file:
             file.write(content)
@@ -120,8 +119,8 @@ def time_request(servers, client, folder, asked, reply):
 
 
 def rounds(words, client, folder):
-    """By request the status of its reply and what both servers took for it. `words` are those of both servers, in
-    which `{port}` and `{limit}` stand for the port and for the number of connections."""
+    """By request the status of its reply and the times of both servers. `words` are the arguments of both servers, in
+    which `{port}` and `{limit}` are the port and the number of connections."""
     timed = timed_requests()
     servers = [Server(it, len(REFUSED) + len(timed) * (1 + ROUNDS * COUNT)) for it in words]
     try:

@@ -6,7 +6,7 @@
 `access`     questions for access
 `reviews`    review functions; the name of one gives that one alone
 `questions`  two in three ask for access, the others are review functions
-`commands`   commands that put rows and commands that take them again, so that the tables keep their size
+`commands`   commands that add rows and commands that remove them again, so that the tables keep their size
 `mix`        half of the lines ask for access, a quarter are review functions, a quarter are commands
 
 The lines are the same in each run, and nearly all of them are accepted.
@@ -74,7 +74,7 @@ def role_number(user):
 
 
 def allowed(number):
-    """The permissions that are granted to a role or to one below it."""
+    """The permissions that are granted to a role or to a junior of it."""
     roles = set(below(number))
     return [permission for permission, role in GRANTS if role in roles]
 
@@ -105,7 +105,7 @@ def setup(draw):
 
 
 def access(draw):
-    """A question for access. Of two, one is of what is granted to the role of the session or to one below it."""
+    """A question for access. Half of them are for what is granted to the role of the session or to a junior of it."""
     number = draw.randrange(len(SESSIONS))
     permissions = draw.choice([PERMISSIONS, ALLOWED[role_number(number)]])
     thing, operation = draw.choice(permissions)
@@ -113,7 +113,7 @@ def access(draw):
 
 
 def review(draw, function=None):
-    """A line of this review function, or of one that is drawn, each as often as the others."""
+    """A line of this review function, or of a random one, each as often as the others."""
     keys = REVIEWS[function] if function else None
     if not function:
         function, keys = draw.choice(list(REVIEWS.items()))
@@ -128,7 +128,7 @@ def review(draw, function=None):
     return line(function, **{key: drawn[key] for key in keys.split()})
 
 
-# Each of these puts rows and takes them again. A number makes the names that come and go its own.
+# Each of these adds rows and removes them again. The number makes its names unique.
 
 
 def user_comes_and_goes(draw, number):
@@ -143,7 +143,7 @@ def user_comes_and_goes(draw, number):
 
 
 def user_is_assigned(draw, _):
-    """A further role of a user. Static separation of duty may refuse it, and then there is nothing to take."""
+    """A further role of a user. Static separation of duty may refuse it, and then there is nothing to remove."""
     user, role = draw.choice(USERS[LOOSE:]), draw.choice(ROLES)
     yield line("assignUser", user=user, role=role)
     yield line("deassignUser", user=user, role=role)
@@ -181,7 +181,7 @@ def session_comes_and_goes(draw, number):
 
 
 def role_comes_and_goes(draw, number):
-    """A role above two others, and one below a role."""
+    """A role that inherits from two others, and a role from which it inherits."""
     first, second = draw.sample(ROLES[:40], 2)
     above, under = f"senior{number}", f"junior{number}"
     yield line("addAscendant", asc=above, desc=first)
@@ -211,7 +211,7 @@ COMMANDS += 4 * [session_comes_and_goes] + [role_comes_and_goes, set_comes_and_g
 
 
 class Commands:
-    """Commands that are drawn, of several such lists at once."""
+    """Random commands, of several such lists at once."""
 
     def __init__(self, draw):
         self.draw = draw
@@ -224,7 +224,7 @@ class Commands:
         return does(self.draw, self.number)
 
     def next(self):
-        """The next command of a list that is drawn."""
+        """The next command of a random list."""
         does = self.draw.choice(COMMANDS)
         begun = self.begun[does]
         if len(begun) < AT_ONCE:
@@ -238,7 +238,7 @@ class Commands:
         return found
 
 
-# What is drawn from, where the lines are of several kinds.
+# What to choose from, if the lines are of several kinds.
 PARTS = {"questions": ["access", "access", "reviews"], "mix": ["access", "access", "reviews", "commands"]}
 
 

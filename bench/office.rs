@@ -108,7 +108,7 @@ pub enum Command {
     ImportAssignments(Vec<Pair>),
 }
 
-/// The command of these words.
+/// The command of this line.
 pub fn read_command(words: &[&str]) -> Option<Command> {
     use Command::*;
     use Separation::{Dynamic, Static};
@@ -161,7 +161,7 @@ pub fn read_command(words: &[&str]) -> Option<Command> {
     })
 }
 
-/// Which set of the office a row of a name or of a pair stands in.
+/// The set of the office that has a row of a name or of a pair.
 #[derive(Clone, Copy)]
 pub enum Names {
     Users,
@@ -198,7 +198,7 @@ pub enum OrderChange {
     Takes(Vec<Pair>),
 }
 
-/// What is told of an import.
+/// The report of an import.
 #[derive(Default)]
 pub struct Report {
     pub assigned: u32,
@@ -224,7 +224,7 @@ impl Plan {
         self.changes.len() + pairs
     }
 
-    /// How many records of an import are told as refused, those of pairs assigned before included.
+    /// How many records of an import are reported as refused, those of pairs assigned before included.
     pub fn told(&self) -> usize {
         self.report.already as usize + self.report.refused.len()
     }
@@ -351,8 +351,8 @@ impl Office {
         }
     }
 
-    /// Takes the roles that were activated in a session, where the first of the changes take each of them, and says
-    /// how many they are. Otherwise it takes none.
+    /// Removes the roles that were activated in a session, if the first of the changes remove each of them, and returns
+    /// how many they are. Otherwise it removes none.
     fn take_roles(&mut self, changes: &[Change]) -> usize {
         let Some(Change::Take(Row::Pair(Pairs::Active, session, _))) = changes.first() else {
             return 0;

@@ -1,7 +1,7 @@
 #!/usr/bin/env python3
-"""bench/operating.py: measures what docs/OPERATING.md tells of a served office, on the built program, and prints it.
+"""bench/operating.py: measures what docs/OPERATING.md says of a served office, on the built program, and prints it.
 
-It takes the program that RBAC_PROGRAM names, else release/rbac, and works in a folder of its own, which TMPDIR places.
+It runs the program that RBAC_PROGRAM names, or release/rbac, and works in a folder of its own in TMPDIR.
 All runs of the program are on one core. Each time is that of the processor, which other work beside it changes little, and
 the best of three.
 """
@@ -20,7 +20,7 @@ BENCH = Path(__file__).resolve().parent
 PROGRAM = os.path.abspath(os.environ.get("RBAC_PROGRAM", BENCH / "../release/rbac"))
 RUNS = 3
 DECISIONS = 200_000
-# So many commands of a kind are done, one after the other, where bytes are counted.
+# How many commands of a kind are done, one after the other, if bytes are counted.
 COMMANDS = 500
 CORE = max(os.sched_getaffinity(0))
 
@@ -41,7 +41,7 @@ def start(words, **streams):
 
 
 def seconds(words, given=None):
-    """How many seconds of the processor a run of the program takes that ends well, and how many MB it held at most."""
+    """The processor seconds of a run of the program that ends with status 0, and the most MB that it had."""
     with open(given or os.devnull, "rb") as source, open(os.devnull, "wb") as sink:
         process = start(words, stdin=source, stdout=sink)
         _, status, used = os.wait4(process.pid, 0)
@@ -78,12 +78,12 @@ def decisions(folder):
 
 
 def size_of(path, took, held):
-    """The seconds that an opening took, with the sizes of the file and of the memory that was held."""
+    """The seconds that an opening took, with the sizes of the file and of the memory."""
     return f"{took:.3g} s, {path.stat().st_size / 1e6:.1f} MB of file, {held:.0f} MB held"
 
 
 def put_rows(path, what):
-    """Puts the rows of an office at the limits into a new office, as bench/tables_lines.py has them."""
+    """Inserts the rows of an office at the limits into a new office, as bench/tables_lines.py has them."""
     seconds(["init", path])
     text = subprocess.run([sys.executable, BENCH / "tables_lines.py", what], capture_output=True, check=True, text=True).stdout
     rows = {}
@@ -123,7 +123,7 @@ def added(path, commands):
         if not answer.startswith(b'{"ok":true'):
             sys.exit(f"{command} is answered by {answer}")
         now, longest = written_by(process), max(longest, log.stat().st_size)
-        # The first command comes after all that an opening writes.
+        # The first command is after all that an opening writes.
         written += [] if so_far is None else [now - so_far - len(answer)]
         so_far = now
     process.stdin.close()

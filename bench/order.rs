@@ -30,7 +30,7 @@ impl Order {
         Hierarchy { edges: &self.edges, pairs: &self.pairs }
     }
 
-    /// The order of these edges, where the pairs are their closure.
+    /// The order of these edges, if the pairs are their closure.
     fn of_rows(edges: Vec<Pair>, pairs: Vec<Pair>) -> Option<Order> {
         let order = Order { edges, pairs };
         order.hierarchy().is_closed().then_some(order)

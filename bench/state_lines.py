@@ -2,11 +2,11 @@
 """bench/state_lines.py WHAT: prints the lines of the benchmark `state`: a label and a command each.
 
 `limits`   makes a state that has one less of everything than an office of version 2 may have, and then
-           does each command once, each round, taking back what it did; `quarter` is a fourth of that
+           does each command once, each round, and undoes it; `quarter` is a fourth of that
 `full`     makes a state that has as much of everything as such an office may have, and then asks for the state of
-           its rows and for the role report, and puts and takes edges by which all users and sessions reach members
-           of all separation sets
-`chain`    the same two of a state without sets and sessions, whose roles stand in one chain
+           its rows and for the role report, and adds and removes edges by which all users and sessions have members
+           of all separation of duty sets
+`chain`    the same two of a state without sets and sessions, whose roles are one chain
 `import`   10,000 records, all pairs of 100 users and 100 roles, with 64 static separation sets
 
 A line of a work that is no command is a label and `of_rows` or `report`.
@@ -23,7 +23,7 @@ def say(*words):
 
 
 def time(label, *words):
-    """Prints a line whose times are told under the label."""
+    """Prints a line whose times are printed under the label."""
     print(label, *words)
 
 
@@ -38,7 +38,7 @@ def role(number):
 
 
 class Sizes:
-    """How many there are of each thing: so many less than the limits of version 2 or a part of them."""
+    """How many there are of each thing: `less` than the limits of version 2, or than a part of them."""
 
     def __init__(self, part, less=1):
         self.users = 20_000 // part - less
@@ -126,7 +126,7 @@ def hierarchy(sizes):
 
 
 def session(sizes, number):
-    """The words that make the session of a user."""
+    """The command that makes the session of a user."""
     return "createSession", user(number), f"session{number:05}", *sizes.first_active(number)
 
 
@@ -281,7 +281,7 @@ def rows_and_report():
 
 def all_users(sizes):
     """Edges from the lowest role of the upper chain, which all users and sessions have: one to the lowest role of the
-    lower chain, which is in all sets, and one that joins the chains. An edge that changes no pair goes before."""
+    lower chain, which is in all sets, and one that joins the chains. An edge that changes no pair is removed before."""
     say("deleteInheritance", role(0), role(2))
     asc = role(sizes.lower - 1)
     for _ in range(ROUNDS):
@@ -298,7 +298,7 @@ def full(sizes):
 
 
 def chain(sizes):
-    """A state whose roles stand in one chain: its rows and its report."""
+    """A state whose roles are one chain: its rows and its report."""
     build(sizes)
     rows_and_report()
 

@@ -23,7 +23,7 @@ def say(*words):
 
 
 def time(*words):
-    """Prints a line whose time is told under its command."""
+    """Prints a line whose time is printed under its command."""
     print(words[0], *words)
 
 
@@ -82,7 +82,7 @@ def deleting():
 
 
 def put(table, *values):
-    """Prints the statement that puts a row."""
+    """Prints the statement that inserts a row."""
     print("+", table, *values)
 
 

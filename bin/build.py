@@ -1,9 +1,9 @@
 #!/usr/bin/env python3
-"""bin/build: proves the crates that the program stands on, builds it, and lays it into out/release.
+"""bin/build: proves the crates that the program uses, builds it, and copies it to out/release.
 
-Crates that don't stand on each other are proved side by side. A crate that was proved by an earlier run here is
-proved again only if a file of its own, or a library below it, has changed since. A line on standard error
-says every ten seconds how far it is. `bin/rbac --build` is the command for this.
+Crates that don't use each other are proved side by side. A crate that was proved by an earlier run here is
+proved again only if a file of its own, or a library below it, has changed since. It reports
+progress on standard error every ten seconds. `bin/rbac --build` is the command for this.
 """
 
 import contextlib
@@ -19,19 +19,19 @@ from concurrent.futures import FIRST_COMPLETED, ThreadPoolExecutor, wait
 
 import kit
 
-# A library has sources of its own in it. They can't lie below the repository, since `rt ci` refuses any that are none of
+# A library has sources of its own in it. They can't be below the repository, since `rt ci` refuses any that are none of
 # its crates'.
 CACHE = os.environ.get("XDG_CACHE_HOME") or os.path.expanduser("~/.cache")
 OUT = f"{CACHE}/rbac-build/{hashlib.sha256(kit.TOP.encode()).hexdigest()[:16]}"
 # Measured on four processors, with nothing else to do.
 LASTS = "It takes about an hour on four processors from nothing."
-# The seconds between two lines that say how far the build is.
+# The seconds between two lines of progress.
 PAUSE = 10
 CHECKED = re.compile(r"checked (?:\w+::)?(\S+), (\d+ of \d+)")
 
 
 def say(text):
-    """Prints a line that says how far the build is."""
+    """Prints a line of progress."""
     print(f"rbac: {text}", file=sys.stderr, flush=True)
 
 
@@ -73,7 +73,7 @@ class Build:
         return hashlib.sha256(repr((kit.identity(), crate.digest(), [self.sums[it.name] for it in crate.below()])).encode()).hexdigest()
 
     def rattle(self, crate, verb, *words):
-        """Runs rattle in the crate's folder, and follows what it says; raises Failed if it refuses the crate."""
+        """Runs rattle in the crate's folder, and follows its output; raises Failed if it refuses the crate."""
         words = [f"{self.kit}/bin/rattle", verb, *words]
         with open(f"{self.at(crate)}/log", "a", encoding="utf-8") as log:
             how = {"cwd": crate.folder, "stdin": subprocess.DEVNULL, "stdout": subprocess.PIPE, "stderr": subprocess.STDOUT}
@@ -123,7 +123,7 @@ class Build:
             file.write(key)
 
     def tell(self, is_done):
-        """Says every few seconds how far the build is."""
+        """Reports progress every few seconds."""
         while not is_done.wait(PAUSE):
             parts = [f"{name} {count}, at {function}" for name, (count, function) in sorted(self.doing.items())]
             if parts:
@@ -132,7 +132,7 @@ class Build:
                 say(f"{minutes} min {seconds:02} s: {'; '.join(parts)}; then {rest} of {len(self.crates)} crates")
 
     def run(self):
-        """Proves and builds all crates, and says how far it is."""
+        """Proves and builds all crates, and reports progress."""
         is_done = threading.Event()
         teller = threading.Thread(target=self.tell, args=[is_done])
         teller.start()
@@ -143,7 +143,7 @@ class Build:
             teller.join()
 
     def make_all(self):
-        """Proves and builds all crates, side by side where they don't stand on each other."""
+        """Proves and builds all crates, side by side if they don't use each other."""
         running, lanes, done = {}, kit.lanes(), set()
         with ThreadPoolExecutor(lanes) as pool:
             while self.left:

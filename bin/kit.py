@@ -11,7 +11,7 @@ import subprocess
 import sys
 
 TOP = os.path.dirname(os.path.dirname(os.path.abspath(__file__)))
-# A prover takes this much memory at the most.
+# The most memory of a prover.
 EACH = 4 * 10**9
 
 
@@ -33,7 +33,7 @@ def identity():
 
 
 class Crate:
-    """A crate of the repository: its name, its folder, and what it stands on, here and in the kit."""
+    """A crate of the repository: its name, its folder, and the crates that it uses, here and in the kit."""
 
     def __init__(self, name, folder, names, known):
         self.name, self.folder = name, folder
@@ -42,7 +42,7 @@ class Crate:
         self.is_program = os.path.isfile(f"{folder}/src/main.rt")
 
     def below(self):
-        """Returns the repository's crates that this one stands on, each after those that it stands on itself."""
+        """Returns the repository's crates that this one uses, each after those that it uses itself."""
         found = []
         for crate in self.own:
             found += [it for it in [*crate.below(), crate] if it not in found]
@@ -75,7 +75,7 @@ class Crate:
 
 
 def crates(top=TOP):
-    """Returns the crates of a repository by their names, each after those that it stands on."""
+    """Returns the crates of a repository by their names, each after those that it uses."""
     lines = [it.split("#")[0].partition(":") for it in read(f"{top}/crates.txt").split("\n")]
     needs = {name.strip(): words.split() for name, _, words in lines if name.strip()}
     found = {}

@@ -4,17 +4,22 @@
     deploy.py [--times] [WORD]
 
 With WORD only the jobs run that have it in their names; with `--times` it prints how long each took. The jobs are in the
-folder deploy. What needs a program or a right that isn't there is left out and not counted, and a line says so.
+folder deploy. What needs a program or a right that isn't there is left out and not counted, and a line says which settings
+are not tested without it. `bin/setup deploy` installs these programs.
 """
 
 import sys
 
-from deploy import backups, healths, proxies, queues, units
+from deploy import backups, healths, installed, proxies, queues, units
+from deploy.common import untested
 from stopped.running import run_all
 
 
 def main(words):
-    return run_all([*backups.JOBS, *queues.JOBS, *proxies.JOBS, *units.JOBS, *healths.JOBS], words)
+    for line in untested():
+        print(line, flush=True)
+    modules = [backups, queues, installed, proxies, units, healths]
+    return run_all([job for module in modules for job in module.JOBS], words)
 
 
 if __name__ == "__main__":

@@ -1,12 +1,14 @@
 #!/usr/bin/env python3
-"""Gives drawn lines to the program, and compares its answers with those of the plain model in machine/.
+"""Gives random lines to the program, and compares its answers with those of the plain model in machine/.
 
     drawn.py [SEEDS]
 
-There are SEEDS scripts of 500 drawn lines (400 where it isn't said), scripts of commands that are drawn
-evenly, and scripts that reach each limit, whose answers are written beside them as well. At the end a
-table tells how often each function was accepted and met each of its refusals; one that can be met and
-wasn't is a failure.
+There are SEEDS scripts of 500 random lines (400 by default), scripts of random commands that are evenly spread, and scripts
+that reach each limit, whose answers are written beside them as well. A random script makes hierarchies with several paths from
+one role to another, separation of duty sets of both kinds, sessions with several roles, locks, and imports with refused records.
+About one line in ten is no request, has an error or a byte changed; others have escapes, further and repeated keys, spaces or
+blank lines between them. At the end a table shows how often each function was accepted and met each of its refusals; one that
+can be met and wasn't is a failure.
 """
 
 import json
@@ -34,7 +36,7 @@ SECONDS = 120
 # locks are refused by 51, and users, roles and edges have other limits; the model alone is tested there.
 OUT_OF_REACH = {"51"}
 
-# How an import's own refusals are told: those of reading it, and those of its records.
+# How an import's own refusals are counted: those of reading it, and those of its records.
 OF_IMPORTS = ["36", "record 2", "record 4", "record 24", "record 32"]
 
 
@@ -55,7 +57,7 @@ def count_answer(counts, function, answer):
 
 
 def written_script(name):
-    """A script of the limits, and the faults of the model against what is written there."""
+    """A script of the limits, and the differences between the model and what is written there."""
     replay, script, faults = Replay(), [], []
     for function, line, answer in limits.expand(limits.SCRIPTS[name]):
         script.append((function, line, answer))
@@ -66,7 +68,7 @@ def written_script(name):
 
 
 def old_faults():
-    """The faults of the model in version 1 against what is written of the limits there."""
+    """The differences between the model in version 1 and what is written of the limits there."""
     faults = []
     for name, script in limits.OLD_SCRIPTS.items():
         replay = Replay(1)
@@ -78,7 +80,7 @@ def old_faults():
 
 
 def run(script):
-    """What the program answers to the lines of a script, and the faults of the run itself."""
+    """What the program answers to the lines of a script, and the failures of the run itself."""
     text = b"".join(line + b"\n" for _, line, _ in script)
     try:
         done = subprocess.run(
@@ -109,7 +111,7 @@ def compare(script, faults):
 
 
 def check(job):
-    """Checks one script: its name, how its answers are counted, and its faults."""
+    """Checks one script: its name, how its answers are counted, and its failures."""
     sort, which = job
     if sort == "limit":
         counts, faults = compare(*written_script(which))

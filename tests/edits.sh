@@ -64,7 +64,7 @@ edit names-no-function quadruples 'double(half)' 'double(number)'
 printf 'file: src/lib.rt\nold: double(half)\nnew: double(number)\n' >"$work/tests/edits/small/has-no-function.edit"
 edit more/adds-two double '    number + number' '    number + 2'
 
-# report_is NAME TEXT: what bin/edits says of the edit has to begin with this text.
+# report_is NAME TEXT: what bin/edits reports of the edit has to begin with this text.
 report_is() {
     if grep -q "^small/$1.edit: $2" "$work/said"; then
         passed=$((passed + 1))

@@ -3,7 +3,7 @@
 
     examples.py [--times] [WORD]
 
-With WORD only the jobs run that have it in their names; with `--times` it is told how long each took.
+With WORD only the jobs run that have it in their names; with `--times` it prints how long each took.
 """
 
 import json
@@ -52,7 +52,7 @@ def commands():
 
 
 def refused_rows(heading):
-    """The rows of the tables below a heading that tell a refusal: its number, its subject, and the refusal."""
+    """The rows of the tables below a heading that have a refusal: its number, its subject, and the refusal."""
     rows = [row for table in markdown.tables(markdown.section(page(), heading)) for row in table]
     return [(int(row[0]), row[1], row[2]) for row in rows if len(row) == 4]
 
@@ -83,7 +83,7 @@ def refusal_of(told):
 
 
 def names_refusals(bench, name):
-    """The page tells each refused line of an example, by its number, its function and the refusal, and no other."""
+    """The page has each refused line of an example, by its number, its function and the refusal, and no other."""
     answers = [json.loads(answer) for answer in answers_of(name).splitlines()]
     functions = [json.loads(line)["fn"] for line in lines_of(name)]
     both = enumerate(zip(functions, answers, strict=True), 1)
@@ -120,7 +120,7 @@ def imports_assignments(bench):
 
 
 def names_refused_records(bench):
-    """The page tells each record that the import of the bank refuses, and no other."""
+    """The page has each record that the import of the bank refuses, and no other."""
     model, text = Replay(), CSV.read_bytes()
     for line in lines_of("bank"):
         model.answer(line)
@@ -136,7 +136,7 @@ def names_refused_records(bench):
 
 
 def runs_commands(bench):
-    """Each command of the page prints what stands below it, and ends with status 0."""
+    """Each command of the page prints the lines below it, and ends with status 0."""
     for path in EXAMPLES.iterdir():
         shutil.copy(path, bench.folder)
     words = beside(bench, "words")

@@ -1,11 +1,13 @@
 #!/usr/bin/env python3
-"""Gives the built program inputs and clients that mean no good, and measures how much memory it has meanwhile.
+"""Gives the built program hostile inputs and clients, and measures how much memory it has meanwhile.
 
     inputs.py [--times] [--long] [WORD]
 
-With WORD only the jobs run that have it in their names; with `--times` it is told how long each took, and by `--long`
-there are more of them. Each answer is that of the plain model; no run crashes, hangs, or has more memory than is
-stated. What the jobs do stands in the folder inputs.
+With WORD only the jobs run that have it in their names; with `--times` it prints how long each took, and by `--long`
+there are more of them. Each answer is that of the plain model. No run crashes, hangs, or has more memory than its bound: 32 MB
+over a small office, 256 MB at the limits. Jobs work on files in memory (/dev/shm) if there are any, since a sync of a disk
+takes longer than all else. A refusal that comes before the whole request was read, as 413, arrives whole too: the server reads
+up to 4 MiB more before it closes the connection, since otherwise the system would reset it. The jobs are in the folder inputs.
 """
 
 import sys

@@ -1,10 +1,13 @@
 #!/usr/bin/env python3
-"""Kills the built program at moments that are drawn, and compares the office with the plain model after each kill.
+"""Kills the built program at random moments, and compares the office with the plain model after each kill.
 
     killed.py [--times] [--long] [WORD]
 
-With WORD only the jobs run that have it in their names; with `--times` it is told how long each took, and by `--long`
-there are more kills. What the jobs do stands in the folder killed.
+With WORD only the jobs run that have it in their names; with `--times` it prints how long each took, and by `--long`
+there are more kills. After each kill the rows that SQLite reads from the file and its log are those of the model after a
+prefix of the lines: it has each acknowledged line, and at most one more. Then `check` prints good and leaves one file, and
+`report`, `export` and the rows are those of that state. No assignment and no grant that a line has removed, and none has
+given again, is in the tables or in the export. The jobs are in the folder killed.
 """
 
 import sys
@@ -12,7 +15,7 @@ import sys
 from killed import lives, others
 from stopped.running import is_long, run_all
 
-# So many replays are killed at least, and so many of them before they had answered all of their lines.
+# The least number of replays that are killed, and of those that are killed before they have answered all of their lines.
 LEAST, LEAST_AMID = 500, 100
 
 

@@ -1,5 +1,5 @@
 #!/usr/bin/env python3
-"""The plain model of an office in the folder machine, alone: it answers every row as is written there.
+"""The plain model of an office in the folder machine, alone: it answers every row as the row says.
 
     machine.py                    checks the model on the rows, and on a small office
     machine.py replay [--version-1]   writes the answers to the lines of standard input
@@ -15,7 +15,7 @@ from machine.texts import json_text, report, rows
 
 TESTS = Path(__file__).resolve().parent
 
-# What is told of the small office, whose commands are the first lines of this row.
+# The answers about the small office, whose commands are the first lines of this row.
 SMALL_OFFICE = (TESTS / "rows/reviewed.jsonl", 16)
 REPORT = b"""\
     assigned  authorized     granted   permitted     juniors     seniors  role
@@ -58,7 +58,7 @@ def small_office(version):
 
 
 def content(path):
-    """The bytes of a file, none where it is not there."""
+    """The bytes of a file, none if it is missing."""
     return path.read_bytes() if path.exists() else b""
 
 
@@ -79,7 +79,7 @@ def check_row(path):
 
 
 def check_told(name, given, wanted):
-    """Whether what is told of the small office is right."""
+    """Whether the answers about the small office are right."""
     if given != wanted:
         print(f"FAILED: the {name} of the small office is {given!r}")
     return given == wanted

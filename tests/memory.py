@@ -1,13 +1,13 @@
 #!/usr/bin/env python3
-"""Refuses the allocations of the program in turn: of each subcommand over an office in a file, and of each row.
+"""Fails the allocations of the program in turn: of each subcommand over an office in a file, of a server, and of each row.
 
     memory.py [--times] [--long] [WORD]
 
-With WORD only the jobs run that have it in their names; with `--times` it is told how long each took, and by `--long`
-more allocations are tried. A run ends with all that it has to say, or with status 1 and one line, by which memory or
-the store was refused or stopped it, behind a prefix of its answers. An office in a file is then one of the states that
-the plain model allows, and the same run without a refusal goes on from there. Where a run makes more allocations than
-are tried, those that are tried are spread evenly.
+With WORD only the jobs run that have it in their names; with `--times` it prints how long each took, and by `--long`
+more allocations are tried. `refuse.c` is loaded into the program and fails one allocation a run. A run ends with all of its
+output, or with status 1 and one line (40, 41, `stop Memory` or `stop Store` after so many answers) behind a prefix of its
+answers; a request gets its reply, 503, 500 or nothing. An office in a file is then the one before or after, and the same run
+without a failure completes the rest. If a run makes more allocations than are tried, those that are tried are spread evenly.
 """
 
 import os
@@ -29,14 +29,14 @@ STORIES = ["init", "replay", "import", "export", "report", "check", "migrate"]
 
 ROWS = sorted(path for path in (TESTS / "rows").rglob("*.jsonl") if path.parent.name != "version-1")
 
-# So many parts share the allocations of a subcommand or a server. So many of them all parts try at most, and so many
-# of a row's are tried at most: over an office in memory, and over one in a file of those by which it is opened, which
-# are the same for each row, and of those behind; then the same by `--long`.
+# How many parts share the allocations of a subcommand or a server. The most allocations that all parts try, and the most
+# of a row: over an office in memory, and over one in a file of those by which it is opened, which are the same for each
+# row, and of those after that; then the same with `--long`.
 PARTS = 4
 TRIED = {"subcommand": 240, "memory": 16, "opening": 2, "file": 6}
 MORE_TRIED = {"subcommand": 20_000, "memory": 10_000, "opening": 8, "file": 10_000}
 
-# Longer rows are for `--long` alone, and so few allocations of each are tried.
+# Longer rows are for `--long` only, and this many allocations of each are tried.
 LONG_ROW = 5_000
 OF_LONG_ROW = 16
 
@@ -47,7 +47,7 @@ MEMORY = b'{"code":40,"error":"Memory"}'
 NO_MEMORY = b"rbac: " + MEMORY + b"\n"
 STOP = re.compile(rb"rbac: stop (Memory|Store) after (\d+)\n")
 
-# What else a server says where memory was refused to it.
+# What else a server prints if an allocation of it failed.
 SERVER_LINES = [b"rbac: cannot listen\n", b"rbac: cannot accept\n", b"rbac: closed\n"]
 
 
@@ -63,7 +63,7 @@ class Refuser(Shim):
 
 
 def number_of_allocations(is_refused):
-    """How many allocations a run makes; `is_refused` runs it with one refused, and says whether it came to that one."""
+    """How many allocations a run makes; `is_refused` fails one of them, and returns whether the run made that one."""
     least, above = 0, 64
     while above < MOST and is_refused(above):
         least, above = above, 2 * above
@@ -74,21 +74,21 @@ def number_of_allocations(is_refused):
 
 
 def tried(count, most, part=0, parts=1):
-    """The allocations that a part tries of so many: all parts try each, or as many as they may, spread evenly."""
+    """The allocations that a part tries of this count: all parts try each, or as many as they may, spread evenly."""
     most = min(count, most)
     spread = [number * count // most + 1 for number in range(most)]
     return spread[part::parts]
 
 
 def faults_of_replay(whole, done):
-    """What is wrong with a replay to which memory was refused, and which has not said all of this."""
+    """What is wrong with a replay of which an allocation failed, and which has not printed all of this."""
     count = done.out.count(b"\n")
     faults = [] if whole.startswith(done.out) else [f"other answers: {done.out[-200:]!r}"]
     if done.out and not done.out.endswith(b"\n"):
-        faults.append(f"an answer is cut: {done.out[-80:]!r}")
+        faults.append(f"an answer is truncated: {done.out[-80:]!r}")
     found = STOP.fullmatch(done.err)
     if done.status != 1:
-        faults.append(f"the status is {done.status}, and standard error says {done.err[-200:]!r}")
+        faults.append(f"the status is {done.status}, and standard error is {done.err[-200:]!r}")
     elif found and int(found[2]) != count:
         faults.append(f"{count} answers, and {done.err!r}")
     elif not found and (done.err not in (NO_MEMORY, REFUSED) or count > 0):
@@ -97,23 +97,23 @@ def faults_of_replay(whole, done):
 
 
 def judge(bench, what, story, done):
-    """Counts whether a run to which memory was refused says what it may say."""
+    """Counts whether a run of which an allocation failed prints what it may print."""
     whole, faults = b"".join(story.answers), []
     is_refusal = done.status == 1 and done.err in (NO_MEMORY, REFUSED) and whole.startswith(done.out)
     if done != Done(whole, b"", 0):
         faults = faults_of_replay(whole, done) if story.word == "replay" else [] if is_refusal else [str(done)]
-    bench.judge(f"{what}: what it says", faults)
+    bench.judge(f"{what}: what it prints", faults)
 
 
 def allowed(story, done):
-    """The places of the states that may be found: where an opening was refused for a replay, that before it alone."""
+    """The places of the states that there may be: only that before it, if the opening of a replay was refused."""
     if story.word == "replay" and done.status == 1 and done.err in (NO_MEMORY, REFUSED):
         return range(1)
     return story.allowed(done)
 
 
 def refuse_over_file(bench, name, content, story, numbers):
-    """Runs a story with one allocation refused, for each number that `numbers` gives of so many allocations."""
+    """Runs a story with one allocation failing, for each number that `numbers` gives of the count of allocations."""
     refuser, counts = Refuser(bench), Counter()
 
     def run(number):
@@ -145,7 +145,7 @@ def refuse_subcommand(bench, name, part, most):
 
 
 def allocations_of_opening(bench, content):
-    """How many allocations a replay makes until the office is opened: a refusal of those behind is told as a stop."""
+    """How many allocations a replay makes until the office is opened: a failure of a later one is reported as a stop."""
     refuser = Refuser(bench)
 
     def is_of_opening(number):
@@ -190,16 +190,16 @@ def refuse_row_in_memory(bench, row, most):
         what = f"{row} in memory, allocation {number} of {count} refused"
         bench.same(f"{what}: it was asked for", refuser.told, "")
         faults = [] if done == whole else faults_of_replay(whole.out, done)
-        bench.judge(f"{what}: what it says", faults)
+        bench.judge(f"{what}: what it prints", faults)
         counts[f"replay --memory: ended with {end_of(done)}"] += 1
         counts["allocations refused in memory"] += 1
-    # A pipe gives a long input in other pieces from run to run, and that takes some allocations more or fewer.
+    # A pipe gives a long input in other pieces from run to run, and that makes some allocations more or fewer.
     bench.same(f"{row} in memory, nothing refused", run(MOST), whole)
     return counts
 
 
 def judge_server(bench, what, wanted, replies, done):
-    """Counts whether a server to which memory was refused replies and ends as it may: which states may be found."""
+    """Counts whether a server of which an allocation failed replies and ends as it may: which states there may be."""
     lines = [NO_MEMORY, REFUSED, *SERVER_LINES]
     if replies == wanted:
         good, places = done == Done(b"", b"", 0), [1]
@@ -216,7 +216,7 @@ def judge_server(bench, what, wanted, replies, done):
 
 
 def refuse_server(bench, part, most):
-    """Serves one request with one allocation refused, for a part of the allocations that the server makes."""
+    """Serves one request with one allocation failing, for a part of the allocations that the server makes."""
     content, state = small_office(bench)
     story = replay_story(state, LINES[:1])
     requests, wanted = [request_of(line) for line in story.lines], [reply_of(answer) for answer in story.answers]

@@ -1,7 +1,7 @@
 #!/bin/sh
-# Refuses each allocation of the program in turn, over the lines of some rows. A run then either ends
+# Fails each allocation of the program in turn, over the lines of some rows. A run then either ends
 # with status 1, a line on standard error and a prefix of the row's answers, or it gives the row's
-# answers and status 0. It never gives another answer. Memory that is refused to the store is told as a stop
+# answers and status 0. It never gives another answer. A failed allocation of the store is reported as a stop
 # by the store.
 
 . "$(dirname "$0")/common"
@@ -31,7 +31,7 @@ check_run() {
     else
         case $(cat "$work/stderr") in
         "rbac: stop Memory after $lines" | "rbac: stop Store after $lines") ;;
-        "rbac: stop "*) echo "another stop was told: $(cat "$work/stderr")" ;;
+        "rbac: stop "*) echo "another stop was reported: $(cat "$work/stderr")" ;;
         "rbac: "*) ;;
         *) echo "standard error does not begin with rbac" ;;
         esac

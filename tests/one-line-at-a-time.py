@@ -1,9 +1,8 @@
 #!/usr/bin/env python3
 """Each answer is written before the next line is judged, and in one piece.
 
-The program's streams are pipes, and a line is sent only once the answer to the line before has come.
-The pipe that takes the answers keeps each write apart, so that each read of it has to give one whole
-answer.
+The program's streams are pipes, and a line is sent only once the answer to the line before has arrived. The pipe for the
+answers keeps each write apart, so that each read of it has to give one whole answer.
 """
 
 import os
@@ -30,7 +29,7 @@ def read_piece(output):
 
 
 def converse(process, output, lines, answers):
-    """Sends the lines one by one, and takes each answer from `output` before the next line is sent."""
+    """Sends the lines one by one, and reads each answer from `output` before the next line is sent."""
     answers = iter(answers)
     for line in lines:
         process.stdin.write(line)

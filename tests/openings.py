@@ -1,11 +1,12 @@
 #!/usr/bin/env python3
-"""Gives the program files in which rows of an office were changed, and compares what it says with the plain model.
+"""Opens files in which rows of an office were changed, and compares what the program prints with the plain model.
 
     openings.py [--times] [--long] [WORD]
 
-With WORD only the jobs run that have it in their names; with `--times` it is told how long each took, and by `--long`
-there are more files. Each of the checks of an opening has to be met by some file. What the jobs do stands in the
-folder openings.
+With WORD only the jobs run that have it in their names; with `--times` it prints how long each took, and by `--long`
+there are more files. SQLite writes the files; the model reads the same tables and gives the state, or the code and the check
+(machine/opening.py). A refused file stays as it is to the byte; of one that is opened the report and the export are those of
+the state. Each check of an opening has to be met by some file. The jobs are in the folder openings.
 """
 
 import sys
@@ -13,7 +14,7 @@ import sys
 from openings import drawn, pairs
 from stopped.running import is_long, run_all
 
-# The parts of answers that files with drawn rows have to be given.
+# The parts of answers that files with random rows have to get.
 MET = ["good", "NotAnOffice", "Version", '"kind":"role"', '"kind":"ssdSet"', '"kind":"dsdSet"']
 MET += [f'{{"check":{check},' for check in range(1, 12)]
 

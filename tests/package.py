@@ -3,7 +3,7 @@
 
     package.py [--times] [WORD]
 
-With WORD only the checks run that have it in their names; with `--times` a line says how long each took. The package is made
+With WORD only the checks run that have it in their names; with `--times` it prints how long each took. The package is made
 with the program that is checked. What needs a program that can't be found is left out and not counted, and a line says so.
 """
 
@@ -16,12 +16,12 @@ import subprocess
 import sys
 import tempfile
 import time
-import traceback
-from functools import partial, update_wrapper
 from pathlib import Path
 
+from deploy import installed
 from pages import command_line, markdown, sources
-from program.bench import PROGRAM, Bench
+from program.bench import PROGRAM
+from stopped.running import run_all
 
 ROOT = sources.ROOT
 VERSION = (ROOT / "VERSION").read_text(encoding="ascii").strip()
@@ -67,6 +67,9 @@ class Packages:
         _, digest, _ = run([ROOT / "bin/release", "--digest"])
         self.release = self.record("release", digest.strip())
         self.root = folder / "root"
+
+    def __str__(self):
+        return DEB
 
     def record(self, name, digest):
         """A folder that has the program, as that of the sources with a digest."""
@@ -249,6 +252,82 @@ def check_example(bench, packages):
         bench.same("the digest of the program", hashlib.sha256(Path(PROGRAM).read_bytes()).hexdigest() in said, True)
 
 
+# Installs the package, uses it, runs the commands of docs/OPERATING.md for a package, and removes it. Without triggers no list of
+# manual pages is made anew.
+INSTALL = """
+cd /usr/share
+dpkg --no-triggers -i /mnt/repository/*.deb > /mnt/installing 2>&1 || cat /mnt/installing
+dpkg-query -W -f '${Status}\\n' rbac
+dpkg --verify rbac
+rbac() { /usr/bin/rbac "$@"; }
+rbac replay --memory < rbac/examples/first.jsonl | cmp - rbac/examples/first.answers
+cd rbac
+rbac init /mnt/office
+rbac replay /mnt/office < examples/bank.jsonl | cmp - examples/bank.answers
+sqlite3 -readonly 'file:/mnt/office?immutable=1' < tools/permissions.sql | grep -c ,vault,open,
+LC_ALL=C.UTF-8 man -w rbac
+(cd /mnt && cp -rL /usr/share/rbac . && cd rbac && release/rbac check /mnt/office)
+"""
+
+REMOVE = """
+runuser -u rbac -- /usr/bin/rbac check /var/lib/rbac/office
+grep ^ExecStart= /etc/systemd/system/rbac.service
+rbac-backup /var/lib/rbac/office /var/backups/rbac > /dev/null
+ls /var/backups/rbac | wc -l
+dpkg --no-triggers -r rbac > /mnt/removing 2>&1 || cat /mnt/removing
+ls -d /usr/bin/rbac /usr/share/rbac /usr/share/doc/rbac 2> /dev/null || true
+"""
+
+INSTALLED = """install ok installed
+2
+/usr/share/man/man1/rbac.1.gz
+good
+good
+ExecStart=/usr/bin/rbac serve /var/lib/rbac/office --port 8080 --limit 1000000
+1
+"""
+
+
+def check_installed(bench, packages):
+    """dpkg installs the package, which needs nothing that is missing, and removes all of it. It works as the pages use it."""
+    if not is_installer("chroot", "sqlite3", "man"):
+        return
+    script = "\n".join(["set -e", INSTALL, operating(bench), REMOVE])
+    done = installed.on_layer(bench, installed.CHANGED_ROOT, script, packages.deb("out"))
+    if not done:
+        print("left out: the installation on a layer above the files of this machine, which can't be mounted")
+        return
+    err = re.sub(r"Created symlink .*\n", "", done.err.decode())
+    bench.same("what is installed, works, and is removed", (done.status, done.out.decode(), err), (0, INSTALLED, ""))
+
+
+def check_by_systemd(bench, packages):
+    """systemd runs the unit of the package with the program of the package."""
+    if not is_installer("systemd-nspawn", "systemctl", "curl"):
+        return
+    install = "dpkg --no-triggers -i /mnt/repository/*.deb > /mnt/installing; cd /usr/share/rbac"
+    script = "\n".join(["set -e", install, operating(bench), installed.ASKING])
+    done = installed.on_layer(bench, installed.BOOTED, script, packages.deb("out"))
+    if not done:
+        print("left out: systemd, which can't be booted here")
+        return
+    bench.same("what the server answers", done.out.decode(), '{"ok":true}\n')
+
+
+def is_installer(*programs):
+    """Whether this is root, and has what it needs to install the package."""
+    if os.geteuid() != 0:
+        print("left out: an installation, for which one has to be root")
+    return os.geteuid() == 0 and there_is("unshare", "mount", "dpkg", "useradd", "runuser", *programs)
+
+
+def operating(bench):
+    """The commands of docs/OPERATING.md that install a server, as the page says for a package."""
+    _, program, *others = installed.block_with("useradd ").splitlines()
+    bench.same("the command that is left out", program, "install -m 755 release/rbac /usr/local/bin/rbac")
+    return "\n".join(others).replace("/usr/local/bin/rbac ", "/usr/bin/rbac ")
+
+
 def check_man_page(bench, packages):
     """man finds the page of the package by its name."""
     if there_is("man"):
@@ -348,59 +427,29 @@ def check_fish(bench):
         bench.same("what is said of the commands", commands, dict(line.split(":", 1) for line in of_zsh))
 
 
-def checks_of(folder):
-    """The checks, each as a function of a bench: first those of the completions, then those of a package that is made here."""
-    yield from (check_bash, check_zsh, check_fish)
-    if not there_is("dpkg-deb"):
-        return
-    packages = Packages(folder)
-    fault = packages.unpack()
+def check_made(bench, fault):
+    """The package is made and unpacked."""
+    bench.judge("whether the package is made", [fault] if fault else [])
 
-    def check_made(bench):
-        bench.judge("whether the package is made", [fault] if fault else [])
 
-    yield check_made
-    if fault:
-        return
-    for check in (
-        check_fields,
-        check_versions,
-        check_files,
-        check_sums,
-        check_places,
-        check_example,
-        check_man_page,
-        check_same_bytes,
-        check_refused,
-        check_lint,
-    ):
-        yield update_wrapper(partial(check, packages=packages), check)
+# The checks of a package, which is made once.
+OF_PACKAGE = [check_fields, check_versions, check_files, check_sums, check_places, check_example, check_man_page]
+OF_PACKAGE += [check_installed, check_by_systemd, check_same_bytes, check_refused, check_lint]
+
+
+def jobs_in(folder):
+    """The checks: those of the completions, and those of a package that is made in a folder."""
+    yield from ((check,) for check in (check_bash, check_zsh, check_fish))
+    if there_is("dpkg-deb"):
+        packages = Packages(folder)
+        fault = packages.unpack()
+        yield (check_made, fault)
+        yield from () if fault else ((check, packages) for check in OF_PACKAGE)
 
 
 def main(words):
-    """Runs the checks over one package, and prints what failed and the count."""
-    word = " ".join(one for one in words if one != "--times")
-    passed, failed = 0, 0
     with tempfile.TemporaryDirectory() as folder:
-        for check in checks_of(Path(folder)):
-            if word not in check.__name__:
-                continue
-            bench, start = Bench(Path(folder)), time.monotonic()
-            try:
-                check(bench)
-            except Exception:
-                bench.faults.append(traceback.format_exc())
-            passed += bench.passed
-            failed += len(bench.faults)
-            for fault in bench.faults:
-                print(f"FAILED: {check.__name__}: {fault}")
-            if "--times" in words:
-                print(f"{time.monotonic() - start:6.1f} s  {check.__name__}")
-    if passed + failed == 0:
-        print("FAILED: nothing was checked")
-        failed = 1
-    print(f"{passed} passed, {failed} failed")
-    return 1 if failed else 0
+        return run_all(list(jobs_in(Path(folder))), words)
 
 
 if __name__ == "__main__":

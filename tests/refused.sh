@@ -1,8 +1,8 @@
 #!/bin/sh
-# Refuses each allocation of a test in turn. However the refusal falls, the test has to pass. One is of
-# `admin_mgr`: it has commands done on a state, and where memory is refused compares the state with the one
-# before, has other commands done, and then the same one again. Two are of `role_wire`: lines are replayed and a
-# request is served on an office in memory. They stand in the crates `memory_calls` and `office_calls`.
+# Fails each allocation of a test in turn. Whichever it is, the test has to pass. One is of `admin_mgr`: it runs
+# commands on a state, and if an allocation fails compares the state with the one before, runs other commands, and
+# then the same one again. Two are of `role_wire`: lines are replayed and a request is served on an office in memory.
+# They are in the crates `memory_calls` and `office_calls`.
 
 # The built tests of the crates, which `rt ci` leaves there, are the programs.
 RBAC_PROGRAM=$(dirname "$0")/../crates/memory_calls/out/memory_calls_tests
@@ -11,7 +11,7 @@ RBAC_PROGRAM=$(dirname "$0")/../crates/memory_calls/out/memory_calls_tests
 # More allocations than a test makes.
 most=100000
 
-# refuse_each CRATE TEST LEAST: the test has to make so many allocations at least.
+# refuse_each CRATE TEST LEAST: the test has to make LEAST allocations at least.
 refuse_each() {
     program=$tests/../crates/$1/out/$1_tests
     if [ ! -x "$program" ]; then
@@ -38,9 +38,9 @@ refuse_each() {
 }
 
 make_shim
-# Some 800 are made by the 52 commands and what is shown of the state between them.
+# The commands, and what is shown of the state between them, make some 800 allocations.
 refuse_each memory_calls state::refused::refused_memory_changes_nothing 700
-# Most are made for the office.
+# Most allocations are for the office.
 refuse_each office_calls refused::refused_memory_stops_a_replay 700
 refuse_each office_calls refused::refused_memory_is_told_or_stops_a_request 700
 finish

@@ -59,20 +59,20 @@ passes_on() {
     fi
 }
 
-# refuses WHAT TEXT: bin/rbac has to end with status 1, and one line on standard error that has this text.
+# refuses WHAT TEXT: bin/rbac has to end with status 1, and one line on standard error that contains this text.
 refuses() {
     timeout 60 "$copy/bin/rbac" replay --memory <"$top/examples/first.jsonl" >"$work/stdout" 2>"$work/stderr"
     status=$?
     if [ "$status" -ne 1 ] || [ -s "$work/stdout" ]; then
         fail "$1: bin/rbac has status $status"
     elif [ "$(wc -l <"$work/stderr")" -ne 1 ] || ! grep -q "^rbac: .*$2" "$work/stderr"; then
-        fail "$1: bin/rbac says: $(cat "$work/stderr")"
+        fail "$1: bin/rbac prints: $(cat "$work/stderr")"
     else
         pass
     fi
 }
 
-# pretends COMMAND TEXT: puts a command that prints this text in the place of the system's.
+# pretends COMMAND TEXT: replaces the system's command by one that prints this text.
 pretends() {
     rm -f "$work/commands/$1"
     printf '#!/bin/sh\necho "%s"\n' "$2" >"$work/commands/$1"
@@ -80,7 +80,7 @@ pretends() {
 }
 
 # least COMMAND..: the processor time of the cheapest of 15 runs of the command, in milliseconds. By the clock a run
-# takes longer the more there is beside it.
+# takes longer the more runs beside it.
 least() {
     TIMEFORMAT='%3U %3S'
     for _ in 1 2 3 4 5 6 7 8 9 10 11 12 13 14 15; do
@@ -102,9 +102,9 @@ passes_on /dev/null /dev/null 2 'replay --memory'
 passes_on /dev/null /dev/null 2 replay --memory ''
 check_status 0 'the program of these sources'
 
-adds_little 'over what it kept'
+adds_little 'with what it kept'
 
-# Without a folder out, as where the user may not write; and with what was found before.
+# Without a folder out, as if the user may not write there; and with what was found before.
 export XDG_CACHE_HOME=$work/cache
 rm -rf "$copy/out" && touch "$copy/out"
 passes_on "$top/examples/first.jsonl" "$top/examples/first.answers" 0 replay --memory
@@ -128,7 +128,7 @@ mv "$copy/crates/role_csv/src/reading.rt" "$copy/crates/role_csv/src/other.rt"
 check_status 1 'a file of another name'
 lay_out
 sed -i 's/^rbac_sets: thiserror$/rbac_sets: thiserror itoa/' "$copy/crates.txt"
-check_status 1 'a crate that stands on another library'
+check_status 1 'a crate that uses another library'
 lay_out
 touch "$copy/crates/rbac/src/main.rt"
 check_status 0 'a file that has another time alone'
@@ -150,6 +150,17 @@ lay_out
 rm "$copy/release/rbac"
 refuses 'no program' 'release has no program'
 check_status 2 'no program'
+
+# The digest is over each crate that the program uses, as bin/kit.py finds them along crates.txt.
+lay_out
+program_crates='import kit; program = kit.crates()["rbac"]; print(*(it.name for it in [*program.below(), program]))'
+before=$("$copy/bin/release" --digest)
+for crate in $(PYTHONPATH=$top/bin python3 -c "$program_crates"); do
+    echo '// A comment.' >>"$copy/crates/$crate/src/lib.rt"
+    digest=$("$copy/bin/release" --digest)
+    if [ "$digest" != "$before" ]; then pass; else fail "a comment in $crate doesn't change the digest"; fi
+    before=$digest
+done
 
 # A manifest can be forged whole: that the program is not the build of these sources is seen when they are built.
 lay_out

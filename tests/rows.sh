@@ -1,7 +1,7 @@
 #!/bin/sh
 # Gives each NAME.jsonl of the folder rows to `replay --memory`, and compares what it writes with
 # NAME.answers, its exit status with NAME.status (0 without that file) and its standard error with
-# NAME.stderr (nothing without that file). What stands in a folder version-1 is for an office of version 1,
+# NAME.stderr (nothing without that file). A row in a folder version-1 is for an office of version 1,
 # which `--memory` does not make: it is left out.
 
 . "$(dirname "$0")/common"

@@ -1,12 +1,15 @@
 #!/usr/bin/env python3
-"""Stops the built program at each call on the files of an office, and on disks and folders that take nothing more.
+"""Fails or crashes the built program at each call on the files of an office, and runs it on full and read-only file systems.
 
     stopped.py [--times] [--long] [WORD]
 
-With WORD only the jobs run that have it in their names; with `--times` it is told how long each took, and by `--long`
-there are more stops. After each stop the office is one of the states that the plain model allows, and further runs go
-on from there. What the jobs do stands in the folder stopped. Full file systems are mounted where the system allows
-that, so that nobody else sees them.
+With WORD only the jobs run that have it in their names; with `--times` it prints how long each took, and by `--long`
+there are more cases. `stop.c` is loaded into the program: in the first run it fails the first write, sync or truncation, in
+the next run the second, and so on, until a run makes fewer calls. Each run prints what the model prints up to there, and in
+one line more why it stopped: 41, or `stop Store after K`. The office is then the one before or after the line that met the
+failure, never half of it. It is opened again, and the rest of the run is done.
+
+The jobs are in the folder stopped. Full file systems are mounted if the system allows that, so that nobody else sees them.
 """
 
 import os
@@ -16,11 +19,11 @@ from importlib import import_module
 
 from stopped.running import is_long, run_all
 
-MODULES = ["calls", "serving", "lost", "full", "readonly"]
+MODULES = ["calls", "serving", "streams", "lost", "full", "readonly"]
 
 
 def take_own_mounts():
-    """Starts this script again with mounts of its own, where the system allows that."""
+    """Starts this script again with mounts of its own, if the system allows that."""
     if "OWN_MOUNTS" in os.environ:
         return
     for whose, way in (("root", ["unshare", "--mount"]), ("user", ["unshare", "--map-root-user", "--mount"])):

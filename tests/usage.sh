@@ -1,5 +1,5 @@
 #!/bin/sh
-# The command line, and standard streams that are closed or take nothing.
+# The command line, and standard streams that are closed or full.
 
 . "$(dirname "$0")/common"
 first=$tests/rows/first-run.jsonl
@@ -20,7 +20,7 @@ ends() {
     fi
 }
 
-# refused WORD..: these words are no command line of the program, which prints nothing but why.
+# refused ARGUMENT..: the program refuses these arguments, and prints nothing but why.
 refused() {
     timeout 60 "$program" "$@" <"$first" >"$work/stdout" 2>"$work/stderr"
     status=$?
@@ -65,7 +65,7 @@ mkfifo "$work/gone"
 status=$(cat "$work/status")
 ends "a pipe without a reader" 1 "rbac: stop Write after 0"
 
-# Where there is nothing to read there is nothing to write either.
+# If there is nothing to read there is nothing to write either.
 timeout 60 "$program" replay --memory </dev/null >&- 2>"$work/stderr"
 status=$?
 ends "a closed standard output and an empty input" 0 ""

@@ -4,7 +4,7 @@
     difference.py FIRST SECOND
 
 FIRST and SECOND are files that tools/dump.sql has made, such as those of one office on two days. A line that begins with
-`-` has what only the first office holds, one that begins with `+` what only the second one holds. Each name stands in
+`-` has what only the first office has, one that begins with `+` what only the second one has. Each name is written in
 double quotes. Of a role or a user that went, each grant and each assignment is listed as well. The last line counts.
 
 The status is 0 if nothing differs, 1 if something does, and 2 if a file can't be read as a dump.

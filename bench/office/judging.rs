@@ -143,7 +143,7 @@ impl Office {
         held.iter().any(|pair| self.geq(&pair.1, role))
     }
 
-    /// The verdict on an assignment, where these pairs are assigned too.
+    /// The verdict on an assignment, if these pairs are assigned too.
     pub fn judge_assignment(&self, added: &[Pair], user: &str, role: &str) -> Option<Refusal> {
         if let Some(refusal) = self.refuse_assignment(added, user, role) {
             return Some(refusal);
@@ -163,8 +163,7 @@ impl Office {
         }
     }
 
-    /// The first set of which what is held and one more role reach as many members as may not come
-    /// together.
+    /// The first set of which the roles so far and one more make as many members as its cardinality.
     fn first_with_one(
         &self,
         kind: Separation,

@@ -1,4 +1,4 @@
-//! The rows that an accepted command takes and puts.
+//! The rows that an accepted command removes and adds.
 
 use super::{Change, Command, Names, Office, OrderChange, Pair, Pairs, Plan, Refusal, Report, Row};
 use super::{has_name, has_pair, with_first, with_pair};
@@ -23,14 +23,14 @@ fn take_each<'a>(changes: &mut Vec<Change>, pairs: Pairs, run: impl Iterator<Ite
     changes.extend(run.map(|it| Change::Take(pair(pairs, &it.0, &it.1))));
 }
 
-/// A role and the edge by which it comes.
+/// A role and the edge that is added with it.
 fn new_role(role: &str, asc: &str, desc: &str) -> Vec<Change> {
     let role = Change::Put(name(Names::Roles, role));
     vec![role, Change::Put(pair(Pairs::Edges, asc, desc))]
 }
 
 impl Office {
-    /// Judges a command, and names its changes where it is accepted.
+    /// Judges a command, and names its changes if it is accepted.
     pub fn plan(&self, command: &Command) -> Result<Plan, Refusal> {
         match self.judge(command) {
             Some(refusal) => Err(refusal),

@@ -1,10 +1,10 @@
 //! The order of roles by their numbers: a role's number is its place among the roles in byte order.
 //!
-//! What goes over all users or sessions takes the numbers of what each has once, and then reads the table.
+//! What goes over all users or sessions computes the numbers of each one's roles once, and then reads the table.
 
 use super::{Pair, with_first};
 
-/// For each two of the roles, whether the first is the second or above it.
+/// For each two of the roles, whether the first is the second or senior to it.
 pub struct Table {
     rows: Vec<Vec<bool>>,
 }
@@ -36,18 +36,18 @@ impl Table {
         self.rows[above][below]
     }
 
-    /// Whether one of the roles of these numbers is the role of this number, or above it.
+    /// Whether one of the roles of these numbers is the role of this number, or senior to it.
     pub fn reaches(&self, numbers: &[usize], below: usize) -> bool {
         numbers.iter().any(|number| self.geq(*number, below))
     }
 
-    /// How many of the roles are the role of this number, or above it. The report alone asks it.
+    /// How many of the roles are the role of this number, or senior to it. Only the report asks it.
     #[allow(dead_code)]
     pub fn count_above(&self, below: usize) -> usize {
         self.rows.iter().filter(|row| row[below]).count()
     }
 
-    /// Whether each of the runs reaches fewer than so many of the members.
+    /// Whether each of the runs has fewer of the members than the cardinality.
     pub fn keep_below(&self, runs: &[Vec<usize>], members: &[usize], cardinality: u32) -> bool {
         let reached = |run: &[usize]| members.iter().filter(|it| self.reaches(run, **it)).count();
         runs.iter().all(|run| reached(run) < cardinality as usize)

@@ -77,7 +77,7 @@ fn name_of(refusal: &Refusal) -> (u32, &'static str) {
     }
 }
 
-/// What a refusal tells beside its code and name, with the comma before it.
+/// What a refusal has beside its code and name, with the comma before it.
 fn told_with(refusal: &Refusal) -> String {
     match refusal {
         Refusal::StaticSeparation(set) | Refusal::DynamicSeparation(set) => {
@@ -88,7 +88,7 @@ fn told_with(refusal: &Refusal) -> String {
     }
 }
 
-/// The answer that tells why there is no value.
+/// The answer that says why there is no value.
 pub fn write_untold(text: &mut Vec<u8>, untold: &Untold) {
     let (code, name, more) = match untold {
         Untold::BadName => (1, "BadName", String::new()),

@@ -30,7 +30,7 @@ pub enum Told<'a> {
     Permissions(Vec<(&'a str, &'a str)>),
 }
 
-/// Refuses by this where the test does not hold.
+/// Refuses by this unless the test holds.
 fn need(test: bool, refusal: Refusal) -> Result<(), Refusal> {
     if test { Ok(()) } else { Err(refusal) }
 }
@@ -143,7 +143,7 @@ impl Office {
         }))
     }
 
-    /// These roles and those below them, in byte order.
+    /// These roles and their juniors, in byte order.
     fn with_juniors<'a>(&'a self, pairs: &'a [Pair]) -> Vec<&'a str> {
         let mut roles = seconds(pairs);
         for (_, role) in pairs {
@@ -164,7 +164,7 @@ impl Office {
         Ok(self.with_juniors(with_first(&self.active, session)))
     }
 
-    /// The role and those below it, in byte order.
+    /// The role and its juniors, in byte order.
     fn roles_of_role<'a>(&'a self, role: &'a str) -> Result<Vec<&'a str>, Refusal> {
         self.need_role(role)?;
         let mut roles = seconds(with_first(&self.closure, role));

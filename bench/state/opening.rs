@@ -1,4 +1,4 @@
-//! The office of stored rows, where they are those of a good one of version 2: the first of the checks that
+//! The office of stored rows, if they are those of a good one of version 2: the first of the checks that
 //! fails is named, in the order that the proved program has.
 
 use super::office::table::{Table, second_numbers};
@@ -15,7 +15,7 @@ pub enum Unfit {
     Damaged(u8),
 }
 
-/// Refuses where one of the tests holds, by the first.
+/// Refuses if one of the tests holds, by the first.
 macro_rules! refuse {
     ($($test:expr => $unfit:expr),* $(,)?) => {{
         $(if $test { return Err($unfit); })*
@@ -61,7 +61,7 @@ impl Office {
         Ok(office)
     }
 
-    /// Puts a row of a known kind, whose key no row has.
+    /// Inserts a row of a known kind, whose key no row has.
     fn add(&mut self, row: Stored) -> Result<(), Unfit> {
         if self.has_key(&row).unwrap_or(true) {
             return Err(Unfit::Damaged(1));
@@ -70,7 +70,7 @@ impl Office {
         Ok(())
     }
 
-    /// Whether a row has this key, and `None` where there are no rows of its kind.
+    /// Whether a row has this key, and `None` if there are no rows of its kind.
     fn has_key(&self, row: &Stored) -> Option<bool> {
         Some(match row {
             Stored::Name(1, name) => has_name(&self.users, name),
@@ -175,7 +175,7 @@ impl Office {
             && are_seconds_in(&self.roles, &self.active)
     }
 
-    /// What is asked of the hierarchy, and then of what stands on it.
+    /// The checks of the hierarchy, and then of what depends on it.
     fn refuse_late(&self) -> Result<(), Unfit> {
         if !self.hierarchy().is_closed() {
             let check = if has_cycle(&self.edges) { 5 } else { 6 };

@@ -1,4 +1,4 @@
-//! A checksum of bytes, by which both programs tell that they came to the same.
+//! A checksum of bytes, by which both programs show that their results are equal.
 
 /// The checksum of no byte.
 pub const START: u64 = 0xcbf2_9ce4_8422_2325;

@@ -1,5 +1,6 @@
 """What the jobs share: where the files are, which programs are there, and the state of a process."""
 
+import inspect
 import os
 import shutil
 import subprocess
@@ -10,19 +11,38 @@ from program.bench import PROGRAM, SECONDS, TESTS, Done
 
 DEPLOY = TESTS.parent / "deploy"
 
+# What is not tested if one of these programs is missing.
+TESTED_BY = {
+    "nginx": "deploy/nginx",
+    "haproxy": "deploy/haproxy.cfg",
+    "systemd-analyze": "what systemd-analyze says of deploy/rbac.service",
+    "systemd-nspawn": "deploy/rbac.service under systemd",
+    "strace": "the system calls that deploy/rbac.service allows",
+    "curl": "deploy/health",
+}
+
+
+def untested():
+    """A line for each setting that can't be tested here."""
+    for program, what in TESTED_BY.items():
+        if not shutil.which(program):
+            yield f"not tested: {what}, since there is no {program} (bin/setup deploy installs it)"
+    if os.geteuid() != 0:
+        yield "not tested: what only root can do, as the commands of docs/OPERATING.md that install and upgrade"
+
 
 def has(*programs):
-    """Whether all of these programs of others are there. A line says which are not."""
+    """Whether all of these programs of others are there. A line says for which job one is not."""
     missing = [program for program in programs if not shutil.which(program)]
     for program in missing:
-        print(f"left out: what needs {program}, which can't be found", flush=True)
+        print(f"left out, since there is no {program}: {inspect.stack()[1].function}", flush=True)
     return not missing
 
 
 def is_root():
     """Whether this is root, who may mount and may be another user. A line says so if not."""
     if os.geteuid() != 0:
-        print("left out: what only root can do", flush=True)
+        print(f"left out, since this is not root: {inspect.stack()[1].function}", flush=True)
     return os.geteuid() == 0
 
 

@@ -4,10 +4,10 @@ import re
 import shutil
 import subprocess
 
-from pages import command_line, markdown
+from pages import command_line
 from program.bench import PROGRAM, SECONDS
 from program.offices import small_office, told_of
-from program.web import HOST, Server, connect, free_port, post, read_all, reply
+from program.web import HOST, connect, free_port, post, read_all, reply
 
 from .common import DEPLOY, has, is_root, run
 
@@ -16,7 +16,7 @@ UNIT = (DEPLOY / "rbac.service").read_text(encoding="utf-8")
 # The place of the program under the unit.
 PLACE = "/usr/local/bin/rbac"
 
-# The greatest exposure that the unit may have, in tenths. It is 12 by systemd 252.
+# The greatest exposure that the unit may have, in tenths. It is 14 by systemd 252.
 MOST_EXPOSED = 15
 
 # Makes the files that the unit lets the server see in a new root, and becomes a user without rights in it.
@@ -155,70 +155,4 @@ def files_seen(bench):
     told_of(bench, str(state / "office"), office.model.state)
 
 
-# Runs blocks of the page, the one for installing first, on a layer above the files of this machine, with no systemd running
-LAYER = """
-set -e
-layer=$1; repository=$2; install=$3; upgrade=$4; cron=$5
-mount -t tmpfs tmpfs "$layer"
-mkdir "$layer/upper" "$layer/work" "$layer/root"
-mount -t overlay overlay -o "lowerdir=/,upperdir=$layer/upper,workdir=$layer/work" "$layer/root" || exit 9
-mount -t proc proc "$layer/root/proc"
-mount --bind /dev "$layer/root/dev"
-mount --bind "$repository" "$layer/root/mnt"
-unset RBAC_PROGRAM
-# Of systemctl only the enabling is tried.
-cat > "$layer/root/usr/local/sbin/systemctl" <<'END'
-#!/bin/sh
-for last; do :; done
-case $1 in enable) exec /usr/bin/systemctl enable "$last" ;; is-enabled) exec /usr/bin/systemctl "$@" ;; esac
-END
-chmod 755 "$layer/root/usr/local/sbin/systemctl"
-chroot "$layer/root" sh -e -c "cd /mnt; $install"
-echo installed
-chroot "$layer/root" sh -c "
-    cd /var/lib/rbac; stat -c '%n %U %a' . office /var/backups/rbac /usr/local/bin/rbac* /usr/local/sbin/rbac*
-    systemctl is-enabled rbac; runuser -u rbac -- rbac check office"
-chroot "$layer/root" sh -c "$cron"
-chroot "$layer/root" sh -c "cd /mnt; $upgrade"
-chroot "$layer/root" sh -c "runuser -u rbac -- rbac check /var/lib/rbac/office; ls /var/backups/rbac | wc -l"
-"""
-
-INSTALLED = """installed
-. rbac 700
-office rbac 600
-/var/backups/rbac root 700
-/usr/local/bin/rbac root 755
-/usr/local/bin/rbac-health root 755
-/usr/local/sbin/rbac-backup root 755
-enabled
-good
-"""
-
-
-def installing(bench):
-    """What the page says of installing, of a backup by cron and of upgrading, on a layer above the files of this machine."""
-    if not (is_root() and has("unshare", "mount", "chroot", "useradd", "runuser", "systemctl")):
-        return
-    blocks = ["\n".join(block) for block in markdown.blocks(markdown.page("OPERATING.md"), "sh")]
-    (install,) = [block for block in blocks if "useradd " in block]
-    (upgrade,) = [block for block in blocks if "systemctl restart " in block]
-    ((line,),) = markdown.blocks(markdown.page("OPERATING.md"), "text")
-    cron = re.fullmatch(r"\S+ \S+ \S+ \S+ \S+ root (.*)", line)[1]
-    layer, copied = bench.folder / "layer", bench.folder / "repository"
-    layer.mkdir()
-    (copied / "release").mkdir(parents=True)
-    shutil.copy(PROGRAM, copied / "release/rbac")
-    shutil.copytree(DEPLOY, copied / "deploy")
-    done = run(["unshare", "-m", "sh", "-c", LAYER, "sh", layer, copied, install, upgrade, cron])
-    if done.status == 9 or b"mount" in done.err and b"installed" not in done.out:
-        print("left out: a layer above the files of this machine, which can't be mounted", flush=True)
-        return
-    out = done.out.decode()
-    first, (made, last, count) = out[: len(INSTALLED)], (out[len(INSTALLED) :].splitlines() + ["", "", ""])[:3]
-    bench.same("what is there after installing", (first, done.status), (INSTALLED, 0))
-    is_named = re.fullmatch(r"/var/backups/rbac/\d{8}-\d{6}-\d{6}", made) is not None
-    bench.same("the backup before the upgrade, and the office after it", (is_named, last), (True, "good"))
-    bench.same("backups, with the one of cron", count.strip(), "2")
-
-
-JOBS = [(words_taken,), (analyzed,), (system_calls,), (files_seen,), (installing,)]
+JOBS = [(words_taken,), (analyzed,), (system_calls,), (files_seen,)]

@@ -1,6 +1,7 @@
 """Inputs and clients that mean no good: long ones, deep ones, of random bytes, slow ones.
 
     measure.c   runs a program and writes down how much memory it had at most
+    allocated.c counts the bytes for which the program asks
     measured    runs of the program with the memory and the seconds that they took, and what these may be
     texts       lines and texts that are drawn: random bytes, deep JSON
     lines       replays of such lines, and inputs of 100 MB

@@ -1,18 +1,32 @@
-"""Clients that send or read slowly, or not at all: each waits as long as is stated, and the next one is served."""
+"""Clients that send or read slowly, or not at all: each waits as long as is stated, and the next one is served.
+
+No memory is allocated for what a client announces and doesn't send.
+"""
 
 import json
+import socket
 import time
 
+from machine.assignments import MOST_BYTES
+from machine.requests import LONGEST_LINE
+from program.bench import SECONDS
 from program.heads import ANN, CURL, LENGTH
 from program.offices import Office, change
 from program.serving import LEAST, MOST, PATIENCE
-from program.web import BAD_REQUEST, Server, connect, head, post, read_all, reply
+from program.web import BAD_REQUEST, HOST, Server, connect, head, post, read_all, reply
+from stopped.shim import Shim
 
 DONE = b'{"ok":true}'
 ADD_ANN = b'{"fn":"addUser","user":"ann"}'
 
 # A slow client sends a byte every so many seconds, which is less than it may wait.
 SLOW = 3
+
+# A write that waits may still send some bytes: so many wait at most until one sends none.
+WRITES = 4
+
+# So many bytes are sent of a body of which more are announced.
+SENT = [0, 1, 8_192]
 
 # So many users have one role: the reply that names them has 2.5 MB, the longest that there is.
 USERS = 20_000
@@ -87,23 +101,34 @@ def crowded_office(bench):
     return office, reply(200, text)
 
 
-def ask_for_users(port):
+def narrow(port):
+    """A connection for which the system keeps few bytes that the client has not read."""
+    client = socket.socket()
+    client.setsockopt(socket.SOL_SOCKET, socket.SO_RCVBUF, 4_096)
+    client.setsockopt(socket.IPPROTO_TCP, socket.TCP_MAXSEG, 536)
+    client.settimeout(SECONDS)
+    client.connect((HOST, port))
+    return client
+
+
+def ask_for_users(port, opened=connect):
     """A client that has asked for all users of the role."""
-    client = connect(port)
+    client = opened(port)
     client.sendall(post("assignedUsers", b'{"role":"clerk"}'))
     return client
 
 
 def read_nothing(bench):
-    """A client that doesn't read its reply holds up the next one for as long as a write may wait, at most."""
+    """The connection of a client that doesn't read its reply is closed after a few writes have waited."""
     office, wanted = crowded_office(bench)
-    with Server(bench, office.path, 2) as server, ask_for_users(server.port) as silent:
+    with Server(bench, office.path, 2) as server, ask_for_users(server.port, narrow) as silent:
         start = time.monotonic()
         refused = reply(409, b'{"code":32,"error":"TooMany","kind":"user"}')
         bench.same("the client after one that doesn't read", server.ask(CURL), refused)
-        waited_for(bench, "the client after one that doesn't read waited", start, 0, MOST)
+        waited_for(bench, "the client after one that doesn't read waited", start, LEAST, WRITES * PATIENCE + 10)
         found = read_all(silent)
-        bench.same("what it could have read", (wanted.startswith(found), len(found) > 0), (True, True))
+        is_part = wanted.startswith(found) and 0 < len(found) < len(wanted)
+        bench.same(f"what it could have read: {len(found):,} bytes of {len(wanted):,}", is_part, True)
         server.ends()
     bench.ends(["check", office.path], b"good\n", keeps=True)
     return {"clients that don't read": 1}
@@ -150,7 +175,31 @@ def stop_in_body(bench):
     return {"slow clients": 1}
 
 
+def allocated(bench, shim, path, function, length, body):
+    """The bytes that a server asks for in all and at once, whose client announces a length and sends a part."""
+    fields = [f"Content-Length: {length}", "X:".ljust(10 - len(str(length)), "y")]
+    request = head(f"POST /v1/{function} HTTP/1.1", *fields) + body
+    shim.forget()
+    with Server(bench, path, 1, environment=shim.environment({"ALLOCATED": shim.file})) as server:
+        bench.same(f"{len(body)} bytes of {length}", server.ask(request, cut=True), reply(400, BAD_REQUEST))
+        server.ends()
+    return tuple(int(number) for number in shim.ask().split())
+
+
+def announce(bench, function, most):
+    """A server allocates memory for the bytes that arrive: as many for the longest body as for a short one."""
+    path, shim = Office(bench).path, Shim(bench, "inputs/allocated.c")
+    for sent in SENT:
+        wanted = allocated(bench, shim, path, function, sent + 1, b"x" * sent)
+        for length in (sent + 2, most - 1, most):
+            found = allocated(bench, shim, path, function, length, b"x" * sent)
+            what = f"allocated for {sent:,} bytes of a body of {length:,}"
+            bench.same(f"{what}: {found[0]:,} bytes in all, {found[1]:,} at once", found, wanted)
+    return {"bodies that were announced": 4 * len(SENT)}
+
+
 def jobs(is_long):
     """The clients; by `--long` slower ones."""
     found = [(say_nothing, 6 if is_long else 2), (read_nothing,), (read_slowly,), (leave_amid_reply, 20)]
+    found += [(announce, "importAssignments", MOST_BYTES), (announce, "addUser", LONGEST_LINE)]
     return found + [(send_slowly,), (stop_in_body,)] + [(drip, count) for count in ((3, 30) if is_long else (3,))]

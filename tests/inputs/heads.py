@@ -13,16 +13,16 @@ from program.web import BAD_REQUEST, NO_FUNCTION, Server, connect, post, read_al
 # The longest head.
 MOST = 8_192
 
-# So many requests of random bytes there are, and by `--long`; heads of every so many lengths are cut.
+# How many requests of random bytes there are, and with `--long`; of EVERY lengths one is the length of a truncated head.
 RANDOM, MORE_RANDOM = 1_200, 100_000
 EVERY, EVERY_LONG = 37, 1
 
-# So many seconds lie between the two parts of a request that is split, at least.
+# The least seconds between the two parts of a request that is split.
 PAUSE = 0.002
 
 DONE = b'{"ok":true}'
 
-# Takes the user away whom a request of these added.
+# Removes the user whom one of these requests added.
 REMOVE = post("deleteUser", b'{"user":"ann"}')
 
 # Each reply that refuses a request for its head or its body.
@@ -47,7 +47,7 @@ def head_of(length, body):
 
 
 def ask_whole_heads(bench, first, step):
-    """A head of each length from the least to the most is taken, and one of a byte more isn't."""
+    """A head of each length from the least to the most is accepted, and one of a byte more isn't."""
     office, body = Office(bench), body_of("ann")
     lengths = [length for length in range(first, MOST + 1, step) if head_of(length, body)]
     with Server(bench, office.path, 2 * len(lengths) + 1) as server:
@@ -70,7 +70,7 @@ def ask_cut_heads(bench, every):
         for length in lengths:
             answer = server.ask(endless[:length], cut=True)
             wanted = reply(400 if length < MOST else 431, BAD_REQUEST)
-            bench.same(f"a head that is cut behind {length} bytes", answer, wanted)
+            bench.same(f"a head that is truncated after {length} bytes", answer, wanted)
         server.ends()
     office.told()
     return {"heads that are cut": len(lengths)}
@@ -91,9 +91,9 @@ def random_request(draws):
 
 
 def ask_random(bench, first, count):
-    """Requests of random bytes are refused; a head that was changed may still be taken.
+    """Requests of random bytes are refused; a head that was changed may still be accepted.
 
-    The reply is whole also where a request goes on behind what is refused of it.
+    The reply is whole even if a request goes on after what is refused of it.
     """
     office, draws, added = Office(bench), random.Random(first), 0
     exists = reply(409, json_text({"code": 3, "error": "UserExists"}).encode())
@@ -130,7 +130,7 @@ def random_bodies(bench, first, count):
 
 
 def split_requests(bench):
-    """A request that comes in two parts, split at any byte, is done as any other; so is one byte by byte."""
+    """A request that arrives in two parts, split at any byte, is done as any other; so is one byte by byte."""
     office = Office(bench)
     parts = [(CURL[:at], CURL[at:]) for at in range(1, len(CURL))]
     parts.append(tuple(bytes([byte]) for byte in CURL))

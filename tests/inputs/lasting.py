@@ -9,14 +9,14 @@ from program.web import Server, post, reply
 
 from .measured import LARGE, SMALL, Meter, is_within, kilobytes_of, size_of
 
-# So many times a round of lines is replayed, first and then, and by `--long`; so many requests are sent.
+# How often a round of lines is replayed, first and then, and with `--long`; how many requests are sent.
 ROUNDS, MORE_ROUNDS = (500, 6_000), (500, 100_000)
 REQUESTS, MORE_REQUESTS = 3_000, 100_000
 
-# By so many kilobytes a long run may have more than a short one.
+# The most kilobytes that a long run may have more than a short one.
 GROWTH = 4_096
 
-# So many megabytes the file may have behind many changes of a small office.
+# The most megabytes of the file after many changes of a small office.
 MOST_FILE = 1
 
 OFFICE = [{"fn": "addUser", "user": "ann"}, {"fn": "addRole", "role": "clerk"}, {"fn": "addRole", "role": "boss"}]

@@ -10,11 +10,11 @@ from program.offices import Office, small_office
 from .measured import SMALL, Meter, is_within
 from .texts import DEPTHS, deep_lines, random_line
 
-# So many inputs of so many random lines, and so many of them by `--long`.
+# How many inputs there are, and with `--long`; and how many random lines each has.
 INPUTS, MORE_INPUTS = 24, 2_000
 LINES = 120
 
-# A long input has so many bytes, in pieces of so many; it may take so many seconds.
+# The bytes of a long input, the bytes of its pieces, and the most seconds that it may take.
 LENGTH = 100_000_000
 PIECE = 1_000_000
 PATIENCE = 60

@@ -9,13 +9,13 @@ from dataclasses import dataclass
 from program.bench import PROGRAM, SECONDS, TESTS, Done
 from stopped.running import beside
 
-# So many megabytes a run may have where its office is small, and so many more where an office is at its limits.
+# The most megabytes of a run over a small office, and over one at its limits.
 SMALL, LARGE = 32, 256
 
 
 @dataclass(frozen=True)
 class Measured:
-    """What a run said and its status, the kilobytes that it had at most, its seconds, and how many bytes it took."""
+    """What a run printed and its status, the most kilobytes that it had, its seconds, and how many bytes it read."""
 
     done: Done
     kilobytes: int
@@ -23,12 +23,12 @@ class Measured:
     given: int
 
     def text(self):
-        """The figures in words."""
+        """The figures as a text."""
         return f"{self.kilobytes / 1_024:.1f} MB, {self.seconds:.2f} s, {self.given:,} bytes taken"
 
 
 class Feeder(threading.Thread):
-    """Writes pieces into a stream until it takes no more, and counts the bytes."""
+    """Writes pieces into a stream until it accepts no more, and counts the bytes."""
 
     def __init__(self, stream, pieces):
         super().__init__()
@@ -56,7 +56,7 @@ class Meter:
         subprocess.run([*command, str(TESTS / "inputs/measure.c")], check=True)
 
     def run(self, words, pieces=()):
-        """Runs the program with these words, and with an input that comes in pieces."""
+        """Runs the program with these arguments, and with an input that arrives in pieces."""
         start = time.monotonic()
         with subprocess.Popen(
             [self.program, self.file, PROGRAM, *words],
@@ -80,7 +80,7 @@ class Meter:
 
 
 def kilobytes_of(process):
-    """How many kilobytes a process that is running has had at most."""
+    """The most kilobytes that a running process has had."""
     with open(f"/proc/{process.pid}/status", encoding="utf-8") as file:
         for line in file:
             if line.startswith("VmHWM:"):
@@ -89,7 +89,7 @@ def kilobytes_of(process):
 
 
 def is_within(bench, what, kilobytes, megabytes):
-    """Counts whether no more memory was had than may be, and prints how much it was."""
+    """Counts whether the memory is within its bound, and prints how much it was."""
     print(f"{kilobytes / 1_024:9.1f} MB  {what}", flush=True)
     bench.same(f"{what}: at most {megabytes} MB ({kilobytes} kB)", kilobytes <= megabytes * 1_024, True)
 

@@ -1,4 +1,4 @@
-"""Lines and texts that are drawn: random bytes, random parts of JSON, deep JSON."""
+"""Random lines and texts: random bytes, random parts of JSON, deep JSON."""
 
 import json
 
@@ -19,12 +19,12 @@ DEPTHS = [1, 2, 64, 125, 126, 127, 128, 129, 1_000, 10_000, 30_000]
 
 
 def random_bytes(draws, length):
-    """So many bytes without LF."""
+    """This many bytes without LF."""
     return draws.randbytes(length).replace(b"\n", b"\x0b")
 
 
 def random_parts(draws, count):
-    """So many parts of JSON, one behind the other."""
+    """This many parts of JSON, one after the other."""
     return "".join(draws.choices(PARTS, k=count)).encode()
 
 

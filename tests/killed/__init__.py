@@ -1,5 +1,5 @@
-"""The program is killed at moments that are drawn, and the office goes on from what is found.
+"""The program is killed at random moments, and the office goes on from what is in its file.
 
-    lives       a replay is killed, from life to life of one office
-    others      the making, the import and the taking into version 2 are killed
+    lives       a replay is killed, run after run of one office
+    others      `init`, `import` and `migrate` are killed
 """

@@ -1,4 +1,8 @@
-"""Offices that go from life to life, where each life is a replay that ends too early: by a kill, or at a write."""
+"""Offices that go from run to run, each a replay of random lines that crashes: killed right after one of its answers, as it
+opens or closes, or ended in place of a random write, sync or truncation, or amid a write (stop.c).
+
+A third of the offices is of version 1 at first and is migrated half-way, by runs that are killed too.
+"""
 
 import random
 import subprocess
@@ -15,35 +19,35 @@ from stopped.stories import migrate_story, place_of, replay_story
 
 from .others import kill_after
 
-# By the way in which their lives end: how many offices there are, how many lives each has, and how many lines a life
-# has at most. First what is done without words, then what is done by `--long`.
+# By how their runs end: how many offices there are, how many runs each has, and how many lines a run has at most. First
+# without `--long`, then with it.
 OFFICES = {"kill": (12, 45, 130), "write": (6, 20, 60)}
 MORE_OFFICES = {"kill": (100, 50, 130), "write": (200, 50, 60)}
 
-# Every so many offices one is of version 1 at first. Behind half of its lives it is taken into version 2, by some runs
-# that are killed and then by one that is not.
+# Of OLD offices one is of version 1 at first. After half of its runs it is migrated to version 2, by MIGRATIONS runs that
+# are killed and then by one that is not.
 OLD = 3
 MIGRATIONS = 5
 
-# A replay is killed at most so many milliseconds behind its last line, and the taking into version 2 behind its start. One
-# in so many replays is given the end of its input before it is killed.
+# The most milliseconds from the last line of a replay to its kill, and from the start of a migration. One in OPEN_ENDED
+# replays is given the end of its input before it is killed.
 MILLISECONDS = 0.6
 MIGRATING = 25
 OPEN_ENDED = 12
 
-# So many writes, syncs and changes of a length a line makes at most, by and large.
+# About how many writes, syncs and truncations a line makes at most.
 CHANGES = 3
 
 
 class Taken:
-    """The assignments and grants that were taken by lines so far, and were not given again."""
+    """The assignments and grants that lines have removed so far, and not given again."""
 
     def __init__(self):
         self.assignments = frozenset()
         self.grants = frozenset()
 
     def follow(self, before, after):
-        """Goes on by one line, which led from one state to the next."""
+        """Follows one line, which led from one state to the next."""
         self.assignments = (self.assignments | before.assignments) - after.assignments
         self.grants = (self.grants | before.grants) - after.grants
 
@@ -58,7 +62,7 @@ class Taken:
 
 
 class ByKill:
-    """A life that is killed at a drawn moment: right behind one of its answers, or as it opens or closes."""
+    """A run that is killed at a random moment: right after one of its answers, or as it opens or closes."""
 
     status = -9
 
@@ -66,9 +70,9 @@ class ByKill:
         self.bench = bench
 
     def end(self, path, story, draws):
-        """Replays the lines, kills the replay, and tells what it had said by then.
+        """Replays the lines, kills the replay, and returns what it had printed by then.
 
-        So many lines are answered first; then it is given the others at once, and amid these it is killed.
+        A random number of lines is answered first; then it is given the others at once, and amid these it is killed.
         """
         behind = draws.randrange(len(story.lines) + 1)
         with subprocess.Popen(
@@ -89,7 +93,7 @@ class ByKill:
 
 
 class AtWrite:
-    """A life that ends in place of a drawn write, sync or change of a length, or amid a write."""
+    """A run that crashes in place of a random write, sync or truncation, or amid a write."""
 
     status = ENDED
 
@@ -97,7 +101,7 @@ class AtWrite:
         self.stopper = Stopper(bench)
 
     def end(self, path, story, draws):
-        """Replays the lines as long as the process lives, and tells what it had said by then."""
+        """Replays the lines until the process crashes, and returns what it had printed by then."""
         number = draws.randrange(CHANGES * len(story.lines) + 1) + 1
         settings = self.stopper.settings(number, draws.choice(["exit", "half"]))
         return self.stopper.run(story.words(path), story.given, **settings)
@@ -107,7 +111,7 @@ WAYS = {"kill": ByKill, "write": AtWrite}
 
 
 def story_drawn(draws, state, moments, lines):
-    """A replay of drawn lines over an office with this state: one at least."""
+    """A replay of random lines over an office with this state: one at least."""
     draws.replay.state = state
     drawn = [draws.draw() for _ in range(moments.randrange(lines) + 1)]
     story = replay_story(state, [line + b"\n" for _, line, answer in drawn if answer])
@@ -139,7 +143,7 @@ def live(bench, path, story, way, moments, taken):
 
 
 def take_into_version_2(bench, path, state, moments):
-    """Kills the taking of an office into version 2 some times, and then lets it be done: the state."""
+    """Kills the migration of an office to version 2 some times, and then lets it end: the state."""
     counts = Counter()
     for number in range(MIGRATIONS):
         if state.version == 1:
@@ -157,7 +161,7 @@ def take_into_version_2(bench, path, state, moments):
 
 
 def live_on(bench, way, seed, lives, lines, is_old):
-    """An office goes from life to life, each of which ends in this way; an old one is of version 1 at first."""
+    """An office goes from run to run, each of which ends in this way; an old one is of version 1 at first."""
     office = Office(bench, "office")
     if is_old:
         office.become_version_1()

@@ -1,4 +1,4 @@
-"""The making of an office, an import and the taking into version 2 are killed: the tables are those before or after."""
+"""`init`, `import` and `migrate` are killed at moments spread over their time: the tables are those before or after."""
 
 import subprocess
 import time
@@ -10,17 +10,17 @@ from program.offices import Office
 from stopped.running import beside
 from stopped.stories import import_story, init_story, judge_office, lay, migrate_story
 
-# Each of these runs is killed so often, and by `--long`; at moments that are spread over the time that it takes and a
-# fifth more, the closer to each other the later they are.
+# How often each of these runs is killed, and with `--long`; at moments that are spread over its time and a fifth more, the
+# closer to each other the later they are.
 KILLS, MORE_KILLS = 40, 1_000
 SPREAD = 1.2
 
-# An office for an import and for the taking into version 2: so many users and roles, and each pair of them.
+# The users, and the roles, of an office for an import and for a migration, with each pair of them.
 NAMES = 40
 
 
 def kill_after(words, seconds):
-    """Runs the program, kills it after so many seconds, and tells what it had said by then."""
+    """Runs the program, kills it after this time, and returns what it had printed by then."""
     with subprocess.Popen([PROGRAM, *words], stdout=subprocess.PIPE, stderr=subprocess.PIPE) as process:
         time.sleep(seconds)
         process.kill()
@@ -56,7 +56,7 @@ def story_of(bench, word):
 
 
 def seconds_of(bench, content, story):
-    """How long the run takes where it is not killed; the shortest of three."""
+    """How long the run takes if it is not killed; the shortest of three."""
     found = []
     for _ in range(3):
         path = lay(bench, content)
@@ -67,7 +67,7 @@ def seconds_of(bench, content, story):
 
 
 def kill_story(bench, word, kills):
-    """Kills a run at moments that are spread evenly, and compares what is found with the states before and after."""
+    """Kills a run at moments that are spread evenly, and compares the office with the states before and after."""
     content, story = story_of(bench, word)
     seconds, counts = seconds_of(bench, content, story), Counter()
     for number in range(kills):

@@ -1,6 +1,6 @@
 """Assignments as CSV, read and written.
 
-Records are those of the usual reader: fields stand between commas, a field may stand in double quotes
+Records are those of the usual reader: fields are between commas, a field may be in double quotes
 and has each of its own twice then, and LF, CR or both end a record. Nothing is trimmed, lines without
 anything are no records, and records may differ in length. One byte order mark at the start is dropped.
 """
@@ -13,7 +13,7 @@ MARK = b"\xef\xbb\xbf"
 MOST_BYTES = LIMITS["byte"][0]
 MOST_RECORDS = LIMITS["record"][0]
 
-# Where the reader stands in a record.
+# The place of the reader in a record.
 BETWEEN, AT_FIELD, IN_FIELD, IN_QUOTES, AFTER_QUOTE = range(5)
 
 
@@ -62,7 +62,7 @@ def read_pair(record, fields):
 
 
 def read_assignments(text):
-    """The assignments of a text with the header `user,role`; the first fault refuses all of it."""
+    """The assignments of a text with the header `user,role`; the first error refuses all of it."""
     refuse_if(len(text) > MOST_BYTES, 32, kind="byte")
     found = records(text)
     refuse_if(found[:1] != [[b"user", b"role"]], 36, record=0)
@@ -70,7 +70,7 @@ def read_assignments(text):
 
 
 def write_field(text):
-    """The field, in quotes where it has a comma, a quote or an end of line."""
+    """The field, in quotes if it has a comma, a quote or an end of line."""
     if any(sign in text for sign in ',"\r\n'):
         return '"' + text.replace('"', '""') + '"'
     return text

@@ -1,6 +1,6 @@
-"""The commands: each takes a state and its arguments, refuses, or gives the state after it.
+"""The commands: each has a state and its arguments, and refuses, or returns the state after it.
 
-The tests in a command stand in the order in which it is judged. Sessions that may not be any more after
+The tests in a command are in the order in which it is judged. Sessions that may not go on after
 a command end by `apply`, for all commands alike.
 """
 
@@ -46,7 +46,7 @@ def need_owner(state, user, session):
 
 
 def need_room(state, kind, count):
-    """Refuses where the count of this kind would pass the limit."""
+    """Refuses if the count of this kind would exceed the limit."""
     refuse_if(count > state.limit(kind), 32, kind=kind)
 
 
@@ -168,7 +168,7 @@ def deassign_user(state, user, role):
 
 
 def import_assignments(state, pairs):
-    """The state after an import, and what is told of it. Records are numbered from 1."""
+    """The state after an import, and its tally. Records are numbered from 1."""
     need_room(state, "record", len(pairs))
     told = {"already": 0, "assigned": 0, "refused": []}
     for record, (user, role) in enumerate(pairs, 1):
@@ -358,7 +358,7 @@ def unlock_user_account(state, user):
 
 
 # Each command with its keys in the order of its arguments, and its refusals in the order in which they
-# are judged; 32 stands with its kind. `record` is met in reading already, and 51 in version 1 alone.
+# are judged; 32 has its kind beside it. `record` is met in reading already, and 51 in version 1 alone.
 COMMANDS = {
     "addUser": (add_user, "user", "3 32:user"),
     "deleteUser": (delete_user, "user", "2"),
@@ -401,7 +401,7 @@ COMMANDS = {
 
 
 def apply(state, function, arguments):
-    """The state after a command, and what is told of it: None, or the tally of an import."""
+    """The state after a command, and what is reported: None, or the tally of an import."""
     does, _, _ = COMMANDS[function]
     if does is import_assignments:
         return import_assignments(state, *arguments)

@@ -1,8 +1,7 @@
-"""Request lines that are drawn: the same ones for the same seed.
+"""Random request lines: the same ones for the same seed.
 
-Most commands are drawn to be accepted by the state so far, so that there is much in it at once; the
-others have names from a few that there are, so that each refusal is met. Now and then a line is no
-request, or one that is written in another way.
+Most commands are chosen so that the state so far accepts them, so that there is much in it at once; the others have names from
+a few that exist, so that each refusal is met. Now and then a line is no request, or one that is written in another way.
 """
 
 import json
@@ -14,33 +13,33 @@ from .replaying import Replay
 from .requests import GREATEST
 from .state import authorized_roles
 
-# The names that are drawn; some need care in an answer or in a CSV field.
+# The names to choose from; some need care in an answer or in a CSV field.
 POOLS = {
     "user": ["ann", "bob", "eve", 'q"u', "b\\s", "c,d", "\u00e9ve", " zed "],
     "role": ["r0", "r1", "r2", "r3", "r4", "r5", "r6", "r7", "r,8", 'r"9', "\u00fc" * 32],
-    "object": ["o0", "o1", "o\\2"],
-    "operation": ["p0", "p1", "p2", 'p"3'],
+    "object": ["o0", "o1", "o\\2", 'o"3', "\u00f64"],
+    "operation": ["p0", "p1", "p2", 'p"3', "p,4"],
     "session": ["s0", "s1", "s2", "s3", "s4"],
     "set": ["t0", "t1", "t2", "t,3"],
 }
 POOLS["asc"] = POOLS["desc"] = POOLS["role"]
 
-# In so many lines at first, few commands take anything.
+# For this many lines at first, few commands remove anything.
 BUILDING = 120
 TAKING = ("delete", "deassign", "drop", "revoke", "lock")
 
-# How often each command is drawn; a question is drawn half as often as all commands together.
+# How often each command is chosen; a question is chosen half as often as all commands together.
 WEIGHTS = {
     "addUser": 6,
     "deleteUser": 2,
     "addRole": 7,
     "deleteRole": 2,
-    "addPermObj": 3,
+    "addPermObj": 5,
     "deletePermObj": 1,
-    "addPermission": 5,
+    "addPermission": 15,
     "deletePermission": 1,
-    "grantPermission": 8,
-    "revokePermission": 2,
+    "grantPermission": 30,
+    "revokePermission": 4,
     "assignUser": 14,
     "deassignUser": 4,
     "addInheritance": 20,
@@ -66,7 +65,7 @@ WEIGHTS = {
     "unlockUserAccount": 2,
 }
 
-# Texts that are no name.
+# Invalid names.
 BAD_NAMES = ["", "n" * 65, "\u00e9" * 33, "a\tb", "\x00", "\x7f", "\x1f"]
 
 # Values of other types, as JSON.
@@ -103,7 +102,7 @@ NO_REQUESTS = [
 # Names of no function.
 NO_FUNCTIONS = ["fly", "", "AddUser", "addUser ", "adduser", "importAssignment"]
 
-# What may stand in a request and does not count.
+# Keys that a request may have and that are ignored.
 NOT_COUNTED = [
     '"x":[1,{"y":null}]',
     '"Fn":"addUser"',
@@ -146,7 +145,7 @@ ODD_ASSIGNMENTS = [
 
 
 class Draws:
-    """Draws requests for an office, whose state it follows by a replay of its own."""
+    """Makes random requests for an office, whose state it follows by a replay of its own."""
 
     def __init__(self, seed):
         self.random = random.Random(seed)
@@ -158,16 +157,16 @@ class Draws:
         return self.replay.state
 
     def chance(self, of):
-        """True once in so many draws."""
+        """True once in this many calls, on average."""
         return self.random.randrange(of) == 0
 
     def one(self, items):
-        """One of these in order, or None where there is none."""
+        """One of these, which are in order, or None if there is none."""
         items = sorted(items)
         return self.random.choice(items) if items else None
 
     def some(self, items, most):
-        """So many of these at most, in any order."""
+        """At most this many of these, in any order."""
         items = sorted(items)
         return self.random.sample(items, min(len(items), self.random.randrange(most + 1)))
 
@@ -226,7 +225,7 @@ class Draws:
     # Arguments that are aimed at the state.
 
     def aimed(self, function):
-        """Arguments with which the function is likely to be accepted; None where there are none."""
+        """Arguments with which the function is likely to be accepted; None if there are none."""
         if function in QUESTIONS:
             return self.aimed_question(function)
         sets = self.state.dynamic_sets if "Dsd" in function else self.state.static_sets
@@ -366,7 +365,7 @@ class Draws:
         return text
 
     def spoil(self, values):
-        """Takes an argument, or puts something wrong in its place."""
+        """Removes an argument, or replaces it by something wrong."""
         key = self.random.choice(list(values))
         what = self.random.randrange(3)
         if what == 0:
@@ -416,6 +415,6 @@ class Draws:
 
 
 def draw_script(seed, count):
-    """So many requests: each the function that is meant, a line, and the answer that the model gives."""
+    """This many requests: each the function that is meant, a line, and the answer that the model gives."""
     draws = Draws(seed)
     return [draws.draw() for _ in range(count)]

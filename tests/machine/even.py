@@ -1,4 +1,4 @@
-"""Commands that are drawn evenly from a row of numbers that looks drawn: all but the locks, with few names."""
+"""Random commands that are evenly spread, from numbers that are the same everywhere: all but the locks, with few names."""
 
 import json
 
@@ -20,7 +20,7 @@ DRAWN = [function for function in COMMANDS if not function.endswith("Account")]
 
 
 class Numbers:
-    """A row of numbers that looks drawn, the same for each start."""
+    """A sequence of numbers that looks random, the same for each start."""
 
     def __init__(self, start):
         self.last = start
@@ -46,7 +46,7 @@ class Numbers:
 
 
 def draw_even_script(start, count):
-    """So many commands: each its function, its line, and the answer that the model gives."""
+    """This many commands: each its function, its line, and the answer that the model gives."""
     numbers, replay = Numbers(start), Replay()
     script = []
     for _ in range(count):

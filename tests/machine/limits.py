@@ -1,11 +1,11 @@
-"""Scripts that reach each limit and would pass it, with the answers that are written beside them.
+"""Scripts that reach each limit and would exceed it, with the answers that are written beside them.
 
 A line is `COMMAND = ANSWER`: a function with its arguments in order, and 0 or the number of the refusal
 with the set, kind or version that comes with it; for an import `ASSIGNED/ALREADY RECORD/CODE..`. `-` is an
-empty list. Before a command may stand one number or two: it is then repeated, with `#` and `@` standing
-for the numbers from 1 up to them, and `&` for one more than `#`. In a list of roles `r*32` stands for `r1,r2`
+empty list. A command may have one number or two before it: it is then repeated, `#` and `@` are
+the numbers from 1 up to them, and `&` is one more than `#`. In a list of roles `r*32` is `r1,r2`
 and so on up to `r32`, and so it does on either side of a record of an import, which is then all pairs of
-both; a record with `^3` behind it stands three times. No line is longer than a request may be.
+both; a record with `^3` behind it is there three times. No line is longer than a request may be.
 """
 
 import json
@@ -235,7 +235,7 @@ OLD_SCRIPTS = {
         createSession ann - s1 = 0""",
 }
 
-# The key at which a refusal tells what it names.
+# The key at which a refusal has what it names.
 TOLD = {24: "set", 25: "set", 32: "kind", 51: "version"}
 
 
@@ -295,7 +295,7 @@ def answer_of(text):
 
 
 def repeat(command):
-    """The command, as often as the numbers before it say, with the numbers in the place of their signs."""
+    """The command, as often as the numbers before it say, with the numbers instead of their signs."""
     counts, command = re.fullmatch(r"((?:\d+ )*)(.*)", command).groups()
     outer, inner = (*map(int, counts.split()), 1, 1)[:2]
     for one, two in product(range(1, outer + 1), range(1, inner + 1)):

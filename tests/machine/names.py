@@ -1,4 +1,4 @@
-"""What a name is."""
+"""Which texts are names."""
 
 MOST_BYTES = 64
 

@@ -1,7 +1,7 @@
-"""Which state stands in the tables of a database, or why none does.
+"""Which state the tables of a database hold, or why they hold none.
 
-Tables are given as a database has them: under each name the columns and the rows, whatever the values are. A text is
-a `str`, in which bytes that are no UTF-8 stand as halves of surrogate pairs.
+Tables are given as a database has them: under each name the columns and the rows, whatever the values are. A text is a `str`,
+in which bytes that aren't UTF-8 are halves of surrogate pairs.
 """
 
 from collections import Counter
@@ -42,12 +42,12 @@ STATIC, DYNAMIC = 1, 2
 
 
 def refuse_damaged(check, condition):
-    """Refuses by a check where the condition holds."""
+    """Refuses by a check if the condition holds."""
     refuse_if(condition, 52, check=check)
 
 
 def need_tables(tables, names):
-    """Refuses where one of these tables or of their columns isn't there."""
+    """Refuses if one of these tables or of their columns is missing."""
     for name in names:
         refuse_if(name not in tables or not set(COLUMNS[name]) <= set(tables[name][0]), 50)
 
@@ -60,7 +60,7 @@ def found_rows(tables, name):
 
 
 def judge_version(tables):
-    """The versions that the rows with the tag say, whole numbers or not, once none of them is unknown."""
+    """The versions in the rows with the tag, whole numbers or not, once none of them is unknown."""
     need_tables(tables, [name for name in COLUMNS if name != LOCKS])
     versions = [version for tag, version in found_rows(tables, "meta_row") if tag == "rbac"]
     refuse_if(not versions, 50)
@@ -106,7 +106,7 @@ def judge_rows(found):
 
 
 def by_kind(rows, kinds):
-    """What stands in the rows of each kind."""
+    """What the rows of each kind have."""
     parts = {kind: [] for kind in range(1, kinds + 1)}
     for kind, *rest in rows:
         parts[kind].append(tuple(rest) if len(rest) > 1 else rest[0])
@@ -114,7 +114,7 @@ def by_kind(rows, kinds):
 
 
 def judge_limits(version, names, pairs, grants, sets):
-    """Refuses where there are too many of a kind, and tells the first kind of which there are."""
+    """Refuses if there are too many of a kind, and names the first such kind."""
     members = [Counter(name for name, _ in pairs[kind]) for kind in (STATIC_MEMBER, DYNAMIC_MEMBER)]
     counts = {
         "user": len(names[USER]),
@@ -196,7 +196,7 @@ def judge_state(state, closure, session_rows):
 
 
 def open_state(tables):
-    """The state in these tables, which is refused where they hold none."""
+    """The state in these tables; refuses if they hold none."""
     versions = judge_version(tables)
     if is_version_2(versions):
         need_tables(tables, [LOCKS])
@@ -212,7 +212,7 @@ def open_state(tables):
 
 
 def migrated_state(tables):
-    """The state in these tables in version 2, which is refused where they hold none of version 1."""
+    """The state in these tables in version 2; refuses if they hold none of version 1."""
     refuse_if(is_version_2(judge_version(tables)), 51, version=2)
     state = open_state(tables)
     refuse_if(LOCKS in tables, 41)

@@ -1,4 +1,4 @@
-"""The questions: each takes a state and its arguments, refuses, or gives its answer.
+"""The questions: each has a state and its arguments, and refuses, or returns its answer.
 
 An answer is a set of names or of permissions, a number or a truth value.
 """

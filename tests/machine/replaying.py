@@ -40,7 +40,7 @@ class Replay:
                 yield self.answer(line) + b"\n"
 
     def message(self):
-        """What a stop tells on standard error."""
+        """What a stop prints on standard error."""
         if self.stop is None:
             return b""
         return f"rbac: stop Line {self.stop} after {self.answered}\n".encode()

@@ -1,4 +1,4 @@
-"""What a request line asks for, or why it is none."""
+"""What a request line asks for, or why it is malformed."""
 
 import json
 
@@ -34,7 +34,7 @@ def read_constant(text):
 
 
 def members(pairs):
-    """An object of these members: of a key that comes more than once the last counts."""
+    """An object of these members: of a key that occurs more than once the last counts."""
     for key, value in pairs:
         judge(key)
         judge(value)
@@ -51,7 +51,7 @@ def judge(value):
 
 
 def nesting(text):
-    """How deep a text nests, members that a later one takes the place of included."""
+    """How deep a text nests, members that a later one replaces included."""
     level = deepest = 0
     inside = skip = False
     for sign in text:
@@ -71,7 +71,7 @@ def nesting(text):
 
 
 def read_json(line):
-    """The value of a JSON text: numbers stand as they are written."""
+    """The value of a JSON text: numbers stay as they are written."""
     try:
         text = line.decode()
         value = json.loads(

@@ -72,7 +72,7 @@ ERRORS = {
 
 
 class Refused(Exception):
-    """A refusal: its code, and the set, kind, record or version that comes with it."""
+    """A refusal: its code, and the set, kind, record or version that it names."""
 
     def __init__(self, code, **told):
         super().__init__(code, told)
@@ -81,7 +81,7 @@ class Refused(Exception):
 
 
 def refuse_if(condition, code, **told):
-    """Refuses by this code where the condition holds."""
+    """Refuses by this code if the condition holds."""
     if condition:
         raise Refused(code, **told)
 
@@ -147,13 +147,13 @@ def assigned_roles(state, user):
 
 
 def authorized_users(state, role):
-    """The users who are assigned the role or one above it."""
+    """The users who are assigned the role or a senior of it."""
     seniors = above(state, role)
     return {user for user, assigned in state.assignments if assigned in seniors}
 
 
 def authorized_roles(state, user):
-    """The roles that the user is assigned, and those below them."""
+    """The roles that the user is assigned, and their juniors."""
     return {junior for role in assigned_roles(state, user) for junior in below(state, role)}
 
 
@@ -163,12 +163,12 @@ def granted_permissions(state, roles):
 
 
 def authorized_permissions(state, role):
-    """The permissions that are granted to the role or to one below it."""
+    """The permissions that are granted to the role or to a junior of it."""
     return granted_permissions(state, below(state, role))
 
 
 def session_roles(state, session):
-    """The roles that were activated in the session, and those below them."""
+    """The roles that were activated in the session, and their juniors."""
     _, active = state.sessions[session]
     return {junior for role in active for junior in below(state, role)}
 

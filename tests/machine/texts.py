@@ -7,7 +7,7 @@ DONE = b'{"ok":true}'
 
 
 def json_text(value):
-    """A value as JSON without spaces, with keys in byte order; sets stand in byte order."""
+    """A value as JSON without spaces, with keys and sets in byte order."""
     if isinstance(value, bool):
         return "true" if value else "false"
     if isinstance(value, int):
@@ -22,12 +22,12 @@ def json_text(value):
 
 
 def told(value):
-    """The answer that tells a value."""
+    """The answer with a value."""
     return json_text({"ok": True, "value": value}).encode()
 
 
 def refused(refusal):
-    """The answer that tells a refusal."""
+    """The answer with a refusal."""
     return json_text({"code": refusal.code, "error": ERRORS[refusal.code], **refusal.told}).encode()
 
 

@@ -1,7 +1,7 @@
-"""Files in which somebody changed rows of an office: the program opens them, or refuses them, as the plain model says.
+"""Files in which somebody changed rows of an office: the program opens or refuses them, as the plain model says.
 
-    files       databases that SQLite writes and reads, and what each subcommand has to say of one
-    drawn       offices with rows that are changed, dropped or added as it is drawn
+    files       databases that SQLite writes and reads, and what each subcommand has to print for one
+    drawn       offices with rows that are changed, dropped or added at random
     faults      one change for each thing that an opening looks at, in the order in which it is judged
-    pairs       each of these changes alone, and each two of them together: the earlier one is told
+    pairs       each of these changes alone, and each two of them together: the earlier one is reported
 """

@@ -1,4 +1,9 @@
-"""Offices with rows that are changed, dropped or added as it is drawn: the program says of each what the model says."""
+"""Random offices of both versions with up to three random changes: the program gives each the answer that the model gives.
+
+Rows are dropped, added, doubled, values changed or spoilt, limits exceeded, tables and columns missing: in the tables of an
+office, or in others without types and keys, with their columns in another order. Each file is also migrated, and if the tables
+are an office's own, lines are replayed over it.
+"""
 
 import os
 import random
@@ -13,18 +18,18 @@ from program.offices import Office, read_rows, same_rows
 
 from .files import judged, loose, read, statements_of, told_of_good, told_of_migration, told_of_refused, write
 
-# So many files there are, in so many jobs, and by `--long`.
+# How many files there are, and with `--long`; and how many jobs.
 FILES, MORE_FILES = 500, 20_000
 JOBS = 4
 
-# An office is made by so many drawn lines, and at most so many changes are made of its rows.
+# The range of how many random lines make an office, and the most changes of its rows.
 LINES = (20, 240)
 CHANGES = 3
 
-# Behind a file that is opened and whose tables are those of an office so many lines are replayed.
+# How many lines are replayed over a file that is opened and whose tables are those of an office.
 REPLAYED = 12
 
-# Values that stand in no office.
+# Values that no office has.
 ODD_TEXTS = ["", "n" * 65, "a\tb", "\x7f", "\udcff", "\udced\udca0\udc80", "a\x00b"]
 ODD_NUMBERS = [-1, 0, 9, 257, 4_294_967_295, 4_294_967_296, 2**63 - 1, -(2**63)]
 ODD_TYPES = [None, 2.0, "2", b"ann", 7]
@@ -39,7 +44,7 @@ PARTS = {
 
 
 def names_of(tables):
-    """The names of each kind that stand in the tables."""
+    """The names of each kind in the tables."""
     found = {kind: set() for kind in "uropsxy"}
     for table, kinds in PARTS.items():
         for kind, *parts in tables[table]:
@@ -49,7 +54,7 @@ def names_of(tables):
 
 
 class Changes:
-    """Draws changes of the rows of an office. `tables` are its rows, `draws` the numbers."""
+    """Makes random changes of the rows of an office. `tables` are its rows, `draws` the random numbers."""
 
     def __init__(self, tables, draws):
         self.tables = {table: list(some) for table, some in tables.items()}
@@ -67,21 +72,21 @@ class Changes:
         return table, self.draws.randrange(len(self.tables[table]))
 
     def name(self, sort):
-        """A name of a kind that stands in the tables; now and then one that stands nowhere."""
+        """A name of a kind in the tables; now and then another one."""
         return self.draws.choice(self.names[sort] or ["new"]) if self.draws.randrange(20) else "new"
 
     def drop(self):
-        """A row goes."""
+        """Removes a row."""
         table, at = self.place()
         del self.tables[table][at]
 
     def twin(self):
-        """A row stands twice."""
+        """Doubles a row."""
         table, at = self.place()
         self.tables[table].append(self.tables[table][at])
 
     def change(self):
-        """A value of a row becomes another name, number, or something that stands in no office."""
+        """Changes a value of a row to another name, number, or something that no office has."""
         table, at = self.place()
         row = list(self.tables[table][at])
         column = self.draws.randrange(len(row))
@@ -92,7 +97,7 @@ class Changes:
         self.tables[table][at] = tuple(row)
 
     def spoil(self):
-        """A value of a row becomes one that stands in no office."""
+        """Changes a value of a row to one that no office has."""
         table, at = self.place()
         row = list(self.tables[table][at])
         column = self.draws.randrange(len(row))
@@ -101,7 +106,7 @@ class Changes:
         self.tables[table][at] = tuple(row)
 
     def add(self):
-        """A row comes whose names stand in the office, most of them."""
+        """Adds a row, most of whose names the office has."""
         table = self.draws.choices(["pair_row", "locked_row", "set_row", "grant_row"], [9, 3, 1, 1])[0]
         if table == "locked_row" and table in self.tables:
             self.tables[table].append((self.name("u"),))
@@ -153,7 +158,7 @@ class Changes:
             self.tables["pair_row"].append((opening.SESSION, session, self.name("u")))
 
     def overflow(self):
-        """So many of a kind that its limit is reached or passed, by names that are there."""
+        """Adds rows of a kind, with names of the office, until its limit is reached or exceeded."""
         version = self.tables["meta_row"][0][1] if self.tables["meta_row"] else 2
         kind = self.draws.choice(["role", "ssdSet", "dsdSet"])
         count = LIMITS[kind][version != 1] + self.draws.randrange(2)
@@ -163,7 +168,7 @@ class Changes:
             self.tables[table].append((number, f"more {one}") if kind == "role" else (number, f"more {one}", 2))
 
     def retag(self):
-        """The row of the version says something else, or another one stands beside it."""
+        """Changes the row of the version, or adds another one."""
         row = (self.draws.choice(["rbac", "RBAC", "x"]), self.draws.choice([1, 2, 3, 0, -7, "two", 2.0, None]))
         if self.draws.randrange(2) and self.tables["meta_row"]:
             self.tables["meta_row"][0] = row
@@ -171,7 +176,7 @@ class Changes:
             self.tables["meta_row"].append(row)
 
 
-# How often each change is drawn.
+# How often each change is chosen.
 WEIGHTS = {
     "drop": 3,
     "twin": 1,
@@ -187,7 +192,7 @@ WEIGHTS = {
 
 
 def drawn_tables(draws, seed, version):
-    """The rows of a drawn office, some of them changed."""
+    """The rows of a random office, some of them changed."""
     lines = Draws(seed)
     lines.replay.state = State(version=version)
     for _ in range(draws.randrange(*LINES)):
@@ -223,7 +228,7 @@ def loosened(draws, tables):
 
 
 def word_of(answer):
-    """How an answer is counted: its code, with the check where it has one."""
+    """How an answer is counted: its code, with its check if it has one."""
     return "good" if answer is None else answer.decode()
 
 
@@ -242,7 +247,7 @@ def replayed_on(bench, what, path, state, seed):
 
 
 def try_file(bench, statements, seed):
-    """One file: the tables of an office, or loose ones, with drawn rows. Gives what the model says of it."""
+    """One file: the tables of an office, or loose ones, with random rows. Returns what the model says of it."""
     draws = random.Random(seed)
     version = draws.choice([1, 2, 2])
     tables, path = drawn_tables(draws, seed, version), bench.path("office")
@@ -267,7 +272,7 @@ def try_file(bench, statements, seed):
 
 
 def try_files(bench, first, count):
-    """So many files from this seed on."""
+    """This many files from this seed on."""
     statements = statements_of(Office(bench, "new").path)
     os.remove(bench.path("new"))
     counts = Counter(try_file(bench, statements, seed) for seed in range(first, first + count))

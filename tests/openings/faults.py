@@ -21,8 +21,8 @@ NO_NAMES = ["", "n" * 65, "\u00e9" * 33, "a\tb", "\x00", "\x1f", "\x7f", "\udcff
 class Fault:
     """A change, its place in the order, and the refusal that it leads to.
 
-    `rows` are those that are added, by their tables. Where `drops` is a table it goes, or the column of it that `lacks`
-    names. `tag` takes the place of the tag of the version's row. `versions` are those in which there is this fault.
+    `rows` are those that are added, by their tables. If `drops` is a table it is dropped, or the column of it that `lacks`
+    names. `tag` replaces the tag of the version's row. `versions` are those in which there is this fault.
     """
 
     name: str
@@ -104,7 +104,7 @@ def untyped():
 
 
 def unnamed():
-    """Texts that are no names, at each place."""
+    """Invalid names, at each place."""
     for table, row in rows_of_kinds("named"):
         for at, value in enumerate(row):
             for other in NO_NAMES if isinstance(value, str) else []:
@@ -114,7 +114,7 @@ def unnamed():
 
 
 def twice():
-    """Rows whose key stands twice."""
+    """Rows with the same key."""
     for table, row in rows_of_kinds("twice"):
         yield Fault(f"{row} twice", KEYS, damaged(1), {table: [row, row]}, versions=versions_of(table))
         if table == "set_row":
@@ -123,7 +123,7 @@ def twice():
 
 
 def crowds(most):
-    """For each kind of which there may be so many: its rows, one too many."""
+    """For each kind with a limit: its rows, one too many."""
     more = most + 1
     ones = [f"one {number}" for number in range(150)]
     both = list(islice(product(ones, ones), more))

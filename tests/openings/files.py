@@ -1,4 +1,4 @@
-"""Databases that SQLite writes and reads, and what the program has to say of one."""
+"""Databases that SQLite writes and reads, and what the program has to print for one."""
 
 import sqlite3
 from contextlib import closing
@@ -12,7 +12,7 @@ ADD_USER = b'{"fn":"addUser","user":"somebody"}\n'
 
 
 def is_utf_8(value):
-    """Whether a value is no text with halves of surrogate pairs, by which bytes stand that are no UTF-8."""
+    """Whether a value is no text with halves of surrogate pairs, which are bytes that aren't UTF-8."""
     try:
         str(value).encode()
     except UnicodeEncodeError:
@@ -21,7 +21,7 @@ def is_utf_8(value):
 
 
 def insert(base, table, columns, row):
-    """Puts a row into a table, unless the table refuses it."""
+    """Inserts a row into a table, unless the table refuses it."""
     holders = ", ".join("?" if is_utf_8(value) else "CAST(? AS TEXT)" for value in row)
     values = [value if is_utf_8(value) else value.encode("utf-8", "surrogateescape") for value in row]
     try:
@@ -31,7 +31,7 @@ def insert(base, table, columns, row):
 
 
 def insert_all(base, table, columns, rows):
-    """Puts rows into a table, each unless the table refuses it."""
+    """Inserts rows into a table, each unless the table refuses it."""
     for row in rows:
         insert(base, table, columns, row)
 
@@ -48,8 +48,8 @@ def loose(table, columns):
 
 
 def write(path, statements, tables, after=()):
-    """Writes a database: tables that these statements make, the rows that they take of those that are given, and what
-    the statements `after` make of all that.
+    """Writes a database: the tables that these statements make, those of the rows that they accept, and what the statements
+    `after` make of all that.
     """
     with closing(sqlite3.connect(path, isolation_level=None)) as base:
         base.execute("PRAGMA synchronous = OFF")
@@ -96,7 +96,7 @@ def line_of(answer):
 
 
 def told_of_good(bench, what, path, state):
-    """Counts whether the program tells of a file what the model tells of the state, and changes nothing."""
+    """Counts whether the program prints for a file what the model prints for the state, and changes nothing."""
     for word, text in [("check", b"good\n"), ("report", report(state)), ("export", export(state))]:
         bench.ends([word, path], text, keeps=True, what=f"{word}: {what}")
 
@@ -108,7 +108,7 @@ def told_of_refused(bench, what, path, answer, words=("check", "replay")):
 
 
 def told_of_migration(bench, what, path, tables):
-    """Counts whether a file is taken into version 2, or refused and kept, as the model says of its tables."""
+    """Counts whether a file is migrated to version 2, or refused and kept, as the model says of its tables."""
     state, answer = judged(opening.migrated_state, tables)
     if answer:
         told_of_refused(bench, what, path, answer, ["migrate"])

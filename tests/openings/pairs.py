@@ -1,4 +1,4 @@
-"""Each fault of an office alone, and each two of them together: the one that is judged first is told."""
+"""Each fault of an office alone, and each two of them together: the one that is judged first is reported."""
 
 import os
 from itertools import combinations
@@ -11,11 +11,11 @@ from program.offices import SMALL
 from .faults import all_faults
 from .files import judged, loose, read, told_of_refused, write
 
-# The faults are shared by so many jobs. Of those that are judged at one place so many go into pairs, and by `--long`.
+# How many jobs share the faults. How many of those that are judged at one place go into pairs, and with `--long`.
 JOBS = 4
 OF_A_PLACE, MORE_OF_A_PLACE = 1, 6
 
-# Faults of more rows go into pairs by `--long` alone.
+# Faults of more rows go into pairs with `--long` only.
 MOST_ROWS = 2_100
 
 
@@ -46,7 +46,7 @@ def faulty_tables(state, faults):
 
 
 def try_faults(bench, state, faults, words):
-    """One office with these faults, in the order in which they are judged: model and program tell the first."""
+    """One office with these faults, in the order in which they are judged: model and program report the first."""
     tables, after = faulty_tables(state, faults)
     statements = [loose(table, opening.COLUMNS[table]) for table in tables]
     path = bench.path("office")
@@ -72,7 +72,7 @@ def count_rows(fault):
 
 
 def some_of_each_place(faults, most):
-    """So many of the faults that are judged at one place at most, spread evenly."""
+    """At most this many of the faults that are judged at one place, spread evenly."""
     places = {}
     for fault in faults:
         places.setdefault(fault.place, []).append(fault)

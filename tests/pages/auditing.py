@@ -34,11 +34,11 @@ def check_length(bench):
 
 
 def check_tools(bench):
-    """The page names each tool and no other, and each view that tools/office.sql has for questions of one's own."""
+    """The page names each tool and no other, and the views that it names are those of tools/rows.sql."""
     named = set(re.findall(r"tools/(\w+\.\w+)", PAGE))
     bench.same("the tools", sorted(named), sorted(path.name for path in TOOLS.iterdir() if path.is_file()))
     own = markdown.section(PAGE, "## 4. Your own questions").split("```")[0]
-    made = re.findall(r"^CREATE TEMP (?:VIEW|TABLE) (\w+)", (TOOLS / "office.sql").read_text(encoding="utf-8"), re.M)
+    made = re.findall(r"^CREATE TEMP (?:VIEW|TABLE) (\w+)", (TOOLS / "rows.sql").read_text(encoding="utf-8"), re.M)
     views = set(re.findall(r"`(\w+)`", own))
     bench.same("views that are not there", sorted(views - set(made)), [])
     bench.same("views are named", bool(views), True)

@@ -1,4 +1,4 @@
-"""What the sources say of the command line: its commands, their words, and the numbers among these."""
+"""What the sources say of the command line: its commands, their arguments, and the numbers among these."""
 
 import re
 
@@ -20,7 +20,7 @@ def functions():
 
 
 def argument(body):
-    """How an argument stands in a command line."""
+    """How an argument is written in a command line."""
     (name,) = re.findall(r'Arg::new\(alloc, "(\w+)"\)', body)
     if f'.long("{name}")' not in body:
         return name
@@ -28,7 +28,7 @@ def argument(body):
 
 
 def forms():
-    """The forms of the command line, in their order: a command with its words. A replay has one form for each office."""
+    """The forms of the command line, in their order: a command with its arguments. A replay has one form for each office."""
     bodies, lines = functions(), []
     for caller in ("first_three", "first_six", "program_command"):
         made = re.findall(r'let (\w+) = (\w+)\(alloc(?:, "(\w+)")?\)\?;', bodies[caller])
@@ -41,7 +41,7 @@ def forms():
 
 
 def options():
-    """The options of the command line, as they stand in it."""
+    """The options of the command line, as they are written in it."""
     told = [argument(body) for name, body in functions().items() if "Arg::new" in body]
     return [option for option in told if option.startswith("--")]
 

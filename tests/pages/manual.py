@@ -79,17 +79,28 @@ def check_rendered(bench):
 
 
 def check_name(bench):
-    """apropos finds the page, by its own reader of the section NAME if that is there."""
+    """apropos finds the page, in a list of pages that mandb makes of it, if both are there."""
     (line,) = section("NAME")
     name, says = line.split(r" \- ")
     bench.same("the name", name, "rbac")
     for word in ("role", "access"):
-        bench.same(f"apropos finds {word}", bool(re.search(rf"\b{word}\b", says)), True)
-    if not shutil.which("lexgrog"):
-        print("manual: lexgrog is not there: what apropos reads is not compared")
+        bench.same(f"{word} is in the line", bool(re.search(rf"\b{word}\b", says)), True)
+    if not (shutil.which("mandb") and shutil.which("apropos")):
+        print("manual: mandb or apropos is not there: what apropos finds is not compared")
         return
-    done = subprocess.run(["lexgrog", str(PATH)], capture_output=True, text=True, check=False)
-    bench.same("what lexgrog reads", done.stdout.partition(": ")[2], f'"{name} - {says}"\n')
+    pages = bench.folder / "pages"
+    (pages / "man1").mkdir(parents=True)
+    shutil.copy(PATH, pages / "man1")
+    run(["mandb", "--create", "--quiet", str(pages)])
+    for word in ("role", "access", name):
+        found = run(["apropos", "--long", "--manpath", str(pages), word])
+        bench.same(f"what apropos finds for {word}", re.sub(" +", " ", found), f"{name} (1) - {says}\n")
+    bench.same("what apropos finds for another word", run(["apropos", "--manpath", str(pages), "zebra"]), "")
+
+
+def run(words):
+    """What a command prints."""
+    return subprocess.run(words, capture_output=True, text=True, stdin=subprocess.DEVNULL, check=False).stdout
 
 
 def check_macros(bench):

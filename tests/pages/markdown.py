@@ -23,12 +23,12 @@ def page(name):
 
 
 def in_one_line(text):
-    """The words of a text with one space between them."""
+    """A text with one space between its words."""
     return " ".join(text.split())
 
 
 def section(text, heading):
-    """What stands below a heading, up to the next one that is as high or higher."""
+    """The text below a heading, up to the next one that is as high or higher."""
     level = len(heading.split()[0])
     pattern = rf"^{re.escape(heading)}\n(.*?)(?=^#{{1,{level}}} |\Z)"
     match = re.search(pattern, text, re.M | re.S)

@@ -12,13 +12,13 @@ from program import damaged
 from program.bench import PROGRAM, SECONDS
 from program.offices import change, changed, small_office
 from program.web import Server, free_port, post
+from tools.running import lines_of_damage, numbers_shown
 
 from . import command_line, markdown, sources
 from .shell import Shell, runs
 
 PAGE = markdown.page("OPERATING.md")
-CHECKS = markdown.section(PAGE, "## 5. What `check` tells")
-QUERIES = markdown.DOCS / "damage.sql"
+CHECKS = markdown.section(PAGE, "## 5. What `check` reports")
 
 # Each damage of the small office with the statements that make it.
 DAMAGES = {**damaged.DAMAGES, **damaged.LOCKS}
@@ -29,15 +29,11 @@ OPENING = [40, 41, 50, 51, 32, 52]
 # So many lines the page may have at most.
 MOST_LINES = 350
 
+# The commands are for files on a disk.
+ON_DISK = True
+
 # The user as whom a cause is tried that root does not meet.
 NOBODY = ["setpriv", "--reuid=65534", "--regid=65534", "--clear-groups"]
-
-
-def shown_by(path):
-    """The rows at fault that the queries show of an office: lines, the first part of each the check."""
-    words = ["sqlite3", path]
-    done = subprocess.run(words, input=QUERIES.read_bytes(), capture_output=True, timeout=SECONDS, check=False)
-    return done.stdout.decode().splitlines(), done.stderr.decode()
 
 
 def told_check(bench, path):
@@ -180,18 +176,16 @@ def check_lines(bench):
 
 def check_damages(bench):
     """The queries show nothing of a good office, and of each damage a row with the check that fails."""
+    bench.same("the page names them", "`sqlite3 copy < tools/damage.sql`" in markdown.in_one_line(PAGE), True)
     office = small_office(bench)
-    bench.same("what is shown of a good office", shown_by(office.path), ([], ""))
+    bench.same("what is shown of a good office", lines_of_damage(office.path), ([], ""))
     for name, (check, damage) in DAMAGES.items():
         with changed(office, damage) as path:
-            lines, faults = shown_by(path)
-            shown = {int(line.partition("|")[0]) for line in lines}
-            bench.same(f"{name}: check {check} is shown", (check in shown, faults), (True, ""))
+            shown, faults = numbers_shown(path)
+            bench.same(f"{name}: check {check} is shown", (str(check) in shown, faults), (True, ""))
     bench.same("damages of each check are tried", {check for check, _ in DAMAGES.values()}, set(sources.checks()))
     office.become_version_1()
-    lines, faults = shown_by(office.path)
-    refused = "no such table: locked_row"
-    bench.same("what is shown of version 1", (lines, faults.count(refused)), ([], len(faults.splitlines())))
+    bench.same("what is shown of version 1", lines_of_damage(office.path), ([], ""))
 
 
 def check_repairs(bench):
@@ -292,7 +286,8 @@ def check_causes(bench):
     _, rows, _ = markdown.tables(CHECKS.replace("\\|", "\0"))
     rows = [[cell.replace("\0", "|").strip("`") for cell in row] for row in rows]
     bench.same("the causes", len(rows), len(CAUSES))
-    bench.folder.chmod(0o755)
+    for folder in (bench.folder, bench.folder.parent):
+        folder.chmod(0o755)
     program = bench.path("rbac")
     shutil.copy(PROGRAM, program)
     bench.run(["init", bench.path("rbac.office")])

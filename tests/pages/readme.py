@@ -1,4 +1,7 @@
-"""The first page: its commands print what it says, and its tables have each crate, its contracts and what is trusted."""
+"""The first page: its commands print what it says, its limits and figures are those of the sources and the benchmarks.
+
+With it the table of docs/ARCHITECTURE.md that has each crate with its contracts.
+"""
 
 import re
 
@@ -7,7 +10,8 @@ from .shell import Shell
 
 ROOT = sources.ROOT
 PAGE = (ROOT / "README.md").read_text(encoding="utf-8")
-CONTRACTS = markdown.page("CONTRACTS.md")
+CONTRACTS, ARCHITECTURE = markdown.page("CONTRACTS.md"), markdown.page("ARCHITECTURE.md")
+BENCHMARKS = (ROOT / "bench/README.md").read_text(encoding="utf-8")
 
 # So many lines the page may have at most, and its first text.
 MOST_LINES = 120
@@ -16,6 +20,14 @@ MOST_FIRST = 5
 # The pages of which each path and each link has to lead somewhere.
 LINKED = ["README.md", "CHANGELOG.md", "CONTRIBUTING.md", "SECURITY.md"]
 LINKED += [f"docs/{name}.md" for name in ("API", "AUDITING", "CONTRACTS", "INTEGRATING", "OPERATING")]
+
+# The folders of the repository that pages name.
+FOLDERS = "bench bin clients completions crates deploy docs examples tests tools".split()
+
+# What decides in the first row of the table of speed, and the commands of one row, as the benchmarks name them.
+DECIDING = ["check_access", "plain Rust, the same tests", "SQLite, a stored closure"]
+DECIDING += ["PostgreSQL, pg_has_role", "PostgreSQL, a stored closure", "Casbin, Enforce"]
+ROWS = ("addUser", "assignUser")
 
 # Crates that prove nothing by themselves.
 UNPROVED = {"rbac", "memory_calls", "wire_calls", "office_calls", "cli_calls"}
@@ -49,23 +61,65 @@ def check_two_commands(bench):
 
 
 def check_first_minutes(bench):
-    """The commands of the first minutes print what the page says."""
-    text = markdown.section(PAGE, "## The first minutes")
-    making, asking, looking = ["\n".join(block) for block in markdown.blocks(text, "sh")]
-    (shown,) = markdown.blocks(text, "text")
-    done, listening, told = re.findall(r"`([^`]*)`", re.sub(r"```.*?```", "", text, flags=re.S))[:3]
-    count = len(re.findall(r"^\{", making, re.M))
+    """The commands of the five minutes print what the page says."""
+    text = markdown.section(PAGE, "## Five minutes to a checked decision")
+    serving, asking, refused = ["\n".join(block) for block in markdown.blocks(text, "sh")]
+    outside = re.sub(r"```.*?```", "", text, flags=re.S)
+    listening, first, second, refusal, ending, checking, good = re.findall(r"`([^`]*)`", outside)[:7]
+    for name in ("clients", "examples"):
+        (bench.folder / name).symlink_to(ROOT / name)
     with Shell(bench) as reader:
-        reader.shows(making, f"{done}\n" * count + f"{listening}\n")
-        reader.shows(asking, told)
-        reader.waits()
-        reader.shows(looking, "".join(f"{line}\n" for line in shown))
+        reader.shows(serving, f"{listening}\n")
+        reader.shows(asking, f"{first}\n{second}\n")
+        reader.shows(refused, refusal)
+        reader.shows(f"{ending}; wait $! 2> /dev/null", "")
+        reader.shows(checking, f"{good}\n")
+
+
+def check_limits(bench):
+    """The limits that the page begins with are those of the sources."""
+    most = {kind: f"{number:,}" for kind, (number, _) in sources.limits().items()}
+    said = f"at most {most['user']} users, {most['role']} roles and {most['session']} sessions"
+    bench.same(f"the page says: {said}", said in markdown.in_one_line(PAGE), True)
+
+
+def cell(section, row, column, table=0):
+    """The number in a cell of a table of bench/README.md: by the text of its first cell, and the place of its column."""
+    rows = markdown.tables(markdown.section(BENCHMARKS, f"## {section}"))[table]
+    (found,) = [cells for cells in rows if cells[0].replace("`", "") == row]
+    return float(found[column].replace(",", ""))
+
+
+def figures():
+    """The numbers of each row of the table of speed, as the benchmarks have them, in the units of the row."""
+    cases = markdown.tables(markdown.section(BENCHMARKS, "## access"))[1]
+    slowest = max((float(row[1]), row[0].strip("`")) for row in cases)
+    yield [cell("access", name, 1) / 1000 for name in DECIDING]
+    yield [cell("replay", "access", 4), cell("replay", "access", 5)]
+    yield [cell("http", "checkAccess, allowed", 2), cell("http", "checkAccess, allowed", 3)]
+    yield [slowest[0], cell("access", slowest[1], 3, 1)]
+    yield [*sorted(cell("tables", name, 3) for name in ROWS), *sorted(cell("tables", name, 5) for name in ROWS)]
+    yield [cell("tables", "addInheritance, joining them", column) / 1000 for column in (3, 5)]
+    yield [cell("tables", *at) / 1000 for at in (("connection", 3), ("open", 3), ("open", 5))]
+
+
+def check_speed(bench):
+    """The numbers of the table of speed are those of bench/README.md, rounded to two digits."""
+    (table,) = markdown.tables(markdown.section(PAGE, "## Speed"))
+    for row, wanted in zip(table, figures(), strict=True):
+        said = [float(number.replace(",", "")) for number in re.findall(r"\d[\d,]*(?:\.\d+)?", " ".join(row[1:]))]
+        bench.same(f"the figures of {row[0]}", said, [float(f"{number:.2g}") for number in wanted])
+    rate = float(f"{cell('http', 'checkAccess, allowed', 2):.2g}")
+    for name, words in (
+        ("OPERATING.md", f"makes {rate:,.0f} decisions a second"),
+        ("INTEGRATING.md", f"A decision takes {1000 / rate:.1f} ms over HTTP"),
+    ):
+        bench.same(f"{name} says: {words}", words in markdown.in_one_line(markdown.page(name)), True)
 
 
 def check_crates(bench):
-    """The table of what is proved has each crate, with contracts that stand in the files that it names."""
-    (table,) = markdown.tables(markdown.section(PAGE, "## What is proved"))
-    rows = {row[0].strip("`"): row[1:] for row in table}
+    """The table of what is proved has each crate, with contracts that are in the files that it names."""
+    rows = {row[0].strip("`"): row[1:] for row in proved()}
     bench.same("the crates", sorted(rows), sorted(crates()))
     for crate, (says, contracts, files) in rows.items():
         bench.same(f"something is said of {crate}", bool(says), True)
@@ -77,10 +131,15 @@ def check_crates(bench):
         bench.same(f"whether {crate} has contracts", bool(named), crate not in UNPROVED)
 
 
+def proved():
+    """The rows of the table of what is proved of each crate."""
+    (table,) = markdown.tables(markdown.section(ARCHITECTURE, "## What is proved of each crate"))
+    return table
+
+
 def check_contracts(bench):
-    """The page of the contracts has a part for each crate that proves something, in the order of the table here."""
-    (table,) = markdown.tables(markdown.section(PAGE, "## What is proved"))
-    wanted = [row[0].strip("`") for row in table]
+    """The page of the contracts has a part for each crate that proves something, in the order of that table."""
+    wanted = [row[0].strip("`") for row in proved()]
     parts = re.findall(r"^\*\*(\w+)\*\*", markdown.section(CONTRACTS, "## What is proved, by which contract"), re.M)
     bench.same("the parts of the contracts", parts, [name for name in wanted if name not in UNPROVED])
 
@@ -89,9 +148,9 @@ def check_trusted(bench):
     """The libraries whose contracts are trusted are those that the crates stand on, here and on the page of contracts."""
     own = crates()
     libraries = {name.partition("_")[0] if name.startswith("sqlite_") else name for words in own.values() for name in words}
-    for name, text in (("README.md", PAGE), ("CONTRACTS.md", CONTRACTS)):
-        said = set(re.findall(r"`(\w+)`", markdown.section(text, "## What is trusted")))
-        bench.same(f"what {name} trusts", sorted(said), sorted(libraries - set(own)))
+    (here,) = re.findall(r"^\*\*Trusted\*\*: (.*?)\n\n", PAGE, re.M | re.S)
+    for name, text in (("README.md", here), ("CONTRACTS.md", markdown.section(CONTRACTS, "## What is trusted"))):
+        bench.same(f"what {name} trusts", sorted(set(re.findall(r"`(\w+)`", text))), sorted(libraries - set(own)))
 
 
 def check_places(bench):
@@ -101,6 +160,6 @@ def check_places(bench):
         folder = (ROOT / name).parent
         links = re.findall(r"\]\(([^):#]+)\)", text)
         bench.same(f"links of {name} to nothing", [link for link in links if not (folder / link).exists()], [])
-        paths = re.findall(r"(?<![\w/.])(?:bench|bin|crates|deploy|docs|examples|tests|tools|\.ci)/[\w./-]*", text)
+        paths = re.findall(rf"(?<![\w/.])(?:{'|'.join(FOLDERS)}|\.ci)/[\w./-]*", text)
         paths = [path.rstrip(".") for path in paths if "NAME" not in path]
         bench.same(f"paths of {name} to nothing", [path for path in paths if not (ROOT / path).exists()], [])

@@ -10,10 +10,10 @@ import time
 from program.bench import PROGRAM, SECONDS
 from program.web import free_port
 
-# The port that the pages name. A free one stands in its place.
+# The port that the pages name. A free one replaces it.
 PORT = "8080"
 
-# By this byte the shell tells that what was typed has ended.
+# The shell prints this byte when what was typed has ended.
 END = b"\0"
 
 
@@ -57,7 +57,7 @@ class Shell:
         return text.replace(PORT, self.port)
 
     def type(self, text, lines=0):
-        """What the shell prints until what is typed has ended, and until it has so many lines."""
+        """What the shell prints until what is typed has ended, and until it has this many lines."""
         self.process.stdin.write(f"{self.here(text)}\nprintf '\\0'\n".encode())
         self.process.stdin.flush()
         said, deadline = b"", time.monotonic() + SECONDS
@@ -81,7 +81,7 @@ class Shell:
         self.shows("wait", "")
 
     def console(self, lines):
-        """Counts whether each command of a block prints what stands below it, and what runs in the background ends."""
+        """Counts whether each command of a block prints the lines below it, and what runs in the background ends."""
         for command, shown in runs(lines):
             self.shows(command, shown)
         self.waits()

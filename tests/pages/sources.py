@@ -11,7 +11,7 @@ ROOT = TESTS.parent
 STATUSES = {phrase.upper().replace(" ", "_"): number for number, phrase in PHRASES.items()}
 STATUSES["SERVICE_UNAVAILABLE"] = 503
 
-# Where a status is given to a reply.
+# The files that give a status to a reply.
 REPLYING = [
     "role_http/src/answer.rt",
     "role_http/src/judge.rt",
@@ -20,7 +20,7 @@ REPLYING = [
     "role_wire/src/serving.rt",
 ]
 
-# The sizes that a request may have at most: where each stands, and its name there.
+# The greatest sizes of a request: the file of each, and its name there.
 SIZES = {
     "bytes of a line, its LF not counted": ("role_wire/src/lines.rt", "LONGEST_LINE"),
     "bytes of a body of JSON": ("role_http/src/judge.rt", "MOST_JSON"),
@@ -43,7 +43,7 @@ def source(path):
 
 
 def found(pattern, path, flags=re.M):
-    """All that a pattern finds in a source, which is something."""
+    """All that a pattern finds in a source; it has to find something."""
     matches = re.findall(pattern, source(path), flags)
     if not matches:
         raise ValueError(f"in {path} nothing is found by {pattern}")
@@ -60,7 +60,7 @@ def functions():
 
 
 def standard_names():
-    """What each function is named in the standard, or an empty text where it isn't there."""
+    """What each function is named in the standard, or an empty text if it isn't there."""
     pattern = r"^    /// (?:(\w+): )?.*\n(?:    /// .*\n)*    (\w+),$"
     named = {variant: name for name, variant in found(pattern, "role_json/src/function.rt")}
     return {name: named[variant] for variant, name in functions().items()}
@@ -105,7 +105,7 @@ def question_keys():
 
 
 def values():
-    """What each function tells: the name of its variant of an answer, or how a command is answered."""
+    """What each function answers: the name of its variant of an answer, or how a command is answered."""
     names = functions()
     pattern = r"Query::(\w+)(?: \{[^}]*\})? => .*?\.map\(\s*Answer::(\w+)"
     told = {names[variant]: sort for variant, sort in found(pattern, "review_mgr/src/asking.rt", re.S)}
@@ -115,7 +115,7 @@ def values():
 
 
 def refusals():
-    """The name of each refusal by its code, with the key that comes with it, or an empty text."""
+    """The name of each refusal by its code, with the key that its answer has besides, or an empty text."""
     names = dict(found(r'Refusal::(\w+)(?:\(_\))? => "(\w+)",', "rbac_sets/src/refusal.rt"))
     further = {}
     pattern = r'((?:Refusal::\w+\(\w+\)(?: \| )?)+) => (?:\{\s+)?Ok\(Some\(\(\s*"(\w+)"'
@@ -142,7 +142,7 @@ def limits():
 
 
 def sizes():
-    """The sizes that a request may have at most, by their words."""
+    """The greatest sizes of a request, by what they are of."""
     told = {}
     for words, (path, name) in SIZES.items():
         (number,) = found(rf"const {name}: \w+ = ([\d_]+);", path)
@@ -163,7 +163,7 @@ def statuses():
 
 
 def codes_by_status(met):
-    """The codes that are told by each status. Of those that functions meet, what no arm names are conflicts."""
+    """The codes that are answered with each status. Of those that functions meet, what no arm names are conflicts."""
     told = {}
     for codes, name in found(r"^ +(\d[\d |]*) => StatusCode::(\w+),", "role_http/src/status.rt"):
         told[STATUSES[name]] = {int(code) for code in codes.split(" | ")}

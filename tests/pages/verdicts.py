@@ -12,7 +12,7 @@ from . import sources
 FOLDERS = ["admin_mgr/src/judge", "review_mgr/src/review"]
 FILES = ["review_mgr/src/access.rt", "role_csv/src/reading.rt"]
 
-# What stands in the body of a function that refuses: a refusal, with its kind; a violated set; a name that is read; or a
+# What the body of a function that refuses has: a refusal, with its kind; a violated set; a name that is read; or a
 # call that may refuse, with what it is handed.
 STEP = re.compile(
     r"Refusal::(?P<name>\w+)(?:\((?:Kind::)?(?P<kind>\w+)\))?"
@@ -41,7 +41,7 @@ def duties():
 
 
 class Judging:
-    """The functions that judge, with the names of refusals and kinds as they are told."""
+    """The functions that judge, with the names of refusals and kinds as they are answered."""
 
     def __init__(self):
         self.known = bodies()
@@ -99,6 +99,6 @@ def reading_of_csv():
 
 
 def codes_by_status():
-    """The codes that are told by each status of HTTP. Of those that functions meet, what no status names are conflicts."""
+    """The codes that are answered with each status of HTTP. Of those that functions meet, what no status names are conflicts."""
     met = {int(word.split(":")[0]) for words in refusals().values() for word in words}
     return sources.codes_by_status(met)

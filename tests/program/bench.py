@@ -1,4 +1,4 @@
-"""Runs the program, and compares what it says, how it ends and which files it leaves."""
+"""Runs the program, and compares what it prints, how it ends and which files it leaves."""
 
 import os
 import stat
@@ -13,7 +13,7 @@ SECONDS = 60
 
 @dataclass(frozen=True)
 class Done:
-    """What a run said on its two outputs, and its status."""
+    """What a run printed on its two outputs, and its status."""
 
     out: bytes
     err: bytes
@@ -27,7 +27,7 @@ def shown(text):
 
 
 def sort_of(path):
-    """The bytes of a file; what else stands at a path is told by a word."""
+    """The bytes of a file; a word for what else is at a path."""
     mode = path.lstat().st_mode
     if stat.S_ISREG(mode):
         return path.read_bytes()
@@ -35,7 +35,7 @@ def sort_of(path):
 
 
 class Bench:
-    """A folder to work in, the count of what was as it should be, and the faults that were found."""
+    """A folder to work in, the count of what was as it should be, and the failures."""
 
     def __init__(self, folder):
         self.folder = folder
@@ -47,7 +47,7 @@ class Bench:
         return str(self.folder / name)
 
     def contents(self):
-        """What stands in the folder, by its name."""
+        """The contents of the folder, by their names."""
         return {path.name: sort_of(path) for path in self.folder.iterdir()}
 
     def write(self, name, content):
@@ -56,7 +56,7 @@ class Bench:
         return self.path(name)
 
     def judge(self, what, faults):
-        """Counts what was looked at: it passed where there are no faults."""
+        """Counts what was looked at: it passed if there are no failures."""
         if faults:
             self.faults.append(f"{what}: " + "; ".join(faults))
         else:
@@ -67,7 +67,7 @@ class Bench:
         self.judge(what, [] if given == wanted else [f"{shown(given)} and not {shown(wanted)}"])
 
     def run(self, words, given=b"", redirected=""):
-        """Runs the program with these words and this input. The shell redirects its streams as it is told."""
+        """Runs the program with these arguments and this input. A shell redirects its streams if `redirected` says how."""
         command = [PROGRAM, *words]
         if redirected:
             command = ["sh", "-c", f'exec "$@" {redirected}', "sh", *command]
@@ -79,7 +79,7 @@ class Bench:
     def ends(self, words, out=b"", err=b"", status=0, given=b"", redirected="", makes=(), keeps=False, what=""):
         """Runs the program, and counts whether all is as it should be.
 
-        That is both outputs and the status to the byte, and the folder: it holds what it held before and
+        That is both outputs and the status to the byte, and the folder: it has what it had before and
         what the run makes, and with `keeps` each file has the bytes that it had.
         """
         before = self.contents()
@@ -100,5 +100,5 @@ class Bench:
         self.judge(what or " ".join(["rbac", *map(os.path.basename, words), redirected]).strip(), faults)
 
     def refuses(self, words, line, **more):
-        """Counts whether the program ends with status 1, says this line on standard error, and keeps all files."""
+        """Counts whether the program ends with status 1, prints this line on standard error, and keeps all files."""
         self.ends(words, err=b"rbac: " + line + b"\n", status=1, keeps=True, **more)

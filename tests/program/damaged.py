@@ -5,7 +5,7 @@ from .offices import changed, damaged, small_office, told_of, version_refused
 
 
 def loose(table):
-    """The statements that make a table anew without its checks: a database that breaks one isn't opened at all."""
+    """The statements that make a table anew without its checks: a database that violates one isn't opened at all."""
     return [f"CREATE TABLE loose AS SELECT * FROM {table}", f"DROP TABLE {table}", f"ALTER TABLE loose RENAME TO {table}"]
 
 
@@ -71,7 +71,7 @@ TOO_MANY_ROLES = b'{"code":32,"error":"TooMany","kind":"role"}'
 
 
 def roles(count):
-    """The statement that adds so many roles."""
+    """The statement that adds this many roles."""
     return ["INSERT INTO name_row VALUES " + ", ".join(f"(2, 'r{number}')" for number in range(count))]
 
 
@@ -93,7 +93,7 @@ def check_damaged_version_1(bench):
 
 
 def check_too_many(bench):
-    """A limit that is passed is told before what is damaged; names and versions are judged before that."""
+    """A limit that is exceeded is reported before what is damaged; names and versions are judged before that."""
     office = small_office(bench)
     missing, no_name = DAMAGES["an assignment of a role that is not there"], DAMAGES["an empty name"]
     with changed(office, roles(1_022)) as path:

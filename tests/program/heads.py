@@ -1,4 +1,4 @@
-"""Requests over HTTP by which nothing is done: each status, byte for byte."""
+"""Requests over HTTP that are refused: each status, byte for byte."""
 
 from .offices import Office, small_office
 from .web import BAD_REQUEST, NO_FUNCTION, Server, head, post, reply

@@ -8,7 +8,7 @@ from machine.texts import report
 
 from .offices import STORE, Office, small_office
 
-# Two users and two roles that may not be had together, of which ann has one.
+# Two users and two roles that nobody may have both, of which ann has one.
 SEPARATED = b"""\
 {"fn":"addUser","user":"ann"}
 {"fn":"addUser","user":"bob"}
@@ -47,7 +47,7 @@ REFUSED = {
 
 
 def imports(office, text, name="records.csv"):
-    """Imports a text, and compares what is said with what the model says of it."""
+    """Imports a text, and compares what is printed with what the model says of it."""
     bench = office.bench
     path = bench.write(name, text)
     line = json.dumps({"fn": "importAssignments", "csv": text.decode()}).encode()
@@ -60,7 +60,7 @@ def imports(office, text, name="records.csv"):
 
 
 def check_import(bench):
-    """An import tells what it assigned, what was there already and what was refused, and so it does again."""
+    """An import reports what it assigned, what was assigned already and what was refused, and so it does again."""
     office = Office(bench)
     office.replay([SEPARATED])
     office.model.answer(b'{"fn":"assignUser","role":"clerk","user":"bob"}')
@@ -90,7 +90,7 @@ def check_odd_texts(bench):
 
 
 def check_drawn_texts(bench):
-    """Drawn texts are imported as by the model."""
+    """Random texts are imported as by the model."""
     draws = Draws(77)
     office = Office(bench)
     office.replay([draws.draw()[1] + b"\n" for _ in range(200)])
@@ -106,6 +106,24 @@ def check_most(bench):
     path = bench.write("records.csv", records.ljust(MOST_BYTES, b"\n"))
     told = b'{"ok":true,"value":{"already":%d,"assigned":1,"refused":[]}}\n' % (MOST_RECORDS - 1)
     bench.ends(["import", office.path, path], told)
+    office.model.answer(b'{"fn":"assignUser","role":"clerk","user":"ann"}')
+    office.told()
+
+
+def text_of_length(length):
+    """A text of so many bytes, with blank lines before its only record, which ends without a line feed."""
+    record = b"ann,clerk"
+    return b"user,role\n".ljust(length - len(record), b"\n") + record
+
+
+def check_longest(bench):
+    """A text of as many bytes as there may be is imported with the record in its last ones, and none of a byte more."""
+    office = small_office(bench)
+    path = bench.write("records.csv", text_of_length(MOST_BYTES + 1))
+    bench.refuses(["import", office.path, path], b'{"code":32,"error":"TooMany","kind":"byte"}')
+    office.told()
+    path = bench.write("records.csv", text_of_length(MOST_BYTES))
+    bench.ends(["import", office.path, path], b'{"ok":true,"value":{"already":0,"assigned":1,"refused":[]}}\n')
     office.model.answer(b'{"fn":"assignUser","role":"clerk","user":"ann"}')
     office.told()
 
@@ -154,7 +172,7 @@ def check_export_again(bench):
 
 
 def check_long_report(bench):
-    """The report of an office with many roles, one below the other, is that of the model."""
+    """The report of an office with many roles, each a junior of the one before, is that of the model."""
     office = Office(bench)
     lines = [{"fn": "addRole", "role": "r100"}]
     lines += [{"fn": "addDescendant", "asc": f"r{one}", "desc": f"r{one + 1}"} for one in range(100, 160)]

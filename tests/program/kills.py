@@ -1,4 +1,4 @@
-"""The program is killed: what it answered before is in the office afterwards."""
+"""The program is killed: what it acknowledged is in the office afterwards."""
 
 import os
 import shutil
@@ -15,12 +15,12 @@ from .bench import PROGRAM, SECONDS
 from .offices import NO_OFFICE, STORE, Office, rows_of, same_rows, told_of
 from .web import Server, post, reply
 
-# How often `init` is killed, after so many milliseconds more each time.
+# How often `init` is killed, and how many milliseconds later each time.
 INITS = 25
 
 
 def drawn_lines(seed, count):
-    """Drawn lines that have answers."""
+    """Random lines that have answers."""
     return [line + b"\n" for _, line, answer in draw_script(seed, count) if answer]
 
 
@@ -55,7 +55,7 @@ def start_replay(path, given):
 
 
 def check_killed_between_lines(bench):
-    """A replay is killed when it has answered so many lines: the office is the one after these."""
+    """A replay is killed when it has answered this many lines: the office is the one after these."""
     for count in (0, 1, 7, 150):
         office = Office(bench, "office")
         with start_replay(office.path, subprocess.PIPE) as process:
@@ -87,7 +87,7 @@ def check_killed_at_work(bench):
 
 
 def killed_after(bench, path, lines, count):
-    """The whole answers of a replay that is killed when so many were read."""
+    """The whole answers of a replay that is killed when this many were read."""
     script = bench.write("script", b"".join(lines))
     with open(script, "rb") as given, start_replay(path, given) as process:
         answers = [process.stdout.readline() for _ in range(count)]
@@ -112,7 +112,7 @@ def check_killed_server(bench):
 
 
 def check_killed_after_another(bench):
-    """A run that was refused, since a server has the file, takes nothing away of what that server writes then."""
+    """A run that was refused, since a server has the file, removes nothing of what that server writes then."""
     office = Office(bench)
     with Server(bench, office.path, 10) as server:
         for word in ("check", "init", "replay"):

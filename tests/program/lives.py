@@ -12,7 +12,7 @@ from machine.state import State
 from .bench import TESTS
 from .offices import STORE, Office, change, changed, read_rows, rows_of, small_office, told_of
 
-# Lives of an office, each of so many drawn lines.
+# How many runs an office has, and how many random lines each.
 LIVES = [1, 120, 40, 0, 90]
 SEEDS = range(1_000, 1_008)
 
@@ -113,7 +113,7 @@ def check_over_others(bench):
 
 
 def check_drawn_lives(bench):
-    """Drawn lines in several runs over one file are answered as by the model, with the same rows after each."""
+    """Random lines in several runs over one file are answered as by the model, with the same rows after each."""
     for seed in SEEDS:
         draws = Draws(seed)
         office = Office(bench, f"drawn-{seed}")
@@ -169,7 +169,7 @@ def check_written_by_others(bench):
 
 
 def check_log_of_others(bench):
-    """A log that SQLite left beside the file is read, and gone afterwards."""
+    """A log that SQLite left beside the file is read, and gone afterwards with its index."""
     office = small_office(bench)
     path = bench.path("copy")
     with closing(sqlite3.connect(office.path, isolation_level=None)) as base:
@@ -177,9 +177,27 @@ def check_log_of_others(bench):
         base.execute("PRAGMA wal_autocheckpoint = 0")
         base.execute("INSERT INTO name_row VALUES (1, 'eve')")
         bench.same("a log stands there", os.path.getsize(office.path + "-wal") > 0, True)
-        shutil.copyfile(office.path, path)
+        for ending in ("", "-wal", "-shm"):
+            shutil.copyfile(office.path + ending, path + ending)
+        wanted = rows_of(base)
+    is_read_from_log(bench, path, wanted)
+
+
+def check_log_of_all(bench):
+    """A log that has every page of an office is read beside a file of which no more than a byte is there."""
+    office = small_office(bench)
+    path = bench.write("copy", b"S")
+    with closing(sqlite3.connect(office.path, isolation_level=None)) as base:
+        base.execute("PRAGMA journal_mode = WAL")
+        base.execute("PRAGMA wal_autocheckpoint = 0")
+        base.execute("VACUUM")
         shutil.copyfile(office.path + "-wal", path + "-wal")
         wanted = rows_of(base)
+    is_read_from_log(bench, path, wanted)
+
+
+def is_read_from_log(bench, path, wanted):
+    """Counts whether the office of a file and its log is good, and afterwards in that one file, with these rows."""
     done = bench.run(["check", path])
     bench.same("check beside a log", (done.out, done.err, done.status), (b"good\n", b"", 0))
     bench.same("which files are left", sorted(os.listdir(bench.folder)), ["copy", "office"])

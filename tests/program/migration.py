@@ -53,7 +53,7 @@ def check_table_in_the_way(bench):
 
 
 def check_drawn_lives(bench):
-    """Drawn lines over an office of version 1 are answered as by the model, before and after it is migrated."""
+    """Random lines over an office of version 1 are answered as by the model, before and after it is migrated."""
     for seed in (2_001, 2_002, 2_003):
         draws = Draws(seed)
         office = Office(bench, f"drawn-{seed}")

@@ -43,7 +43,7 @@ class Office:
         bench.ends(["init", self.path], makes=[name])
 
     def replay(self, lines):
-        """One run over some lines: the answers are those of the model, and a stop is told as it tells it."""
+        """One run over some lines: the answers are those of the model, and a stop is reported as the model reports it."""
         life = Replay()
         life.state = self.model.state
         text = b"".join(lines)
@@ -53,7 +53,7 @@ class Office:
         self.bench.ends(["replay", self.path], answers, life.message(), status, given=text)
 
     def told(self):
-        """The office is as the model says: by the program's own words, and by what SQLite reads."""
+        """The office is as the model says: by what the program prints, and by what SQLite reads."""
         told_of(self.bench, self.path, self.model.state)
 
     def change(self, statements):
@@ -61,13 +61,13 @@ class Office:
         change(self.path, statements)
 
     def become_version_1(self):
-        """Takes the office back to version 1, and the model with it."""
+        """Turns the office into one of version 1, and the model with it."""
         self.change(INTO_VERSION_1)
         self.model.state = self.model.state.but(version=1)
 
 
 def told_of(bench, path, state):
-    """The program and SQLite tell of the file what the model tells of the state."""
+    """The program and SQLite read from the file what the model has as the state."""
     bench.ends(["check", path], b"good\n", keeps=True)
     bench.ends(["report", path], report(state), keeps=True)
     bench.ends(["export", path], export(state), keeps=True)
@@ -98,7 +98,7 @@ def change(path, statements):
 
 @contextmanager
 def changed(office, statements):
-    """The path of a copy of an office that SQLite has changed. The copy goes at the end."""
+    """The path of a copy of an office that SQLite has changed. The copy is removed at the end."""
     path = office.bench.path("changed")
     shutil.copyfile(office.path, path)
     change(path, statements)

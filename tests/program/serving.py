@@ -1,5 +1,6 @@
-"""Requests that are done, connections that come to nothing, and how a server ends."""
+"""Requests that are done, connections that end early, and how a server ends."""
 
+import errno
 import json
 import socket
 import struct
@@ -13,14 +14,20 @@ from machine.questions import QUESTIONS
 from .heads import ANN, CURL, LENGTH
 from .importing import RECORDS, SEPARATED
 from .offices import STORE, Office, small_office
-from .web import BAD_REQUEST, HOST, NO_FUNCTION, Server, connect, free_port, head, post, read_all, reply
+from .web import BAD_REQUEST, HOST, NO_FUNCTION, Server, connect, free_port, head, listening, post, read_all, reply
 
 DONE = b'{"ok":true}'
 ADD_ANN = b'{"fn":"addUser","user":"ann"}'
 
-# How long a client may say nothing, and how far from that it may be let go.
+# How long a client may send nothing, and how far from that its connection may be closed.
 PATIENCE = 5
 LEAST, MOST = PATIENCE - 1, PATIENCE + 10
+
+# A long request is sent in pieces of so many bytes.
+PIECE = 250_000
+
+# More bytes than the server and the system read behind a head that is refused.
+ENDLESS = 1 << 26
 
 
 def check_add_user(bench):
@@ -43,7 +50,7 @@ def check_add_user(bench):
 
 
 def check_limit(bench):
-    """A server ends after so many connections, those that come to nothing counted, and listens no more."""
+    """A server ends after its limit of connections, those that end early included, and listens no more."""
     office = Office(bench)
     with Server(bench, office.path, 3) as server:
         bench.same("a question", server.ask(post("ssdRoleSets", b"")), reply(200, b'{"ok":true,"value":[]}'))
@@ -53,6 +60,38 @@ def check_limit(bench):
         server.ends()
         with socket.socket() as client:
             bench.same("a further connection is refused", client.connect_ex((HOST, server.port)) != 0, True)
+    office.model.answer(ADD_ANN)
+    office.told()
+
+
+def check_exact_limits(bench):
+    """Of some connections that wait, exactly as many as the limit says are answered; then the server ends."""
+    for limit in (1, 2, 5):
+        office = Office(bench, f"office {limit}")
+        with Server(bench, office.path, limit) as server:
+            clients = [connect(server.port) for _ in range(limit + 2)]
+            # The server waits for the first, so all requests are sent before it ends.
+            for number, client in reversed([*enumerate(clients)]):
+                client.sendall(post("addUser", b'{"user":"u%d"}' % number))
+            answers = [read_all(client) for client in clients]
+            bench.same(f"the answers of {limit}", answers, [reply(200, DONE)] * limit + [b"", b""])
+            server.ends()
+            for client in clients:
+                client.close()
+        for number in range(limit):
+            office.model.answer(b'{"fn":"addUser","user":"u%d"}' % number)
+        office.told()
+
+
+def check_address(bench):
+    """A server listens on its port of 127.0.0.1, and at no other address."""
+    office = Office(bench)
+    with Server(bench, office.path, 1) as server:
+        bench.same("where it listens", listening(server.process.pid), [(HOST, server.port)])
+        with socket.socket() as client:
+            bench.same("at 127.0.0.2", client.connect_ex(("127.0.0.2", server.port)), errno.ECONNREFUSED)
+        bench.same("a request", server.ask(CURL), reply(200, DONE))
+        server.ends()
     office.model.answer(ADD_ANN)
     office.told()
 
@@ -107,7 +146,7 @@ def check_import(bench):
 
 
 def request_of(line):
-    """A drawn line as a request over HTTP, or None where it names no function or has no text to import."""
+    """A random line as a request over HTTP, or None if it names no function or has no text to import."""
     try:
         value = json.loads(line.decode())
         function = value["fn"]
@@ -120,7 +159,7 @@ def request_of(line):
 
 
 def status_of(answer):
-    """The status with which an answer comes."""
+    """The status of an answer."""
     told = json.loads(answer)
     if "ok" in told:
         return 200
@@ -128,7 +167,7 @@ def status_of(answer):
 
 
 def check_drawn_requests(bench):
-    """Drawn requests in two lives of a server are answered as by the model."""
+    """Random requests in two runs of a server are answered as by the model."""
     for seed in (4_001, 4_002):
         office = Office(bench, f"drawn-{seed}")
         lines = [line for _, line, answer in draw_script(seed, 360) if answer]
@@ -146,7 +185,7 @@ def check_drawn_requests(bench):
 
 
 def check_silent_client(bench):
-    """A client that says nothing is let go without an answer, and the next one is served."""
+    """A client that sends nothing is closed without an answer, and the next one is served."""
     silent_before(bench, b"")
 
 
@@ -156,7 +195,7 @@ def check_stopped_client(bench):
 
 
 def silent_before(bench, said):
-    """A client stops after it said something, and another one asks."""
+    """A client stops after it sent something, and another one asks."""
     office = Office(bench)
     with Server(bench, office.path, 2) as server, connect(server.port) as silent:
         silent.sendall(said)
@@ -171,18 +210,48 @@ def silent_before(bench, said):
 
 
 def check_refused_early(bench):
-    """A request that is refused by its head is read on, so that a client that sends all of it first gets the reply."""
+    """A request that is refused by its head is read on: a client that sends all of it first can, and gets the reply."""
     office, rest = Office(bench), b"x" * 3_000_000
     too_long = head("POST /v1/importAssignments HTTP/1.1", f"Content-Length: {len(rest)}")
     no_function = head("POST /v1/none HTTP/1.1", f"Content-Length: {len(rest)}")
     with Server(bench, office.path, 9) as server:
         for _ in range(4):
-            bench.same("a body that is too long", server.ask(too_long + rest), reply(413, BAD_REQUEST))
-            bench.same("the body of no function", server.ask(no_function + rest), reply(404, NO_FUNCTION))
+            bench.same("a body that is too long", ask_whole(server, too_long + rest), reply(413, BAD_REQUEST))
+            bench.same("the body of no function", ask_whole(server, no_function + rest), reply(404, NO_FUNCTION))
         bench.same("the next client", server.ask(CURL), reply(200, DONE))
         server.ends()
     office.model.answer(ADD_ANN)
     office.told()
+
+
+def check_endless(bench):
+    """The connection of a client that sends on and on behind a head that is refused is closed after some megabytes."""
+    office = Office(bench)
+    with Server(bench, office.path, 2) as server, connect(server.port) as endless:
+        endless.sendall(head("POST /v1/addUser HTTP/1.1", "Content-Length: 65537"))
+        taken = 0
+        try:
+            while taken < ENDLESS:
+                taken += endless.send(b"x" * 65_536)
+        except OSError:
+            pass
+        bench.same(f"not all of {ENDLESS} bytes are read: {taken}", taken < ENDLESS, True)
+        bench.same("the next client", server.ask(CURL), reply(200, DONE))
+        server.ends()
+    office.model.answer(ADD_ANN)
+    office.told()
+
+
+def ask_whole(server, request):
+    """The answer to a request of which each piece is taken, or the error by which the connection ended before that."""
+    with connect(server.port) as client:
+        try:
+            for start in range(0, len(request), PIECE):
+                client.sendall(request[start : start + PIECE])
+                time.sleep(0.02)
+            return b"".join(iter(lambda: client.recv(65_536), b""))
+        except OSError as error:
+            return error
 
 
 def check_resets(bench):
@@ -201,7 +270,7 @@ def check_resets(bench):
 
 
 def check_port_in_use(bench):
-    """A port that someone listens on is told, and the file stays; an office that is none is told before."""
+    """A port that is in use is reported, and the file stays; what is no office is reported before that."""
     office = small_office(bench)
     with socket.socket() as other:
         port = free_port()

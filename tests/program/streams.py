@@ -1,4 +1,4 @@
-"""Standard streams that are closed or take nothing: how the program ends, and what is in the office then."""
+"""Standard streams that are closed or full: how the program ends, and what is in the office then."""
 
 import os
 import subprocess
@@ -15,7 +15,7 @@ REFUSED = b"rbac: " + STORE + b"\n"
 
 
 def check_no_output_of_replay(bench):
-    """An answer that isn't taken stops a replay; its command stands, and no byte of it is in the file."""
+    """An answer that can't be written stops a replay; its command is durable, and no byte of the answer is in the file."""
     for redirected in NO_OUTPUTS:
         office = small_office(bench, f"office {redirected[1:].strip('/&').replace('/', '-')}")
         stop = b"rbac: stop Write after 0\n"
@@ -27,7 +27,7 @@ def check_no_output_of_replay(bench):
 
 
 def check_no_output_of_others(bench):
-    """A text that isn't taken is a refusal of the store, and the office stays as it is."""
+    """A text that can't be written is refused by 41 Store, and the office stays as it is."""
     office = small_office(bench)
     serve = ["serve", office.path, "--port", str(free_port()), "--limit", "1"]
     for redirected in NO_OUTPUTS:
@@ -37,7 +37,7 @@ def check_no_output_of_others(bench):
 
 
 def check_no_output_of_import(bench):
-    """An import that was accepted stands where its answer isn't taken."""
+    """An import that was accepted is durable if its answer can't be written."""
     for redirected in NO_OUTPUTS:
         office = small_office(bench, f"office {len(redirected)}")
         words = ["import", office.path, bench.write("records.csv", RECORDS)]
@@ -59,7 +59,7 @@ def check_no_output_needed(bench):
 
 
 def check_no_errors(bench):
-    """A standard error that takes nothing changes nothing."""
+    """A standard error that is full or closed changes nothing."""
     office = small_office(bench)
     for redirected in NO_ERRORS:
         bench.ends(["check", office.path], b"good\n", redirected=redirected, keeps=True)
@@ -91,7 +91,7 @@ def check_no_input(bench):
 
 
 def check_no_streams(bench):
-    """Without any stream the status still tells, and the file has what was done and nothing else."""
+    """Without any stream the status is still right, and the file has what was done and nothing else."""
     office = small_office(bench)
     for redirected in ("<&- >&- 2>&-", "<&- >&-"):
         err = b"" if "2>" in redirected else REFUSED
@@ -105,13 +105,13 @@ def check_no_streams(bench):
 
 
 def check_help_without_output(bench):
-    """Help ends with status 0, also where it isn't taken."""
+    """Help ends with status 0, even if it can't be written."""
     for redirected in NO_OUTPUTS:
         bench.ends(["--help"], redirected=redirected)
 
 
 def check_reader_gone(bench):
-    """A reader that goes away after some answers stops the replay by the next one, whose command stands."""
+    """A reader that ends after some answers stops the replay at the next one, whose command is durable."""
     office = Office(bench)
     lines = [b'{"fn":"addUser","user":"u%d"}\n' % number for number in range(5)]
     with subprocess.Popen(

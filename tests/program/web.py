@@ -3,7 +3,9 @@
 import os
 import random
 import socket
+import struct
 import subprocess
+from pathlib import Path
 
 from .bench import PROGRAM, SECONDS
 
@@ -11,6 +13,9 @@ HOST = "127.0.0.1"
 
 # Ports that the system gives to no client by itself.
 PORTS = (20_000, 32_000)
+
+# By this number the system's tables say that a socket listens.
+LISTENS = "0A"
 
 PHRASES = {
     200: "OK",
@@ -74,7 +79,7 @@ def connect(port):
 
 
 def read_all(client):
-    """What the server says until it ends the connection."""
+    """What the server sends until it closes the connection."""
     pieces = []
     while True:
         try:
@@ -87,10 +92,24 @@ def read_all(client):
     return b"".join(pieces)
 
 
-class Server:
-    """The program as it serves an office. It is killed at the end where it has not ended by itself."""
+def listening(pid):
+    """The hosts and ports at which a process listens over TCP, as the system tells; hosts of IPv6 in hex."""
+    links = [os.readlink(path) for path in Path(f"/proc/{pid}/fd").iterdir()]
+    found = []
+    for table in ("tcp", "tcp6"):
+        for line in Path(f"/proc/{pid}/net/{table}").read_text(encoding="ascii").splitlines()[1:]:
+            fields = line.split()
+            host, port = fields[1].split(":")
+            if fields[3] == LISTENS and f"socket:[{fields[9]}]" in links:
+                is_old = table == "tcp"
+                found.append((socket.inet_ntoa(struct.pack("=I", int(host, 16))) if is_old else host, int(port, 16)))
+    return found
 
-    def __init__(self, bench, path, limit):
+
+class Server:
+    """The program as it serves an office. It is killed at the end if it has not ended by itself."""
+
+    def __init__(self, bench, path, limit, environment=None):
         self.bench = bench
         self.port = free_port()
         self.process = subprocess.Popen(
@@ -99,6 +118,7 @@ class Server:
             stdout=subprocess.PIPE,
             stderr=subprocess.PIPE,
             cwd=bench.folder,
+            env=environment,
         )
 
     def __enter__(self):
@@ -113,7 +133,7 @@ class Server:
         self.process.stderr.close()
 
     def ask(self, request, cut=False):
-        """The answer to a request. With `cut` nothing more can come after it."""
+        """The answer to a request. With `cut` the client closes its side after it."""
         with connect(self.port) as client:
             try:
                 client.sendall(request)
@@ -124,6 +144,6 @@ class Server:
             return read_all(client)
 
     def ends(self, err=b"", status=0):
-        """The server has ended by itself, and said nothing more than this."""
+        """The server has ended by itself, and printed nothing more than this."""
         out, said = self.process.communicate(timeout=SECONDS)
         self.bench.same("the end of serve", (out, said, self.process.returncode), (b"", err, status))

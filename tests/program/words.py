@@ -1,8 +1,8 @@
-"""The command line: which words are taken, and what is said of the others."""
+"""The command line: which arguments are accepted, and what is printed for the others."""
 
 from .offices import Office
 
-# Words that are no command line, but for those of a replay without an office or with two.
+# Arguments that are refused, except those of a replay without an office or with two.
 REFUSED = [
     "",
     "fly",
@@ -53,19 +53,33 @@ REFUSED = [
     "serve FILE --port 8080 --limit many",
 ]
 
+# Whole command lines, and how many further arguments are tried behind each of them.
+WHOLE = [
+    "init FILE",
+    "replay FILE",
+    "replay --memory",
+    "serve FILE --port 8080 --limit 3",
+    "import FILE records.csv",
+    "export FILE",
+    "report FILE",
+    "check FILE",
+    "migrate FILE",
+]
+MOST_MORE = 3
+
 HELPS = ["--help", "-h", "help", "check --help", "serve --help", "serve -h", "help serve", "help replay"]
 
-# Words by which a replay has no office, or two.
+# Arguments by which a replay has no office, or two.
 EITHER = ["replay", "replay FILE --memory", "replay --memory FILE"]
 
 
 def words_of(text, path):
-    """The words of a text, with the path of the office in the place of FILE."""
+    """The arguments in a text, with the path of the office for FILE."""
     return [path if word == "FILE" else word for word in text.split()]
 
 
 def check_refused(bench):
-    """Words that are no command line are refused with status 2 and a text on standard error alone."""
+    """Wrong arguments are refused with status 2 and a text on standard error alone."""
     path = Office(bench).path
     for text in REFUSED:
         before = bench.contents()
@@ -74,6 +88,56 @@ def check_refused(bench):
         bench.same(f"the files after words '{text}'", bench.contents(), before)
     done = bench.run([""])
     bench.same("an empty word", (done.out, bool(done.err), done.status), (b"", True, 2))
+
+
+def check_more_words(bench):
+    """Further arguments behind a whole command line are refused, one as well as several, and nothing is done."""
+    path = Office(bench).path
+    for text in WHOLE:
+        for count in range(1, MOST_MORE + 1):
+            before = bench.contents()
+            done = bench.run([*words_of(text, path), *["more"] * count], b'{"fn":"addUser","user":"ann"}\n')
+            what = f"'{text}' and {count} arguments more"
+            bench.same(what, (done.out, bool(done.err), done.status), (b"", True, 2))
+            bench.same(f"the files after {what}", bench.contents(), before)
+
+
+def check_no_text(bench):
+    """An argument that is no UTF-8 is refused with status 2, whichever it is."""
+    path, line = Office(bench).path, b"rbac: a word is not UTF-8\n"
+    for words in ([b"\xff"], ["check", b"\xff"], ["check", path, b"\xc3"], [b"check\xe9", path]):
+        bench.ends(words, err=line, status=2, keeps=True, what=f"words {words}")
+
+
+def check_statuses(bench):
+    """The status is 0 if all is done, 1 if it is refused or stops, and 2 if the arguments are no command line."""
+    path = Office(bench).path
+    records = bench.write("records.csv", b"user,role\n")
+    statuses = {
+        "migrate FILE": 1,
+        "init FILE": 1,
+        "check FILE": 0,
+        "replay FILE": 0,
+        "replay --memory": 0,
+        "import FILE CSV": 0,
+        "import FILE FILE": 1,
+        "export FILE": 0,
+        "report FILE": 0,
+        "check CSV": 1,
+        "replay CSV": 1,
+        "serve CSV --port 8080 --limit 1": 1,
+        "import CSV CSV": 1,
+        "export CSV": 1,
+        "report CSV": 1,
+        "help": 0,
+        "replay": 2,
+        "check": 2,
+        "fly": 2,
+    }
+    for text, status in statuses.items():
+        words = [records if word == "CSV" else word for word in words_of(text, path)]
+        bench.same(f"the status of '{text}'", bench.run(words).status, status)
+    bench.same("the status of a stop", bench.run(["replay", "--memory"], b" " * 65_537).status, 1)
 
 
 def check_either(bench):
@@ -94,7 +158,7 @@ def check_help(bench):
 
 
 def check_order(bench):
-    """Options may stand before the file and have their value behind a sign."""
+    """Options may be before the file and have their value after `=`."""
     path = bench.path("away")
     line = b'rbac: {"code":41,"error":"Store"}\n'
     for text in [

@@ -1,4 +1,4 @@
-"""Disks without room: a limit of a file's size, and file systems that are full or take no further file."""
+"""Disks without room: a limit of a file's size, and file systems that are full or accept no further file."""
 
 import os
 import resource
@@ -16,7 +16,7 @@ from .stories import REFUSED, judge_end, judge_office, lay, story_named
 
 STORIES = ["init", "replay", "replay of version 1", "import", "migrate"]
 
-# By so many bytes the limit of a file's size grows from run to run, and by `--long`; and so many it has at most.
+# The bytes by which the limit of a file's size grows from run to run, and with `--long`; and the greatest limit.
 WIDE_STEP, STEP = 2_999, 499
 MOST_BYTES = 2_000_000
 
@@ -27,7 +27,7 @@ SIZE = "4m"
 
 
 def limit_files(size, is_ignored):
-    """Limits the size of each file that this process writes, and lets it ignore the signal that says so."""
+    """Limits the size of each file that this process writes, and lets it ignore the signal that reports this."""
     signal.signal(signal.SIGXFSZ, signal.SIG_IGN if is_ignored else signal.SIG_DFL)
     resource.setrlimit(resource.RLIMIT_FSIZE, (size, size))
 
@@ -68,7 +68,7 @@ def mounted(bench, options):
 
 
 def fill(bench, pages):
-    """Writes a file that leaves so many pages free in the file system of the folder."""
+    """Writes a file that leaves this many pages free in the file system of the folder."""
     free = os.statvfs(bench.folder).f_bavail
     with open(bench.path("filler"), "wb") as file:
         file.write(bytes(PAGE) * max(free - pages, 0))
@@ -110,7 +110,7 @@ def refuses_all(bench, content, what):
 
 
 def lack_files(bench):
-    """On file systems that take no further file, or are mounted to be read, all is refused and stays as it is."""
+    """On file systems that accept no further file, or are mounted read-only, all is refused and stays as it is."""
     if not can_mount():
         return {"file systems that could not be mounted": 1}
     content, story = story_named(bench, "import", beside(bench, "records.csv"))

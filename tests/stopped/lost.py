@@ -1,4 +1,4 @@
-"""The machine stops at a call on the files of an office: what was synced stays, and all else may be lost."""
+"""The machine crashes at a call on the files of an office: what was synced stays, and all else or a part of it is lost."""
 
 import random
 from collections import Counter
@@ -10,19 +10,20 @@ from .stories import judge_office, lay, story_named
 
 STORIES = ["init", "replay", "replay of version 1", "import", "migrate"]
 
-# So many draws of what is lost there are of each story, and by `--long`; in the first nothing stays that wasn't synced.
+# How many random choices of what is lost there are of each story, and with `--long`; in the first, all is lost that wasn't
+# synced.
 SEEDS, MORE_SEEDS = 2, 40
 
 
 @dataclass
 class Disk:
-    """A file as a stop of the machine leaves it: what was synced, and the changes since then, each with its bytes."""
+    """A file as a crash of the machine leaves it: what was synced, and the changes since then, each with its bytes."""
 
     synced: bytes = b""
     changes: list = field(default_factory=list)
 
     def change(self, where, content):
-        """A write at this place, or a new length where there is no content."""
+        """A write at this place, or a new length if there is no content."""
         self.changes.append((where, content))
 
     def sync(self):
@@ -31,7 +32,7 @@ class Disk:
         self.changes = []
 
     def after(self, changes):
-        """What is on the disk where these changes came to it."""
+        """What is on the disk if these changes arrived there."""
         found = bytearray(self.synced)
         for where, content in changes:
             if content is None:
@@ -42,7 +43,7 @@ class Disk:
         return bytes(found)
 
     def left(self, draws):
-        """What a stop leaves: each change since the last sync came to the disk whole, in its first half, or not."""
+        """What a crash leaves: each change since the last sync arrived on the disk whole, in its first half, or not."""
         kept = []
         for where, content in self.changes:
             share = draws.choice([0, 1, 2])
@@ -68,14 +69,14 @@ def events_of(trace):
 
 
 class Machine:
-    """The files of an office as a stop leaves them after each event of a run, and how much was answered by then."""
+    """The files of an office as a crash leaves them after each event of a run, and how much was answered by then."""
 
     def __init__(self, content):
         self.disks = {} if content is None else {"office": Disk(content)}
         self.answered = 0
 
     def meet(self, event, name, where, content):
-        """Goes on by one event; a sync of the folder changes no file."""
+        """Follows one event; a sync of the folder changes no file."""
         if event == "answers":
             self.answered = where
         elif event == "gone":
@@ -88,7 +89,7 @@ class Machine:
             raise AssertionError(f"a change that the trace does not know: {event} {name}")
 
     def lay(self, bench, draws):
-        """Writes the files as a stop leaves them; without draws nothing that was not synced came to the disk."""
+        """Writes the files as a crash leaves them; without draws only what was synced is on the disk."""
         lay(bench, None)
         for name, disk in self.disks.items():
             bench.write(name, disk.left(draws) if draws else disk.synced)
@@ -96,7 +97,7 @@ class Machine:
 
 
 def stop_machine(bench, name, seed):
-    """Traces a story, and goes on from what a stop of the machine after each of its events leaves."""
+    """Traces a story, and goes on from what a crash of the machine after each of its events leaves."""
     content, story = story_named(bench, name, beside(bench, "records.csv"))
     stopper, trace = Stopper(bench), beside(bench, "trace")
     done = stopper.run(story.words(lay(bench, content)), story.given, STOP_UNDER=bench.folder, STOP_TRACE=trace)
@@ -106,18 +107,18 @@ def stop_machine(bench, name, seed):
     machine, draws, counts = Machine(content), random.Random(seed), Counter()
     for number, event in enumerate(events, 1):
         machine.meet(*event)
-        what = f"{name}, the machine stops after event {number} ({event[0]} {event[1]}), seed {seed}"
+        what = f"{name}, the machine crashes after event {number} ({event[0]} {event[1]}), seed {seed}"
         path = machine.lay(bench, draws if seed else None)
         answered = machine.answered if story.answers else 0
         if number == len(events):
             answered = len(story.states) - 1
         allowed = range(answered, min(answered + 2, len(story.states)))
         place = judge_office(bench, what, story, path, allowed)
-        counts["stops of the machine"] += 1
-        counts["stops of the machine, one more"] += place is not None and place > answered
+        counts["crashes of the machine"] += 1
+        counts["crashes of the machine, one more"] += place is not None and place > answered
     return counts
 
 
 def jobs(is_long):
-    """Each story, with some draws of what is lost."""
+    """Each story, with some random choices of what is lost."""
     return [(stop_machine, name, seed) for name in STORIES for seed in range(MORE_SEEDS if is_long else SEEDS)]

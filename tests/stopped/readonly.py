@@ -1,4 +1,6 @@
-"""Files and folders that may not be written, or not any more, as a user meets them who is not root."""
+"""Files and folders that can't be written, or lose their permissions while a replay has them open, as a user who is not root
+sees them. These jobs work on the disk.
+"""
 
 import os
 import shutil
@@ -12,7 +14,7 @@ from .stories import LINES, REFUSED, judge_office, lay, replay_story, small_offi
 
 NOBODY = 65_534
 
-# Files in memory are written on where whoever has them open may not.
+# Files in memory are still written by those who have them open and may not.
 ON_DISK = True
 
 
@@ -61,7 +63,7 @@ class Stranger:
 
 
 def changed_while_open(bench, stranger, path, story, change):
-    """Replays lines one by one, with a change made behind the first answer: what it says in the end."""
+    """Replays lines one by one, with a change made after the first answer: what it prints in the end."""
     with stranger.start(["replay", path]) as process:
         answers = []
         for line in story.lines:
@@ -133,7 +135,7 @@ def lack_the_folder(bench):
 
 @contextmanager
 def unchangeable(paths):
-    """Makes files such as nobody can change as long as this lasts, not even who has them open, where that can be."""
+    """Makes files such that nobody can change them as long as this lasts, even with open files, if the system can do that."""
     subprocess.run(["chattr", "+i", *paths], check=False, capture_output=True)
     try:
         yield
@@ -153,7 +155,7 @@ def can_be_unchangeable(bench):
 
 
 def replay_until_stopped(bench, path, story, names):
-    """Replays lines one by one, with these files unchangeable behind the first answer: what it says, and which stay."""
+    """Replays lines one by one, with these files unchangeable after the first answer: what it prints, and which stay."""
     with subprocess.Popen(
         [PROGRAM, "replay", path], stdin=subprocess.PIPE, stdout=subprocess.PIPE, stderr=subprocess.PIPE
     ) as process:

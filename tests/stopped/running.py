@@ -1,6 +1,6 @@
-"""Runs jobs side by side, each in a folder of its own, and counts what came of them.
+"""Runs jobs side by side, each in a folder of its own, and counts the results. The scripts of tests/ share this.
 
-A job is a function and what it is given after its bench; it may give counts, of which a line each is printed.
+A job is a function and its arguments after the bench. It may return counts, each of which is printed on a line.
 """
 
 import os
@@ -10,6 +10,7 @@ import time
 import traceback
 from collections import Counter
 from concurrent.futures import ProcessPoolExecutor
+from importlib import import_module
 from pathlib import Path
 
 from program.bench import PROGRAM, Bench
@@ -17,16 +18,28 @@ from program.bench import PROGRAM, Bench
 WORKERS = 4
 OPTIONS = ("--times", "--long")
 
-# How many faults of one job are shown.
+# How many failures of one job are shown.
 SHOWN = 5
 
-# Jobs run in files in memory where there are such, but for those of modules with ON_DISK: a sync takes long on a disk.
+# Jobs run in files in memory if there are any, except those of modules with ON_DISK: a sync takes long on a disk.
 IN_MEMORY = "/dev/shm"
 
 
 def beside(bench, name):
     """The path of a file beside the folder of a bench, in which the program has no business."""
     return str(bench.folder.parent / name)
+
+
+def checks_of(folder, modules):
+    """The jobs of some modules of a folder: each of their functions whose names begin with `check_`. Each module has some."""
+    found = []
+    for name in modules:
+        functions = vars(import_module(f"{folder}.{name}")).items()
+        checks = [(function,) for word, function in functions if word.startswith("check_")]
+        if not checks:
+            raise ValueError(f"{name} has no check")
+        found += checks
+    return found
 
 
 def name_of(job):
@@ -43,7 +56,7 @@ def folder_of(function):
 
 
 def run_job(job):
-    """Runs a function of a bench, and tells its name, what passed and failed, what it counted, and the seconds."""
+    """Runs a function of a bench, and returns its name, what passed and failed, what it counted, and the seconds."""
     function, *given = job
     start = time.monotonic()
     counts = Counter()
@@ -59,7 +72,7 @@ def run_job(job):
 
 
 def show_faults(name, faults):
-    """Prints the first faults of a job, and how many there are more."""
+    """Prints the first failures of a job, and how many more there are."""
     for fault in faults[:SHOWN]:
         print(f"FAILED: {name}: {fault}")
     if len(faults) > SHOWN:
@@ -67,11 +80,11 @@ def show_faults(name, faults):
 
 
 def is_long(words):
-    """Whether the words ask for as much as `bin/soak` does."""
+    """Whether the arguments ask for as much as `bin/soak` does."""
     return "--long" in words
 
 
-def run_all(jobs, words, judge=None):
+def run_all(jobs, words, judge=None, workers=WORKERS):
     """Runs the jobs with these words in their names, prints what they counted, and gives the exit status.
 
     With `--times` it is printed how long each took. Where all jobs ran, `judge` tells what is wrong with the counts.
@@ -82,7 +95,7 @@ def run_all(jobs, words, judge=None):
     word = " ".join(one for one in words if one not in OPTIONS)
     chosen = [job for job in jobs if word in name_of(job)]
     passed, failed, counted = 0, 0, Counter()
-    with ProcessPoolExecutor(WORKERS) as pool:
+    with ProcessPoolExecutor(workers) as pool:
         for name, good, faults, counts, seconds in pool.map(run_job, chosen):
             passed += good
             failed += len(faults)

@@ -1,4 +1,4 @@
-"""A server meets a call on the files of its office that fails, or ends there; requests are sent to it meanwhile."""
+"""A server meets a call on the files of its office that fails, or crashes there, while requests are sent to it."""
 
 import errno
 import json

@@ -20,7 +20,7 @@ def run_program(bench, words, given=b"", **more):
 
 
 class Shim:
-    """A shim, built beside the folder of a bench. `told` is what it wrote of the call that it stopped."""
+    """A shim, built beside the folder of a bench. `told` is what it wrote about the call that it stopped."""
 
     def __init__(self, bench, source):
         self.bench = bench
@@ -35,12 +35,12 @@ class Shim:
         return {**os.environ, "LD_PRELOAD": self.library, **{key: str(value) for key, value in settings.items()}}
 
     def forget(self):
-        """Takes away what it wrote of an earlier run."""
+        """Removes what it wrote in an earlier run."""
         if os.path.exists(self.file):
             os.remove(self.file)
 
     def ask(self):
-        """Reads what it wrote of the call that it stopped: None where there were fewer calls."""
+        """Reads what it wrote about the call that it stopped: None if there were fewer calls."""
         self.told = None
         if os.path.exists(self.file):
             with open(self.file, encoding="utf-8") as file:
@@ -48,7 +48,7 @@ class Shim:
         return self.told
 
     def run(self, words, given=b"", **settings):
-        """Runs the program under it, and keeps what it tells."""
+        """Runs the program under it, and keeps what it writes."""
         self.forget()
         done = run_program(self.bench, words, given, env=self.environment(settings))
         self.ask()

@@ -220,7 +220,7 @@ ssize_t pread(int fd, void *bytes, size_t length, off_t from)
     return syscall(SYS_pread64, fd, bytes, length, from);
 }
 
-int openat(int in, const char *path, int flags, ...)
+int open(const char *path, int flags, ...)
 {
     mode_t mode = 0;
     va_list rest;
@@ -230,9 +230,16 @@ int openat(int in, const char *path, int flags, ...)
         mode = va_arg(rest, mode_t);
         va_end(rest);
     }
-    if (is_stopped(0, "openat", name_of(path), -1, NULL, 0, 0))
+    if (is_stopped(0, "open", name_of(path), -1, NULL, 0, 0))
         return -1;
-    return (int)syscall(SYS_openat, in, path, flags, mode);
+    return (int)syscall(SYS_openat, AT_FDCWD, path, flags, mode);
+}
+
+int flock(int fd, int operation)
+{
+    if (is_stopped(0, "flock", name_of_open(fd), fd, NULL, 0, 0))
+        return -1;
+    return (int)syscall(SYS_flock, fd, operation);
 }
 
 int unlink(const char *path)

@@ -1,4 +1,4 @@
-"""Runs of the program beside the plain model: what they may say, and what may be found after they were stopped."""
+"""Runs of the program beside the plain model: what they may print, and what the office may be after they were stopped."""
 
 import json
 import os
@@ -43,7 +43,7 @@ RECORDS = b"user,role\nann,clerk\nbob,clerk\nbob,temp\nbob,boss\n"
 
 @dataclass(frozen=True)
 class Story:
-    """A run over an office: its words around the file, its lines, and what the model says of it.
+    """A run over an office: its arguments around the file, its lines, and what the model says of it.
 
     `states` are that before the run and that after each line, or after all that the run does; None is no office.
     `accepted` says of each line whether it is a command that is accepted.
@@ -62,11 +62,11 @@ class Story:
         return b"".join(self.lines)
 
     def words(self, path):
-        """The words of the run over the file."""
+        """The arguments of the run over the file."""
         return [self.word, path, *self.more]
 
     def answered(self, done):
-        """How much of the run was acknowledged: all by status 0, else the whole answer lines."""
+        """How much of the run was acknowledged: all with status 0, otherwise the whole answer lines."""
         return len(self.states) - 1 if done.status == 0 else done.out.count(b"\n")
 
     def allowed(self, done):
@@ -97,7 +97,7 @@ def replay_story(state, lines):
 
 
 def import_story(state, path):
-    """An import of the records that stand at this path over an office with this state."""
+    """An import of the records in the file at this path, over an office with this state."""
     with open(path, encoding="utf-8") as file:
         line = json.dumps({"fn": "importAssignments", "csv": file.read()})
     model = Replay()
@@ -107,12 +107,12 @@ def import_story(state, path):
 
 
 def init_story():
-    """The making of an office where there is none."""
+    """The making of an office in a file that doesn't exist."""
     return Story("init", (None, State()))
 
 
 def migrate_story(state):
-    """The taking of an office of version 1 into version 2."""
+    """The migration of an office of version 1 to version 2."""
     return Story("migrate", (state, state.but(version=2)))
 
 
@@ -158,15 +158,15 @@ def lay(bench, content):
 
 
 def judge_end(bench, what, story, done, met=None):
-    """Counts whether a run that was stopped has said what it may say.
+    """Counts whether a run that was stopped has printed what it may print.
 
-    `met` is how many answers there were when a call failed: the stop comes right there, and all is answered
-    where that was behind the last answer. None leaves that open.
+    `met` is how many answers there were when a call failed: the stop is right there, and all is answered if that was
+    after the last answer. None leaves that open.
     """
     faults = []
     count = done.out.count(b"\n")
     if not done.out.endswith(b"\n") and done.out:
-        faults.append(f"an answer is cut: {done.out[-80:]!r}")
+        faults.append(f"an answer is truncated: {done.out[-80:]!r}")
     if b"".join(story.answers[:count]) != done.out:
         faults.append(f"other answers: {done.out[-200:]!r}")
     if done.status == 0:
@@ -181,7 +181,7 @@ def judge_end(bench, what, story, done, met=None):
 
 
 def faults_of_stop(story, done, count, met):
-    """What is wrong with the line by which a run says that the store stopped it."""
+    """What is wrong with the line by which a run reports that the store stopped it."""
     if done.err == REFUSED:
         return [] if count == 0 else [f"{count} answers and {done.err!r}"]
     found = re.fullmatch(rb"rbac: stop Store after (\d+)\n", done.err)
@@ -198,7 +198,7 @@ def faults_of_stop(story, done, count, met):
 
 
 def find(bench, path):
-    """The rows that SQLite finds in the file and its log; none where there is no office, or no database."""
+    """The rows that SQLite reads from the file and its log; none if there is no office, or no database."""
     try:
         return rows_beside_log(bench, path)
     except sqlite3.DatabaseError:
@@ -214,7 +214,7 @@ def rows_at(state):
 
 
 def place_of(bench, what, story, path, allowed):
-    """The place of the state that is found among those that are allowed; None, and a failure, where it is none."""
+    """The place of the office's state among those that are allowed; None, and a failure, if it is none of them."""
     found = find(bench, path)
     for place in allowed:
         if found == rows_at(story.states[place]):
@@ -226,7 +226,7 @@ def place_of(bench, what, story, path, allowed):
 
 
 def end_of_rest(story, place):
-    """What a further run is given and has to say, where the state at this place was found, and the state at its end."""
+    """What a further run is given and has to print, if the office has the state at this place, and the state at its end."""
     state = story.states[place]
     if story.word == "replay":
         rest = replay_story(state, story.lines[place:])
@@ -254,7 +254,7 @@ def goes_on(bench, what, story, path, place):
 
 
 def judge_office(bench, what, story, path, allowed):
-    """Counts whether one of the states that are allowed is found, and all goes on from there: its place, or None."""
+    """Counts whether the office has one of the allowed states, and all goes on from there: its place, or None."""
     place = place_of(bench, what, story, path, allowed)
     if place is not None:
         goes_on(bench, what, story, path, place)

@@ -153,7 +153,10 @@ def says_usage(bench):
         bench.same(f"{name} says how it is run", usage in head, True)
         bench.same(f"{name} says that it only reads", "It reads the copy and does not write it." in head, True)
     listed = {path.name for path in TOOLS.iterdir() if path.is_file()}
-    bench.same("the tools", listed, {*(f"{name}.sql" for name in REPORTS), "office.sql", "difference.py", "evidence.py"})
+    others = {"office.sql", "rows.sql", "damage.sql", "difference.py", "evidence.py"}
+    bench.same("the tools", listed, {*(f"{name}.sql" for name in REPORTS), *others})
+    damage = (TOOLS / "damage.sql").read_text(encoding="utf-8")
+    bench.same("damage.sql says how it is run", "sqlite3 COPY < tools/damage.sql" in damage, True)
 
 
 def jobs_without_sqlite():

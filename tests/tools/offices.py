@@ -18,11 +18,11 @@ from .running import records, report, run_script
 OFFICES, JOBS = 200, 8
 
 # An office is made of so many random lines, without those that do not change it.
-LINES = (80, 220)
+LINES = (100, 300)
 
-# By these commands an office grows. They are chosen four times as often as in other random lines.
-GROWING = ["addUser", "addRole", "addPermObj", "addPermission", "grantPermission", "assignUser", "addInheritance"]
-GROWING += ["createSession"]
+# By these commands an office grows. They are chosen so many times as often as in other random lines.
+GROWING = dict.fromkeys(["addUser", "addRole", "addPermObj", "assignUser", "addInheritance", "createSession"], 4)
+GROWING |= {"addPermission": 2, "grantPermission": 2, "createSsdSet": 2, "createDsdSet": 2}
 
 # Of one office in so many all is compared, of the others the dump alone. So many further lines make a difference.
 ONE_IN, FURTHER = 4, 40
@@ -46,7 +46,7 @@ ODD_NAMES = [
 class Building(Draws):
     """Random lines of commands, mostly of those by which an office grows."""
 
-    weights = {function: weight * 4 if function in GROWING else weight for function, weight in WEIGHTS.items()}
+    weights = {function: weight * GROWING.get(function, 1) for function, weight in WEIGHTS.items()}
 
     def draw_function(self):
         return self.random.choices(list(self.weights), list(self.weights.values()))[0]

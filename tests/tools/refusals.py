@@ -2,6 +2,7 @@
 
 import os
 import random
+import re
 import shutil
 import sqlite3
 from collections import Counter
@@ -16,7 +17,7 @@ from program import damaged
 from program.offices import change, changed, small_office
 from program.web import Server, post
 
-from .running import REPORTS, keeping, refuses, run_script, run_tool
+from .running import REPORTS, keeping, numbers_shown, refuses, run_script, run_tool
 
 # So many offices with random changes of their rows there are.
 CHANGED = 80
@@ -164,12 +165,20 @@ def is_seen(tables):
 
 
 def agrees(bench, what, statements, tables, after=()):
-    """Whether `rbac check` calls an office with these tables good. It is counted whether a tool says the same."""
+    """Whether `rbac check` calls an office with these tables good. It is counted whether the tools say the same.
+
+    tools/damage.sql has nothing to say of a good office, and else among its lines one with the number of the check.
+    """
     path = bench.path("changed")
     write(path, statements, tables, after)
     checked, told = bench.run(["check", path]), run_tool("room", path)
     said = (checked.err or checked.out).decode().strip()
     bench.same(f"{what}, {said}: whether it is refused", told.status != 0, checked.status != 0)
+    check = re.search(r'"check":(\d+)|"code":(32)', said)
+    if checked.status == 0 or check:
+        numbers, faults = numbers_shown(path)
+        is_right = (check[1] or check[2]) in numbers if check else not numbers
+        bench.same(f"{what}, {said}: whether {sorted(numbers)} are shown rightly", (is_right, faults), (True, ""))
     os.remove(path)
     return checked.status == 0
 

@@ -36,6 +36,18 @@ def run_tool(name, path, folder=ROOT):
     return run(["sqlite3", "-readonly", f"file:{quote(path)}?immutable=1"], statements, folder)
 
 
+def lines_of_damage(path):
+    """The lines that tools/damage.sql shows of the file of an office, and what sqlite3 complains of."""
+    done = run(["sqlite3", path], (TOOLS / "damage.sql").read_bytes())
+    return done.out.decode(errors="replace").splitlines(), done.err.decode()
+
+
+def numbers_shown(path):
+    """The numbers of the checks that tools/damage.sql shows to fail, and what sqlite3 complains of."""
+    lines, faults = lines_of_damage(path)
+    return {line.partition("|")[0] for line in lines}, faults
+
+
 def run_script(name, *words):
     """Runs a tool that is a script."""
     return run([str(TOOLS / name), *map(str, words)])

@@ -7,11 +7,14 @@ use Rattle.sqlite_disk.specs.declared.Disk.{Ghosts}
 use Rattle.sqlite_store.specs.declared.store.FileStore.{FileStore}
 use Rattle.role_cli.specs.declared.memory_file.MemoryFile.{MemoryFile}
 use Rattle.admin_mgr.specs.RbacState.{RbacState, empty_state}
-use Rattle.rbac_sets.specs.declared.refusal.Refusal.TheVariants.{Memory, Store}
+use Rattle.rbac_sets.specs.declared.refusal.Refusal.TheVariants as refusal
 use Rattle.role_tables.specs.Office.{Opened}
 use Rattle.role_tables.specs.Standing.{Stands}
 use Rattle.role_wire.specs.Replaying.{IsHalted}
 use Rattle.role_wire.specs.declared.lines.Cause.TheVariants.{Read, Write}
+use Rattle.role_cli.specs.Work.{Does}
+use Rattle.role_cli.specs.declared.choice.Choice.TheVariants.{Replay}
+use Rattle.role_cli.specs.declared.choice.Place.TheVariants.{Memory}
 use Rattle.role_cli.specs.declared.failure.Failure.{Failure}
 use Rattle.role_cli.specs.declared.failure.Failure.TheVariants.{Refused, Stopped}
 
@@ -25,6 +28,11 @@ pub record IsNewOffice {g : Ghosts MemoryFile} (office : Opened (FileStore Memor
   pub is_closed : office.is_closed ≡ false
   pub stands : Stands (state over_files office.conn) first_state
 
+-- the lines were answered, over an office that was new
+abbrev pub ReplaysInMemory : Ghosts MemoryFile → (remaining now_remaining written now_written : Option (List ℕ)) → Type 0
+ReplaysInMemory g remaining now_remaining written now_written = (first last : Opened (FileStore MemoryFile g)) × IsNewOffice first
+    × Does (state over_files) (Replay Memory) first remaining now_remaining written now_written last
+
 -- the replay stopped over an office that was new, once these bytes were read
 abbrev pub FailsOverNew : Ghosts MemoryFile → Failure → List ℕ → Type 0 → Option (List ℕ) → Option (List ℕ) → Type 0
 FailsOverNew g (Stopped stop) taken at_end written now_written =
@@ -33,7 +41,7 @@ FailsOverNew g _ taken at_end written now_written = ⊥
 
 -- no office could be made, for want of memory
 abbrev pub IsUnmade : Failure → Type 0
-IsUnmade (Refused refusal) = (refusal ≡ Memory) ⊎ (refusal ≡ Store)
+IsUnmade (Refused why) = (why ≡ refusal.Memory) ⊎ (why ≡ refusal.Store)
 IsUnmade _ = ⊥
 
 -- a replay in memory failed: it stopped over a new office, or none could be made and nothing was touched

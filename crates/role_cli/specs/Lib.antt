@@ -1,5 +1,8 @@
 pub mod Choosing
 pub mod CommandLine
-pub mod Doing
+pub mod Done
 pub mod InMemory
+pub mod OnFile
 pub mod Serving
+pub mod Telling
+pub mod Work

@@ -1,27 +1,39 @@
 -- What a server leaves of an office, one connection after another.
-use Rattle.std.specs.Prelude.{◌≡◌, ◌⊎◌, ◌≤◌, ℕ, List, [], ◌∷◌, Option, length}
+use Rattle.std.specs.Prelude.{◌≡◌, ◌⊎◌, ◌≤◌, ◌++◌, ◌==◌, ℕ, Bool, false, List, [], ◌∷◌, Option, Some, None, length}
+use Rattle.std.specs.List.{list_any}
 use Rattle.sqlite.specs.Held.{Held}
 use Rattle.sqlite.specs.State.{State}
 use Rattle.role_tables.specs.Office.{Opened}
 use Rattle.role_wire.specs.Serving.{ServesRequest, StopsRequest}
 use Rattle.role_wire.specs.declared.lines.Cause.{Cause}
 
+-- the status after which the office is closed
+abbrev pub is_closing : Option ℕ → Bool
+is_closing (Some status) = status == 500
+is_closing None = false
+
+-- the last connection alone was answered with that status
+abbrev pub EndsClosed : List (Option ℕ) → Type 0
+EndsClosed statuses = (before : List (Option ℕ)) × (statuses ≡ before ++ Some 500 ∷ []) × (list_any is_closing before ≡ false)
+
 module _ {S : Type 0} (shown : Held S → State) where
-  -- a connection left the office as it was, where memory for it was refused, or as the one request in it left the office, served or stopped
-  abbrev pub IsServed : Opened S → Opened S → Type 0
-  IsServed old new = (new ≡ old)
-      ⊎ ((left now_left written now_written : Option (List ℕ))
-      × (((status : ℕ) × ServesRequest shown old new left now_left written now_written status)
-      ⊎ ((why : Cause) × StopsRequest shown why old new left now_left written now_written)))
+  -- One connection: the one request in it was answered with this status. Or it was not answered: the request stopped, or memory for
+  -- the buffers of the connection could not be allocated, which leaves the office as it was.
+  abbrev pub IsServed : Opened S → Option ℕ → Opened S → Type 0
+  IsServed old (Some status) new = (left now_left written now_written : Option (List ℕ)) × ServesRequest shown old new left now_left written now_written status
+  IsServed old None new = (new ≡ old)
+      ⊎ ((why : Cause) × (left now_left written now_written : Option (List ℕ)) × StopsRequest shown why old new left now_left written now_written)
 
-  -- the offices that connections left, one after another
-  abbrev pub AreServed : Opened S → List (Opened S) → Opened S → Type 0
+  -- connections with these statuses, one after another
+  abbrev pub AreServed : Opened S → List (Option ℕ) → Opened S → Type 0
   AreServed old [] new = new ≡ old
-  AreServed old (next ∷ rest) new = IsServed old next × AreServed next rest new
+  AreServed old (status ∷ rest) new = (next : Opened S) × IsServed old status next × AreServed next rest new
 
-  -- so many connections at most left the office as it is, one after another, and exactly so many where all were served
+  -- Connections up to the limit were served, one after another, and none after one that closed the office. If all were served, they
+  -- are as many as the limit, and none closed the office.
   pub record AreServedUpTo (limit : ℕ) (All : Type 0) (old new : Opened S) : Type 0 where
-    pub offices : List (Opened S)
-    pub served : AreServed old offices new
-    pub within : length offices ≤ limit
-    pub all : All → length offices ≡ limit
+    pub statuses : List (Option ℕ)
+    pub served : AreServed old statuses new
+    pub within : length statuses ≤ limit
+    pub ends : (list_any is_closing statuses ≡ false) ⊎ EndsClosed statuses
+    pub all : All → (length statuses ≡ limit) × (list_any is_closing statuses ≡ false)

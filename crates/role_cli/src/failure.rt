@@ -1,4 +1,7 @@
 //! Why the program did not do what it was asked, and how it says so.
+ghost use Rattle.std.specs.Prelude.{⊤, ◌⊎◌};
+ghost use Rattle.rbac_sets.specs.Stream.{HasRisen};
+ghost use Rattle.role_cli.specs.Telling.{IsLineOf, SaysSome, Says, no_memory_line};
 
 use rbac_sets::{Refusal, Sink, write_all};
 use role_wire::{Stop, Verdict, answer_text};
@@ -27,8 +30,11 @@ pub enum Failure {
 }
 
 impl Failure {
-    /// Writes the one line that says so to `err`. A fault of `err` changes nothing.
-    pub fn tell<E: Sink>(self, alloc: Global, err: &mut E) {
+    /// Writes the one line that says so to `err`, or as much of it as is taken: an output that fails
+    /// changes nothing. If memory for the line of a refusal failed, the line says that.
+    pub fn tell<E: Sink>(self, alloc: Global, err: &mut E)
+        ensures { SaysSome (IsLineOf self) (E.written err.old) (E.written err.new) (HasRisen (E.failed err.old) (E.failed err.new) ⊎ HasRisen (E.idle err.old) (E.idle err.new)) }
+    {
         match self {
             Failure::Refused(refusal) => tell_refusal(alloc, refusal, err),
             Failure::Stopped(stop) => tell_stop(err, &stop),
@@ -39,18 +45,24 @@ impl Failure {
     }
 }
 
-/// Writes that memory was refused.
-pub fn tell_no_memory<E: Sink>(err: &mut E) {
+/// Writes that memory failed.
+pub fn tell_no_memory<E: Sink>(err: &mut E)
+    ensures { Says no_memory_line (E.written err.old) (E.written err.new) (HasRisen (E.failed err.old) (E.failed err.new) ⊎ HasRisen (E.idle err.old) (E.idle err.new)) }
+{
     tell(err, NO_MEMORY);
 }
 
 /// Writes a text, or as much of it as is taken.
-pub fn tell<E: Sink>(err: &mut E, text: &[u8]) {
+pub fn tell<E: Sink>(err: &mut E, text: &[u8])
+    ensures { Says text.now (E.written err.old) (E.written err.new) (HasRisen (E.failed err.old) (E.failed err.new) ⊎ HasRisen (E.idle err.old) (E.idle err.new)) }
+{
     let _ = write_all(err, text);
 }
 
-// Tells the refusal by its answer text.
-fn tell_refusal<E: Sink>(alloc: Global, refusal: Refusal, err: &mut E) {
+// Writes the line of a refusal, or that memory for it failed.
+fn tell_refusal<E: Sink>(alloc: Global, refusal: Refusal, err: &mut E)
+    ensures { SaysSome (IsLineOf (Failure.Refused refusal)) (E.written err.old) (E.written err.new) (HasRisen (E.failed err.old) (E.failed err.new) ⊎ HasRisen (E.idle err.old) (E.idle err.new)) }
+{
     match refusal_line(alloc, refusal) {
         Ok(line) => tell(err, line.as_bytes()),
         Err(_) => tell_no_memory(err),
@@ -65,8 +77,10 @@ fn refusal_line(alloc: Global, refusal: Refusal) -> Result<String, Refusal> {
     Ok(line)
 }
 
-// Tells the stop in one line. It takes no memory, which may be what was refused.
-fn tell_stop<E: Sink>(err: &mut E, stop: &Stop) {
+// Writes the line of a stop. It doesn't allocate, since that may be what failed.
+fn tell_stop<E: Sink>(err: &mut E, stop: &Stop)
+    ensures { SaysSome (λ _. ⊤) (E.written err.old) (E.written err.new) (HasRisen (E.failed err.old) (E.failed err.new) ⊎ HasRisen (E.idle err.old) (E.idle err.new)) }
+{
     let mut line = Cursor::new([0u8; LONGEST_STOP]);
     if writeln!(line, "rbac: {stop}").is_ok() {
         let length = (line.position() as usize).min(LONGEST_STOP);

@@ -1,13 +1,21 @@
 //! Offices in files: how they are opened, made, closed and put back.
-ghost use Rattle.std.specs.Prelude.{◌≤◌, ◌+◌, OnOk};
+ghost use Rattle.std.specs.Prelude.{◌≡◌, ◌≤◌, ◌+◌, false, IfErr, IfOk, IfSome, OnErr, OnOk};
+ghost use Rattle.sqlite.specs.Files.{IsOpened, file_state, over_files};
+ghost use Rattle.sqlite.specs.Held.{state};
+ghost use Rattle.sqlite.specs.Start.{FindsIn};
+ghost use Rattle.sqlite.specs.State.{HasCleanDisk};
+ghost use Rattle.sqlite.specs.WalFiles.{image_at};
 ghost use Rattle.role_wire.specs.Replay.{most_reads};
-ghost use Rattle.role_cli.specs.Doing.{IsDoneOverSome};
+ghost use Rattle.role_cli.specs.OnFile.{WorksOnFiles};
+ghost use Rattle.role_cli.specs.Work.{Does, DoesOverSome, FailsOn, Works, reads_input};
 
 use crate::choice::Choice;
 use crate::failure::Failure;
-use crate::work::over;
+use crate::work::run_on_connection;
 use rbac_sets::{Refusal, Sink, Source};
-use sqlite::{Connection, File, FileStore, Unknown};
+use role_tables::laws::reopened;
+use sqlite::{Connection, File, FileFrom, FileStore, Start, Unknown};
+use sqlite_disk::Disk;
 use std::{fs, io};
 
 /// The most bytes of a file in which an opening has done no more than to begin a database.
@@ -18,56 +26,86 @@ const SHORTEST_LOG: u64 = 568;
 
 /// What stood at a path before an office was to be made there.
 #[derive(Clone, Copy, Debug, PartialEq, Eq)]
-enum Before {
+pub enum Before {
+    /// Nothing.
     Nothing,
+    /// A file without a byte.
     EmptyFile,
+    /// A file with bytes, or one that has to be there.
     Bytes,
 }
 
-/// Makes an office in the file, which may be there, as long as none of an office's tables is. Where
-/// that is refused before a page of it was written, what stood there before stands there again.
+/// Opens the file at a path, does the work of a subcommand over it as `run_on_connection` does, and hands
+/// the connection back, which is still open. `before` is what stood at the path: if the opening fails, it
+/// stands there again.
+///
+/// `start` stands for what the files hold when they are opened: whatever state they store, the work is
+/// done over that state. That these are the files at the path is the promise of the operating system.
 ///
 /// # Errors
 ///
-/// `Refused`, with `Store` where the file can't be opened or made.
-pub(crate) fn make_in_file<R: Source, W: Sink>(
+/// `Refused` with `Store` if the file can't be opened or made. Nothing was read or written then.
+pub fn run_on_path<D: Start, R: Source, W: Sink>(
     rt: &HostRuntime,
     path: &str,
+    before: Before,
+    start: D,
     choice: &Choice,
     source: &mut R,
     out: &mut W,
-) -> Result<(), Failure>
-    ensures done { OnOk result (IsDoneOverSome choice.now (R.remaining source.old) (R.remaining source.new) (W.written out.old) (W.written out.new)) }
+) -> Result<(Result<(), Failure>, Connection<FileStore<FileFrom<D>>>), Failure>
+    ensures done { IfOk result (λ worked. HasCleanDisk (file_state worked.1) → OnOk worked.0 (WorksOnFiles ⟦<FileFrom<D> as Disk>⟧ (image_at D.Start) (λ before. Works (state (over_files {g = ⟦<FileFrom<D> as Disk>⟧})) choice.now before
+        (λ first last. Does (state (over_files {g = ⟦<FileFrom<D> as Disk>⟧})) choice.now first (R.remaining source.old) (R.remaining source.new) (W.written out.old) (W.written out.new) last) worked.1))) }
+    ensures failed { IfOk result (λ worked. HasCleanDisk (file_state worked.1) → IfErr worked.0 (λ failure. WorksOnFiles ⟦<FileFrom<D> as Disk>⟧ (image_at D.Start) (λ before. FailsOn (state (over_files {g = ⟦<FileFrom<D> as Disk>⟧})) choice.now before failure
+        (R.remaining source.old) (R.remaining source.new) (W.written out.old) (W.written out.new) worked.1))) }
+
+    // Whatever the disk returns, the work is done over an office of some good state.
+    ensures some { IfOk result (λ worked. OnOk worked.0 (DoesOverSome (state (over_files {g = ⟦<FileFrom<D> as Disk>⟧})) choice.now (R.remaining source.old) (R.remaining source.new) (W.written out.old) (W.written out.new))) }
+    ensures unopened { OnErr result ((source.new ≡ source.old) × (out.new ≡ out.old)) }
+    ensures unread { reads_input choice.now ≡ false → source.new ≡ source.old }
     ensures reads { R.reads source.new ≤ R.reads source.old + most_reads }
 {
-    let before = what_stands(rt, path)?;
-    match connect(rt, path, before) {
-        Some(conn) => over_files(rt, path, conn, before, choice, source, out),
+    match connect(rt, path, before, start) {
+        Some(conn) => {
+            reopened(&conn);
+            Ok(run_on_connection(rt, conn, choice, source, out))
+        }
         None => Err(Failure::Refused(Refusal::Store)),
     }
 }
 
-/// Does the work over the office of the file, which has to be there.
+/// Does the work of a subcommand over the file at a path, and closes it. If `init` is refused before a
+/// page of an office was written, what stood at the path before stands there again.
 ///
 /// # Errors
 ///
-/// `Refused`, with `Store` where there is no such file or it can't be opened, and `NotAnOffice` where
-/// it is empty. Else as the work is refused or stops.
-pub(crate) fn over_file<R: Source, W: Sink>(
+/// `Refused`, with `Store` if there is no such file or it can't be opened or made, and with `NotAnOffice`
+/// if it is empty. Otherwise as the work is refused or stops.
+pub(crate) fn run_in_file<R: Source, W: Sink>(
     rt: &HostRuntime,
     path: &str,
     choice: &Choice,
     source: &mut R,
     out: &mut W,
 ) -> Result<(), Failure>
-    ensures done { OnOk result (IsDoneOverSome choice.now (R.remaining source.old) (R.remaining source.new) (W.written out.old) (W.written out.new)) }
+    ensures done { OnOk result (DoesOverSome (state (over_files {g = ⟦<File as Disk>⟧})) choice.now (R.remaining source.old) (R.remaining source.new) (W.written out.old) (W.written out.new)) }
+    ensures unread { reads_input choice.now ≡ false → source.new ≡ source.old }
     ensures reads { R.reads source.new ≤ R.reads source.old + most_reads }
 {
-    found(rt, path)?;
-    match connect(rt, path, Before::Bytes) {
-        Some(conn) => over_files(rt, path, conn, Before::Bytes, choice, source, out),
-        None => Err(Failure::Refused(Refusal::Store)),
+    let before = found_before(rt, path, choice)?;
+    let (done, conn) = run_on_path(rt, path, before, Unknown, choice, source, out)?;
+    let undone = if done.is_err() { before } else { Before::Bytes };
+    close(rt, path, conn, undone);
+    done
+}
+
+// What stands at the path. Only `init` makes a file where none is.
+fn found_before(rt: &HostRuntime, path: &str, choice: &Choice) -> Result<Before, Failure> {
+    if let Choice::Init(_) = choice {
+        return what_stands(rt, path);
     }
+    found(rt, path)?;
+    Ok(Before::Bytes)
 }
 
 // What stands at the path. What is no file is refused, and a link that leads nowhere.
@@ -115,8 +153,16 @@ fn beside(rt: &HostRuntime, path: &str, ending: &str) -> io::Result<String> {
 }
 
 // Opens the file, or makes it. What a refused opening has begun goes.
-fn connect(rt: &HostRuntime, path: &str, before: Before) -> Option<Connection<FileStore<File>>> {
-    match Connection::open_from(rt, path, false, Unknown) {
+fn connect<D: Start>(
+    rt: &HostRuntime,
+    path: &str,
+    before: Before,
+    start: D,
+) -> Option<Connection<FileStore<FileFrom<D>>>>
+    ensures opened { IfSome result (λ conn. HasCleanDisk (file_state conn) → IsOpened conn) }
+    ensures found { IfSome result (λ conn. HasCleanDisk (file_state conn) → FindsIn (image_at D.Start) (file_state conn)) }
+{
+    match Connection::open_from(rt, path, false, start) {
         Ok(conn) => Some(conn),
         Err((_, Some(left))) => {
             let files = left.into_files();
@@ -131,25 +177,6 @@ fn connect(rt: &HostRuntime, path: &str, before: Before) -> Option<Connection<Fi
             None
         }
     }
-}
-
-// The one call of code that is generic over the store, at the store of files.
-fn over_files<R: Source, W: Sink>(
-    rt: &HostRuntime,
-    path: &str,
-    conn: Connection<FileStore<File>>,
-    before: Before,
-    choice: &Choice,
-    source: &mut R,
-    out: &mut W,
-) -> Result<(), Failure>
-    ensures done { OnOk result (IsDoneOverSome choice.now (R.remaining source.old) (R.remaining source.new) (W.written out.old) (W.written out.new)) }
-    ensures reads { R.reads source.new ≤ R.reads source.old + most_reads }
-{
-    let (done, conn) = over(rt, conn, choice, source, out);
-    let undone = if done.is_err() { before } else { Before::Bytes };
-    close(rt, path, conn, undone);
-    done
 }
 
 // Copies the log into the file and takes it away, while the file is still locked. Where that fails,

@@ -2,15 +2,18 @@
 #![tactic(auto)]
 
 pub use choice::{Choice, Place, Unchosen, choose};
+pub use failure::Failure;
+pub use files::run_on_path;
 pub use program::run;
 pub use serving::serve_on;
+pub use work::run_on_connection;
 
 pub mod choice;
 mod command_line;
-mod failure;
-mod files;
+pub mod failure;
+pub mod files;
 mod memory;
 mod memory_file;
 pub mod program;
 pub mod serving;
-mod work;
+pub mod work;

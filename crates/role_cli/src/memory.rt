@@ -1,10 +1,8 @@
 //! A replay over an office in memory.
-ghost use Rattle.std.specs.Prelude.{◌≡◌, ◌⊎◌, ◌≤◌, ◌+◌, ℕ, List, OnOk, IfOk, IfErr};
-ghost use Rattle.std.specs.Io.KnownBytes.{Consumes, IsAtEnd};
+ghost use Rattle.std.specs.Prelude.{◌≡◌, ◌⊎◌, ◌≤◌, ◌+◌, OnOk, IfOk, IfErr};
 ghost use Rattle.rbac_sets.specs.Stream.{HasRisen};
 ghost use Rattle.role_wire.specs.Replay.{IsAtBound, most_reads};
-ghost use Rattle.role_wire.specs.Replaying.{IsAnswered};
-ghost use Rattle.role_cli.specs.InMemory.{FailsInMemory, IsCaused, IsNewOffice, IsUnmade, first_state};
+ghost use Rattle.role_cli.specs.InMemory.{FailsInMemory, IsCaused, IsNewOffice, IsUnmade, ReplaysInMemory};
 
 use crate::failure::Failure;
 use crate::memory_file::MemoryFile;
@@ -38,9 +36,7 @@ pub(crate) fn replay_memory<R: Source, W: Sink>(
     source: &mut R,
     sink: &mut W,
 ) -> Result<Count, Failure>
-    ensures ok { IfOk result (λ count. (input : List ℕ) × Consumes (R.remaining source.old) (R.remaining source.new) input
-        × IsAnswered first_state input (W.written sink.old) (W.written sink.new) count.answered) }
-    ensures end { OnOk result (IsAtEnd (R.remaining source.new)) }
+    ensures done { OnOk result (ReplaysInMemory ⟦<MemoryFile as Disk>⟧ (R.remaining source.old) (R.remaining source.new) (W.written sink.old) (W.written sink.new)) }
     ensures stopped { IfErr result (λ failure. FailsInMemory ⟦<MemoryFile as Disk>⟧ failure ((source.new ≡ source.old) × (sink.new ≡ sink.old))
         (R.remaining source.old) (R.remaining source.new) (W.written sink.old) (W.written sink.new)) }
     ensures caused { IfErr result (λ failure. IsCaused failure

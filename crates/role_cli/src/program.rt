@@ -4,17 +4,20 @@ ghost use Rattle.clap.specs.Words.{kind_of, subcommand_of, takes};
 ghost use Rattle.rbac_sets.specs.Stream.{HasRisen};
 ghost use Rattle.role_wire.specs.Replay.{IsAtBound, most_reads};
 ghost use Rattle.role_cli.specs.CommandLine.{program};
-ghost use Rattle.role_cli.specs.Doing.{IsDone, is_in_memory};
+ghost use Rattle.role_cli.specs.Done.{IsDone, is_in_memory};
+ghost use Rattle.role_cli.specs.Telling.{IsLineOf, Says, SaysSome, no_memory_line};
+ghost use Rattle.role_cli.specs.Work.{reads_input};
 ghost use Rattle.role_cli.specs.Choosing.{AsksHelp, Chooses, IsHelp, ReplaysBothOrNeither};
 ghost use Rattle.role_cli.specs.InMemory.{FailsInMemory, IsCaused};
 ghost use Rattle.role_cli.specs.declared.choice.Choice.{Choice};
 
 use crate::choice::{Choice, Place, Unchosen, choose};
 use crate::failure::{Failure, tell, tell_no_memory};
-use crate::files::{make_in_file, over_file};
+use crate::files::run_in_file;
 use crate::memory::replay_memory;
 use crate::memory_file::MemoryFile;
 use rbac_sets::{Sink, Source};
+use sqlite::File;
 use sqlite_disk::Disk;
 use std::alloc::Global;
 
@@ -44,15 +47,19 @@ pub fn run<R: Source, W: Sink, E: Sink>(
     ensures status { (result ≡ 0) ⊎ ((result ≡ 1) ⊎ (result ≡ 2)) }
     ensures done { result ≡ 0 → (AsksHelp program (map (λ s. s.now) words.entry.now) × (source.new ≡ source.old))
         ⊎ ((choice : Choice) × Chooses (subcommand_of program (map (λ s. s.now) words.entry.now)) choice
-        × IsDone choice (R.remaining source.old) (R.remaining source.new) (W.written out.old) (W.written out.new)) }
+        × IsDone ⟦<MemoryFile as Disk>⟧ ⟦<File as Disk>⟧ choice (R.remaining source.old) (R.remaining source.new) (W.written out.old) (W.written out.new)
+        × (reads_input choice ≡ false → source.new ≡ source.old)) }
     ensures refused { result ≡ 2 → (source.new ≡ source.old) × (out.new ≡ out.old) }
     ensures unchosen { result ≡ 2 → (takes program (map (λ s. s.now) words.entry.now) ≡ false) ⊎ ReplaysBothOrNeither (subcommand_of program (map (λ s. s.now) words.entry.now)) }
     ensures stopped { result ≡ 1 → ((source.new ≡ source.old) × (out.new ≡ out.old))
-        ⊎ ((choice : Choice) × Chooses (subcommand_of program (map (λ s. s.now) words.entry.now)) choice × (is_in_memory choice ≡ true → (failure : Failure)
+        ⊎ ((choice : Choice) × Chooses (subcommand_of program (map (λ s. s.now) words.entry.now)) choice × (reads_input choice ≡ false → source.new ≡ source.old) × (is_in_memory choice ≡ true → (failure : Failure)
         × FailsInMemory ⟦<MemoryFile as Disk>⟧ failure ((source.new ≡ source.old) × (out.new ≡ out.old)) (R.remaining source.old) (R.remaining source.new) (W.written out.old) (W.written out.new)
         × IsCaused failure
         (HasRisen (W.failed out.old) (W.failed out.new) ⊎ HasRisen (W.idle out.old) (W.idle out.new))
         (HasRisen (R.failed source.old) (R.failed source.new) ⊎ IsAtBound (R.reads source.old) (R.reads source.new)))) }
+    ensures told { result ≡ 1 → (failure : Failure) × SaysSome (IsLineOf failure) (E.written err.old) (E.written err.new)
+        (HasRisen (E.failed err.old) (E.failed err.new) ⊎ HasRisen (E.idle err.old) (E.idle err.new)) }
+    ensures silent { result ≡ 0 → err.new ≡ err.old }
     ensures reads { R.reads source.new ≤ R.reads source.old + most_reads }
 {
     match choose(rt.alloc(), words) {
@@ -76,12 +83,13 @@ fn done<R: Source, W: Sink>(
     source: &mut R,
     out: &mut W,
 ) -> Result<(), Failure>
-    ensures done { OnOk result (IsDone choice.now (R.remaining source.old) (R.remaining source.new) (W.written out.old) (W.written out.new)) }
+    ensures done { OnOk result (IsDone ⟦<MemoryFile as Disk>⟧ ⟦<File as Disk>⟧ choice.now (R.remaining source.old) (R.remaining source.new) (W.written out.old) (W.written out.new)) }
     ensures stopped { is_in_memory choice.now ≡ true → IfErr result (λ failure. FailsInMemory ⟦<MemoryFile as Disk>⟧ failure ((source.new ≡ source.old) × (out.new ≡ out.old))
         (R.remaining source.old) (R.remaining source.new) (W.written out.old) (W.written out.new)) }
     ensures caused { is_in_memory choice.now ≡ true → IfErr result (λ failure. IsCaused failure
         (HasRisen (W.failed out.old) (W.failed out.new) ⊎ HasRisen (W.idle out.old) (W.idle out.new))
         (HasRisen (R.failed source.old) (R.failed source.new) ⊎ IsAtBound (R.reads source.old) (R.reads source.new))) }
+    ensures unread { reads_input choice.now ≡ false → source.new ≡ source.old }
     ensures reads { R.reads source.new ≤ R.reads source.old + most_reads }
 {
     match choice {
@@ -89,14 +97,14 @@ fn done<R: Source, W: Sink>(
             Ok(_) => Ok(()),
             Err(failure) => Err(failure),
         },
-        Choice::Init(file) => make_in_file(rt, file.as_str(), choice, source, out),
-        Choice::Replay(Place::File(file)) => over_file(rt, file.as_str(), choice, source, out),
-        Choice::Serve(file, _, _) => over_file(rt, file.as_str(), choice, source, out),
-        Choice::Import(file, _) => over_file(rt, file.as_str(), choice, source, out),
-        Choice::Export(file) => over_file(rt, file.as_str(), choice, source, out),
-        Choice::Report(file) => over_file(rt, file.as_str(), choice, source, out),
-        Choice::Check(file) => over_file(rt, file.as_str(), choice, source, out),
-        Choice::Migrate(file) => over_file(rt, file.as_str(), choice, source, out),
+        Choice::Init(file)
+        | Choice::Replay(Place::File(file))
+        | Choice::Serve(file, _, _)
+        | Choice::Import(file, _)
+        | Choice::Export(file)
+        | Choice::Report(file)
+        | Choice::Check(file)
+        | Choice::Migrate(file) => run_in_file(rt, file.as_str(), choice, source, out),
     }
 }
 
@@ -105,6 +113,9 @@ fn status_of<E: Sink>(alloc: Global, done: Result<(), Failure>, err: &mut E) -> 
     ensures done { (result ≡ 0) ↔ IsOk done }
     ensures stopped { result ≡ 1 → IsErr done }
     ensures status { (result ≡ 0) ⊎ (result ≡ 1) }
+    ensures told { result ≡ 1 → (failure : Failure) × SaysSome (IsLineOf failure) (E.written err.old) (E.written err.new)
+        (HasRisen (E.failed err.old) (E.failed err.new) ⊎ HasRisen (E.idle err.old) (E.idle err.new)) }
+    ensures silent { result ≡ 0 → err.new ≡ err.old }
 {
     match done {
         Ok(()) => DONE,
@@ -120,6 +131,8 @@ fn explain<W: Sink, E: Sink>(alloc: Global, error: &clap::Error, out: &mut W, er
     ensures status { (result ≡ 0) ⊎ ((result ≡ 1) ⊎ (result ≡ 2)) }
     ensures help { result ≡ 0 → IsHelp (kind_of error.now) }
     ensures refused { (result ≡ 2) ⊎ (result ≡ 1) → out.new ≡ out.old }
+    ensures told { result ≡ 1 → Says no_memory_line (E.written err.old) (E.written err.new) (HasRisen (E.failed err.old) (E.failed err.new) ⊎ HasRisen (E.idle err.old) (E.idle err.new)) }
+    ensures silent { result ≡ 0 → err.new ≡ err.old }
 {
     let Ok(text) = format!(in alloc; "{error}") else {
         tell_no_memory(err);

@@ -1,10 +1,10 @@
 //! One connection of a server after another.
-ghost use Rattle.std.specs.Prelude.{◌≡◌, ◌⊎◌, IsOk, OnOk, IfOk, string_bytes};
+ghost use Rattle.std.specs.Prelude.{⊤, ◌≡◌, ◌⊎◌, IsOk, OnErr, OnOk, IfOk, string_bytes};
 ghost use Rattle.std.specs.Io.KnownBytes.{Appends};
 ghost use Rattle.sqlite.specs.Held.{state};
 ghost use Rattle.role_http.specs.Route.{routes};
-ghost use Rattle.role_cli.specs.Doing.{listening_line};
 ghost use Rattle.role_cli.specs.Serving.{AreServedUpTo, IsServed};
+ghost use Rattle.role_cli.specs.Work.{WritesPart, listening_line};
 
 use crate::failure::Failure;
 use matchit::Router;
@@ -74,8 +74,9 @@ pub(crate) fn serve<S: Alter, W: Sink>(
     limit: u32,
     out: &mut W,
 ) -> Result<(), Failure>
-    ensures said { OnOk result (Appends (W.written out.old) (W.written out.new) (listening_line port)) }
-    ensures left { AreServedUpTo (state S.Store) limit (IsOk result) office.old office.new }
+    ensures done { OnOk result (Appends (W.written out.old) (W.written out.new) (listening_line port) × AreServedUpTo (state S.Store) limit ⊤ office.old office.new) }
+    ensures failed { OnErr result ((WritesPart (listening_line port) (W.written out.old) (W.written out.new) × (office.new ≡ office.old))
+        ⊎ (Appends (W.written out.old) (W.written out.new) (listening_line port) × AreServedUpTo (state S.Store) limit ⊥ office.old office.new)) }
 {
     let Ok(listener) = TcpListener::bind(rt, ("127.0.0.1", port)) else {
         return Err(Failure::NotListening);
@@ -86,7 +87,8 @@ pub(crate) fn serve<S: Alter, W: Sink>(
 
 // Writes where the server listens.
 fn say_port<W: Sink>(alloc: Global, out: &mut W, port: u16) -> Result<(), Failure>
-    ensures { OnOk result (Appends (W.written out.old) (W.written out.new) (listening_line port)) }
+    ensures ok { OnOk result (Appends (W.written out.old) (W.written out.new) (listening_line port)) }
+    ensures part { OnErr result (WritesPart (listening_line port) (W.written out.old) (W.written out.new)) }
 {
     let line = match port_line(alloc, port) {
         Ok(line) => line,
@@ -137,7 +139,7 @@ fn serve_stream<S: Alter>(
     stream: &TcpStream,
 ) -> Option<u16>
     requires route { router.now ≡ routes }
-    ensures { IsServed (state S.Store) office.old office.new }
+    ensures { IsServed (state S.Store) office.old result office.new }
 {
     let patience = Duration::from_secs(PATIENCE);
     let _ = stream.set_read_timeout(Some(patience));
@@ -158,7 +160,7 @@ fn answer_stream<S: Alter>(
     stream: &TcpStream,
 ) -> Option<u16>
     requires route { router.now ≡ routes }
-    ensures { IsServed (state S.Store) office.old office.new }
+    ensures { IsServed (state S.Store) office.old result office.new }
 {
     let (Ok(reader), Ok(writer)) = (BufReader::new(alloc, stream), BufWriter::new(alloc, stream))
     else {
@@ -192,7 +194,7 @@ fn answered<S: Alter, R: Source, W: Sink>(
     sink: &mut W,
 ) -> Option<u16>
     requires route { router.now ≡ routes }
-    ensures { IsServed (state S.Store) office.old office.new }
+    ensures { IsServed (state S.Store) office.old result office.new }
 {
     match serve_with(alloc, router, office, source, sink) {
         Ok(Served { status }) => Some(status),

@@ -1,14 +1,26 @@
 //! What is done over the office of an open connection, whatever its store.
-ghost use Rattle.std.specs.Prelude.{◌≡◌, ◌≤◌, ◌+◌, ◌++◌, ◌∷◌, [], ℕ, List, false, IfOk, OnOk, codes, string_bytes};
+ghost use Rattle.std.specs.Prelude.{◌≡◌, ◌⊎◌, ◌≤◌, ◌+◌, ◌++◌, ◌∷◌, [], ℕ, List, false, Ok, Err, IfErr, IfOk, MatchResult, OnErr, OnOk, codes, string_bytes};
 ghost use Rattle.std.specs.Io.KnownBytes.{Appends};
+ghost use Rattle.sqlite.specs.Held.{state};
+ghost use Rattle.sqlite.specs.State.{HasCleanDisk};
+ghost use Rattle.rbac_sets.specs.Asked.{Import, asked_of};
+ghost use Rattle.rbac_sets.specs.Sets.{Pair};
+ghost use Rattle.admin_mgr.specs.Planned.{tally_of_report};
 ghost use Rattle.review_mgr.specs.Report.{report};
+ghost use Rattle.role_csv.specs.Assignments.{assignments};
 ghost use Rattle.role_csv.specs.Export.{exported};
+ghost use Rattle.role_json.specs.Answer.{import_text};
+ghost use Rattle.role_json.specs.Requested.{Change};
+ghost use Rattle.role_tables.specs.Standing.{ForgetsNoFault};
+ghost use Rattle.role_wire.specs.Keeping.{Continues};
+ghost use Rattle.role_wire.specs.Performing.{Declines, Performs};
 ghost use Rattle.role_wire.specs.Replay.{most_reads};
-ghost use Rattle.role_cli.specs.Doing.{IsDoneOver, IsDoneOverSome, IsImportLine, StartsWell};
+ghost use Rattle.role_cli.specs.Work.{Begins, Does, DoesOverSome, Fails, FailsOn, FailsToImport, Imports, IsUnopened, IsUnread, RefusesText, StartsWell, Works, WritesPart, reads_input};
 
 use crate::choice::Choice;
 use crate::failure::Failure;
 use crate::serving::serve;
+use admin_mgr::Report;
 use rbac_sets::{Command, Refusal, Sink, Source, write_all};
 use review_mgr::report_roles;
 use role_tables::{Office, Unopened, create, migrate, open};
@@ -21,27 +33,43 @@ use std::io::{self, ErrorKind, Read};
 /// The most bytes that are read of a CSV file: one more than it may have.
 const MOST_BYTES: u64 = 2_097_153;
 
-/// Makes, migrates or opens the office of the connection, does the work over it, and gives the
-/// connection back.
+/// Does the work of a subcommand over an open connection, whatever its store, and hands the connection
+/// back: makes, migrates or opens the office in its tables, does what the subcommand does, and writes
+/// what it writes to `out`. Only a replay reads `source`. A CSV file and the port of a server are those
+/// of the runtime.
+///
+/// While the disk returns what was written, the work is done over the state that was stored in the
+/// connection, and the office is in one run from the opening on, in which a crash leaves what its
+/// answers allow: in the connection that is handed back too, however the work ended.
 ///
 /// # Errors
 ///
-/// The refusal of `create`, `migrate` or `open`: nothing was read or written then. Else why the work
-/// stopped.
-pub(crate) fn over<S: Alter, R: Source, W: Sink>(
+/// `Refused` with the refusal of `create`, `migrate` or `open`: nothing was read or written then, and no
+/// office was changed. Otherwise as the work ended: `Stopped` for a replay and for a CSV file that can't
+/// be read; `Refused` if memory, the store or the output failed, or an import was refused;
+/// `NotListening`, `NotAccepting` and `Closed` for a server.
+pub fn run_on_connection<S: Alter, R: Source, W: Sink>(
     rt: &HostRuntime,
     conn: Connection<S>,
     choice: &Choice,
     source: &mut R,
     out: &mut W,
 ) -> (Result<(), Failure>, Connection<S>)
-    ensures done { OnOk result.0 (IsDoneOverSome choice.now (R.remaining source.old) (R.remaining source.new) (W.written out.old) (W.written out.new)) }
+    ensures clean { ForgetsNoFault (state S.Store conn) (state S.Store result.1) }
+    ensures done { HasCleanDisk (state S.Store result.1) → OnOk result.0 (Works (state S.Store) choice.now (state S.Store conn)
+        (λ first last. Does (state S.Store) choice.now first (R.remaining source.old) (R.remaining source.new) (W.written out.old) (W.written out.new) last) result.1) }
+    ensures failed { HasCleanDisk (state S.Store result.1) → IfErr result.0 (λ failure. FailsOn (state S.Store) choice.now (state S.Store conn) failure
+        (R.remaining source.old) (R.remaining source.new) (W.written out.old) (W.written out.new) result.1) }
+
+    // Whatever the disk returns, the work is done over an office of some good state.
+    ensures some { OnOk result.0 (DoesOverSome (state S.Store) choice.now (R.remaining source.old) (R.remaining source.new) (W.written out.old) (W.written out.new)) }
+    ensures unread { reads_input choice.now ≡ false → source.new ≡ source.old }
     ensures reads { R.reads source.new ≤ R.reads source.old + most_reads }
 {
     match office_of(rt.alloc(), conn, choice) {
         Ok(mut office) => {
             office.is_good();
-            let done = over_office(rt, &mut office, choice, source, out);
+            let done = run_on_office(rt, &mut office, choice, source, out);
             (done, office.into_connection())
         }
         Err(Unopened { refusal, conn }) => (Err(Failure::Refused(refusal)), conn),
@@ -56,6 +84,9 @@ fn office_of<S: Alter>(
 ) -> Result<Office<S>, Unopened<S>>
     ensures open { IfOk result (λ office. office.is_closed ≡ false) }
     ensures made { IfOk result (λ office. StartsWell choice.now office.facts) }
+    ensures clean { MatchResult result (λ office. ForgetsNoFault (state S.Store conn) (state S.Store office.conn)) (λ u. ForgetsNoFault (state S.Store conn) (state S.Store u.conn)) }
+    ensures begins { IfOk result (λ office. HasCleanDisk (state S.Store office.conn) → Begins (state S.Store) choice.now (state S.Store conn) office) }
+    ensures unopened { IfErr result (λ u. HasCleanDisk (state S.Store u.conn) → IsUnopened (state S.Store) choice.now (state S.Store conn) u.refusal (state S.Store u.conn)) }
 {
     match choice {
         Choice::Init(_) => create(alloc, conn),
@@ -65,7 +96,7 @@ fn office_of<S: Alter>(
 }
 
 // Does the work over an open office.
-fn over_office<S: Alter, R: Source, W: Sink>(
+fn run_on_office<S: Alter, R: Source, W: Sink>(
     rt: &HostRuntime,
     office: &mut Office<S>,
     choice: &Choice,
@@ -73,8 +104,10 @@ fn over_office<S: Alter, R: Source, W: Sink>(
     out: &mut W,
 ) -> Result<(), Failure>
     requires open { office.old.is_closed ≡ false }
-    requires made { StartsWell choice.now office.old.facts }
-    ensures done { OnOk result (IsDoneOver office.old.facts choice.now (R.remaining source.old) (R.remaining source.new) (W.written out.old) (W.written out.new)) }
+    ensures done { OnOk result (Does (state S.Store) choice.now office.old (R.remaining source.old) (R.remaining source.new) (W.written out.old) (W.written out.new) office.new) }
+    ensures failed { IfErr result (λ failure. Fails (state S.Store) choice.now failure office.old (R.remaining source.old) (R.remaining source.new) (W.written out.old) (W.written out.new) office.new) }
+    ensures continues { Continues (state S.Store) office.old office.new }
+    ensures unread { reads_input choice.now ≡ false → source.new ≡ source.old }
     ensures reads { R.reads source.new ≤ R.reads source.old + most_reads }
 {
     match choice {
@@ -93,7 +126,8 @@ fn over_office<S: Alter, R: Source, W: Sink>(
 
 // Writes a line. One that the output doesn't take counts as a refused call of the store.
 fn say<W: Sink>(out: &mut W, line: &[u8]) -> Result<(), Failure>
-    ensures { OnOk result (Appends (W.written out.old) (W.written out.new) line.now) }
+    ensures ok { OnOk result (Appends (W.written out.old) (W.written out.new) line.now) }
+    ensures part { IfErr result (λ failure. (failure ≡ Failure.Refused Refusal.Store) × WritesPart line.now (W.written out.old) (W.written out.new)) }
 {
     match write_all(out, line) {
         Ok(()) => Ok(()),
@@ -104,7 +138,8 @@ fn say<W: Sink>(out: &mut W, line: &[u8]) -> Result<(), Failure>
 // Writes the assignments.
 fn export<S: Alter, W: Sink>(alloc: Global, office: &Office<S>, out: &mut W) -> Result<(), Failure>
     requires { office.now.is_closed ≡ false }
-    ensures { OnOk result (Appends (W.written out.old) (W.written out.new) (exported office.now.facts)) }
+    ensures ok { OnOk result (Appends (W.written out.old) (W.written out.new) (exported office.now.facts)) }
+    ensures part { OnErr result (WritesPart (exported office.now.facts) (W.written out.old) (W.written out.new)) }
 {
     match office.state() {
         Ok(state) => write_assignments(alloc, state, out).map_err(Failure::Refused),
@@ -115,7 +150,8 @@ fn export<S: Alter, W: Sink>(alloc: Global, office: &Office<S>, out: &mut W) -> 
 // Writes the role report.
 fn report<S: Alter, W: Sink>(alloc: Global, office: &Office<S>, out: &mut W) -> Result<(), Failure>
     requires { office.now.is_closed ≡ false }
-    ensures { OnOk result (Appends (W.written out.old) (W.written out.new) (report office.now.facts)) }
+    ensures ok { OnOk result (Appends (W.written out.old) (W.written out.new) (report office.now.facts)) }
+    ensures part { OnErr result (WritesPart (report office.now.facts) (W.written out.old) (W.written out.new)) }
 {
     match office.state() {
         Ok(state) => report_roles(alloc, state, out).map_err(Failure::Refused),
@@ -130,7 +166,8 @@ fn import<S: Alter, W: Sink>(
     path: &str,
     out: &mut W,
 ) -> Result<(), Failure>
-    ensures { OnOk result ((line : List ℕ) × IsImportLine line × Appends (W.written out.old) (W.written out.new) line) }
+    ensures ok { OnOk result (Imports (state S.Store) office.old (W.written out.old) (W.written out.new) office.new) }
+    ensures err { IfErr result (λ failure. FailsToImport (state S.Store) office.old failure (W.written out.old) (W.written out.new) office.new) }
 {
     let text = text_of(rt, path)?;
     let line = match imported(rt.alloc(), office, &text) {
@@ -140,8 +177,10 @@ fn import<S: Alter, W: Sink>(
     say(out, line.as_bytes())
 }
 
-// The bytes of a CSV file, or one more than it may have where it has more.
-fn text_of(rt: &HostRuntime, path: &str) -> Result<Vec<u8>, Failure> {
+// The bytes of a CSV file, or one more than it may have if it has more.
+fn text_of(rt: &HostRuntime, path: &str) -> Result<Vec<u8>, Failure>
+    ensures { IfErr result IsUnread }
+{
     match bytes_of(rt, path) {
         Ok(bytes) => Ok(bytes),
         Err(error) if error.kind() == ErrorKind::OutOfMemory => {
@@ -162,9 +201,13 @@ fn bytes_of(rt: &HostRuntime, path: &str) -> io::Result<Vec<u8>> {
     Ok(bytes)
 }
 
-// Imports the assignments of a text, and gives the line that answers.
+// Imports the assignments of a text, and returns the line that answers.
 fn imported<S: Alter>(alloc: Global, office: &mut Office<S>, text: &[u8]) -> Result<String, Refusal>
-    ensures { IfOk result (λ line. IsImportLine (string_bytes line)) }
+    ensures ok { IfOk result (λ line. (pairs : List Pair) × (answer : List ℕ) × (assignments text.now ≡ Ok pairs)
+        × Performs (state S.Store) office.old (Change (Import pairs)) answer office.new × (string_bytes line ≡ answer ++ (10 ∷ []))) }
+    ensures err { IfErr result (λ refusal. (RefusesText text.now refusal × (office.new ≡ office.old))
+        ⊎ ((pairs : List Pair) × (assignments text.now ≡ Ok pairs) × (Declines (state S.Store) office.old (Change (Import pairs)) refusal office.new
+        ⊎ ((refusal ≡ Refusal.Memory) × ((answer : List ℕ) × Performs (state S.Store) office.old (Change (Import pairs)) answer office.new))))) }
 {
     let pairs = read_assignments(alloc, text)?;
     let command = Command::ImportAssignments(pairs);
@@ -173,15 +216,26 @@ fn imported<S: Alter>(alloc: Global, office: &mut Office<S>, text: &[u8]) -> Res
     line
 }
 
-// Does the import, and gives the line that answers.
+// Does an import, and returns the line that answers.
 fn import_pairs<S: Alter>(
     alloc: Global,
     office: &mut Office<S>,
     command: &Command,
 ) -> Result<String, Refusal>
-    ensures { IfOk result (λ line. IsImportLine (string_bytes line)) }
+    requires { (pairs : List Pair) × (asked_of command.now ≡ Import pairs) }
+    ensures ok { IfOk result (λ line. (answer : List ℕ) × Performs (state S.Store) office.old (Change (asked_of command.now)) answer office.new × (string_bytes line ≡ answer ++ (10 ∷ []))) }
+    ensures err { IfErr result (λ refusal. Declines (state S.Store) office.old (Change (asked_of command.now)) refusal office.new
+        ⊎ ((refusal ≡ Refusal.Memory) × ((answer : List ℕ) × Performs (state S.Store) office.old (Change (asked_of command.now)) answer office.new))) }
 {
     let report = office.apply(alloc, command)?;
+    import_line(alloc, report)
+}
+
+// The line that answers an import.
+fn import_line(alloc: Global, report: Report) -> Result<String, Refusal>
+    ensures ok { IfOk result (λ line. string_bytes line ≡ import_text (tally_of_report report) ++ (10 ∷ [])) }
+    ensures err { IfErr result (λ refusal. refusal ≡ Refusal.Memory) }
+{
     let mut line = answer_text(alloc, &Verdict::Imported(report))?;
     line.push_str("\n")?;
     Ok(line)

@@ -2,5 +2,6 @@ mod Events
 mod Meanings
 mod OfficeTables
 mod Reading
+mod Runs
 mod StoredRows
 pub mod Lives

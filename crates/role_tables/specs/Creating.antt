@@ -14,7 +14,7 @@ use Rattle.role_tables.specs.OfficeTables.{StoredTable, Meta, making, Rows, code
 abbrev pub MayCreate : ℕ → State → Type 0
 MayCreate version s = (s.in_transaction ≡ false) × IsTrue (may_create version s.now.schema)
 
--- an office could be made and, where the disk has no fault, this state stands in it now
+-- an office could be made and, if the disk returned what was written, this state is stored in it now
 abbrev pub MakesOffice : State → State → RbacState → Type 0
 MakesOffice old new S = MayCreate S.version old × (HasCleanDisk new → Stands new S)
 

@@ -14,3 +14,4 @@ pub mod Gathering
 pub mod MetaRows
 pub mod Migrating
 pub mod Lives
+pub mod Runs

@@ -1,5 +1,5 @@
 -- What holds over every list of lives of one office: what each opening finds, and what stays away once it was taken.
-use Rattle.std.specs.Prelude.{◌≡◌, ◌≢◌, ◌⊎◌, ◌↔◌, Bool, true, false, if◌then◌else◌, List, [], ◌∷◌, ◌++◌, map, filter, Contains, Some, None, Ok, Err, is_ok, IsTrue}
+use Rattle.std.specs.Prelude.{ℕ, ◌≡◌, ◌≢◌, ◌⊎◌, ◌↔◌, Bool, true, false, if◌then◌else◌, List, [], ◌∷◌, ◌++◌, map, filter, Contains, Some, None, Ok, Err, is_ok, IsTrue}
 use Rattle.std.specs.List.{list_any}
 use Rattle.rbac_sets.specs.Sets.{Bytes, contains}
 use Rattle.rbac_sets.specs.declared.command.Command.{Command}
@@ -44,7 +44,12 @@ abbrev pub MayLose : List Event → List Command → Type 0
 MayLose events [] = Unit {0}
 MayLose events (command ∷ commands) = Contains events (record { command = command; reply = Err Store }) × (commands ≡ [])
 
--- but for the version, T is the state after a prefix of the accepted commands of the life that holds every acknowledged one
+-- the version stays, or rises from 1 to 2: it never falls
+abbrev pub NeverFalls : ℕ → ℕ → Type 0
+NeverFalls before now = (now ≡ before) ⊎ ((before ≡ 1) × (now ≡ 2))
+
+-- but for the version, which never falls, T is the state after a prefix of the accepted commands of the life that holds every
+-- acknowledged one
 pub record IsAfterPrefix (life : Life) (T : RbacState) : Type 0 where
   -- the prefix, and what it lacks
   pub done : List Command
@@ -53,6 +58,7 @@ pub record IsAfterPrefix (life : Life) (T : RbacState) : Type 0 where
   pub has_acknowledged : BeginsWith done (acknowledged life.events)
   pub loses_one : MayLose life.events lost
   pub state : IsSameButVersion (run life.start done) T
+  pub version : NeverFalls life.start.version T.version
 
 -- each life begins with a good state
 abbrev pub OpeningsAreGood : Type 0

@@ -39,6 +39,6 @@ abbrev pub event_of : Command → Result Report Refusal → Event
 event_of command (Ok report) = record { command = command; reply = Ok (tally_of_report report) }
 event_of command (Err refusal) = record { command = command; reply = Err refusal }
 
--- it is true where the office was open, its state stood in the tables, and the disk has no fault
+-- it is true if the office was open, its state was stored in the tables, and the disk returned what was written
 abbrev pub WhereItStood : {S : Type 0} → Ghosts S → Opened S → Opened S → Type 0 → Type 0
 WhereItStood store old new Is = old.is_closed ≡ false → HasCleanDisk (state store new.conn) → Stands (state store old.conn) old.facts → Is

@@ -33,7 +33,8 @@ meta_of version _ = []
 abbrev pub stored_rows : ℕ → List Row → Rows
 stored_rows version rows table = meta_of version table ++ map cells_of (filter (is_of table) rows)
 
--- the tables of the state's version were made so, and hold the rows of the state, each once, and the one row of its version
+-- The tables of the state's version were made so, and hold the rows of the state, each once, and the one row of its version. No
+-- foreign key of another table names one of them, which `HoldsRows` asks of each table.
 pub record HoldsState (db : Database) (S : RbacState) : Type 0 where
   pub rows : List Row
   pub rows_are : AreRowsOf S rows

@@ -1,10 +1,11 @@
 //! Making an office.
-ghost use Rattle.std.specs.Prelude.{◌≡◌, ◌⊎◌, ◌&&◌, false, true, not, IfErr, IfOk, OnOk};
+ghost use Rattle.std.specs.Prelude.{◌≡◌, ◌⊎◌, ◌&&◌, [], false, true, not, IfErr, IfOk, MatchResult, OnOk};
 ghost use Rattle.admin_mgr.specs.RbacState.{empty_state};
 ghost use Rattle.sqlite.specs.State.{HasCleanDisk, KeepsCommit, Survives};
 ghost use Rattle.sqlite.specs.Held.{state};
 ghost use Rattle.role_tables.specs.Creating.{IsFirstStage, MakesOffice, MayCreate, StageAfter};
-ghost use Rattle.role_tables.specs.Standing.{HoldsAsBefore, LeavesBeforeOr, TransactsTo};
+ghost use Rattle.role_tables.specs.Runs.{IsInRun};
+ghost use Rattle.role_tables.specs.Standing.{ForgetsNoFault, HoldsAsBefore, LeavesBeforeOr, TransactsTo};
 
 use crate::office::Office;
 use crate::opening::Unopened;
@@ -34,6 +35,7 @@ fn create_office<S: Alter>(conn: &mut Connection<S>, version: u32) -> Result<(),
     requires known { (version ≡ 1) ⊎ (version ≡ 2) }
     requires autocommit { conn.old.in_transaction ≡ false }
     ensures ended { conn.new.in_transaction ≡ false }
+    ensures clean { ForgetsNoFault (state S.Store conn.old) (state S.Store conn.new) }
     ensures made { HasCleanDisk (state S.Store conn.new) → IsFirstStage version (state S.Store conn.old) → TransactsTo (state S.Store conn.old) (state S.Store conn.new) (empty_state version) result }
 {
     is_settled(conn);
@@ -47,6 +49,8 @@ fn create_office<S: Alter>(conn: &mut Connection<S>, version: u32) -> Result<(),
 fn create_with<S: Alter>(conn: Connection<S>, first: State) -> Result<Office<S>, Unopened<S>>
     requires empty { first.facts ≡ empty_state first.facts.version }
     ensures ok { IfOk result (λ o. (o.facts ≡ first.facts) × (o.is_closed ≡ false) × MakesOffice (state S.Store conn) (state S.Store o.conn) first.facts) }
+    ensures clean { MatchResult result (λ o. ForgetsNoFault (state S.Store conn) (state S.Store o.conn)) (λ u. ForgetsNoFault (state S.Store conn) (state S.Store u.conn)) }
+    ensures run { IfOk result (λ o. IsInRun (state S.Store) first.facts [] o) }
     ensures err { IfErr result (λ u. u.refusal ≡ Refusal.Store) }
     ensures untouched { IfErr result (λ u. (MayCreate first.facts.version (state S.Store conn) → ⊥) → u.conn ≡ conn) }
     ensures undone { IfErr result (λ u. HasCleanDisk (state S.Store u.conn) → HoldsAsBefore (state S.Store conn) (state S.Store u.conn)) }
@@ -82,6 +86,8 @@ fn create_with<S: Alter>(conn: Connection<S>, first: State) -> Result<Office<S>,
 /// could leave before, or the new office.
 pub fn create<S: Alter>(alloc: Global, conn: Connection<S>) -> Result<Office<S>, Unopened<S>>
     ensures ok { IfOk result (λ o. (o.facts ≡ empty_state 2) × (o.is_closed ≡ false) × MakesOffice (state S.Store conn) (state S.Store o.conn) (empty_state 2)) }
+    ensures clean { MatchResult result (λ o. ForgetsNoFault (state S.Store conn) (state S.Store o.conn)) (λ u. ForgetsNoFault (state S.Store conn) (state S.Store u.conn)) }
+    ensures run { IfOk result (λ o. IsInRun (state S.Store) (empty_state 2) [] o) }
     ensures err { IfErr result (λ u. u.refusal ≡ Refusal.Store) }
     ensures untouched { IfErr result (λ u. (MayCreate 2 (state S.Store conn) → ⊥) → u.conn ≡ conn) }
     ensures undone { IfErr result (λ u. HasCleanDisk (state S.Store u.conn) → HoldsAsBefore (state S.Store conn) (state S.Store u.conn)) }
@@ -97,6 +103,8 @@ pub fn create<S: Alter>(alloc: Global, conn: Connection<S>) -> Result<Office<S>,
 /// As `create`, but that a table of locks may be there: an office of version 1 has none.
 pub fn create_v1<S: Alter>(alloc: Global, conn: Connection<S>) -> Result<Office<S>, Unopened<S>>
     ensures ok { IfOk result (λ o. (o.facts ≡ empty_state 1) × (o.is_closed ≡ false) × MakesOffice (state S.Store conn) (state S.Store o.conn) (empty_state 1)) }
+    ensures clean { MatchResult result (λ o. ForgetsNoFault (state S.Store conn) (state S.Store o.conn)) (λ u. ForgetsNoFault (state S.Store conn) (state S.Store u.conn)) }
+    ensures run { IfOk result (λ o. IsInRun (state S.Store) (empty_state 1) [] o) }
     ensures err { IfErr result (λ u. u.refusal ≡ Refusal.Store) }
     ensures untouched { IfErr result (λ u. (MayCreate 1 (state S.Store conn) → ⊥) → u.conn ≡ conn) }
     ensures undone { IfErr result (λ u. HasCleanDisk (state S.Store u.conn) → HoldsAsBefore (state S.Store conn) (state S.Store u.conn)) }

@@ -4,6 +4,7 @@ ghost use Rattle.sqlite.specs.Held.{state};
 ghost use Rattle.role_tables.specs.Lives.{OpeningsAreGood, OpeningsFollow, LastIsSound, DeassignedStays, RevokedStays};
 ghost use Rattle.role_tables.specs.Lives.{OneCall, EarlierArePossible, SoFarIsLeft, OpenLeavesSoFar, OpenGoesOn, ClosedStays, SoFarGoesOn};
 ghost use Rattle.role_tables.specs.Opening.{FoundAlone, GoodRowsAreFound, RefusedFindNone};
+ghost use Rattle.role_tables.specs.Runs.{RecoversRun};
 ghost use Rattle.role_tables.specs.Standing.{FindsWhatWasLeft, SameTreesHoldSame};
 
 use admin_mgr::laws::{accepted_good, effects, empty_states, migrated_good};
@@ -65,4 +66,26 @@ pub fn reopened<S: Alter>(conn: &Connection<S>)
 {
     conn.is_autocommit();
     conn.schema();
+}
+
+/// The headline: while nobody else writes the file and the disk returns what was written, however often
+/// the office crashes, before or within a write, each opening that succeeds finds a good state: that
+/// after a prefix of the accepted commands of the run before, which holds every acknowledged one. The
+/// argument in steps, each with the clause that says it:
+///
+/// 1. `create`, `create_v1`, `migrate` and `open` begin a run of the office (their clause `run`).
+/// 2. `Office::apply` adds one event to the run, its command with its answer (`run`), and forgets no
+///    fault of the disk (`clean`).
+/// 3. In a run, a crash leaves the trees of a database that holds a state which the events allow
+///    (`IsInRun`, field `left`).
+/// 4. What was left is stored in the next connection on these trees (`reopened`).
+/// 5. The state is good, and it is that after such a prefix (`lives`, clause `last`); its texts are names
+///    (`IsInRun`, field `names`).
+/// 6. So `open` finds it there, or is refused because memory or the store failed (its clauses `run` and
+///    `refused`), and the next run begins with it, which is step 1.
+pub fn recovers<S: Alter>(conn: &Connection<S>)
+    ensures { RecoversRun (state S.Store) (state S.Store conn.now) }
+{
+    reopened(conn);
+    lives();
 }

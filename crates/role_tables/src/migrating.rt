@@ -1,11 +1,13 @@
 //! Taking an office of version 1 into version 2.
-ghost use Rattle.std.specs.Prelude.{◌≡◌, ◌≢◌, false, true, IsTrue, IfErr, IfOk};
+ghost use Rattle.std.specs.Prelude.{◌≡◌, ◌≢◌, [], false, true, IsTrue, IfErr, IfOk, MatchResult};
 ghost use Rattle.sqlite.specs.State.{HasCleanDisk, KeepsCommit, Survives};
 ghost use Rattle.sqlite.specs.Held.{state};
+ghost use Rattle.admin_mgr.specs.Life.{taken_into_version_2};
 ghost use Rattle.role_tables.specs.Found.{held_in};
 ghost use Rattle.role_tables.specs.Migrating.{IsMigratedFrom, LeavesEitherVersion, MigratesTables, Moves, RefusesMigration, StaysRefused};
 ghost use Rattle.role_tables.specs.Opening.{is_opening_refusal, IsSecond};
-ghost use Rattle.role_tables.specs.Standing.{HoldsAsBefore};
+ghost use Rattle.role_tables.specs.Runs.{IsInRun};
+ghost use Rattle.role_tables.specs.Standing.{ForgetsNoFault, HoldsAsBefore, WhateverStands};
 
 use crate::judging::{read_state, refuse_second};
 use crate::office::Office;
@@ -22,7 +24,7 @@ use std::alloc::Global;
 fn migrate_tables<S: Alter>(conn: &mut Connection<S>) -> Result<(), Error>
     requires { conn.old.in_transaction ≡ false }
     ensures ended { conn.new.in_transaction ≡ false }
-    ensures clean { HasCleanDisk (state S.Store conn.new) → HasCleanDisk (state S.Store conn.old) }
+    ensures clean { ForgetsNoFault (state S.Store conn.old) (state S.Store conn.new) }
     ensures written { HasCleanDisk (state S.Store conn.new) → MigratesTables (state S.Store conn.old) (state S.Store conn.new) result }
 {
     is_settled(conn);
@@ -37,13 +39,14 @@ fn migrate_tables<S: Alter>(conn: &mut Connection<S>) -> Result<(), Error>
 fn migrate_first<S: Alter>(alloc: Global, conn: &mut Connection<S>) -> Result<State, Refusal>
     requires { conn.old.in_transaction ≡ false }
     ensures ended { conn.new.in_transaction ≡ false }
-    ensures clean { HasCleanDisk (state S.Store conn.new) → HasCleanDisk (state S.Store conn.old) }
+    ensures clean { ForgetsNoFault (state S.Store conn.old) (state S.Store conn.new) }
     ensures found { HasCleanDisk (state S.Store conn.new) → IfOk result (λ made. IsMigratedFrom (state S.Store conn.old).now made.facts) }
     ensures err { HasCleanDisk (state S.Store conn.new) → (IsSecond (held_in (state S.Store conn.old).now) → ⊥) → IfErr result (RefusesMigration (held_in (state S.Store conn.old).now)) }
     ensures undone { HasCleanDisk (state S.Store conn.new) → IfErr result (λ refusal. refusal ≢ Refusal.Store → HoldsAsBefore (state S.Store conn.old) (state S.Store conn.new)) }
     ensures moved { HasCleanDisk (state S.Store conn.new) → IfOk result (λ made. Moves (state S.Store conn.old) (state S.Store conn.new) made.facts) }
     ensures unmoved { HasCleanDisk (state S.Store conn.new) → IfErr result (StaysRefused (state S.Store conn.old) (state S.Store conn.new)) }
     ensures survives { IfErr result (λ refusal. refusal ≢ Refusal.Store → Survives (state S.Store conn.old) (state S.Store conn.new) (λ _. ⊥)) }
+    ensures version { IfOk result (λ made. made.facts.version ≡ 2) }
     ensures refusal { IfErr result (λ refusal. IsTrue (is_opening_refusal refusal)) }
     ensures stop { HasCleanDisk (state S.Store conn.new) → LeavesEitherVersion (state S.Store conn.old) (state S.Store conn.new) }
 {
@@ -64,12 +67,14 @@ fn migrate_first<S: Alter>(alloc: Global, conn: &mut Connection<S>) -> Result<St
 fn migrate_state<S: Alter>(alloc: Global, conn: &mut Connection<S>) -> Result<State, Refusal>
     requires { conn.old.in_transaction ≡ false }
     ensures ended { conn.new.in_transaction ≡ false }
+    ensures clean { ForgetsNoFault (state S.Store conn.old) (state S.Store conn.new) }
     ensures found { HasCleanDisk (state S.Store conn.new) → IfOk result (λ made. IsMigratedFrom (state S.Store conn.old).now made.facts) }
     ensures err { HasCleanDisk (state S.Store conn.new) → IfErr result (RefusesMigration (held_in (state S.Store conn.old).now)) }
     ensures undone { HasCleanDisk (state S.Store conn.new) → IfErr result (λ refusal. refusal ≢ Refusal.Store → HoldsAsBefore (state S.Store conn.old) (state S.Store conn.new)) }
     ensures moved { HasCleanDisk (state S.Store conn.new) → IfOk result (λ made. Moves (state S.Store conn.old) (state S.Store conn.new) made.facts) }
     ensures unmoved { HasCleanDisk (state S.Store conn.new) → IfErr result (StaysRefused (state S.Store conn.old) (state S.Store conn.new)) }
     ensures survives { IfErr result (λ refusal. refusal ≢ Refusal.Store → Survives (state S.Store conn.old) (state S.Store conn.new) (λ _. ⊥)) }
+    ensures version { IfOk result (λ made. made.facts.version ≡ 2) }
     ensures refusal { IfErr result (λ refusal. IsTrue (is_opening_refusal refusal)) }
     ensures stop { HasCleanDisk (state S.Store conn.new) → LeavesEitherVersion (state S.Store conn.old) (state S.Store conn.new) }
 {
@@ -93,11 +98,14 @@ fn migrate_state<S: Alter>(alloc: Global, conn: &mut Connection<S>) -> Result<St
 pub fn migrate<S: Alter>(alloc: Global, conn: Connection<S>) -> Result<Office<S>, Unopened<S>>
     ensures ok { IfOk result (λ o. (o.is_closed ≡ false) × ((state S.Store conn).in_transaction ≡ false)
         × (HasCleanDisk (state S.Store o.conn) → IsMigratedFrom (state S.Store conn).now o.facts)) }
+    ensures version { IfOk result (λ o. o.facts.version ≡ 2) }
     ensures refusal { IfErr result (λ u. IsTrue (is_opening_refusal u.refusal)) }
     ensures err { IfErr result (λ u. HasCleanDisk (state S.Store u.conn) → RefusesMigration (held_in (state S.Store conn).now) u.refusal) }
     ensures inside { IfErr result (λ u. (state S.Store conn).in_transaction ≡ true → (u.refusal ≡ Refusal.Store) × (u.conn ≡ conn)) }
     ensures undone { IfErr result (λ u. HasCleanDisk (state S.Store u.conn) → u.refusal ≢ Refusal.Store → HoldsAsBefore (state S.Store conn) (state S.Store u.conn)) }
     ensures moved { IfOk result (λ o. HasCleanDisk (state S.Store o.conn) → Moves (state S.Store conn) (state S.Store o.conn) o.facts) }
+    ensures clean { MatchResult result (λ o. ForgetsNoFault (state S.Store conn) (state S.Store o.conn)) (λ u. ForgetsNoFault (state S.Store conn) (state S.Store u.conn)) }
+    ensures run { IfOk result (λ o. HasCleanDisk (state S.Store o.conn) → WhateverStands (state S.Store conn) (λ before. IsInRun (state S.Store) (taken_into_version_2 before) [] o)) }
     ensures unmoved { IfErr result (λ u. HasCleanDisk (state S.Store u.conn) → StaysRefused (state S.Store conn) (state S.Store u.conn) u.refusal) }
     ensures survives { IfErr result (λ u. u.refusal ≢ Refusal.Store → Survives (state S.Store conn) (state S.Store u.conn) (λ _. ⊥)) }
     ensures stop { IfErr result (λ u. HasCleanDisk (state S.Store u.conn) → LeavesEitherVersion (state S.Store conn) (state S.Store u.conn)) }

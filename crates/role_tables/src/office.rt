@@ -5,6 +5,7 @@ ghost use Rattle.admin_mgr.specs.After.{after};
 ghost use Rattle.admin_mgr.specs.Good.{IsGood};
 ghost use Rattle.admin_mgr.specs.Named.{AreNamed};
 ghost use Rattle.role_tables.specs.Office.{Answers, WhereItStood, event_of};
+ghost use Rattle.role_tables.specs.Runs.{GoesOnBy};
 ghost use Rattle.role_tables.specs.Standing.{ForgetsNoFault, HoldsAsBefore, LeavesAsIn, Stands};
 
 use crate::writing::write_changes;
@@ -75,8 +76,11 @@ impl<S: Alter> Office<S> {
         ensures undone { WhereItStood S.Store self.old self.new (IfErr result (λ _. HoldsAsBefore (state S.Store self.old.conn) (state S.Store self.new.conn))) }
         ensures stop { WhereItStood S.Store self.old self.new (LeavesAsIn (state S.Store self.new.conn) self.old.facts (event_of command.now result ∷ [])) }
 
-        // So each state that a stop may leave is one of names, as a next opening wants it.
+        // So each state that a crash may leave is one of names, as a next opening wants it.
         ensures named { result ≡ Err Refusal.Store → AreNamed (after self.old.facts command.now) }
+
+        // All of this together: the call is one event more of whatever run the office is in.
+        ensures run { GoesOnBy (state S.Store) self.old (event_of command.now result) self.new }
     {
         if self.is_closed {
             return Err(Refusal::Closed);

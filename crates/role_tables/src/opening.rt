@@ -1,9 +1,10 @@
 //! Opening an office.
-ghost use Rattle.std.specs.Prelude.{◌≡◌, ◌⊎◌, false, true, IfErr, IfOk, IsTrue, MatchResult};
+ghost use Rattle.std.specs.Prelude.{◌≡◌, ◌⊎◌, [], false, true, IfErr, IfOk, IsTrue, MatchResult};
 ghost use Rattle.sqlite.specs.State.{HasCleanDisk, Survives};
 ghost use Rattle.sqlite.specs.Held.{state};
 ghost use Rattle.role_tables.specs.Found.{held_in};
 ghost use Rattle.role_tables.specs.Opening.{is_opening_refusal, IsMemoryOrStore, ReadsState, RefusesFound};
+ghost use Rattle.role_tables.specs.Runs.{IsInRun};
 ghost use Rattle.role_tables.specs.Standing.{HoldsAsBefore, LeavesOnly, Stands, WhateverStands};
 
 use crate::judging::read_state;
@@ -44,6 +45,7 @@ pub fn open<S: Alter>(alloc: Global, conn: Connection<S>) -> Result<Office<S>, U
     ensures undone { IfErr result (λ u. HasCleanDisk (state S.Store u.conn) → HoldsAsBefore (state S.Store conn) (state S.Store u.conn)) }
     ensures survives { MatchResult result (λ o. Survives (state S.Store conn) (state S.Store o.conn) (λ _. ⊥)) (λ u. Survives (state S.Store conn) (state S.Store u.conn) (λ _. ⊥)) }
     ensures again { IfOk result (λ o. HasCleanDisk (state S.Store o.conn) → WhateverStands (state S.Store conn) (λ before. (o.facts ≡ before) × Stands (state S.Store o.conn) before)) }
+    ensures run { IfOk result (λ o. HasCleanDisk (state S.Store o.conn) → WhateverStands (state S.Store conn) (λ before. IsInRun (state S.Store) before [] o)) }
     ensures refused { IfErr result (λ u. HasCleanDisk (state S.Store u.conn) → WhateverStands (state S.Store conn) (λ before. IsMemoryOrStore u.refusal × LeavesOnly (state S.Store u.conn) before)) }
 {
     let mut conn = conn;

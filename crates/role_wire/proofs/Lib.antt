@@ -1,8 +1,11 @@
 pub mod Answering
 pub mod Calling
 pub mod Commanded
+pub mod FirstLines
 pub mod Judged
+pub mod OneLine
 pub mod Performed
+pub mod QuotedNames
 pub mod ReadSoFar
 pub mod Replayed
 pub mod Requesting

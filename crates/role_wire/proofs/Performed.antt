@@ -1,6 +1,7 @@
 -- What an office does for a command or a question.
 use Rattle.std.proofs.Common.{◌≡◌, ◌⊎◌, ◌∷◌, [], inl, inr, false, Some, None, Result, Ok, Err, IsTrue, OnOk, IfErr, refl, sym, ap, subst, ◌∙◌}
 use Rattle.std.proofs.lemmas.Bool.{cases_Bool}
+use Rattle.std.proofs.lemmas.List.{append-nil}
 use Rattle.sqlite.specs.Held.{Held}
 use Rattle.sqlite.specs.State.{State, HasCleanDisk}
 use Rattle.rbac_sets.specs.Asked.{asked_of}
@@ -19,16 +20,21 @@ use Rattle.review_mgr.specs.declared.query.Query.{Query}
 use Rattle.role_json.specs.Answer.{told_text}
 use Rattle.role_json.specs.Requested.{Change, Ask}
 use Rattle.role_tables.specs.Office.{Opened, Answers, event_of}
+use Rattle.role_tables.specs.Runs.{GoesOnBy, IsInRun}
 use Rattle.role_tables.specs.Standing.{ForgetsNoFault, HoldsAsBefore, LeavesAsIn, LeavesState, Stands}
 use Rattle.role_tables.specs.StoredState.{HoldsState}
-use Rattle.role_wire.specs.Keeping.{Keeps, Reaches}
+use Rattle.role_wire.specs.Keeping.{Keeps, Reaches, StaysInRun}
 use Rattle.role_wire.specs.Outcome.{accepted_text, outcome_of, state_after}
 use Rattle.role_wire.specs.Performing.{Performs, BreaksAt, Declines}
 
 module _ {S : Type 0} (shown : Held S → State) where
+  -- a run goes on with no event
+  pub same_run : (office : Opened S) → StaysInRun shown office office
+  same_run office start events run = ([], subst (λ all. IsInRun shown start all office) (sym (append-nil events)) run)
+
   -- an office that nothing was done with
   pub unchanged : (office : Opened S) → Keeps shown office office
-  unchanged office = record { clean = λ clean. clean; stands = λ clean stands. stands }
+  unchanged office = record { clean = λ clean. clean; runs = same_run office; stands = λ clean stands. stands }
 
   pub stays : (office : Opened S) → Reaches shown office office.facts office
   stays office = record { state = refl; is_closed = refl; keeps = unchanged office }
@@ -41,7 +47,11 @@ module _ {S : Type 0} (shown : Held S → State) where
       (clean : ForgetsNoFault (shown old.conn) (shown new.conn))
       (done : old.is_closed ≡ false → HasCleanDisk (shown new.conn) → Stands (shown old.conn) old.facts → OnOk result (Stands (shown new.conn) (after old.facts command)))
       (undone : old.is_closed ≡ false → HasCleanDisk (shown new.conn) → Stands (shown old.conn) old.facts → IfErr result (λ _. HoldsAsBefore (shown old.conn) (shown new.conn)))
-      (stop : old.is_closed ≡ false → HasCleanDisk (shown new.conn) → Stands (shown old.conn) old.facts → LeavesAsIn (shown new.conn) old.facts (event_of command result ∷ [])) where
+      (stop : old.is_closed ≡ false → HasCleanDisk (shown new.conn) → Stands (shown old.conn) old.facts → LeavesAsIn (shown new.conn) old.facts (event_of command result ∷ []))
+      (run : GoesOnBy shown old (event_of command result) new) where
+    one_event : StaysInRun shown old new
+    one_event start events runs = (event_of command result ∷ [], run start events runs)
+
     law : GoesByAsked old.facts command
     law = commands_go_by_asked old.facts command
 
@@ -68,6 +78,7 @@ module _ {S : Type 0} (shown : Held S → State) where
               is_closed = told.3 ∙ sym works;
               keeps = record {
                 clean = clean;
+                runs = one_event;
                 stands = λ is_clean stands. subst (λ T. Stands (shown new.conn) T) (sym told.2) (subst (λ r. OnOk r (Stands (shown new.conn) (after old.facts command))) is (done works is_clean stands));
               };
             };
@@ -86,6 +97,7 @@ module _ {S : Type 0} (shown : Held S → State) where
             is_closed = told.1;
             state = told.2;
             clean = clean;
+            runs = one_event;
             held = λ is_clean stands is_open. subst (λ db. HoldsState db old.facts) (sym (subst (λ r. IfErr r (λ _. HoldsAsBefore (shown old.conn) (shown new.conn))) is (undone works is_clean stands) is_open)) stands.held;
             left = λ is_clean stands trees may.
                 let found = subst (λ r. LeavesAsIn (shown new.conn) old.facts (event_of command r ∷ [])) is (stop works is_clean stands) trees may in

@@ -1,19 +1,21 @@
 -- The lines that an office answered, as functions of its state.
-use Rattle.std.proofs.Common.{◌≡◌, inl, inr, ℕ, suc, List, [], ◌∷◌, ◌++◌, length, false, Option, refl, sym, ap, subst, ◌∙◌}
+use Rattle.std.proofs.Common.{◌≡◌, inl, inr, ℕ, List, [], ◌∷◌, ◌++◌, length, false, Option, append_assoc, refl, sym, ap, subst, ◌∙◌}
 use Rattle.std.specs.Io.KnownBytes.{Appends}
 use Rattle.sqlite.specs.Held.{Held}
 use Rattle.sqlite.specs.State.{State}
 use Rattle.admin_mgr.specs.RbacState.{RbacState}
 use Rattle.role_tables.specs.Office.{Opened}
-use Rattle.role_wire.specs.Keeping.{Keeps, Reaches, Breaks}
-use Rattle.role_wire.specs.Lines.{line_feed, with_line_feeds}
+use Rattle.role_tables.specs.Runs.{IsInRun}
+use Rattle.role_wire.specs.Keeping.{Keeps, Reaches, Breaks, StaysInRun}
+use Rattle.role_wire.specs.Lines.{asking, line_feed, split_lines, with_line_feeds}
 use Rattle.role_wire.specs.OfficeLines.{AnswersLine, FailsLine}
-use Rattle.role_wire.specs.Outcome.{answer_to, after_line, answers_to, answer_lines, after_lines, asking_lines}
+use Rattle.role_wire.specs.Outcome.{answer_to, after_line, answers_to, answer_lines, lines, after_lines, asking_lines}
 use Rattle.role_wire.specs.Performing.{AsksAccepted}
 use Rattle.role_wire.specs.Replay.{AreAnswered, IsReplayed, IsStopped, LeavesLine}
 use Rattle.role_wire.specs.Replaying.{IsAnswered, LeavesNext, IsHalted}
 use Rattle.role_wire.specs.declared.lines.Cause.{Cause}
 use Rattle.role_wire.specs.declared.lines.Cause.TheVariants.{Read, Write, Line, Store, Closed, Memory}
+use Rattle.role_wire.proofs.FirstLines.{fitting-all, answers_to-length}
 use Rattle.role_wire.proofs.Performed.{stays}
 
 -- one line more
@@ -22,15 +24,17 @@ unfolding after_lines
 after_lines-more S [] line = refl
 after_lines-more S (first ∷ done) line = after_lines-more (after_line S first) done line
 
-answers_to-length : (S : RbacState) (lines : List (List ℕ)) → length (answers_to S lines) ≡ length lines
-unfolding answers_to
-answers_to-length S [] = refl
-answers_to-length S (line ∷ lines) = ap (λ n. suc n) (answers_to-length (after_line S line) lines)
-
 module _ {S : Type 0} (shown : Held S → State) where
+  pub runs_then : (a b c : Opened S) → StaysInRun shown a b → StaysInRun shown b c → StaysInRun shown a c
+  runs_then a b c first later start events run =
+      let one = first start events run in
+      let two = later start (events ++ one.0) one.1 in
+      (one.0 ++ two.0, subst (λ all. IsInRun shown start all c) (append_assoc events one.0 two.0) two.1)
+
   keeps_then : (a b c : Opened S) → Keeps shown a b → Keeps shown b c → Keeps shown a c
   keeps_then a b c first later = record {
     clean = λ clean. first.clean (later.clean clean);
+    runs = runs_then a b c first.runs later.runs;
     stands = λ clean stands. later.stands clean (first.stands (later.clean clean) stands);
   }
 
@@ -48,6 +52,7 @@ module _ {S : Type 0} (shown : Held S → State) where
     is_closed = broke.is_closed;
     state = broke.state;
     clean = λ clean. first.keeps.clean (broke.clean clean);
+    runs = runs_then a b c first.keeps.runs broke.runs;
     held = λ clean stands. broke.held clean (first.keeps.stands (broke.clean clean) stands);
     left = λ clean stands. broke.left clean (first.keeps.stands (broke.clean clean) stands);
   }
@@ -70,13 +75,14 @@ module _ {S : Type 0} (shown : Held S → State) where
   -- a replay that came to the end
   pub replayed : (old new : Opened S) (input : List ℕ) (written now_written : Option (List ℕ)) (count : ℕ) → IsReplayed (AnswersLine shown) old new input written now_written count
       → IsAnswered old.facts input written now_written count × Reaches shown old (after_lines old.facts (asking_lines input)) new
-  unfolding answer_lines
+  unfolding answer_lines lines
   replayed old new input written now_written count done =
-      let (texts, reaches) = answered old new (asking_lines input) done.texts done.are_answered in (
+      let (texts, reaches) = answered old new (asking_lines input) done.texts done.are_answered in
+      let all : done.texts ≡ lines old.facts input = texts ∙ ap (λ fit. answers_to old.facts (asking fit)) (sym (fitting-all (split_lines input) done.lines_fit)) in (
         record {
           lines_fit = done.lines_fit;
-          text = subst (λ t. Appends written now_written (with_line_feeds t)) texts done.text;
-          count = done.count ∙ ap length texts ∙ answers_to-length old.facts (asking_lines input);
+          text = subst (λ t. Appends written now_written (with_line_feeds t)) all done.text;
+          count = done.count ∙ ap length all;
         },
         reaches,
       )

@@ -13,7 +13,7 @@ use Rattle.admin_mgr.proofs.Verdicts.AskedLaws.{commands_go_by_asked}
 use Rattle.role_json.specs.Request.{request}
 use Rattle.role_json.specs.Requested.{Requested, Change, Ask}
 use Rattle.role_wire.specs.Outcome.{accepted_text, unless, told_as, outcome_of, state_after, after_reading, answer_to, after_line, answers_to, after_lines}
-use Rattle.role_wire.specs.Running.{command_read, commands_in, command_answers, AskFor, TellsVerdict, TellVerdicts, LinesRunCommands, LinesTellVerdicts}
+use Rattle.role_wire.specs.Running.{command_read, commands_in, command_answers, AskFor, TellsVerdict, TellVerdicts, LinesRunCommands, LinesTellVerdicts, LinesRunAsked, CommandsRunAsked, asked_next, asked_run}
 
 -- a command that asks for this leads where the request leads
 leads : (S : RbacState) (command : Command) (asked : Asked) → asked_of command ≡ asked → state_after S (Change asked) ≡ next S command
@@ -72,3 +72,28 @@ unfolding verdicts answers_to
 lines_tell_verdicts S [] [] same = tt
 lines_tell_verdicts S [] (command ∷ commands) same = absurd (cc)
 lines_tell_verdicts S (line ∷ lines) commands same = told_read S line (request line) lines refl (λ T commands same. lines_tell_verdicts T lines commands same) commands same
+
+-- ---- what is asked for
+
+asked_read : (S : RbacState) (read : Result Requested Refusal) (lines : List (List ℕ)) → ((T : RbacState) → after_lines T lines ≡ asked_run T (commands_in lines))
+    → after_lines (after_reading S read) lines ≡ asked_run S (cons_option (command_read read) (commands_in lines))
+unfolding state_after asked_run asked_next
+asked_read S (Ok (Change asked)) lines later = later (asked_next S asked)
+asked_read S (Ok (Ask query)) lines later = later S
+asked_read S (Err refusal) lines later = later S
+
+pub lines_run_asked : LinesRunAsked
+unfolding after_lines after_line asked_run
+lines_run_asked S [] = refl
+lines_run_asked S (line ∷ lines) = asked_read S (request line) lines (λ T. lines_run_asked T lines)
+
+same_next : (S : RbacState) (command : Command) → next S command ≡ asked_next S (asked_of command)
+unfolding next asked_next
+same_next S command =
+    let law : GoesByAsked S command = commands_go_by_asked S command in
+    rw (law.verdict_is, law.after_is) refl
+
+pub commands_run_asked : CommandsRunAsked
+unfolding run asked_run
+commands_run_asked S [] = refl
+commands_run_asked S (command ∷ commands) = commands_run_asked (next S command) commands ∙ ap (λ T. asked_run T (map asked_of commands)) (same_next S command)

@@ -1,17 +1,30 @@
 -- What a call leaves of an office and its tables.
 --     shown conn      the state of the store behind a connection
-use Rattle.std.specs.Prelude.{◌≡◌, true, IsTrue}
+use Rattle.std.specs.Prelude.{◌≡◌, ◌++◌, true, IsTrue, List}
 use Rattle.sqlite.specs.Held.{Held}
 use Rattle.sqlite.specs.State.{State, HasCleanDisk}
+use Rattle.admin_mgr.specs.Life.{Event}
 use Rattle.admin_mgr.specs.RbacState.{RbacState}
 use Rattle.role_tables.specs.Office.{Opened}
+use Rattle.role_tables.specs.Runs.{IsInRun}
 use Rattle.role_tables.specs.Standing.{ForgetsNoFault, LeavesEither, Stands}
 use Rattle.role_tables.specs.StoredState.{HoldsState}
 
 module _ {S : Type 0} (shown : Held S → State) where
-  -- where the state of the first office stood in its tables, that of the second stands there now; no fault is forgotten
+  -- whatever run the first office was in, the second is in the same run, some events later
+  abbrev pub StaysInRun : Opened S → Opened S → Type 0
+  StaysInRun old new = (start : RbacState) (events : List Event) → IsInRun shown start events old → (more : List Event) × IsInRun shown start (events ++ more) new
+
+  -- no fault is forgotten, and the run goes on
+  pub record Continues (old new : Opened S) : Type 0 where
+    pub clean : ForgetsNoFault (shown old.conn) (shown new.conn)
+    pub runs : StaysInRun old new
+
+  -- if the state of the first office stood in its tables, that of the second stands there now; no fault is forgotten, and the run
+  -- goes on
   pub record Keeps (old new : Opened S) : Type 0 where
     pub clean : ForgetsNoFault (shown old.conn) (shown new.conn)
+    pub runs : StaysInRun old new
     pub stands : HasCleanDisk (shown new.conn) → Stands (shown old.conn) old.facts → Stands (shown new.conn) new.facts
 
   -- the office has this state now and keeps it in its tables; it is closed where it was closed before
@@ -26,5 +39,6 @@ module _ {S : Type 0} (shown : Held S → State) where
     pub is_closed : new.is_closed ≡ true
     pub state : new.facts ≡ from
     pub clean : ForgetsNoFault (shown old.conn) (shown new.conn)
+    pub runs : StaysInRun old new
     pub held : HasCleanDisk (shown new.conn) → Stands (shown old.conn) old.facts → IsTrue (shown new.conn).is_open → HoldsState (shown new.conn).now from
     pub left : HasCleanDisk (shown new.conn) → Stands (shown old.conn) old.facts → LeavesEither (shown new.conn) from to

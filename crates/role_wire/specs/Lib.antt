@@ -1,3 +1,4 @@
+pub mod AnswerTexts
 pub mod Keeping
 pub mod Lines
 pub mod Made

@@ -1,5 +1,5 @@
 -- The lines of an input.
-use Rattle.std.specs.Prelude.{◌≡◌, ◌≤◌, ℕ, Bool, not, ◌||◌, ◌==◌, List, [], ◌∷◌, ◌++◌, length, All, if◌then◌else◌}
+use Rattle.std.specs.Prelude.{◌≡◌, ◌≤◌, ℕ, Bool, not, ◌||◌, ◌==◌, nat_lt, List, [], ◌∷◌, ◌++◌, length, All, if◌then◌else◌}
 use Rattle.std.specs.List.{list_all, filter}
 
 -- the most bytes of a line, its LF not counted
@@ -9,6 +9,15 @@ longest_line = 65536
 -- no line is longer than that
 abbrev pub AllFit : List (List ℕ) → Type 0
 AllFit lines = All (λ line. length line ≤ longest_line) lines
+
+-- the line is not longer than that
+abbrev pub fits : List ℕ → Bool
+fits line = not (nat_lt longest_line (length line))
+
+-- the lines before the first that is longer
+unfoldable pub fitting : List (List ℕ) → List (List ℕ)
+fitting [] = []
+fitting (line ∷ rest) = if fits line then line ∷ fitting rest else []
 
 -- the byte that ends a line
 abbrev pub line_feed : ℕ

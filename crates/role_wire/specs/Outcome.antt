@@ -10,7 +10,7 @@ use Rattle.review_mgr.specs.Questions.{refused}
 use Rattle.role_json.specs.Answer.{done_text, import_text, told_text, refusal_text}
 use Rattle.role_json.specs.Request.{request}
 use Rattle.role_json.specs.Requested.{Requested, Change, Ask}
-use Rattle.role_wire.specs.Lines.{split_lines, asking, with_line_feeds}
+use Rattle.role_wire.specs.Lines.{split_lines, fitting, asking, with_line_feeds}
 
 -- ---- one request
 
@@ -73,6 +73,10 @@ after_lines S (line ∷ lines) = after_lines (after_line S line) lines
 abbrev pub asking_lines : List ℕ → List (List ℕ)
 asking_lines input = asking (split_lines input)
 
--- what an input is answered: each of its lines that ask, in order, each answer with LF
+-- what the lines of these bytes are answered: each that asks, in order, up to the first line that is too long
+unfoldable pub lines : RbacState → List ℕ → List (List ℕ)
+lines S bytes = answers_to S (asking (fitting (split_lines bytes)))
+
+-- and as it is written: each answer with LF
 unfoldable pub answer_lines : RbacState → List ℕ → List ℕ
-answer_lines S input = with_line_feeds (answers_to S (asking_lines input))
+answer_lines S bytes = with_line_feeds (lines S bytes)

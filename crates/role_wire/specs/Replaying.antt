@@ -1,5 +1,5 @@
 -- What a replay over an office writes, and what it leaves.
-use Rattle.std.specs.Prelude.{◌≡◌, ◌⊎◌, ℕ, ◌≤◌, List, [], ◌∷◌, ◌++◌, length, Option}
+use Rattle.std.specs.Prelude.{◌≡◌, ◌⊎◌, ℕ, ◌≤◌, List, [], ◌∷◌, ◌++◌, length, take, slice_get, Option, Some}
 use Rattle.std.specs.Io.KnownBytes.{Appends}
 use Rattle.sqlite.specs.Held.{Held}
 use Rattle.sqlite.specs.State.{State}
@@ -7,7 +7,7 @@ use Rattle.admin_mgr.specs.RbacState.{RbacState}
 use Rattle.role_tables.specs.Office.{Opened}
 use Rattle.role_wire.specs.Keeping.{Breaks, Reaches}
 use Rattle.role_wire.specs.Lines.{line_feed, split_lines, with_line_feeds, AllFit}
-use Rattle.role_wire.specs.Outcome.{answer_to, answers_to, answer_lines, after_lines, asking_lines}
+use Rattle.role_wire.specs.Outcome.{answer_to, answers_to, lines, answer_lines, after_lines}
 use Rattle.role_wire.specs.Performing.{AsksAccepted}
 use Rattle.role_wire.specs.Replay.{IsNext, LeavesOff}
 use Rattle.role_wire.specs.declared.lines.Cause.{Cause}
@@ -17,7 +17,14 @@ use Rattle.role_wire.specs.declared.lines.Cause.TheVariants.{Write, Store, Memor
 pub record IsAnswered (S : RbacState) (input : List ℕ) (written now_written : Option (List ℕ)) (answered : ℕ) : Type 0 where
   pub lines_fit : AllFit (split_lines input)
   pub text : Appends written now_written (answer_lines S input)
-  pub count : answered ≡ length (asking_lines input)
+  pub count : answered ≡ length (lines S input)
+
+-- Of the answers to the lines of these bytes so many were written, the first, and then at most a part of the next.
+pub record WritesFirst (S : RbacState) (bytes : List ℕ) (answered : ℕ) (written now_written : Option (List ℕ)) : Type 0 where
+  pub within : answered ≤ length (lines S bytes)
+  pub part : List ℕ
+  pub text : Appends written now_written (with_line_feeds (take answered (lines S bytes)) ++ part)
+  pub next : (part ≡ []) ⊎ ((answer rest : List ℕ) × (slice_get (lines S bytes) answered ≡ Some answer) × (answer ++ line_feed ∷ [] ≡ part ++ rest) × (1 ≤ length rest))
 
 module _ {S : Type 0} (shown : Held S → State) where
   -- What a stop leaves of the line at which it came, behind those that are done: this part of its answer was written. The store

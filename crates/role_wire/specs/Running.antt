@@ -1,9 +1,10 @@
 -- The commands that lines ask for, one after the other.
-use Rattle.std.specs.Prelude.{◌≡◌, ℕ, Bool, true, false, List, [], ◌∷◌, map, filter, filter_map, zip, Option, Some, None, is_some, Result, Ok, Err}
+use Rattle.std.specs.Prelude.{◌≡◌, ℕ, Bool, true, false, List, [], ◌∷◌, map, filter, filter_map, zip, Option, Some, None, is_some, is_none, if◌then◌else◌, Result, Ok, Err}
 use Rattle.std.specs.List.{list_any}
 use Rattle.rbac_sets.specs.Asked.{Asked, Single, Import, asked_of}
 use Rattle.rbac_sets.specs.declared.command.Command.{Command}
 use Rattle.rbac_sets.specs.declared.refusal.Refusal.{Refusal}
+use Rattle.admin_mgr.specs.Asked.{asked_verdict, asked_after}
 use Rattle.admin_mgr.specs.Assignment.{Tally}
 use Rattle.admin_mgr.specs.RbacState.{RbacState}
 use Rattle.admin_mgr.specs.Run.{run, verdicts}
@@ -45,6 +46,23 @@ abbrev pub TellVerdicts : List Asked → List (Option Refusal) → List (List �
 TellVerdicts [] [] [] = Unit {0}
 TellVerdicts (asked ∷ more) (told ∷ verdicts) (text ∷ texts) = TellsVerdict asked told text × TellVerdicts more verdicts texts
 TellVerdicts _ _ _ = ⊥
+
+-- the state once what is asked for was judged: a refused command leaves it
+unfoldable pub asked_next : RbacState → Asked → RbacState
+asked_next S asked = if is_none (asked_verdict S asked) then asked_after S asked else S
+
+-- the state once each was judged, in this order
+unfoldable pub asked_run : RbacState → List Asked → RbacState
+asked_run S [] = S
+asked_run S (asked ∷ more) = asked_run (asked_next S asked) more
+
+-- the state after lines is that after what they ask for, imports among it
+abbrev pub LinesRunAsked : Type 0
+LinesRunAsked = (S : RbacState) (lines : List (List ℕ)) → after_lines S lines ≡ asked_run S (commands_in lines)
+
+-- and the state after commands is that after what these ask for
+abbrev pub CommandsRunAsked : Type 0
+CommandsRunAsked = (S : RbacState) (commands : List Command) → run S commands ≡ asked_run S (map asked_of commands)
 
 -- the state after lines is that after the commands for which they ask
 abbrev pub LinesRunCommands : Type 0

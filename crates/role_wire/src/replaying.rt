@@ -9,7 +9,7 @@ ghost use Rattle.role_wire.specs.Keeping.{Reaches};
 ghost use Rattle.role_wire.specs.OfficeLines.{AnswersLine, AnswersRequest, FailsLine, FailsRequest, told_of, told_unread};
 ghost use Rattle.role_wire.specs.Outcome.{after_lines, asking_lines, outcome_of, state_after, told_as};
 ghost use Rattle.role_wire.specs.Replay.{IsAtBound, most_reads};
-ghost use Rattle.role_wire.specs.Replaying.{IsAnswered, IsHalted};
+ghost use Rattle.role_wire.specs.Replaying.{IsAnswered, IsHalted, WritesFirst};
 
 use crate::lines::{AnswerLines, Cause, Count, Stop, Unanswered, answer_lines};
 use crate::performing::perform;
@@ -54,6 +54,8 @@ pub fn replay<S: Alter, R: Source, W: Sink>(
     ensures end { OnOk result (IsAtEnd (R.remaining source.new)) }
     ensures stopped { office.old.is_closed ≡ false → IfErr result (λ stop. (taken : List ℕ) × Consumes (R.remaining source.old) (R.remaining source.new) taken
         × IsHalted (state S.Store) office.old office.new taken (IsAtEnd (R.remaining source.new)) (W.written sink.old) (W.written sink.new) stop.cause stop.answered) }
+    ensures first { office.old.is_closed ≡ false → IfErr result (λ stop. (taken : List ℕ) × Consumes (R.remaining source.old) (R.remaining source.new) taken
+        × WritesFirst office.old.facts taken stop.answered (W.written sink.old) (W.written sink.new)) }
     ensures closed { office.old.is_closed ≡ true → (result ≡ Err (record { cause = Cause.Closed; answered = 0 }))
         × (office.new ≡ office.old) × (source.new ≡ source.old) × (sink.new ≡ sink.old) }
     ensures write_cause { IfErr result (λ stop. stop.cause ≡ Cause.Write → HasRisen (W.failed sink.old) (W.failed sink.new) ⊎ HasRisen (W.idle sink.old) (W.idle sink.new)) }

@@ -12,8 +12,9 @@ use Rattle.admin_mgr.specs.After.{after}
 use Rattle.admin_mgr.specs.Verdict.{verdict}
 use Rattle.admin_mgr.specs.Run.{run, next}
 use Rattle.admin_mgr.specs.Good.{IsGood}
+use Rattle.admin_mgr.specs.CommandLaws.{VersionStays}
 use Rattle.admin_mgr.specs.Life.{Event, IsClosedReply, Leaves, Life, OpensAfter, FollowOn, took_effect}
-use Rattle.role_tables.specs.Lives.{acknowledged, accepted, MayLose, IsAfterPrefix, OpeningsAreGood, OpeningsFollow, IsReached, LastIsSound}
+use Rattle.role_tables.specs.Lives.{acknowledged, accepted, MayLose, NeverFalls, IsAfterPrefix, OpeningsAreGood, OpeningsFollow, IsReached, LastIsSound}
 use Rattle.role_tables.proofs.Lives.Known.{GoodnessLaws}
 use Rattle.role_tables.proofs.Lives.Induction.{event_with, by_events}
 use Rattle.role_tables.proofs.Lives.Calls.{so_far_left}
@@ -44,10 +45,10 @@ lost_of_more : (event : Event) (events : List Event) (lost : List Command) → M
 lost_of_more event events [] may = tt
 lost_of_more event events (command ∷ commands) may = (Contains-append_right (event ∷ []) events _ may.0, may.1)
 
-prefix_left : (S : RbacState) (events : List Event) (T : RbacState) → Leaves S events T → IsAfterPrefix (life_of S events) T
+prefix_left : VersionStays → (S : RbacState) (events : List Event) (T : RbacState) → Leaves S events T → IsAfterPrefix (life_of S events) T
 unfolding run
-prefix_left = by_events (λ S events T. IsAfterPrefix (life_of S events) T)
-    (λ S. record { done = []; lost = []; is_prefix = refl; has_acknowledged = ([], refl); loses_one = tt; state = refl })
+prefix_left stays = by_events (λ S events T. IsAfterPrefix (life_of S events) T)
+    (λ S. record { done = []; lost = []; is_prefix = refl; has_acknowledged = ([], refl); loses_one = tt; state = refl; version = inl refl })
     (λ S T command told events none rest. record {
       done = command ∷ rest.done;
       lost = rest.lost;
@@ -55,6 +56,7 @@ prefix_left = by_events (λ S events T. IsAfterPrefix (life_of S events) T)
       has_acknowledged = (rest.has_acknowledged.0, ap (λ (commands : List Command). command ∷ commands) rest.has_acknowledged.1);
       loses_one = lost_of_more (event_with command (Ok told)) events rest.lost rest.loses_one;
       state = ap (λ (M : RbacState). record M { version = T.version }) (run_accepted S command rest.done none) ∙ rest.state;
+      version = subst (λ before. NeverFalls before T.version) (stays S command) rest.version;
     })
     (λ S T command refusal events nothing rest. record {
       done = rest.done;
@@ -63,6 +65,7 @@ prefix_left = by_events (λ S events T. IsAfterPrefix (life_of S events) T)
       has_acknowledged = rest.has_acknowledged;
       loses_one = lost_of_more (event_with command (Err refusal)) events rest.lost rest.loses_one;
       state = rest.state;
+      version = rest.version;
     })
     (λ S command events none closed.
     (let nothing = closed_does_nothing events closed in
@@ -74,6 +77,7 @@ prefix_left = by_events (λ S events T. IsAfterPrefix (life_of S events) T)
         has_acknowledged = ([], ap (λ (commands : List Command). commands ++ []) (sym nothing.0));
         loses_one = ((0, omega arith, refl), refl);
         state = refl;
+        version = inl refl;
       },
       record {
         done = command ∷ [];
@@ -82,6 +86,7 @@ prefix_left = by_events (λ S events T. IsAfterPrefix (life_of S events) T)
         has_acknowledged = (command ∷ [], ap (λ (commands : List Command). commands ++ command ∷ []) (sym nothing.0));
         loses_one = tt;
         state = ap (λ (M : RbacState). record M { version = (after S command).version }) (run_accepted S command [] none);
+        version = inl (stays S command);
       },
     )))
 
@@ -102,9 +107,9 @@ module _ (laws : GoodnessLaws) where
 
   -- and the state after a prefix: a state that is taken into version 2 had no locks
   prefix_opening : (life : Life) → IsGood life.start → (T : RbacState) → OpensAfter life T → IsAfterPrefix life T
-  prefix_opening life good T (inl left) = prefix_left life.start life.events T left
+  prefix_opening life good T (inl left) = prefix_left laws.version life.start life.events T left
   prefix_opening life good T (inr (M, left, first, taken)) =
-      let it = prefix_left life.start life.events M left in
+      let it = prefix_left laws.version life.start life.events M left in
       let better = good_left life.start life.events M left good in
       let second : record M { version = 2 } ≡ T = ap (λ (locks : Names). record M { version = 2; locked = locks }) (better.no_locks first) ∙ sym taken in
       record {
@@ -115,6 +120,7 @@ module _ (laws : GoodnessLaws) where
         loses_one = it.loses_one;
         state = ap (λ (X : RbacState). record (run life.start it.done) { version = X.version }) taken
             ∙ ap (λ (X : RbacState). record X { version = 2 }) it.state ∙ second;
+        version = inr (elim it.version [ inl same ↦ sym same ∙ first | inr rises ↦ rises.0 ], ap (λ (X : RbacState). X.version) taken);
       }
 
   -- ---- in a list of lives

@@ -1,9 +1,9 @@
-use Rattle.std.proofs.Common.{◌≡◌, List, length}
+use Rattle.std.proofs.Common.{◌≡◌, ℕ, false, List, Option, length}
+use Rattle.std.specs.List.{list_any}
 use Rattle.sqlite.specs.Held.{state}
-use Rattle.role_tables.specs.Office.{Opened}
-use Rattle.role_cli.specs.Serving.{AreServed}
+use Rattle.role_cli.specs.Serving.{AreServed, is_closing}
 use Rattle.role_cli.proofs.serving.serve_all.Given as goal
 
--- The connections so far left one office after another.
+-- The connections so far had these statuses, none of which closed the office.
 abbrev pub invariant-loop : goal.invariant-loop
-invariant-loop g l = (offices : List (Opened g.row.S.Denot)) × AreServed (state g.S.Store) l.initial.office offices l.office × (length offices ≡ l.counter)
+invariant-loop g l = (statuses : List (Option ℕ)) × AreServed (state g.S.Store) l.initial.office statuses l.office × (length statuses ≡ l.counter) × (list_any is_closing statuses ≡ false)

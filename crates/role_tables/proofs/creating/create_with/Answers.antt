@@ -1,11 +1,14 @@
 use Rattle.std.proofs.Common.{IsTrue, ◌≡◌, ◌∙◌, rules, true, false, sym, ap, subst}
 use Rattle.sqlite.specs.State.{HasCleanDisk}
 use Rattle.sqlite.specs.Held.{state}
+use Rattle.admin_mgr.specs.Named.{AreNamed}
 use Rattle.admin_mgr.specs.RbacState.{empty_state}
+use Rattle.admin_mgr.proofs.StateAfter.NamedLaws.{empty_named}
 use Rattle.role_tables.specs.Creating.{IsStage, no_table, no_rows}
 use Rattle.role_tables.specs.InSchema.{may_create}
 use Rattle.role_tables.specs.Standing.{LeavesBeforeOr, Stands}
 use Rattle.role_tables.proofs.OfficeTables.Looking.{first_stage}
+use Rattle.role_tables.proofs.Runs.{begins}
 use Rattle.role_tables.proofs.creating.create_with.Goals as goal
 
 pub returns-in-Ok-clause-ok : goal.returns-in-Ok-clause-ok
@@ -26,6 +29,11 @@ returns-in-Ok-clause-ok g c =
             (λ clean. subst (Stands (state g.S.Store c.create_office.new.conn)) empty (c.in-Ok.ensures.made clean stage).done),
       ),
     )
+
+pub returns-in-Ok-clause-run : goal.returns-in-Ok-clause-run
+returns-in-Ok-clause-run g c =
+    let made = returns-in-Ok-clause-ok g c in
+    begins (state g.S.Store) c.new.result c.args.first.facts made.0 made.1 (subst AreNamed (sym c.requires.empty) (empty_named c.args.first.facts.version)) made.2.1
 
 pub returns-in-Err-clause-undone : goal.returns-in-Err-clause-undone
 returns-in-Err-clause-undone g c clean =

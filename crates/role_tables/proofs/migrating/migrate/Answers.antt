@@ -7,6 +7,8 @@ use Rattle.admin_mgr.specs.RbacState.{RbacState}
 use Rattle.admin_mgr.specs.Life.{taken_into_version_2}
 use Rattle.role_tables.specs.Migrating.{IsMigratedFrom}
 use Rattle.role_tables.specs.Standing.{Stands}
+use Rattle.admin_mgr.proofs.StateAfter.MigratedLaws.{migrated_named}
+use Rattle.role_tables.proofs.Runs.{begins}
 use Rattle.role_tables.proofs.migrating.migrate.Goals as goal
 
 pub returns-in-Ok-clause-ok : goal.returns-in-Ok-clause-ok
@@ -27,3 +29,8 @@ returns-in-Ok-clause-moved g c =
     let old = state g.S.Store c.args.conn in
     subst (λ h. HasCleanDisk (state g.S.Store h) → (before : RbacState) → IsGood before → AreNamed before → Stands old before → (before.version ≡ 1) × (c.new.result.facts ≡ taken_into_version_2 before) × Stands (state g.S.Store h) (taken_into_version_2 before)) same
     (λ clean before good named stands. let got = c.in-Ok.ensures.moved clean before good named stands in (got.0, facts ∙ got.1, got.2))
+
+pub returns-in-Ok-clause-run : goal.returns-in-Ok-clause-run
+returns-in-Ok-clause-run g c clean before good named stands =
+    let moved = returns-in-Ok-clause-moved g c clean before good named stands in
+    begins (state g.S.Store) c.new.result (taken_into_version_2 before) moved.1 c.new.ensures.2 (migrated_named before named) (λ _. moved.2)

@@ -8,6 +8,7 @@ use Rattle.role_tables.specs.Found.{held_in}
 use Rattle.role_tables.specs.Opening.{IsStateFound}
 use Rattle.role_tables.specs.Standing.{Stands}
 use Rattle.role_tables.proofs.Reading.Standing.{leaves_still, stands_still, opens_the_state, refuses_no_more}
+use Rattle.role_tables.proofs.Runs.{begins}
 use Rattle.role_tables.proofs.opening.open.Goals as goal
 
 pub returns-in-Ok-clause-ok : goal.returns-in-Ok-clause-ok
@@ -30,6 +31,11 @@ returns-in-Ok-clause-again g c =
     subst (λ h. HasCleanDisk (state g.S.Store h) → (before : RbacState) → IsGood before → AreNamed before → Stands old before → (c.new.result.facts ≡ before) × Stands (state g.S.Store h) before) same (λ clean before good named stands.
     let got = c.in-Ok.ensures.ok clean in
     (facts ∙ opens_the_state old before c.in-Ok.state.facts good named stands got.0, stands_still old new before clean c.read_state.ensures.survives got.1 stands))
+
+pub returns-in-Ok-clause-run : goal.returns-in-Ok-clause-run
+returns-in-Ok-clause-run g c clean before good named stands =
+    let again = returns-in-Ok-clause-again g c clean before good named stands in
+    begins (state g.S.Store) c.new.result before again.0 c.new.ensures.2 named (λ _. again.1)
 
 pub returns-in-Err-clause-refused : goal.returns-in-Err-clause-refused
 returns-in-Err-clause-refused g c clean before good named stands =

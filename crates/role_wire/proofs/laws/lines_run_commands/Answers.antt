@@ -10,3 +10,9 @@ returns-clause-state c = running.lines_run_commands
 
 pub returns-clause-answers : goal.returns-clause-answers
 returns-clause-answers c = running.lines_tell_verdicts
+
+pub returns-clause-asked : goal.returns-clause-asked
+returns-clause-asked c = running.lines_run_asked
+
+pub returns-clause-same : goal.returns-clause-same
+returns-clause-same c = running.commands_run_asked

@@ -1,5 +1,6 @@
 use Rattle.std.specs.Io.KnownBytes.{IsAtEnd}
 use Rattle.sqlite.specs.Held.{state}
+use Rattle.role_wire.proofs.FirstLines.{writes_first}
 use Rattle.role_wire.proofs.Replayed.{replayed, halted}
 use Rattle.role_wire.proofs.Results.{if_ok-then, if_err-then}
 use Rattle.role_wire.proofs.replaying.replay.Goals as goal
@@ -13,3 +14,7 @@ pub returns-clause-stopped : goal.returns-clause-stopped
 returns-clause-stopped g c works = if_err-then c.answer_lines.result _ _ c.answer_lines.ensures.stopped (λ stop stopped.
     let (taken, consumed, halts) = stopped works in
     (taken, consumed, halted (state g.S.Store) c.args.office.now c.answer_lines.new.office taken (IsAtEnd (g.R.Source.remaining c.answer_lines.new.source)) (g.W.Sink.written c.args.sink.now) (g.W.Sink.written c.answer_lines.new.sink) stop.cause stop.answered works halts))
+
+pub returns-clause-first : goal.returns-clause-first
+returns-clause-first g c works = if_err-then c.answer_lines.result _ _ (returns-clause-stopped g c works) (λ stop (taken, consumed, halts).
+    (taken, consumed, writes_first (state g.S.Store) c.args.office.now c.answer_lines.new.office taken (IsAtEnd (g.R.Source.remaining c.answer_lines.new.source)) (g.W.Sink.written c.args.sink.now) (g.W.Sink.written c.answer_lines.new.sink) stop.cause stop.answered halts))

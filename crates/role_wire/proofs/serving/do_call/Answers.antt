@@ -1,8 +1,13 @@
-use Rattle.std.proofs.Common.{◌≡◌, ◌<◌, length, arith, subst, sym}
+use Rattle.std.proofs.Common.{◌≡◌, ◌<◌, inl, inr, length, arith, refl, subst, sym}
 use Rattle.sqlite.specs.Held.{state}
-use Rattle.role_wire.specs.Serving.{ComesOf}
+use Rattle.role_http.specs.Answered.{with_left}
+use Rattle.role_wire.specs.Made.{bytes_in}
+use Rattle.role_wire.specs.Reply.{called_for}
+use Rattle.role_wire.specs.Serving.{ComesOf, IsRead}
 use Rattle.role_wire.proofs.Calling.{called_whole, short_told, taken_within}
+use Rattle.role_wire.proofs.Performed.{stays}
 use Rattle.role_wire.proofs.Results.{if_ok-then}
+use Rattle.role_wire.proofs.Telling.{has_no_memory}
 use Rattle.role_wire.proofs.serving.do_call.Goals as goal
 
 pub returns-then-len-count-clause-made : goal.returns-then-len-count-clause-made
@@ -23,3 +28,16 @@ returns-clause-made g c =
       taken_within c.in-Ok.body.items _ c.args.count c.in-Ok.ensures.within,
       subst (λ read. ComesOf (state g.S.Store) c.args.office.now read made c.do_body.new.office) (sym (called_whole c.in-Ok.body.items _ c.args.called c.args.count full)) (rw c.deref.ensures.value at told),
     ))
+
+-- Memory for the body failed, and nothing was done.
+pub returns-in-Err-Memory-clause-made : goal.returns-in-Err-Memory-clause-made
+returns-in-Err-Memory-clause-made g c =
+    let (taken, consumes, few) = c.in-Err-Memory.ensures.stops in (
+      taken,
+      consumes,
+      taken_within taken _ c.args.count few,
+      (
+        inr (inl (c.no_memory.ensures.status, c.no_memory.ensures.body, stays (state g.S.Store) c.args.office.now)),
+        has_no_memory c.args.office.now c.args.office.now (IsRead (called_for (with_left taken (g.R.Source.remaining c.read_bytes.new.source)) c.args.called c.args.count)) c.no_memory.result.status (bytes_in c.no_memory.result.body) refl c.no_memory.ensures.status c.no_memory.ensures.body,
+      ),
+    )

@@ -1,17 +1,19 @@
-use Rattle.std.proofs.Common.{rules, ◌≡◌, ◌⊎◌, ◌∷◌, [], inl, false, None, Some, sym, ap, subst, refl, ◌∙◌, Err}
+use Rattle.std.proofs.Common.{rules, ◌≡◌, ◌⊎◌, ◌∷◌, [], inl, false, None, Some, sym, ap, subst, refl, ◌∙◌, Ok, Err, true}
 use Rattle.std.proofs.lemmas.Bool.{true≢false}
 use Rattle.sqlite.specs.Held.{state}
 use Rattle.admin_mgr.specs.After.{after}
 use Rattle.admin_mgr.specs.Good.{IsGood}
 use Rattle.admin_mgr.specs.Planned.{LeadsTo, IsPlanOf, tally_of_report}
 use Rattle.admin_mgr.specs.Verdict.{verdict}
-use Rattle.rbac_sets.specs.declared.refusal.Refusal.TheVariants.{Memory, Store}
+use Rattle.rbac_sets.specs.declared.refusal.Refusal.TheVariants.{Memory, Store, Closed}
 use Rattle.role_tables.specs.Office.{Answers, event_of}
-use Rattle.role_tables.specs.Standing.{Stands, LeavesAsIn}
+use Rattle.role_tables.specs.Runs.{GoesOnBy}
+use Rattle.role_tables.specs.Standing.{ForgetsNoFault, HoldsAsBefore, Stands, LeavesAsIn}
 use Rattle.role_tables.proofs.Reading.Standing.{leaves_either}
 use Rattle.admin_mgr.specs.Named.{AreNamed}
 use Rattle.admin_mgr.proofs.StateAfter.NamedLaws.{named_turns}
 use Rattle.role_tables.proofs.Events.{plan_refused, leaves_unchanged, leaves_done, leaves_stopped}
+use Rattle.role_tables.proofs.Runs.{closed_call, done_call, goes_on, refused_call, stopped_call}
 use Rattle.role_tables.proofs.office.Office.apply.Goals as goal
 
 pub returns-in_err-plan-clause-answers : goal.returns-in_err-plan-clause-answers
@@ -95,3 +97,73 @@ returns-in-Err-clause-named g c store =
     let facts : c.self.inside.state.facts ≡ S = search rules in
     let planned : IsPlanOf S c.args.command.now c.in_ok-plan.plan = subst (λ S. IsPlanOf S c.args.command.now c.in_ok-plan.plan) facts c.in_ok-plan.ensures.planned in
     named_turns S (after S c.args.command.now) c.in_ok-plan.plan.changes.items planned.leads.rows (subst AreNamed facts c.self.invariant.2) c.is_named.ensures
+
+-- ---- one event more of the run
+
+pub returns-in_err-plan-clause-run : goal.returns-in_err-plan-clause-run
+returns-in_err-plan-clause-run g c =
+    let is : c.from_residual.result ≡ Err c.in_err-plan.field-0.0 = search rules in
+    let facts : c.self.inside.state.facts ≡ c.args.self.now.facts = search rules in
+    let works : c.args.self.now.is_closed ≡ false = search rules in
+    subst (λ r. GoesOnBy (state g.S.Store) c.args.self.now (event_of c.args.command.now r) c.args.self.now) (sym is)
+    (goes_on (state g.S.Store) c.args.self.now (event_of c.args.command.now (Err c.in_err-plan.field-0.0)) c.args.self.now
+    (refused_call g.S.Store c.args.self.now c.args.command.now c.in_err-plan.field-0.0 works
+    (subst (λ S. (c.in_err-plan.field-0.0 ≡ Memory) ⊎ (verdict S c.args.command.now ≡ Some c.in_err-plan.field-0.0)) facts c.in_err-plan.ensures.refused)))
+
+pub returns-then-self-clause-run : goal.returns-then-self-clause-run
+returns-then-self-clause-run g c =
+    let shut : c.args.self.now.is_closed ≡ true = search rules in
+    goes_on (state g.S.Store) c.args.self.now (event_of c.args.command.now (Err Closed)) c.args.self.now (closed_call g.S.Store c.args.self.now c.args.command.now shut)
+
+pub returns-in_err-make_room-clause-run : goal.returns-in_err-make_room-clause-run
+returns-in_err-make_room-clause-run g c =
+    let is : c.from_residual-in_err-make_room.result ≡ Err Memory = search rules in
+    let works : c.args.self.now.is_closed ≡ false = search rules in
+    let same : record { conn = c.self.inside.conn; facts = c.make_room.new.self.facts; is_closed = c.self.inside.is_closed } ≡ c.args.self.now = search rules in
+    subst (λ o. GoesOnBy (state g.S.Store) c.args.self.now (event_of c.args.command.now c.from_residual-in_err-make_room.result) o) (sym same)
+    (subst (λ r. GoesOnBy (state g.S.Store) c.args.self.now (event_of c.args.command.now r) c.args.self.now) (sym is)
+    (goes_on (state g.S.Store) c.args.self.now (event_of c.args.command.now (Err Memory)) c.args.self.now
+    (refused_call g.S.Store c.args.self.now c.args.command.now Memory works (inl refl))))
+
+pub returns-in-Ok-clause-run : goal.returns-in-Ok-clause-run
+returns-in-Ok-clause-run g c =
+    let S = c.args.self.now.facts in
+    let facts : c.self.inside.state.facts ≡ S = search rules in
+    let planned : IsPlanOf S c.args.command.now c.in_ok-plan.plan = subst (λ S. IsPlanOf S c.args.command.now c.in_ok-plan.plan) facts c.in_ok-plan.ensures.planned in
+    let accepted : verdict S c.args.command.now ≡ None = subst (λ S. verdict S c.args.command.now ≡ None) facts c.in_ok-plan.ensures.accepted in
+    let conn_is : c.args.self.now.conn ≡ c.self.inside.conn = search rules in
+    let works : c.args.self.now.is_closed ≡ false = search rules in
+    let open_now : c.self.inside.is_closed ≡ false = search rules in
+    let done : c.commit-report.new.self.facts ≡ after S c.args.command.now = search rules in
+    goes_on (state g.S.Store) c.args.self.now (event_of c.args.command.now (Ok c.commit-report.result)) _
+    (done_call g.S.Store c.args.self.now (record { conn = c.write_changes.new.conn; facts = c.commit-report.new.self.facts; is_closed = c.self.inside.is_closed }) c.args.command.now c.commit-report.result works
+    (subst (λ h. ForgetsNoFault (state g.S.Store h) (state g.S.Store c.write_changes.new.conn)) (sym conn_is) c.write_changes.ensures.clean)
+    (accepted, ap tally_of_report c.commit-report.ensures.report ∙ planned.report, done, open_now)
+    (λ clean stands. returns-in-Ok-clause-done g c works clean stands)
+    c.is_named-in-Ok.ensures)
+
+pub returns-in-Err-clause-run : goal.returns-in-Err-clause-run
+returns-in-Err-clause-run g c =
+    let S = c.args.self.now.facts in
+    let T = after S c.args.command.now in
+    let facts : c.self.inside.state.facts ≡ S = search rules in
+    let planned : IsPlanOf S c.args.command.now c.in_ok-plan.plan = subst (λ S. IsPlanOf S c.args.command.now c.in_ok-plan.plan) facts c.in_ok-plan.ensures.planned in
+    let accepted : verdict S c.args.command.now ≡ None = subst (λ S. verdict S c.args.command.now ≡ None) facts c.in_ok-plan.ensures.accepted in
+    let leads = planned.leads in
+    let conn_is : c.args.self.now.conn ≡ c.self.inside.conn = search rules in
+    let same : c.match-plan-2.self.conn ≡ c.write_changes.new.conn = search rules in
+    let works : c.args.self.now.is_closed ≡ false = search rules in
+    let shut : c.match-plan-2.self.is_closed ≡ true = search rules in
+    let stays : c.match-plan-2.self.facts ≡ S = search rules in
+    goes_on (state g.S.Store) c.args.self.now (event_of c.args.command.now (Err Store)) c.match-plan-2.self
+    (stopped_call g.S.Store c.args.self.now c.match-plan-2.self c.args.command.now works
+    (subst (λ h. ForgetsNoFault (state g.S.Store c.args.self.now.conn) (state g.S.Store h)) (sym same)
+    (subst (λ h. ForgetsNoFault (state g.S.Store h) (state g.S.Store c.write_changes.new.conn)) (sym conn_is) c.write_changes.ensures.clean))
+    (accepted, shut, stays)
+    (λ clean stands.
+    let here = subst (λ h. Stands (state g.S.Store h) S) conn_is stands in
+    subst (λ h. HoldsAsBefore (state g.S.Store c.args.self.now.conn) (state g.S.Store h)) (sym same)
+    (subst (λ h. HoldsAsBefore (state g.S.Store h) (state g.S.Store c.write_changes.new.conn)) (sym conn_is)
+    (c.in-Err.ensures.written (rw same at clean) S T (rw c.changes.ensures leads.rows) (subst (λ S. IsGood S) facts c.self.invariant.1) leads.good here).undone))
+    (λ clean stands. returns-in-Err-clause-stop g c works clean stands)
+    (returns-in-Err-clause-named g c refl))

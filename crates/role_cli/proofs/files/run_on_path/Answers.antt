@@ -1,0 +1,30 @@
+use Rattle.sqlite.specs.WalFiles.{image_at}
+use Rattle.role_cli.proofs.OnFile.{stands_in}
+use Rattle.role_cli.proofs.Results.{if_err-then, on_ok-then}
+use Rattle.role_cli.proofs.files.run_on_path.Goals as goal
+
+pub returns-in-Some-clause-done : goal.returns-in-Some-clause-done
+returns-in-Some-clause-done g c clean =
+    let early = c.run_on_connection.ensures.clean clean in
+    let opened = c.in-Some.ensures.opened early in
+    let found = c.in-Some.ensures.found early in
+    on_ok-then c.run_on_connection.result.0 _ _ (c.run_on_connection.ensures.done clean) (λ works. record {
+      opened = c.in-Some.conn;
+      is_open = opened;
+      found = found;
+      stands = stands_in (image_at g.D.Start) c.in-Some.conn opened found c.reopened.ensures;
+      work = works;
+    })
+
+pub returns-in-Some-clause-failed : goal.returns-in-Some-clause-failed
+returns-in-Some-clause-failed g c clean =
+    let early = c.run_on_connection.ensures.clean clean in
+    let opened = c.in-Some.ensures.opened early in
+    let found = c.in-Some.ensures.found early in
+    if_err-then c.run_on_connection.result.0 _ _ (c.run_on_connection.ensures.failed clean) (λ failure fails. record {
+      opened = c.in-Some.conn;
+      is_open = opened;
+      found = found;
+      stands = stands_in (image_at g.D.Start) c.in-Some.conn opened found c.reopened.ensures;
+      work = fails;
+    })

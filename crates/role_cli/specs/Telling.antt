@@ -1,0 +1,28 @@
+-- What the program says on standard error.
+use Rattle.std.specs.Prelude.{⊤, ◌≡◌, ◌⊎◌, ◌++◌, ℕ, List, Option, codes}
+use Rattle.std.specs.Io.KnownBytes.{Appends}
+use Rattle.rbac_sets.specs.declared.refusal.Refusal.TheVariants.{Memory}
+use Rattle.role_json.specs.Answer.{refusal_text}
+use Rattle.role_cli.specs.Work.{WritesPart}
+use Rattle.role_cli.specs.declared.failure.Failure.{Failure}
+use Rattle.role_cli.specs.declared.failure.Failure.TheVariants.{Refused, Stopped, NotListening, NotAccepting, Closed}
+
+-- the line that says that memory failed
+abbrev pub no_memory_line : List ℕ
+no_memory_line = codes "rbac: " ++ (refusal_text Memory ++ codes "\n")
+
+-- The line says why. Of the lines of a refusal and of a replay that stopped nothing is said here; they are tested.
+abbrev pub IsLineOf : Failure → List ℕ → Type 0
+IsLineOf (Refused refusal) line = ⊤
+IsLineOf (Stopped stop) line = ⊤
+IsLineOf NotListening line = line ≡ codes "rbac: cannot listen\n"
+IsLineOf NotAccepting line = line ≡ codes "rbac: cannot accept\n"
+IsLineOf Closed line = line ≡ codes "rbac: closed\n"
+
+-- the line was written: whole, unless a write failed or took nothing
+abbrev pub Says : List ℕ → Option (List ℕ) → Option (List ℕ) → Type 0 → Type 0
+Says line written now_written has_failed = Appends written now_written line ⊎ (WritesPart line written now_written × has_failed)
+
+-- such a line was written
+abbrev pub SaysSome : (List ℕ → Type 0) → Option (List ℕ) → Option (List ℕ) → Type 0 → Type 0
+SaysSome Is written now_written has_failed = (line : List ℕ) × Is line × Says line written now_written has_failed

@@ -1,0 +1,1 @@
+"""What tests/cluster.py checks: an office on several machines."""

@@ -1,0 +1,136 @@
+"""Faults of machines, at random."""
+
+import os
+import random
+import signal
+import time
+from collections import Counter
+
+from .machines import send
+from .networks import MACHINES
+
+
+class Faults:
+    """Does faults to a cluster, one after another, and counts them by their kind."""
+
+    def __init__(self, cluster, seed):
+        self.cluster, self.random = cluster, random.Random(seed)
+        self.counts, self.faults = Counter(), []
+        # How long a node may take to end after its replay, 0 if nobody looks.
+        self.patience = 30
+
+    def run(self, kinds, count, between):
+        """So many faults of these kinds, with so many seconds between them."""
+        for _ in range(count):
+            kind = self.random.choice(kinds)
+            kind(self, self.random.randrange(MACHINES))
+            time.sleep(self.random.uniform(0.3, 1.7) * between)
+
+    def did(self, what):
+        self.counts[what] += 1
+
+    # Kills.
+
+    def kill_node(self, i):
+        self.cluster.nodes[i].send(signal.SIGKILL)
+        self.did("nodes killed")
+
+    def kill_member(self, i):
+        self.cluster.members[i].send(signal.SIGKILL)
+        self.did("members killed")
+
+    def kill_machine(self, i):
+        self.cluster.nodes[i].send(signal.SIGKILL)
+        self.cluster.members[i].send(signal.SIGKILL)
+        self.did("machines killed")
+
+    def kill_two_members(self, i):
+        for j in (i, (i + 1) % MACHINES):
+            self.cluster.members[j].send(signal.SIGKILL)
+        self.did("pairs of members killed")
+
+    def kill_replay(self, i, busy=False):
+        """The program ends. The node has to end too."""
+        node = self.cluster.nodes[i]
+        process, replays = node.process, [child for child in node.children() if is_replay(child)]
+        for number in (signal.SIGSTOP, signal.SIGKILL) if busy else (signal.SIGKILL,):
+            for child in replays:
+                send(child, number)
+            if number == signal.SIGSTOP:
+                time.sleep(0.3)  # Lines wait for their answers then.
+        if not replays:
+            return
+        self.did("replays killed")
+        deadline = time.monotonic() + self.patience
+        while process.poll() is None and self.patience:
+            if time.monotonic() > deadline:
+                with open(node.log, encoding="utf-8") as log:
+                    self.faults.append(f"node {i} goes on after its replay has ended: {log.readlines()[-5:]}")
+                return
+            time.sleep(0.02)
+
+    def kill_busy_replay(self, i):
+        self.kill_replay(i, True)
+
+    def end_node(self, i):
+        """The node is asked to end, and has to end in order, unless it was about to start or had just failed."""
+        status = self.cluster.nodes[i].stop(signal.SIGTERM)
+        if status not in (0, 1, -signal.SIGTERM, -signal.SIGKILL, None):
+            self.faults.append(f"node {i} has ended with {status}")
+        self.cluster.nodes[i].start()
+        self.did("nodes ended by SIGTERM")
+
+    # Pauses.
+
+    def pause(self, signals, what):
+        signals(signal.SIGSTOP)
+        time.sleep(self.random.uniform(0.3, 2.2))
+        signals(signal.SIGCONT)
+        self.did(what)
+
+    def pause_node(self, i):
+        self.pause(self.cluster.nodes[i].send, "nodes paused")
+
+    def pause_member(self, i):
+        self.pause(self.cluster.members[i].send, "members paused")
+
+    def pause_replay(self, i):
+        def signals(number):
+            for child in self.cluster.nodes[i].children():
+                send(child, number)
+
+        self.pause(signals, "replays paused")
+
+    # What happens once or twice.
+
+    def cut(self, i):
+        """A machine is cut off from the others."""
+        if not self.cluster.network.can_cut:
+            return
+        self.cluster.network.cut(i)
+        time.sleep(self.random.uniform(2, 5))
+        self.cluster.network.join(i)
+        self.did("machines cut off")
+
+    def lose_node(self, i):
+        self.cluster.lose_node(i)
+        self.did("folders of nodes lost")
+
+    def lose_member(self, i):
+        self.cluster.heal()
+        self.cluster.lose_member(i)
+        self.did("folders of members lost")
+
+
+def is_replay(process):
+    """Whether a process is a replay, and no other run of the program."""
+    try:
+        with open(f"/proc/{process}/cmdline", "rb") as words:
+            return words.read().split(b"\0")[1:2] == [b"replay"]
+    except OSError:
+        return False
+
+
+KILLS = [Faults.kill_node, Faults.kill_member, Faults.kill_machine, Faults.kill_two_members, Faults.kill_replay]
+PAUSES = [Faults.pause_node, Faults.pause_member, Faults.pause_replay]
+OFTEN = KILLS + KILLS[:2] + PAUSES + [Faults.kill_busy_replay, Faults.end_node]

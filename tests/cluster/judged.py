@@ -1,0 +1,116 @@
+"""Clients ask all nodes at once while machines fail, and all that was answered is judged."""
+
+import random
+import shutil
+import signal
+import threading
+import time
+
+from .faults import OFTEN, Faults
+from .histories import Client
+from .judging import Judge, Recorder, counts_of
+from .machines import SECONDS, Cluster
+from .networks import MACHINES
+from .rows import offices, rows_of, snapshots_of, sorted_rows
+from .running import build
+
+CLIENTS = 9
+
+# How often a cluster is judged, after how many faults, and the seconds between them.
+SHORT, LONG = (1, 80, 0.4), (10, 100, 0.6)
+
+
+class Trial:
+    """Clients at work on a cluster, until it is judged."""
+
+    def __init__(self, cluster, seed, clients=CLIENTS):
+        self.cluster, self.done = cluster, threading.Event()
+        self.recorder = Recorder(cluster)
+        self.clients = [Client(cluster, number, seed, self.done) for number in range(clients)]
+        for thread in (self.recorder, *self.clients):
+            thread.start()
+
+    def judge(self, seconds=SECONDS):
+        """Lets the clients end and everything recover, and returns what is wrong."""
+        self.done.set()
+        for client in self.clients:
+            client.join()
+        faults = [fault for client in self.clients for fault in client.faults]
+        try:
+            self.cluster.heal(seconds)
+        except TimeoutError as fault:
+            faults.append(str(fault))
+        self.recorder.close()
+        faults += self.recorder.faults
+        histories = [client.history for client in self.clients]
+        for what, count in counts_of(histories).items():
+            print(f"{count:9,}  {what}")
+        print(f"{len(self.recorder.entries):9,}  entries of the log, trimmed up to {self.recorder.floor}", flush=True)
+        kept = [snapshots_of(self.cluster, i) for i in range(MACHINES)]
+        judge = Judge(self.recorder.entries, histories)
+        faults += judge.judge({revision for one in kept for revision in one})
+        for i, node in enumerate(self.cluster.nodes):
+            if node.stop(signal.SIGTERM) != 0:
+                faults.append(f"node {i} does not end in order")
+        wanted = sorted_rows(judge.state)
+        faults += [f"the rows of node {i} differ" for i, path in enumerate(offices(self.cluster)) if rows_of(path) != wanted]
+        for i, found in enumerate(kept):
+            for revision, (_, path) in found.items():
+                if revision not in judge.snapshots or rows_of(path) != sorted_rows(judge.snapshots[revision]):
+                    faults.append(f"the snapshot of node {i} at {revision} differs from the model")
+        return faults
+
+
+def check_faults(bench):
+    """Nothing is lost, done twice, or answered from an old state, while machines are killed, paused and cut off."""
+    node = build(bench.shared)
+    rounds, count, between = LONG if bench.is_long else SHORT
+    for number in range(rounds):
+        folder = bench.folder / str(number)
+        folder.mkdir()
+        judge_faults(bench, folder, node, count, between)
+        shutil.rmtree(folder)
+
+
+def judge_faults(bench, folder, node, count, between):
+    seed = random.randrange(10**6)
+    print(f"seed {seed}")
+    with Cluster(folder, node) as cluster:
+        trial, faults = Trial(cluster, seed), Faults(cluster, seed)
+        time.sleep(2)
+        for rare in (Faults.cut, Faults.lose_node, Faults.lose_member, Faults.cut):
+            faults.run(OFTEN, count // 4, between)
+            faults.run([rare], 1, between)
+        for what, times in sorted(faults.counts.items()):
+            print(f"{times:9,}  {what}")
+        # Whatever failed has recovered: all is answered again, and the log is trimmed.
+        cluster.heal()
+        cluster.until(lambda: trial.recorder.floor, "the log is trimmed", 2 * SECONDS)
+        bench.judge(f"nothing answered wrongly (seed {seed})", (faults.faults + trial.judge())[:20])
+        kills = sum(times for what, times in faults.counts.items() if "killed" in what or "paused" in what)
+        bench.judge("as many kills and pauses as wanted", [] if kills >= 0.75 * count else [f"only {kills}"])
+
+
+# Wrong nodes of a test build, each with the faults of machines by which it shows.
+WRONG = {
+    "twice": [Faults.pause_member],
+    "stale": [Faults.pause_node],
+    "early": [Faults.pause_member],
+    "endless": [Faults.kill_busy_replay],
+}
+
+
+def check_wrong_nodes(bench):
+    """Each wrong node is caught, and by answers alone, not by the fault that shows it."""
+    node = build(bench.shared, "faulty")
+    for wrong, kinds in WRONG.items():
+        folder = bench.folder / wrong
+        folder.mkdir()
+        with Cluster(folder, node, fault=wrong) as cluster:
+            trial, faults = Trial(cluster, 1), Faults(cluster, 1)
+            faults.patience = 0
+            time.sleep(2)
+            faults.run(kinds, 8, 0.3)
+            found = [fault for fault in trial.judge(10) if not fault.startswith("not in 10 seconds")]
+        print(f"the node that is wrong by {wrong!r}: {len(found)} faults, such as {found[0][:300] if found else None}")
+        bench.judge(f"the node that is wrong by {wrong!r} is caught", [] if found else ["no fault was found"])

@@ -1,0 +1,44 @@
+"""The sources of rbac-node by the tools of Go: their form, what `go vet` finds, and their own tests."""
+
+import os
+import shutil
+import subprocess
+
+from program.bench import PROGRAM, TESTS
+
+from .running import build
+
+ROOT = TESTS.parent / "cluster"
+ENVIRONMENT = {
+    **os.environ, "GO111MODULE": "off", "GOFLAGS": "", "GOPATH": f"{ROOT}:/usr/share/gocode", "RBAC_PROGRAM": PROGRAM,
+}  # fmt: skip
+
+
+def go(*words):
+    """What a command says, and its status."""
+    done = subprocess.run(words, cwd=ROOT, env=ENVIRONMENT, capture_output=True, text=True, timeout=600, check=False)
+    return done.stdout + done.stderr, done.returncode
+
+
+def check_form(bench):
+    bench.same("what gofmt would change", go("gofmt", "-l", "src"), ("", 0))
+    for tags in ("", "faulty"):
+        bench.same("what go vet finds", go("go", "vet", "-tags", tags, "rbac-node/...", "rbac-load"), ("", 0))
+
+
+def check_tests(bench):
+    said, status = go("go", "test", "-count=1", "-v", "rbac-node/...")
+    bench.judge("go test", [] if status == 0 and "--- SKIP" not in said else [said[-2000:]])
+    bench.passed += said.count("--- PASS")
+
+
+def check_unit(bench):
+    """systemd-analyze finds no fault in the unit, and calls its exposure low."""
+    if not shutil.which("systemd-analyze"):
+        print("left out: systemd-analyze is not there")
+        return
+    unit = (TESTS.parent / "deploy/rbac-node.service").read_text(encoding="utf-8")
+    path = bench.write("rbac-node.service", unit.replace("/usr/local/bin/rbac-node", build(bench.shared)).encode())
+    bench.same("what verify says", go("systemd-analyze", "verify", path), ("", 0))
+    said, status = go("systemd-analyze", "security", "--offline=true", "--no-pager", "--threshold=20", path)
+    bench.judge("its exposure is low", [] if status == 0 else [said[-300:]])

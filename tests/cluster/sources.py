@@ -1,0 +1,69 @@
+"""The sources of rbac-node, beside the pages. These checks need neither Go nor etcd."""
+
+import json
+import re
+
+from program.bench import TESTS
+
+SOURCES = TESTS.parent / "cluster/src/rbac-node"
+
+
+def check_functions(bench):
+    """The functions of the node are those of the pages, commands apart from questions."""
+    text = (SOURCES / "api/functions.go").read_text(encoding="utf-8")
+    paths = json.loads((TESTS.parent / "docs/openapi.json").read_text(encoding="utf-8"))["paths"]
+    for kind in ("commands", "questions"):
+        given = re.search(rf"{kind} += `(.*?)`", text, re.S)[1].split()
+        wanted = [path[len("/v1/") :] for path, methods in paths.items() if methods["post"]["tags"] == [kind]]
+        bench.same(kind, sorted(given), sorted(wanted))
+
+
+def check_texts(bench):
+    """The page is short, and the unit of systemd runs what it says."""
+    page = (TESTS.parent / "docs/CLUSTER.md").read_text(encoding="utf-8")
+    bench.same("a page of under 300 lines", page.count("\n") < 300, True)
+    settings = (SOURCES / "settings.go").read_text(encoding="utf-8")
+    known = set(re.findall(r'&s\.\w+, "([a-z-]+)"', settings))
+    known |= {f"{side}-{word}" for side in ("tls", "peer", "etcd") for word in ("cert", "key", "ca")}
+    unit = (TESTS.parent / "deploy/rbac-node.service").read_text(encoding="utf-8")
+    for name, text in (("docs/CLUSTER.md", page), ("the unit", unit)):
+        used = set(re.findall(r"(?<![\w-])--([a-z][a-z-]+)", text.replace("--build", "")))
+        bench.same(f"options in {name} that are none of rbac-node", sorted(used - known - OTHERS), [])
+    listed = set(re.findall(r"^\| `--([a-z-]+)", page, re.M)) | {
+        f"{side}-{word}" for side in re.findall(r"`--(\w+)-cert`", page) for word in ("cert", "key", "ca")
+    }
+    bench.same("options of rbac-node that the page does not list", sorted(known - listed), [])
+
+
+# Options of other programs on the page: of etcd, etcdctl, curl, useradd and systemctl.
+OTHERS = {
+    "data-dir", "initial-cluster", "initial-cluster-state", "initial-advertise-peer-urls", "listen-peer-urls",
+    "listen-client-urls", "advertise-client-urls", "initial-cluster-token", "endpoints", "prefix", "print-value-only",
+    "system", "home-dir", "shell", "now", "peer-urls", "long",
+}  # fmt: skip
+
+
+def check_metrics(bench):
+    """The page lists each metric of the node, and no other one."""
+    page = (TESTS.parent / "docs/CLUSTER.md").read_text(encoding="utf-8")
+    gauges = re.findall(r'gauge\("(\w+)"', (SOURCES / "node/metrics.go").read_text(encoding="utf-8"))
+    counters = re.findall(r'Name: "(\w+)"', (SOURCES / "api/handler.go").read_text(encoding="utf-8"))
+    known = {f"rbac_node_{name}" for name in gauges} | set(counters)
+    bench.same("metrics of the page", sorted(set(re.findall(r"rbac_node_\w+", page))), sorted(known))
+
+
+def check_limits(bench):
+    """The page says of its intervals and limits what the sources say."""
+    page = " ".join((TESTS.parent / "docs/CLUSTER.md").read_text(encoding="utf-8").split())
+    sources = "".join(path.read_text(encoding="utf-8") for path in sorted(SOURCES.rglob("*.go")))
+    for source, text in [
+        ('"every", 10_000', "After each 10,000 commands"),
+        ("kept, announced = 3, 16", "A node keeps three snapshots"),
+        ("margin = 1", "those after the last snapshot but one"),
+        ("longestLine   = 65_536", "a line of at most 65,536 bytes"),
+        ('"timeout", 10*time.Second', "mostly within 10 seconds"),
+        ("longest = 3 * time.Second", "`rbac_node_age_seconds` | it is above 3"),
+        ('60, "Unavailable"', '503 with `{"code":60,"error":"Unavailable"}`'),
+        ('61, "Diverged"', '503 with `{"code":61,"error":"Diverged"}`'),
+    ]:
+        bench.same(f"{source} and {text}", (source in sources, text in page), (True, True))

@@ -1,0 +1,156 @@
+"""Calls on standard input and on sockets that a signal interrupts, or that fail."""
+
+import errno
+import signal
+import time
+
+from machine.state import State
+from program.bench import Done
+from program.offices import SMALL
+from program.web import Server, connect, free_port, read_all
+
+from .serving import SENT, replies_of, reply_of, request_of
+from .shim import Shim
+from .stories import LINES, judge_office, lay, replay_story, small_office
+
+# So often each call is interrupted before it is made.
+INTERRUPTIONS = [1, 1_000]
+
+# Calls without which a server can't listen, each with an error that the system knows.
+LISTENING = {"socket": errno.EMFILE, "bind": errno.EADDRINUSE, "listen": errno.EADDRINUSE}
+
+# Errors by which a connection can't be accepted, and those by which one that was accepted comes to nothing.
+NOT_ACCEPTED = [errno.EMFILE, errno.ECONNABORTED, errno.ENOMEM]
+LOST = {"recv": [errno.ECONNRESET, errno.EIO], "send": [errno.EPIPE, errno.EIO]}
+
+# Lines that are accepted, whichever of them come before.
+THREE = [0, 1, 6]
+
+# How long a process is stopped, and how long it may take until it waits again.
+PAUSE = 0.05
+
+
+class Failing(Shim):
+    """The shim by which calls on streams and sockets fail."""
+
+    def __init__(self, bench):
+        super().__init__(bench, "stopped/streams.c")
+
+    def settings(self, calls, like, times=1, behind=0):
+        """The settings by which each of these calls fails so many times, after so many that don't fail."""
+        return {"FAIL": calls, "FAIL_LIKE": like, "FAIL_TIMES": times, "FAIL_BEHIND": behind, "FAILED": self.file}
+
+    def count(self):
+        """How many times calls have failed."""
+        return int(self.ask())
+
+
+def interrupt_replay(bench, times):
+    """A replay whose reads of standard input are interrupted answers all lines, over a file and in memory."""
+    content, state = small_office(bench)
+    path, failing = lay(bench, content), Failing(bench)
+    over_file = replay_story(state, LINES)
+    in_memory = replay_story(State(), [*SMALL, *LINES])
+    for where, word, story in (("over a file", path, over_file), ("in memory", "--memory", in_memory)):
+        done = failing.run(["replay", word], story.given, **failing.settings("read", errno.EINTR, times))
+        what = f"a replay {where}, each read interrupted {times} times"
+        bench.same(what, done, Done(b"".join(story.answers), b"", 0))
+        bench.same(f"{what}: they were", failing.count() >= 2 * times, True)
+    judge_office(bench, "an office behind interrupted reads", over_file, path, [len(LINES)])
+    return {"replays with interrupted reads": 2}
+
+
+def interrupt_server(bench, calls, times):
+    """A server whose calls on sockets are interrupted replies as ever."""
+    content, state = small_office(bench)
+    story = replay_story(state, [LINES[number] for number in SENT])
+    path, failing = lay(bench, content), Failing(bench)
+    environment = failing.environment(failing.settings(calls, errno.EINTR, times))
+    replies, done = replies_of(bench, path, [request_of(line) for line in story.lines], environment)
+    what = f"a server with {calls} interrupted {times} times"
+    bench.same(what, (replies, done), ([reply_of(answer) for answer in story.answers], Done(b"", b"", 0)))
+    bench.same(f"{what}: they were", failing.count() >= len(SENT) * times, True)
+    judge_office(bench, what, story, path, [len(story.states) - 1])
+    return {"servers with interrupted calls": 1}
+
+
+def pause(process):
+    """Stops a process and lets it go on: what it waits for on a socket with a time limit is interrupted by that."""
+    time.sleep(PAUSE)
+    process.send_signal(signal.SIGSTOP)
+    time.sleep(PAUSE)
+    process.send_signal(signal.SIGCONT)
+    time.sleep(PAUSE)
+
+
+def pause_server(bench):
+    """A server that is stopped and goes on while it waits for a client, and for each part of a request, replies."""
+    content, state = small_office(bench)
+    story = replay_story(state, LINES[:1])
+    path, request = lay(bench, content), request_of(LINES[0])
+    parts = [request[:1], request[1:30], request[30:-10], request[-10:-1], request[-1:]]
+    with Server(bench, path, 1) as server:
+        pause(server.process)
+        with connect(server.port) as client:
+            for part in parts:
+                pause(server.process)
+                client.sendall(part)
+            bench.same("the reply of a server that was stopped", read_all(client), reply_of(story.answers[0]))
+        server.ends()
+    judge_office(bench, "a server that was stopped", story, path, [1])
+    return {"servers that were stopped and went on": 1}
+
+
+def fail_to_listen(bench, call):
+    """A server that can't listen says so in one line, and the office stays as it is."""
+    content, state = small_office(bench)
+    path, failing = lay(bench, content), Failing(bench)
+    words = ["serve", path, "--port", str(free_port()), "--limit", "1"]
+    done = failing.run(words, **failing.settings(call, LISTENING[call]))
+    bench.same(f"a server whose {call} fails", done, Done(b"", b"rbac: cannot listen\n", 1))
+    bench.same(f"what is there after {call} fails", bench.contents(), {"office": content})
+    return {"servers that could not listen": 1}
+
+
+def fail_to_accept(bench, like):
+    """A server that can't accept a connection says so in one line and ends: it isn't counted as served."""
+    content, state = small_office(bench)
+    story = replay_story(state, [LINES[number] for number in SENT])
+    requests, wanted = [request_of(line) for line in story.lines], [reply_of(answer) for answer in story.answers]
+    failing = Failing(bench)
+    for behind in range(len(requests)):
+        path = lay(bench, content)
+        environment = failing.environment(failing.settings("accept", like, behind=behind))
+        replies, done = replies_of(bench, path, requests, environment)
+        what = f"a server that accepts {behind} connections, and then {errno.errorcode[like]}"
+        bench.same(f"{what}: the replies", [one for one in replies if one], wanted[:behind])
+        bench.same(f"{what}: the end", done, Done(b"", b"rbac: cannot accept\n", 1))
+        judge_office(bench, what, story, path, [behind])
+    return {"connections that could not be accepted": len(requests)}
+
+
+def lose_connection(bench, call, like):
+    """A connection whose request can't be read, or whose reply can't be sent, counts as served, and the next is taken.
+
+    The command of a request is done in either case, if the request was read.
+    """
+    content, state = small_office(bench)
+    asked = replay_story(state, [LINES[number] for number in THREE])
+    path, failing = lay(bench, content), Failing(bench)
+    environment = failing.environment(failing.settings(call, like, behind=1))
+    replies, done = replies_of(bench, path, [request_of(line) for line in asked.lines], environment)
+    wanted = [reply_of(answer) for answer in asked.answers]
+    what = f"a server with {call} of its second connection failing by {errno.errorcode[like]}"
+    bench.same(what, (replies, done), ([wanted[0], b"", wanted[2]], Done(b"", b"", 0)))
+    bench.same(f"{what}: it failed", failing.count(), 1)
+    story = asked if call == "send" else replay_story(state, [asked.lines[0], asked.lines[2]])
+    judge_office(bench, what, story, path, [len(story.lines)])
+    return {"connections that were lost": 1}
+
+
+def jobs(_):
+    """Each kind of call, with each of its errors."""
+    found = [(interrupt_replay, times) for times in INTERRUPTIONS] + [(pause_server,)]
+    found += [(interrupt_server, calls, INTERRUPTIONS[-1]) for calls in ("accept", "recv", "send", "accept,recv,send")]
+    found += [(fail_to_listen, call) for call in LISTENING] + [(fail_to_accept, like) for like in NOT_ACCEPTED]
+    return found + [(lose_connection, call, like) for call, causes in LOST.items() for like in causes]

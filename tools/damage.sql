@@ -1,0 +1,14 @@
+-- Damage: the rows by which `rbac check` refuses an office, a line for each. A good office has none.
+--
+--     sqlite3 COPY < tools/damage.sql
+--
+-- Run it in the folder of the repository, on a copy: sqlite3 takes the log of the copy in, if there is one.
+--
+-- The number of the check in docs/OPERATING.md comes first, or 32 for a limit, then what is at fault, and the row.
+
+.read tools/rows.sql
+.mode list
+.headers off
+
+SELECT number || '|' || what || coalesce('|' || first, '') || coalesce('|' || second, '') || coalesce('|' || third, '')
+FROM fault ORDER BY number = 32, number;
