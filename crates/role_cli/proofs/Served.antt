@@ -16,7 +16,7 @@ use Rattle.role_wire.specs.declared.lines.Cause.{Cause}
 use Rattle.role_wire.specs.declared.lines.Cause.TheVariants as cause
 use Rattle.role_wire.proofs.Performed.{same_run}
 use Rattle.role_wire.proofs.Replayed.{runs_then}
-use Rattle.role_cli.specs.Serving.{AreServed, AreServedUpTo, IsServed, is_closing}
+use Rattle.role_cli.specs.Serving.{AreServed, IsServed, Serves, is_closing}
 
 -- a connection that was not answered by the status 500 leaves the office open
 pub not_closing : (status : Option ℕ) → (status ≡ Some 500 → ⊥) → is_closing status ≡ false
@@ -39,9 +39,6 @@ module _ {S : Type 0} (shown : Held S → State) where
   pub open_then : (statuses : List (Option ℕ)) (status : Option ℕ) → list_any is_closing statuses ≡ false → is_closing status ≡ false → list_any is_closing (statuses ++ status ∷ []) ≡ false
   open_then statuses status open_before open_now =
       list_any-append is_closing statuses (status ∷ []) ∙ ap (λ b. b || (is_closing status || false)) open_before ∙ or_none (is_closing status) ∙ open_now
-
-  pub weaker : (limit : ℕ) (All More : Type 0) (old new : Opened S) → (More → All) → AreServedUpTo shown limit All old new → AreServedUpTo shown limit More old new
-  weaker limit All More old new step it = record { statuses = it.statuses; served = it.served; within = it.within; ends = it.ends; all = λ more. it.all (step more) }
 
   -- ---- the run goes on
 
@@ -88,5 +85,5 @@ module _ {S : Type 0} (shown : Held S → State) where
   all_continue old new [] same = same_continues old new same
   all_continue old new (status ∷ rest) (next, served, later) = continues_then old next new (served_continues old next status served) (all_continue next new rest later)
 
-  pub server_continues : (limit : ℕ) (All : Type 0) (old new : Opened S) → AreServedUpTo shown limit All old new → Continues shown old new
-  server_continues limit All old new it = all_continue old new it.statuses it.served
+  pub server_continues : (Ends : List (Option ℕ) → Type 0) (old new : Opened S) → Serves shown Ends old new → Continues shown old new
+  server_continues Ends old new (statuses, served, _) = all_continue old new statuses served

@@ -1,6 +1,6 @@
 -- What the work of a subcommand leaves of the office.
 use Rattle.std.proofs.Common.{◌≡◌, ◌⊎◌, inl, inr, ℕ, List, [], ◌∷◌, ◌++◌, length-append, Option, Result, Ok, Err, refl, arith}
-use Rattle.std.specs.Prelude.{⊤, OnErr, OnOk, IfErr}
+use Rattle.std.specs.Prelude.{OnOk, IfErr}
 use Rattle.std.specs.Io.KnownBytes.{Appends}
 use Rattle.sqlite.specs.Held.{Held}
 use Rattle.sqlite.specs.State.{State}
@@ -15,8 +15,8 @@ use Rattle.role_wire.specs.Performing.{Declines, Performs}
 use Rattle.role_wire.specs.Replaying.{IsHalted, LeavesNext}
 use Rattle.role_wire.specs.declared.lines.Cause.{Cause}
 use Rattle.role_wire.specs.declared.lines.Cause.TheVariants as cause
-use Rattle.role_cli.specs.Serving.{AreServedUpTo}
-use Rattle.role_cli.specs.Work.{FailsToImport, Imports, WritesPart, listening_line}
+use Rattle.role_cli.specs.Serving.{AllServed, Serves}
+use Rattle.role_cli.specs.Work.{FailsToImport, FailsToServe, Imports, WritesPart, listening_line}
 use Rattle.role_cli.specs.declared.failure.Failure.{Failure}
 use Rattle.role_cli.proofs.Served.{breaks_continues, reaches_continues, same_continues, server_continues}
 
@@ -65,9 +65,10 @@ module _ {S : Type 0} (shown : Held S → State) where
   import_continues old new written now_written (Err failure) done failed = failed_import_continues old new failure written now_written failed
 
   pub serve_continues : (limit port : ℕ) (old new : Opened S) (written now_written : Option (List ℕ)) (result : Result (Unit {0}) Failure)
-      → OnOk result (Appends written now_written (listening_line port) × AreServedUpTo shown limit ⊤ old new)
-      → OnErr result ((WritesPart (listening_line port) written now_written × (new ≡ old)) ⊎ (Appends written now_written (listening_line port) × AreServedUpTo shown limit ⊥ old new))
+      → OnOk result (Appends written now_written (listening_line port) × Serves shown (AllServed limit) old new)
+      → IfErr result (λ failure. FailsToServe shown port limit old failure written now_written new)
       → Continues shown old new
-  serve_continues limit port old new written now_written (Ok done) (_, served) failed = server_continues shown limit ⊤ old new served
-  serve_continues limit port old new written now_written (Err failure) done (inl (_, same)) = same_continues shown old new same
-  serve_continues limit port old new written now_written (Err failure) done (inr (_, served)) = server_continues shown limit ⊥ old new served
+  serve_continues limit port old new written now_written (Ok done) (_, serves) failed = server_continues shown _ old new serves
+  serve_continues limit port old new written now_written (Err failure) done (inl (_, same, _)) = same_continues shown old new same
+  serve_continues limit port old new written now_written (Err failure) done (inr (inl (_, same, _))) = same_continues shown old new same
+  serve_continues limit port old new written now_written (Err failure) done (inr (inr (_, serves))) = server_continues shown _ old new serves

@@ -1,4 +1,4 @@
--- The program's command line, as `clap` sees it.
+-- The program's command line, as `clap` reads it.
 use Rattle.std.specs.Prelude.{true, codes, pos, Some}
 use Rattle.clap.specs.Words.{App, Rule, Text, new_app, new_rule, with_rule, with_subcommand}
 use Rattle.clap.specs.Simple.{on_top}
@@ -6,11 +6,11 @@ use Rattle.clap.specs.declared.builder.ArgAction.TheVariants.{Set, SetTrue}
 use Rattle.clap.specs.declared.builder.ValueParser.{ValueParser}
 use Rattle.clap.specs.declared.builder.ValueParser.TheVariants as parser
 
--- the path of an office, which has to be there
+-- the path of an office, which is required
 abbrev pub file : Rule
 file = record (new_rule (codes "FILE")) { required = true; action = Some Set }
 
--- the path of an office, which may be left out
+-- the path of an office, which is optional
 abbrev pub maybe_file : Rule
 maybe_file = record (new_rule (codes "FILE")) { action = Some Set }
 
@@ -22,15 +22,15 @@ csv = record (new_rule (codes "CSV")) { required = true; action = Some Set }
 abbrev pub in_memory : Rule
 in_memory = record (new_rule (codes "memory")) { long = Some (codes "memory"); action = Some SetTrue }
 
--- takes any text
+-- accepts any text
 abbrev pub text_parser : ValueParser
 text_parser = parser.String
 
--- takes a port
+-- accepts a port
 abbrev pub port_parser : ValueParser
 port_parser = parser.Signed (pos 1) (pos 65535)
 
--- takes a number of connections
+-- accepts a number of connections
 abbrev pub limit_parser : ValueParser
 limit_parser = parser.Signed (pos 1) (pos 1000000)
 
@@ -58,10 +58,10 @@ serve = with_rule (with_rule (with_rule (new_app (codes "serve")) file) port) li
 abbrev pub import_of : App
 import_of = with_rule (with_rule (new_app (codes "import")) file) csv
 
--- the program with its first three subcommands
+-- the program, with `--version`, and with its first three subcommands
 abbrev pub first_three : App
 first_three = with_subcommand (with_subcommand (with_subcommand
-    (on_top (λ s. record s { subcommand_required = true }) (new_app (codes "rbac")))
+    (on_top (λ s. record s { subcommand_required = true; has_version = true }) (new_app (codes "rbac")))
     (of_file (codes "init")).top) replay.top) serve.top
 
 -- with its first six

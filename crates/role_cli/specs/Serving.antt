@@ -1,20 +1,36 @@
 -- What a server leaves of an office, one connection after another.
-use Rattle.std.specs.Prelude.{◌≡◌, ◌⊎◌, ◌≤◌, ◌++◌, ◌==◌, ℕ, Bool, false, List, [], ◌∷◌, Option, Some, None, length}
+use Rattle.std.specs.Prelude.{◌≡◌, ◌⊎◌, ◌<◌, ◌≤◌, ◌++◌, ◌==◌, ℕ, Bool, false, List, [], ◌∷◌, Option, Some, None, length}
 use Rattle.std.specs.List.{list_any}
 use Rattle.sqlite.specs.Held.{Held}
 use Rattle.sqlite.specs.State.{State}
+use Rattle.rbac_sets.specs.declared.refusal.Refusal.TheVariants.{Memory}
 use Rattle.role_tables.specs.Office.{Opened}
 use Rattle.role_wire.specs.Serving.{ServesRequest, StopsRequest}
 use Rattle.role_wire.specs.declared.lines.Cause.{Cause}
+use Rattle.role_cli.specs.declared.failure.Failure.{Failure}
+use Rattle.role_cli.specs.declared.failure.Failure.TheVariants.{Refused, Stopped, NotListening, NotAccepting, Closed}
 
 -- the status after which the office is closed
 abbrev pub is_closing : Option ℕ → Bool
 is_closing (Some status) = status == 500
 is_closing None = false
 
--- the last connection alone was answered with that status
+-- as many connections as the limit were served, and none of them closed the office
+abbrev pub AllServed : ℕ → List (Option ℕ) → Type 0
+AllServed limit statuses = (length statuses ≡ limit) × (list_any is_closing statuses ≡ false)
+
+-- the last connection closed the office, and none before it
 abbrev pub EndsClosed : List (Option ℕ) → Type 0
 EndsClosed statuses = (before : List (Option ℕ)) × (statuses ≡ before ++ Some 500 ∷ []) × (list_any is_closing before ≡ false)
+
+-- A server ended by this failure after it had served these connections: the router could not be allocated before the first one, one
+-- more could not be accepted, or the last one closed the office.
+abbrev pub EndsBy : ℕ → Failure → List (Option ℕ) → Type 0
+EndsBy limit (Refused refusal) statuses = (refusal ≡ Memory) × (statuses ≡ [])
+EndsBy limit NotAccepting statuses = (length statuses < limit) × (list_any is_closing statuses ≡ false)
+EndsBy limit Closed statuses = (length statuses ≤ limit) × EndsClosed statuses
+EndsBy limit NotListening statuses = ⊥
+EndsBy limit (Stopped stop) statuses = ⊥
 
 module _ {S : Type 0} (shown : Held S → State) where
   -- One connection: the one request in it was answered with this status. Or it was not answered: the request stopped, or memory for
@@ -29,11 +45,6 @@ module _ {S : Type 0} (shown : Held S → State) where
   AreServed old [] new = new ≡ old
   AreServed old (status ∷ rest) new = (next : Opened S) × IsServed old status next × AreServed next rest new
 
-  -- Connections up to the limit were served, one after another, and none after one that closed the office. If all were served, they
-  -- are as many as the limit, and none closed the office.
-  pub record AreServedUpTo (limit : ℕ) (All : Type 0) (old new : Opened S) : Type 0 where
-    pub statuses : List (Option ℕ)
-    pub served : AreServed old statuses new
-    pub within : length statuses ≤ limit
-    pub ends : (list_any is_closing statuses ≡ false) ⊎ EndsClosed statuses
-    pub all : All → (length statuses ≡ limit) × (list_any is_closing statuses ≡ false)
+  -- connections were served, one after another, and then the server ended so
+  abbrev pub Serves : (List (Option ℕ) → Type 0) → Opened S → Opened S → Type 0
+  Serves Ends old new = (statuses : List (Option ℕ)) × AreServed old statuses new × Ends statuses

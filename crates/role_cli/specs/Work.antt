@@ -29,11 +29,11 @@ use Rattle.role_wire.specs.Outcome.{after_lines, asking_lines}
 use Rattle.role_wire.specs.Performing.{Declines, Performs}
 use Rattle.role_wire.specs.Replaying.{IsAnswered, IsHalted}
 use Rattle.role_wire.specs.declared.lines.Cause.TheVariants.{Read}
-use Rattle.role_cli.specs.Serving.{AreServedUpTo}
+use Rattle.role_cli.specs.Serving.{AllServed, EndsBy, Serves}
 use Rattle.role_cli.specs.declared.choice.Choice.{Choice}
 use Rattle.role_cli.specs.declared.choice.Choice.TheVariants as choice
 use Rattle.role_cli.specs.declared.failure.Failure.{Failure}
-use Rattle.role_cli.specs.declared.failure.Failure.TheVariants.{Refused, Stopped}
+use Rattle.role_cli.specs.declared.failure.Failure.TheVariants.{Refused, Stopped, NotListening}
 
 -- the subcommand reads the standard input: only a replay does
 abbrev pub reads_input : Choice → Bool
@@ -79,6 +79,16 @@ module _ {C : Type 0} (shown : Held C → State) where
       × ((Declines shown old (Change (Import pairs)) refusal new × Appends written now_written [])
       ⊎ (IsMemoryOrStore refusal × ((line : List ℕ) × Performs shown old (Change (Import pairs)) line new × WritesPart (line ++ line_feed ∷ []) written now_written))))
 
+  -- ---- a server
+
+  -- It could not listen, or the line that says so could not be allocated or written whole, which changes nothing; or the line was
+  -- written, and this failure ended it before all connections were served.
+  abbrev pub FailsToServe : (port limit : ℕ) → Opened C → Failure → Option (List ℕ) → Option (List ℕ) → Opened C → Type 0
+  FailsToServe port limit old failure written now_written new =
+      (((failure ≡ NotListening) ⊎ (failure ≡ Refused Memory)) × (new ≡ old) × (now_written ≡ written))
+      ⊎ (((failure ≡ Refused Store) × (new ≡ old) × WritesPart (listening_line port) written now_written)
+      ⊎ (Appends written now_written (listening_line port) × Serves shown (EndsBy limit failure) old new))
+
   -- ---- any subcommand
 
   -- Over an open office the work was done: this was read of the source, this was written to the output, and this became of the
@@ -90,7 +100,7 @@ module _ {C : Type 0} (shown : Held C → State) where
       (input : List ℕ) × Consumes remaining now_remaining input × IsAtEnd now_remaining
       × ((answered : ℕ) × IsAnswered old.facts input written now_written answered) × Reaches shown old (after_lines old.facts (asking_lines input)) new
   Does (choice.Serve _ port limit) old remaining now_remaining written now_written new =
-      Appends written now_written (listening_line port) × AreServedUpTo shown limit ⊤ old new
+      Appends written now_written (listening_line port) × Serves shown (AllServed limit) old new
   Does (choice.Import _ _) old remaining now_remaining written now_written new = Imports old written now_written new
   Does (choice.Export _) old remaining now_remaining written now_written new = Appends written now_written (exported old.facts) × (new ≡ old)
   Does (choice.Report _) old remaining now_remaining written now_written new = Appends written now_written (report old.facts) × (new ≡ old)
@@ -103,8 +113,7 @@ module _ {C : Type 0} (shown : Held C → State) where
   Fails (choice.Replay _) (Stopped stop) old remaining now_remaining written now_written new =
       (taken : List ℕ) × Consumes remaining now_remaining taken × IsHalted shown old new taken (IsAtEnd now_remaining) written now_written stop.cause stop.answered
   Fails (choice.Replay _) failure old remaining now_remaining written now_written new = ⊥
-  Fails (choice.Serve _ port limit) failure old remaining now_remaining written now_written new =
-      (WritesPart (listening_line port) written now_written × (new ≡ old)) ⊎ (Appends written now_written (listening_line port) × AreServedUpTo shown limit ⊥ old new)
+  Fails (choice.Serve _ port limit) failure old remaining now_remaining written now_written new = FailsToServe port limit old failure written now_written new
   Fails (choice.Import _ _) failure old remaining now_remaining written now_written new = FailsToImport old failure written now_written new
   Fails (choice.Export _) failure old remaining now_remaining written now_written new = WritesPart (exported old.facts) written now_written × (new ≡ old)
   Fails (choice.Report _) failure old remaining now_remaining written now_written new = WritesPart (report old.facts) written now_written × (new ≡ old)

@@ -7,7 +7,23 @@ ghost use Rattle.role_cli.specs.CommandLine.{csv, file, first_six, first_three, 
 use clap::{Arg, ArgAction, Command, value_parser};
 use std::alloc::{AllocError, Global};
 
-// The path of an office, which has to be there.
+/// The version that `--version` prints.
+const VERSION: &str = "1.0.0";
+
+/// What the program is for, at the top of its help.
+const ABOUT: &str = "Keeps users, roles, permissions and sessions in one file, and answers access questions";
+
+/// The end of the program's help.
+const EXAMPLES: &str = "\
+Examples:
+  rbac replay --memory < requests.jsonl
+  rbac init office.db
+  rbac serve office.db --port 8080 --limit 1000000
+  rbac check office.db
+
+Each request is one line of JSON, or one POST to /v1/FUNCTION. The answers to them name errors by code and name.";
+
+// The path of an office, which is required.
 fn file_arg<'a>(alloc: Global) -> Arg<'a>
     ensures rule { rule_of result ≡ file }
     ensures own { result.global ≡ false }
@@ -15,22 +31,28 @@ fn file_arg<'a>(alloc: Global) -> Arg<'a>
     Arg::new(alloc, "FILE")
         .required(true)
         .action(ArgAction::Set)
+        .help("The file of the office")
 }
 
-// The path of an office, which may be left out.
+// The path of an office, which is optional.
 fn maybe_file_arg<'a>(alloc: Global) -> Arg<'a>
     ensures rule { rule_of result ≡ maybe_file }
     ensures own { result.global ≡ false }
 {
-    Arg::new(alloc, "FILE").action(ArgAction::Set)
+    Arg::new(alloc, "FILE")
+        .action(ArgAction::Set)
+        .help("The file of the office, unless --memory is given")
 }
 
-// The path of a CSV file, which has to be there.
+// The path of a CSV file, which is required.
 fn csv_arg<'a>(alloc: Global) -> Arg<'a>
     ensures rule { rule_of result ≡ csv }
     ensures own { result.global ≡ false }
 {
-    Arg::new(alloc, "CSV").required(true).action(ArgAction::Set)
+    Arg::new(alloc, "CSV")
+        .required(true)
+        .action(ArgAction::Set)
+        .help("The CSV file, with the columns user and role")
 }
 
 // The flag for an office in memory.
@@ -41,6 +63,7 @@ fn memory_arg<'a>(alloc: Global) -> Arg<'a>
     Arg::new(alloc, "memory")
         .long("memory")
         .action(ArgAction::SetTrue)
+        .help("Use a new office in memory, which is lost at the end")
 }
 
 // The port, from 1 to 65,535.
@@ -53,6 +76,7 @@ fn port_arg<'a>(alloc: Global) -> Arg<'a>
         .required(true)
         .action(ArgAction::Set)
         .value_parser(value_parser!(u16).range(1..))
+        .help("The port of 127.0.0.1 to listen on, from 1 to 65535")
 }
 
 // The number of connections, from 1 to 1,000,000.
@@ -65,22 +89,28 @@ fn limit_arg<'a>(alloc: Global) -> Arg<'a>
         .required(true)
         .action(ArgAction::Set)
         .value_parser(value_parser!(u32).range(1..=1_000_000))
+        .help("End after this many connections, from 1 to 1000000")
 }
 
-// A subcommand with FILE alone.
-fn file_command<'a>(alloc: Global, name: &'static str) -> Result<Command<'a>, AllocError>
+// A subcommand with FILE alone, and what its help says of it.
+fn file_command<'a>(
+    alloc: Global,
+    name: &'static str,
+    about: &'static str,
+) -> Result<Command<'a>, AllocError>
     ensures app { IfOk result (λ c. app_of c ≡ of_file name.now) }
     ensures own { IfOk result (λ c. (out-Command c).has_globals ≡ false) }
 {
-    Command::new(alloc, name).arg(file_arg(alloc))
+    Command::new(alloc, name).about(about).arg(file_arg(alloc))
 }
 
-// `replay`, with FILE or `--memory`. That one of them is there is judged later.
+// `replay`, with FILE or `--memory`. That exactly one of them is given is checked later.
 fn replay_command<'a>(alloc: Global) -> Result<Command<'a>, AllocError>
     ensures app { IfOk result (λ c. app_of c ≡ replay) }
     ensures own { IfOk result (λ c. (out-Command c).has_globals ≡ false) }
 {
     Command::new(alloc, "replay")
+        .about("Answer the request lines of standard input")
         .arg(maybe_file_arg(alloc))?
         .arg(memory_arg(alloc))
 }
@@ -91,6 +121,7 @@ fn serve_command<'a>(alloc: Global) -> Result<Command<'a>, AllocError>
     ensures own { IfOk result (λ c. (out-Command c).has_globals ≡ false) }
 {
     Command::new(alloc, "serve")
+        .about("Answer requests over HTTP on 127.0.0.1")
         .arg(file_arg(alloc))?
         .arg(port_arg(alloc))?
         .arg(limit_arg(alloc))
@@ -102,6 +133,7 @@ fn import_command<'a>(alloc: Global) -> Result<Command<'a>, AllocError>
     ensures own { IfOk result (λ c. (out-Command c).has_globals ≡ false) }
 {
     Command::new(alloc, "import")
+        .about("Assign the users of a CSV file to its roles")
         .arg(file_arg(alloc))?
         .arg(csv_arg(alloc))
 }
@@ -110,32 +142,36 @@ fn import_command<'a>(alloc: Global) -> Result<Command<'a>, AllocError>
 fn first_three<'a>(alloc: Global) -> Result<Command<'a>, AllocError>
     ensures { IfOk result (λ c. app_of c ≡ first_three) }
 {
-    let init = file_command(alloc, "init")?;
+    let init = file_command(alloc, "init", "Make a new, empty office")?;
     let replay = replay_command(alloc)?;
     let serve = serve_command(alloc)?;
-    let rbac = Command::new(alloc, "rbac").subcommand_required(true);
+    let rbac = Command::new(alloc, "rbac")
+        .version(VERSION)
+        .about(ABOUT)
+        .after_help(EXAMPLES)
+        .subcommand_required(true);
     rbac.subcommand(init)?.subcommand(replay)?.subcommand(serve)
 }
 
-// The program with its first six.
+// The program with its first six subcommands.
 fn first_six<'a>(alloc: Global) -> Result<Command<'a>, AllocError>
     ensures { IfOk result (λ c. app_of c ≡ first_six) }
 {
     let import = import_command(alloc)?;
-    let export = file_command(alloc, "export")?;
-    let report = file_command(alloc, "report")?;
+    let export = file_command(alloc, "export", "Write the assignments as CSV")?;
+    let report = file_command(alloc, "report", "Write how many users and permissions each role has")?;
     let rbac = first_three(alloc)?;
     rbac.subcommand(import)?
         .subcommand(export)?
         .subcommand(report)
 }
 
-// The program with all its subcommands, of which one has to be there.
+/// The program with all its subcommands, one of which is required.
 pub(crate) fn program_command<'a>(alloc: Global) -> Result<Command<'a>, AllocError>
     ensures { IfOk result (λ c. app_of c ≡ program) }
 {
-    let check = file_command(alloc, "check")?;
-    let migrate = file_command(alloc, "migrate")?;
+    let check = file_command(alloc, "check", "Check that the file holds a good office")?;
+    let migrate = file_command(alloc, "migrate", "Migrate an office of version 1 to version 2")?;
     let rbac = first_six(alloc)?;
     rbac.subcommand(check)?.subcommand(migrate)
 }

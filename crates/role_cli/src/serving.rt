@@ -1,14 +1,18 @@
 //! One connection of a server after another.
-ghost use Rattle.std.specs.Prelude.{⊤, ◌≡◌, ◌⊎◌, IsOk, OnErr, OnOk, IfOk, string_bytes};
+ghost use Rattle.std.specs.Prelude.{◌≡◌, ◌⊎◌, IfErr, IfOk, OnOk, string_bytes};
 ghost use Rattle.std.specs.Io.KnownBytes.{Appends};
 ghost use Rattle.sqlite.specs.Held.{state};
+ghost use Rattle.rbac_sets.specs.Stream.{HasRisen};
 ghost use Rattle.role_http.specs.Route.{routes};
-ghost use Rattle.role_cli.specs.Serving.{AreServedUpTo, IsServed};
-ghost use Rattle.role_cli.specs.Work.{WritesPart, listening_line};
+ghost use Rattle.role_cli.specs.Serving.{AllServed, EndsBy, IsServed, Serves};
+ghost use Rattle.role_cli.specs.Telling.{IsLineOf, SaysSome};
+ghost use Rattle.role_cli.specs.Work.{FailsToServe, WritesPart, listening_line};
+ghost use Rattle.role_cli.specs.declared.failure.Failure.{Failure};
 
 use crate::failure::Failure;
+use crate::work::say;
 use matchit::Router;
-use rbac_sets::{Reader, Refusal, Sink, Source, Writer, write_all};
+use rbac_sets::{Reader, Refusal, Sink, Source, Writer};
 use role_http::one_route;
 use role_tables::Office;
 use role_wire::{Served, serve_with};
@@ -24,24 +28,22 @@ const PATIENCE: u64 = 5;
 /// The status after which the office is closed.
 const OFFICE_CLOSED: u16 = 500;
 
-/// The statuses that are told once the whole body was read. Any other may leave bytes that the client still sends.
+/// The statuses of replies that are sent after the whole body was read. After any other the client may still be sending.
 const AFTER_THE_BODY: [u16; 3] = [200, 409, OFFICE_CLOSED];
 
-/// How many bytes that come after a refusal are read at once.
+/// How many bytes are discarded by one read after such a reply.
 const DISCARDED_AT_ONCE: usize = 8192;
 
-/// How often they are read: 4 MiB in all.
+/// The most reads that discard bytes: 4 MiB in all.
 const MOST_DISCARDS: u32 = 512;
 
-/// Serves as many connections of the listener as `limit` says, which may be any number, one after the
-/// other, each by `serve_one` of `role_wire`, and gives the exit status. A read or a write of a
-/// connection waits at most five seconds. Where a connection is stopped, it counts as served, and the
-/// next is taken.
+/// Accepts `limit` connections of the listener, one after the other, serves each by `serve_one` of
+/// `role_wire`, and returns the exit status. `limit` may be any number. A read or a write of a connection
+/// waits at most five seconds. A connection whose request or reply fails counts as served.
 ///
-/// The status is 0 where all were served. It is 1, and `err` has a line that says why, after an
-/// answer with the status 500, since the office is closed then, where a connection can't be
-/// accepted, and where memory for the router was refused before the first. A fault of `err` changes
-/// nothing.
+/// The status is 0 if all connections were served. Otherwise it is 1, and one line in `err` says why: an
+/// answer had the status 500, after which the office is closed; a connection could not be accepted; or,
+/// before the first one, allocating the router failed. If writing to `err` fails, nothing else changes.
 pub fn serve_on<S: Alter, E: Sink>(
     alloc: Global,
     office: &mut Office<S>,
@@ -50,7 +52,9 @@ pub fn serve_on<S: Alter, E: Sink>(
     err: &mut E,
 ) -> u8
     ensures status { (result ≡ 0) ⊎ (result ≡ 1) }
-    ensures left { AreServedUpTo (state S.Store) limit (result ≡ 0) office.old office.new }
+    ensures done { result ≡ 0 → Serves (state S.Store) (AllServed limit) office.old office.new × (err.new ≡ err.old) }
+    ensures failed { result ≡ 1 → (failure : Failure) × Serves (state S.Store) (EndsBy limit failure) office.old office.new
+        × SaysSome (IsLineOf failure) (E.written err.old) (E.written err.new) (HasRisen (E.failed err.old) (E.failed err.new) ⊎ HasRisen (E.idle err.old) (E.idle err.new)) }
 {
     match serve_all(alloc, office, listener, limit) {
         Ok(()) => 0,
@@ -61,12 +65,16 @@ pub fn serve_on<S: Alter, E: Sink>(
     }
 }
 
-/// Listens on the port of 127.0.0.1, says so in `out`, and serves as `serve_on` does.
+/// Listens on a port of 127.0.0.1, writes the line that says so to `out`, and serves as `serve_on` does.
 ///
 /// # Errors
 ///
-/// `NotListening` where the port can't be listened on, `Memory` where memory for the line was refused,
-/// `Store` where `out` doesn't take it; nothing was served then. Else as `serve_on` ends with 1.
+/// - `NotListening`: it can't listen on the port. Nothing was written or served.
+/// - `Refused` with `Memory`: the line could not be allocated, and nothing was written or served; or the
+///   router could not be allocated, and the line was written.
+/// - `Refused` with `Store`: writing the line failed. Nothing was served.
+/// - `NotAccepting`: a connection could not be accepted.
+/// - `Closed`: an answer had the status 500.
 pub(crate) fn serve<S: Alter, W: Sink>(
     rt: &HostRuntime,
     office: &mut Office<S>,
@@ -74,9 +82,8 @@ pub(crate) fn serve<S: Alter, W: Sink>(
     limit: u32,
     out: &mut W,
 ) -> Result<(), Failure>
-    ensures done { OnOk result (Appends (W.written out.old) (W.written out.new) (listening_line port) × AreServedUpTo (state S.Store) limit ⊤ office.old office.new) }
-    ensures failed { OnErr result ((WritesPart (listening_line port) (W.written out.old) (W.written out.new) × (office.new ≡ office.old))
-        ⊎ (Appends (W.written out.old) (W.written out.new) (listening_line port) × AreServedUpTo (state S.Store) limit ⊥ office.old office.new)) }
+    ensures done { OnOk result (Appends (W.written out.old) (W.written out.new) (listening_line port) × Serves (state S.Store) (AllServed limit) office.old office.new) }
+    ensures failed { IfErr result (λ failure. FailsToServe (state S.Store) port limit office.old failure (W.written out.old) (W.written out.new) office.new) }
 {
     let Ok(listener) = TcpListener::bind(rt, ("127.0.0.1", port)) else {
         return Err(Failure::NotListening);
@@ -85,18 +92,15 @@ pub(crate) fn serve<S: Alter, W: Sink>(
     serve_all(rt.alloc(), office, &listener, limit)
 }
 
-// Writes where the server listens.
+// Writes the line that says where the server listens.
 fn say_port<W: Sink>(alloc: Global, out: &mut W, port: u16) -> Result<(), Failure>
     ensures ok { OnOk result (Appends (W.written out.old) (W.written out.new) (listening_line port)) }
-    ensures part { OnErr result (WritesPart (listening_line port) (W.written out.old) (W.written out.new)) }
+    ensures part { IfErr result (λ failure. ((failure ≡ Failure.Refused Refusal.Memory) × (out.new ≡ out.old))
+        ⊎ ((failure ≡ Failure.Refused Refusal.Store) × WritesPart (listening_line port) (W.written out.old) (W.written out.new))) }
 {
-    let line = match port_line(alloc, port) {
-        Ok(line) => line,
-        Err(_) => return Err(Failure::Refused(Refusal::Memory)),
-    };
-    match write_all(out, line.as_bytes()) {
-        Ok(()) => Ok(()),
-        Err(_) => Err(Failure::Refused(Refusal::Store)),
+    match port_line(alloc, port) {
+        Ok(line) => say(out, line.as_bytes()),
+        Err(_) => Err(Failure::Refused(Refusal::Memory)),
     }
 }
 
@@ -107,14 +111,15 @@ fn port_line(alloc: Global, port: u16) -> Result<String, AllocError>
     format!(in alloc; "listening on 127.0.0.1:{port}\n")
 }
 
-// Serves so many connections.
+// Serves the connections.
 fn serve_all<S: Alter>(
     alloc: Global,
     office: &mut Office<S>,
     listener: &TcpListener,
     limit: u32,
 ) -> Result<(), Failure>
-    ensures { AreServedUpTo (state S.Store) limit (IsOk result) office.old office.new }
+    ensures all { OnOk result (Serves (state S.Store) (AllServed limit) office.old office.new) }
+    ensures ended { IfErr result (λ failure. Serves (state S.Store) (EndsBy limit failure) office.old office.new) }
 {
     let router = match one_route(alloc) {
         Ok(router) => router,
@@ -151,8 +156,8 @@ fn serve_stream<S: Alter>(
     status
 }
 
-// The same without what the client still sends. The reply leaves in one piece as the sink is dropped, whether
-// or not the client takes it.
+// The same, but without discarding what the client still sends. The reply is sent in one piece when the sink is
+// dropped, whether or not the client receives it.
 fn answer_stream<S: Alter>(
     alloc: Global,
     router: &Router<()>,
@@ -171,8 +176,8 @@ fn answer_stream<S: Alter>(
     answered(alloc, router, office, &mut source, &mut sink)
 }
 
-// Reads what a client still sends, up to a bound: a connection that is closed before would be reset, and the
-// client might lose the reply.
+// Reads and discards what a client still sends, up to a bound. If the connection were closed earlier, it would be
+// reset, and the client might lose the reply.
 fn discard_rest(mut stream: &TcpStream) {
     if stream.shutdown(Shutdown::Write).is_err() {
         return;

@@ -124,8 +124,8 @@ fn run_on_office<S: Alter, R: Source, W: Sink>(
     }
 }
 
-// Writes a line. One that the output doesn't take counts as a refused call of the store.
-fn say<W: Sink>(out: &mut W, line: &[u8]) -> Result<(), Failure>
+/// Writes a line. Output that fails counts as a failed store.
+pub(crate) fn say<W: Sink>(out: &mut W, line: &[u8]) -> Result<(), Failure>
     ensures ok { OnOk result (Appends (W.written out.old) (W.written out.new) line.now) }
     ensures part { IfErr result (λ failure. (failure ≡ Failure.Refused Refusal.Store) × WritesPart line.now (W.written out.old) (W.written out.new)) }
 {

@@ -1,6 +1,7 @@
 use Rattle.sqlite.specs.WalFiles.{image_at}
 use Rattle.role_cli.proofs.OnFile.{stands_in}
-use Rattle.role_cli.proofs.Results.{if_err-then, on_ok-then}
+use Rattle.role_wire.proofs.Results.{if_err-then}
+use Rattle.role_cli.proofs.Results.{on_ok-then}
 use Rattle.role_cli.proofs.files.run_on_path.Goals as goal
 
 pub returns-in-Some-clause-done : goal.returns-in-Some-clause-done

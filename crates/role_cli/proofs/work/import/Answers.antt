@@ -3,7 +3,8 @@ use Rattle.std.specs.Io.KnownBytes.{Appends}
 use Rattle.rbac_sets.specs.declared.refusal.Refusal.TheVariants.{Store}
 use Rattle.rbac_sets.proofs.Known.{Appends-none}
 use Rattle.role_cli.specs.Work.{WritesPart}
-use Rattle.role_cli.proofs.Results.{if_err-then, on_ok-then}
+use Rattle.role_wire.proofs.Results.{if_err-then}
+use Rattle.role_cli.proofs.Results.{on_ok-then}
 use Rattle.role_cli.proofs.Working.{writes_no_line}
 use Rattle.role_cli.proofs.work.import.Goals as goal
 

@@ -7,7 +7,7 @@ use Rattle.role_json.specs.Requested.{Change}
 use Rattle.role_wire.specs.Outcome.{accepted_text}
 use Rattle.role_wire.specs.Performing.{Performs}
 use Rattle.role_wire.proofs.Performed.{command_done, command_refused}
-use Rattle.role_cli.proofs.Results.{if_err-then, if_ok-then}
+use Rattle.role_wire.proofs.Results.{if_err-then, if_ok-then}
 use Rattle.role_cli.proofs.work.import_pairs.Goals as goal
 
 -- The office did the command, and this is what accepts an import.

@@ -1,6 +1,6 @@
 use Rattle.std.proofs.Common.{inr, refl}
 use Rattle.rbac_sets.specs.Asked.{asked_of}
-use Rattle.role_cli.proofs.Results.{if_err-then, if_ok-then}
+use Rattle.role_wire.proofs.Results.{if_err-then, if_ok-then}
 use Rattle.role_cli.proofs.work.imported.Goals as goal
 
 pub import_pairs-line-requires : goal.import_pairs-line-requires

@@ -1,7 +1,8 @@
 use Rattle.std.proofs.Common.{inl, subst}
 use Rattle.sqlite.specs.Held.{state}
 use Rattle.sqlite.specs.State.{HasCleanDisk}
-use Rattle.role_cli.proofs.Results.{if_err-then, on_ok-then}
+use Rattle.role_wire.proofs.Results.{if_err-then}
+use Rattle.role_cli.proofs.Results.{on_ok-then}
 use Rattle.role_cli.proofs.work.run_on_connection.Goals as goal
 
 -- The work was done over the office that was opened, whose run goes on.
