@@ -8,9 +8,9 @@ use crate::sets::NameSet;
 /// docs/MODEL.md describes what each command does, when it is refused and in which order the
 /// refusals are judged. `asc` is the ascendant and `desc` the descendant of an inheritance.
 /// `cardinality` is how many members of a separation of duty set are too many: a user is authorized
-/// for fewer members of a static set, and a session has fewer members of a dynamic set activated.
-/// Each change ends the sessions whose user is deleted or locked, or is no longer authorized for an
-/// activated role.
+/// for fewer members of a static set, and a session has fewer members of a dynamic set among its
+/// roles. Each change ends the sessions whose user is deleted or locked, or is no longer authorized
+/// for an activated role.
 #[derive(Drop)]
 pub enum Command {
     /// AddUser: creates a user.
