@@ -359,7 +359,7 @@ refused_the_same n (v ∷ vs) (w ∷ ws) again = told_again n v w _ _ again.0 (r
 
 -- ---- sessions end once
 
--- a session that is left may go on in the state that is left
+-- a session that is left may go on afterwards too
 kept_session : (S : RbacState) (p : Pair) → IsTrue (contains (end_sessions S).sessions p) → IsTrue (may_go_on (end_sessions S) p)
 unfolding end_sessions may_go_on authorized_users
 kept_session S p h =
