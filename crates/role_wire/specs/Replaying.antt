@@ -38,8 +38,8 @@ module _ {S : Type 0} (shown : Held S → State) where
       (Reaches shown old (after_lines old.facts done) new ⊎ Reaches shown old (after_lines old.facts (done ++ line ∷ [])) new) × (part ≡ [])
   LeavesNext _ old done line part new = ⊥
 
-  -- Of the bytes that were read, the first lines that ask were done and their answers written. Then the replay stopped at the next
-  -- line, or before it had another line to answer.
+  -- Of the bytes that were read, the first lines that ask were done and their answers written. Then the replay stopped at the
+  -- next line, or before it had another line to answer.
   pub record IsHalted (old new : Opened S) (taken : List ℕ) (at_end : Type 0) (written now_written : Option (List ℕ)) (cause : Cause) (answered : ℕ) : Type 0 where
     pub done : List (List ℕ)
     pub part : List ℕ
