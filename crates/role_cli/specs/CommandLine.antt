@@ -6,11 +6,11 @@ use Rattle.clap.specs.declared.builder.ArgAction.TheVariants.{Set, SetTrue}
 use Rattle.clap.specs.declared.builder.ValueParser.{ValueParser}
 use Rattle.clap.specs.declared.builder.ValueParser.TheVariants as parser
 
--- the path of an office, which has to be there
+-- the path of an office, which is required
 abbrev pub file : Rule
 file = record (new_rule (codes "FILE")) { required = true; action = Some Set }
 
--- the path of an office, which may be left out
+-- the path of an office, which is optional
 abbrev pub maybe_file : Rule
 maybe_file = record (new_rule (codes "FILE")) { action = Some Set }
 
@@ -22,15 +22,15 @@ csv = record (new_rule (codes "CSV")) { required = true; action = Some Set }
 abbrev pub in_memory : Rule
 in_memory = record (new_rule (codes "memory")) { long = Some (codes "memory"); action = Some SetTrue }
 
--- takes any text
+-- accepts any text
 abbrev pub text_parser : ValueParser
 text_parser = parser.String
 
--- takes a port
+-- accepts a port
 abbrev pub port_parser : ValueParser
 port_parser = parser.Signed (pos 1) (pos 65535)
 
--- takes a number of connections
+-- accepts a number of connections
 abbrev pub limit_parser : ValueParser
 limit_parser = parser.Signed (pos 1) (pos 1000000)
 
