@@ -32,7 +32,7 @@ retain-cardinalities = retain-from_list cardinality_total cardinality_exact
 
 ruleset written = (evaluated, members-cardinalities, any-cardinalities, all-cardinalities, retain-cardinalities)
 
--- ---- a diamond: without one of its edges the other way stays
+-- ---- a diamond: without one of its edges the other path stays
 
 a : Bytes
 a = codes "a"
@@ -68,7 +68,7 @@ b_not_above_c : geq diamond b c ≡ false
 unfolding geq diamond a b c d
 b_not_above_c = simp written
 
--- ---- static separation counts authorized users: who has `boss` may not come to have both members of `pay`
+-- ---- static separation counts authorized users: a user with `boss` may not be authorized for both members of `pay`
 
 approver : Bytes
 approver = codes "approver"
@@ -98,7 +98,7 @@ boss_may_not_approve : verdict before_boss_approves (AddInheritance boss approve
 unfolding before_boss_approves boss approver clerk pay zed refusals verdict after changed least_violated is_kept_statically authorized_users seconds geq end_sessions
 boss_may_not_approve = simp written
 
--- the set that is named is the least one
+-- the refusal names the first violated set in byte order
 aid : Bytes
 aid = codes "aid"
 
@@ -113,7 +113,7 @@ the_least_set_is_named : verdict two_sets (AssignUser zed boss) ≡ Some (Static
 unfolding two_sets before_boss_approves aid boss approver clerk pay zed refusals verdict assignment_verdict after_assignment assignment_refusals least_violated is_kept_statically authorized_users seconds geq end_sessions
 the_least_set_is_named = simp written
 
--- ---- dynamic separation counts the roles below the activated ones
+-- ---- dynamic separation counts the juniors of the activated roles
 
 ann : Bytes
 ann = codes "ann"
@@ -142,7 +142,7 @@ chief_of_both = record (empty_state 2) {
   dsd = record { members = from_list ((till, audit) ∷ (till, cash) ∷ []); cardinalities = from_list ((till, 2) ∷ []) };
 }
 
--- one role that is asked for
+-- a list of one role that is asked for
 asked : Bytes → Stored Bytes
 asked role = record { in_order = role ∷ []; room = 0 }
 
@@ -243,7 +243,7 @@ no_locks_in_version_1 : verdict (empty_state 1) (LockUserAccount zed) ≡ Some (
 unfolding refusals verdict
 no_locks_in_version_1 = refl
 
--- ---- one command for each condition that an empty state can't meet
+-- ---- one refused command for each condition that needs more than an empty state
 
 desk : Bytes
 desk = codes "desk"

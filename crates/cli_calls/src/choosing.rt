@@ -1,9 +1,9 @@
-//! What the words of each subcommand choose, and words that choose nothing.
+//! What the command line of each subcommand chooses, and command lines that are invalid.
 use role_cli::{Choice, Place, Unchosen, choose};
 use std::alloc::{AllocError, Global};
 use std::test::Fail;
 
-// A choice as a text, with each path and number that it has.
+// A choice as text, with all its paths and numbers.
 fn show_choice(alloc: Global, choice: &Choice) -> Result<String, AllocError> {
     match choice {
         Choice::Init(file) => format!(in alloc; "make {file}"),
@@ -20,7 +20,7 @@ fn show_choice(alloc: Global, choice: &Choice) -> Result<String, AllocError> {
     }
 }
 
-// A choice, or why there is none, as a text.
+// A choice, or the reason why there is none, as text.
 fn show(alloc: Global, choice: &Result<Choice, Unchosen>) -> Result<String, AllocError> {
     match choice {
         Ok(choice) => show_choice(alloc, choice),
@@ -30,7 +30,7 @@ fn show(alloc: Global, choice: &Result<Choice, Unchosen>) -> Result<String, Allo
     }
 }
 
-// What the words of a line choose, or why they choose nothing.
+// What a command line chooses, or the reason why it chooses nothing.
 fn chosen(alloc: Global, line: &str) -> Result<String, AllocError> {
     let words: Vec<&str> = line.split_whitespace().collect(alloc)?;
     let choice = choose(alloc, &words);

@@ -1,6 +1,6 @@
-//! Calls the public functions of `role_cli` that take memory, once each with ample memory, and compares what they
-//! answer: what the words of a line choose, what is written for them, and the reply of a server. They stand apart
-//! from `office_calls`, which needn't wait for `role_cli` then.
+//! Calls the public functions of `role_cli` that allocate, with enough memory, and checks their results: what a command
+//! line chooses, what is written for it, and the reply of a server. The tests are apart from `office_calls`, so that
+//! those needn't wait for `role_cli`.
 #![tactic(auto)]
 
 #[cfg(test)]

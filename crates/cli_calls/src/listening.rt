@@ -1,4 +1,4 @@
-//! A server on a port of this machine, and its one client.
+//! A server on a port of this machine, with one client.
 use rbac_sets::MemorySink;
 use role_cli::serve_on;
 use role_tables::{Office, create};
@@ -21,7 +21,7 @@ fn empty_office(alloc: Global) -> Option<Office<MemStore>> {
     create(alloc, conn).ok()
 }
 
-// A client whose request is sent, and which waits at most five seconds for its reply.
+// A client that has sent its request, and waits at most five seconds for the reply.
 fn asking(rt: &HostRuntime, listener: &TcpListener) -> io::Result<TcpStream> {
     let client = TcpStream::connect(rt, listener.local_addr()?)?;
     client.set_read_timeout(Some(Duration::from_secs(5)))?;
@@ -29,7 +29,7 @@ fn asking(rt: &HostRuntime, listener: &TcpListener) -> io::Result<TcpStream> {
     Ok(client)
 }
 
-// Whether one connection is served, and its client gets this reply.
+// Whether one connection is served, and the client gets this reply.
 fn is_replied(rt: &HostRuntime, office: &mut Office<MemStore>, reply: &str) -> io::Result<bool> {
     let listener = TcpListener::bind(rt, ("127.0.0.1", 0))?;
     let client = asking(rt, &listener)?;
@@ -39,7 +39,7 @@ fn is_replied(rt: &HostRuntime, office: &mut Office<MemStore>, reply: &str) -> i
     Ok(status == 0 && err.as_slice().is_empty() && text.as_str() == reply)
 }
 
-// Whether the request of a client is done.
+// Whether a client's request is done.
 fn is_served(rt: &HostRuntime) -> io::Result<bool> {
     match empty_office(rt.alloc()) {
         Some(mut office) => {

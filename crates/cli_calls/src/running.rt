@@ -1,4 +1,4 @@
-//! What the program writes for its words, from memory into memory, and its exit status.
+//! What the program writes for a command line, with its streams in memory, and its exit status.
 use rbac_sets::{MemorySink, MemorySource};
 use role_cli::run;
 use std::alloc::{AllocError, Global};
@@ -14,7 +14,7 @@ const ANSWERS: &str = r#"{"ok":true}
 {"code":2,"error":"NoUser"}
 "#;
 
-// Whether the words of a line have this status on an input, with these texts in `out` and `err`.
+// Whether a command line with this input ends with this status, and writes these texts to `out` and `err`.
 fn ends_so(
     rt: &HostRuntime,
     (line, input): (&str, &str),
@@ -40,7 +40,7 @@ fn lines_are_answered(rt: HostRuntime) -> Result<(), Fail> {
     Ok(())
 }
 
-// A line that is answered, and one that has a byte too many.
+// A line that is answered, and one that is a byte longer than the limit.
 fn too_long(alloc: Global) -> Result<String, AllocError> {
     let long = "x".repeat(alloc, 65_537)?;
     format!(in alloc; "[]\n{long}")

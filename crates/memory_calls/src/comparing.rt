@@ -1,4 +1,4 @@
-//! Whether lists hold what is wanted, and nothing else.
+//! Comparisons of lists with the expected names and pairs.
 use rbac_sets::Name;
 
 // Whether the names are these, in this order.
@@ -10,7 +10,7 @@ pub(super) fn are(names: &[Name], want: &[&str]) -> bool {
             .all(|(name, text)| name.as_str() == *text)
 }
 
-// Whether the names of the pairs are these, one after another.
+// Whether the pairs have these names, in this order.
 pub(super) fn are_pairs(pairs: &[(Name, Name)], want: &[(&str, &str)]) -> bool {
     pairs.len() == want.len()
         && pairs.iter().zip(want).all(|(pair, texts)| pair.0.as_str() == texts.0

@@ -1,9 +1,9 @@
-//! Calls the public functions of `rbac_sets`, `role_order`, `admin_mgr` and `review_mgr` that take memory, once each
-//! with ample memory, and compares what they answer: a body that gives up for want of memory is proved. These tests
-//! stand in a crate of their own, since a crate with tests is proved twice.
+//! Calls the public functions of `rbac_sets`, `role_order`, `admin_mgr` and `review_mgr` that allocate, with enough
+//! memory, and checks their results: a body that reports a failed allocation instead would be proved as well. The
+//! tests are in a crate of their own, since a crate with tests is proved twice.
 //!
-//! What a test owns it lets go by `drop`: the proof of that call takes a second, and the proof of each exit at which
-//! a state goes out of scope takes twenty.
+//! A test calls `drop` on what it owns: the proof of that call needs a second, and the proof of each exit at which a
+//! state goes out of scope needs twenty.
 #![tactic(auto)]
 
 #[cfg(test)]

@@ -1,5 +1,5 @@
-//! The calls that take memory, with ample memory. What else is tried of the order stands in tests/office of the
-//! repository.
+//! The calls on a role order that allocate, with enough memory. The other tests of the order are in tests/office of
+//! the repository.
 ghost use Rattle.role_order.specs.Planned.{Fits};
 
 use crate::comparing::{are, are_pairs};
@@ -8,7 +8,7 @@ use role_order::{OrderPlan, RoleOrder};
 use std::alloc::Global;
 use std::test::Fail;
 
-// Puts a pair, if it isn't there.
+// Inserts a pair, if it isn't there.
 fn put(set: &mut PairSet, pair: (Name, Name)) -> Result<(), Refusal> {
     set.reserve(1)?;
     if set.room() > 0 && !set.contains(&pair) {
@@ -25,14 +25,14 @@ fn boss_and_clerk(alloc: Global) -> Result<PairSet, Refusal> {
     Ok(set)
 }
 
-// The order in which a boss is above a clerk.
+// The order in which a boss is an ascendant of a clerk.
 fn boss_over_clerk(alloc: Global) -> Result<RoleOrder, Refusal> {
     let edges = boss_and_clerk(alloc)?;
     let pairs = boss_and_clerk(alloc)?;
     RoleOrder::of_rows(alloc, edges, pairs)
 }
 
-// Whether this is the one pair of the set.
+// Whether the set has this pair alone.
 fn is_only_pair(pairs: &PairSet, first: &str, second: &str) -> bool {
     are_pairs(pairs.as_slice(), &[(first, second)])
 }
@@ -50,7 +50,7 @@ fn rows_make_an_order(rt: HostRuntime) -> Result<(), Fail> {
     Ok(())
 }
 
-// Whether this is the one name of the set.
+// Whether the set has this name alone.
 fn is_only(names: &NameSet, text: &str) -> bool {
     are(names.as_slice(), &[text])
 }
@@ -81,7 +81,7 @@ fn a_junior_and_a_senior(rt: HostRuntime) -> Result<(), Fail> {
     Ok(())
 }
 
-// Makes the change of a plan, and gives how many pairs it puts and takes, and how many were judged.
+// Commits a plan, and returns how many pairs of the order it puts and takes, and how many were judged.
 fn make(order: &mut RoleOrder, plan: OrderPlan) -> Result<(usize, usize, u64), Refusal>
     requires { Fits order.old.edges plan }
 {
@@ -111,7 +111,7 @@ fn remove(
     make(order, plan)
 }
 
-// Whether an edge from a clerk to a temp, put below a boss and taken again, puts and takes two pairs.
+// Whether adding an edge from the clerk to a temp adds two pairs to the order, and removing it removes them again.
 fn goes_on_to_a_temp(alloc: Global, order: &mut RoleOrder) -> Result<bool, Refusal> {
     let clerk = Name::new(alloc, "clerk")?;
     let temp = Name::new(alloc, "temp")?;
@@ -130,7 +130,7 @@ fn an_edge_is_put_and_taken(rt: HostRuntime) -> Result<(), Fail> {
     Ok(())
 }
 
-// The name of the role of this number, in the order of the numbers.
+// The name of the role of this number. The names have the order of the numbers.
 fn role(alloc: Global, number: u64) -> Result<Name, Refusal> {
     let text = format!(in alloc; "role{}", number.wrapping_add(1_000))?;
     Name::new(alloc, text.as_str())
@@ -142,7 +142,7 @@ fn put_roles(alloc: Global, set: &mut PairSet, first: u64, second: u64) -> Resul
     put(set, (first, second))
 }
 
-// Puts the edges of a chain of the roles from one number to another.
+// Inserts the edges of a chain of the roles from one number to another.
 fn put_edges(alloc: Global, edges: &mut PairSet, from: u64, to: u64) -> Result<(), Refusal> {
     for number in from..to {
         put_roles(alloc, edges, number, number.wrapping_add(1))?;
@@ -150,7 +150,7 @@ fn put_edges(alloc: Global, edges: &mut PairSet, from: u64, to: u64) -> Result<(
     Ok(())
 }
 
-// Puts the pairs of a role and those of the chain that are below it.
+// Inserts the pairs of a role and each of its juniors in the chain.
 fn put_below(alloc: Global, pairs: &mut PairSet, number: u64, to: u64) -> Result<(), Refusal> {
     for below in number..to {
         put_roles(alloc, pairs, number, below.wrapping_add(1))?;
@@ -158,7 +158,7 @@ fn put_below(alloc: Global, pairs: &mut PairSet, number: u64, to: u64) -> Result
     Ok(())
 }
 
-// Puts the pairs of a chain of the roles from one number to another.
+// Inserts the pairs of the order of a chain of the roles from one number to another.
 fn put_pairs(alloc: Global, pairs: &mut PairSet, from: u64, to: u64) -> Result<(), Refusal> {
     for number in from..to {
         put_below(alloc, pairs, number, to)?;
@@ -187,26 +187,26 @@ fn chains(alloc: Global) -> Result<RoleOrder, Refusal> {
     RoleOrder::of_rows(alloc, edges, pairs)
 }
 
-// Whether the role of one number is above that of another.
+// Whether the role of the first number dominates that of the second.
 fn is_above(alloc: Global, order: &RoleOrder, first: u64, second: u64) -> Result<bool, Refusal> {
     let first = role(alloc, first)?;
     let second = role(alloc, second)?;
     Ok(order.geq(&first, &second))
 }
 
-// Whether the edge joins the chains, each role of one with each of the other.
+// Whether the edge joins the chains: each role of one then dominates each of the other.
 fn joins(alloc: Global, order: &mut RoleOrder, last: &Name, first: &Name) -> Result<bool, Refusal> {
     let is_put = add(alloc, order, last, first)? == (262_144, 0, 262_144);
     Ok(is_put && order.pairs().len() == 523_776 && is_above(alloc, order, 0, 1_023)?)
 }
 
-// Whether the chains are parted where the edge is taken.
+// Whether removing the edge separates the chains again.
 fn parts(alloc: Global, order: &mut RoleOrder, last: &Name, first: &Name) -> Result<bool, Refusal> {
     let is_taken = remove(alloc, order, last, first)? == (0, 262_144, 262_144);
     Ok(is_taken && order.pairs().len() == 261_632)
 }
 
-// Whether the chains are joined and parted by one edge.
+// Whether one edge joins the chains, and removing it separates them.
 fn joins_and_parts(alloc: Global, order: &mut RoleOrder) -> Result<bool, Refusal> {
     let last = role(alloc, 511)?;
     let first = role(alloc, 512)?;

@@ -1,5 +1,5 @@
-//! Each question once, with ample memory, on a small office. What else is tried of questions and of the
-//! report stands in tests/office of the repository.
+//! Each query once, with enough memory, on a small office. The other tests of queries and of the role report are in
+//! tests/office of the repository.
 mod answers;
 mod asking;
 mod report;

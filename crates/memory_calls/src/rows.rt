@@ -1,11 +1,11 @@
-//! Stored rows in short.
+//! A short notation for stored rows.
 use rbac_sets::{Name, Refusal, Row};
 use std::alloc::Global;
 
-// A row in short: its form, its kind, and its names.
+// A row in short notation: its form, its kind, and its names.
 pub(super) type Line = (char, u8, &'static str, &'static str, &'static str);
 
-// The row: cardinalities are 2.
+// The row of a line. Each cardinality is 2.
 fn row_of(alloc: Global, line: &Line) -> Result<Row, Refusal> {
     let first = Name::new(alloc, line.2)?;
     match line.0 {

@@ -1,5 +1,5 @@
-//! The calls that take memory, with ample memory and where it is refused. What else is tried of commands and
-//! of stored rows stands in tests/office of the repository.
+//! The calls that allocate, with enough memory and with failing allocations. The other tests of commands and of
+//! stored rows are in tests/office of the repository.
 mod naming;
 mod refused;
 mod rows;

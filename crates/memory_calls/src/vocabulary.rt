@@ -1,4 +1,4 @@
-//! Names, sets and streams, where the contracts leave open that a call succeeds with ample memory.
+//! Names, sets and streams: their contracts don't say that a call succeeds if there is enough memory.
 mod names;
 mod sets;
 mod streams;

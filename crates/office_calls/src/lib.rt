@@ -1,7 +1,7 @@
-//! Calls the public functions that keep an office in tables and answer for it, those of `role_tables` and
-//! `role_wire` that take memory, once each with ample memory, and compares what they answer: a body that gives
-//! up for want of memory is proved. They stand apart from `memory_calls` and `wire_calls`, whose tests need no
-//! store: these are proved sooner without one, and needn't wait for `role_wire`.
+//! Calls the public functions of `role_tables` and `role_wire` that allocate, with enough memory, and checks their
+//! results: a body that reports a failed allocation instead would be proved as well. The tests are apart from
+//! `memory_calls` and `wire_calls`, which need no store: without one those are proved sooner, and needn't wait for
+//! `role_wire`.
 #![tactic(auto)]
 
 #[cfg(test)]

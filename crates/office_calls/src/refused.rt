@@ -1,5 +1,5 @@
-//! Lines and a request of which tests/refused.sh of the repository refuses each allocation in turn: these tests
-//! pass however a refusal falls.
+//! Lines and a request. tests/refused.sh of the repository fails each of their allocations in turn: these tests pass
+//! whichever allocation fails.
 use super::replaying::{DONE, REQUEST, empty_office};
 use rbac_sets::{MemorySink, MemorySource};
 use role_tables::Office;
@@ -13,7 +13,7 @@ const LINES: &str = r#"{"fn":"addUser","user":"ann"}
 {"fn":"assignedUsers","role":"clerk"}
 "#;
 
-// What is written after none of the lines, after one, and so on.
+// What is written for none of the lines, for the first, for the first two, and so on.
 const WRITTEN: [&str; 5] = [
     "",
     "{\"ok\":true}\n",
@@ -28,7 +28,7 @@ const NO_MEMORY: &str = "HTTP/1.1 503 Service Unavailable\r\nContent-Type: appli
 const STORE: &str = "HTTP/1.1 500 Internal Server Error\r\nContent-Type: application/json\r\n\
     Content-Length: 27\r\nConnection: close\r\n\r\n{\"code\":41,\"error\":\"Store\"}";
 
-// Whether the office is open, and has done so many of the lines.
+// Whether the office is open, and has done the first `count` lines.
 fn has_done(office: &Office<MemStore>, count: usize) -> bool {
     match office.state() {
         Ok(state) => {
@@ -40,7 +40,7 @@ fn has_done(office: &Office<MemStore>, count: usize) -> bool {
     }
 }
 
-// Whether the answers to so many lines were written.
+// Whether exactly the answers to the first `count` lines were written.
 fn has_written(sink: &MemorySink, count: usize) -> bool {
     match WRITTEN.get(count) {
         Some(text) => sink.as_slice() == text.as_bytes(),
@@ -48,7 +48,7 @@ fn has_written(sink: &MemorySink, count: usize) -> bool {
     }
 }
 
-// Whether a stop leaves the office behind so many answers as it says.
+// Whether a stop after `count` answers leaves the office as its cause says.
 fn is_left(office: &Office<MemStore>, cause: Cause, count: usize) -> bool {
     let next = count.saturating_add(1);
     match cause {
@@ -59,7 +59,7 @@ fn is_left(office: &Office<MemStore>, cause: Cause, count: usize) -> bool {
     }
 }
 
-// Whether the lines are answered to their end or to a stop.
+// Whether all lines are answered, or those before a stop that leaves the office as it should.
 fn are_answered(alloc: Global, office: &mut Office<MemStore>) -> bool {
     let mut source = MemorySource::new(LINES.as_bytes());
     let mut sink = MemorySink::new(alloc);
@@ -71,7 +71,8 @@ fn are_answered(alloc: Global, office: &mut Office<MemStore>) -> bool {
     }
 }
 
-// Whether a command is done, and told unless memory for its text was refused; or not done, and told so.
+// Whether the reply says that the command is done and it is, or that memory or the store failed and the office is
+// left accordingly. Without a reply, its allocation failed after the command was done, or a write failed.
 fn is_replied(alloc: Global, office: &mut Office<MemStore>) -> bool {
     let mut source = MemorySource::new(REQUEST.as_bytes());
     let mut sink = MemorySink::new(alloc);
@@ -90,7 +91,7 @@ fn is_replied(alloc: Global, office: &mut Office<MemStore>) -> bool {
     }
 }
 
-// The lines on an office, where one is made.
+// The lines on an office, if one can be created.
 fn lines_stop_well(alloc: Global) -> bool {
     match empty_office(alloc) {
         Some(mut office) => {
@@ -102,7 +103,7 @@ fn lines_stop_well(alloc: Global) -> bool {
     }
 }
 
-// The request on an office, where one is made.
+// The request on an office, if one can be created.
 fn requests_stop_well(alloc: Global) -> bool {
     match empty_office(alloc) {
         Some(mut office) => {

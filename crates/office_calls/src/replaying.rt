@@ -1,4 +1,4 @@
-//! Lines and requests over an office in memory, with memory enough: all that is written.
+//! Lines and requests on an office in memory, with enough memory: everything that is written for them.
 use rbac_sets::{MemorySink, MemorySource, Source};
 use role_http::one_route;
 use role_tables::{Office, create};
@@ -44,7 +44,7 @@ pub(super) fn empty_office(alloc: Global) -> Option<Office<MemStore>> {
     create(alloc, conn).ok()
 }
 
-// Whether the lines get these answers, and as many.
+// Whether the lines get these answers, and the count of them is returned.
 fn are_answered(alloc: Global, office: &mut Office<MemStore>) -> bool {
     let mut source = MemorySource::new(LINES.as_bytes());
     let mut sink = MemorySink::new(alloc);
@@ -86,7 +86,7 @@ fn is_refused(alloc: Global, office: &mut Office<MemStore>, source: &mut MemoryS
     }
 }
 
-// Whether these bytes are left in the source.
+// Whether exactly these bytes are left in the source.
 fn is_left(source: &mut MemorySource<'_>, bytes: &[u8]) -> bool {
     let mut rest = [0; 100];
     match source.read(&mut rest) {
@@ -95,7 +95,7 @@ fn is_left(source: &mut MemorySource<'_>, bytes: &[u8]) -> bool {
     }
 }
 
-// Whether one request is done, the next is refused, and what stands behind them is left.
+// Whether one request is done, the next is refused, and the bytes after them are not read.
 fn are_replied(alloc: Global, office: &mut Office<MemStore>) -> bool {
     let mut source = MemorySource::new(REQUESTS.as_bytes());
     is_done(alloc, office, &mut source)

@@ -1,5 +1,5 @@
-//! Each call that takes memory, over a store in memory: what it answers with memory enough. `Office::apply`
-//! is called by the tests from outside.
+//! The result of each call that allocates, on a store in memory and with enough memory. `Office::apply` is called by
+//! the tests of the whole program.
 use role_tables::{Office, Unopened, create, create_v1, migrate, open};
 use sqlite::{Connection, MemStore};
 use std::alloc::Global;
@@ -12,7 +12,7 @@ fn has_no_users(office: &Office<MemStore>, version: u32) -> bool {
     }
 }
 
-// Whether there is an office, of this version and with no users.
+// Whether the result is an office of this version that has no users.
 fn is_empty_office(made: Result<Office<MemStore>, Unopened<MemStore>>, version: u32) -> bool {
     let is_empty = match &made {
         Ok(office) => has_no_users(office, version),

@@ -1,14 +1,14 @@
--- A list that a loop makes of what a function gives at each item.
+-- A list that a loop builds of the values of a function.
 use Rattle.std.proofs.Common.{◌≡◌, ℕ, ◌+◌, ◌<◌, List, [], ◌∷◌, ◌++◌, length, map, take, get_or, sym, ap, ◌∙◌}
 use Rattle.std.proofs.lemmas.List.{map_more, map-append}
 
--- with what f gives at the next item put, it is what f gives at one item more
+-- with the value of f at the next item appended, the list has the values at one more item
 pub mapped_more : {A B : Type 0} (f : A → B) (items : List A) (i : ℕ) (x : A) → i < length items → x ≡ get_or items i x
     → (old : List B) (entry : B) (new : List B) → entry ≡ f x → old ≡ map f (take i items) → new ≡ old ++ entry ∷ [] → new ≡ map f (take (i + 1) items)
 mapped_more f items i x within is old entry new told before put =
     put ∙ (λ k. before k ++ (told ∙ ap f is) k ∷ []) ∙ sym (map_more f items i x within)
 
--- the same of lists whose entries are seen through g
+-- the same of lists whose entries are mapped by g
 pub mapped_more_through : {A B C : Type 0} (f : A → B) (g : C → B) (items : List A) (i : ℕ) (x : A) → i < length items → x ≡ get_or items i x
     → (old : List C) (entry : C) (new : List C) → g entry ≡ f x → map g old ≡ map f (take i items) → new ≡ old ++ entry ∷ [] → map g new ≡ map f (take (i + 1) items)
 mapped_more_through f g items i x within is old entry new told before put =

@@ -12,7 +12,7 @@ use Rattle.rbac_sets.specs.NameOrder.{name_total, name_exact}
 use Rattle.rbac_sets.proofs.SetLaws.{contains-from_list, tie_Decides}
 use Rattle.order_table.specs.Table.{number_in}
 
--- where the items that pass stand first, they are as many as stand before the others
+-- if the items that pass come first, their number is the place of the first other item
 pub length-parted : {K : Type 0} (p : K → Bool) (xs : List K) (i : ℕ) → i ≤ length xs → AllWithin (λ x. p x ≡ true) xs 0 i → AllWithin (λ x. p x ≡ false) xs i (length xs) → length (filter p xs) ≡ i
 length-parted p [] zero within front back = refl
 length-parted p [] (suc i) within front back = absurd (omega arith)
@@ -21,12 +21,12 @@ length-parted p (x ∷ xs) zero within front back =
 length-parted p (x ∷ xs) (suc i) within front back =
     rw (front 0 x (omega arith) (omega arith)) (ap suc (length-parted p xs i (omega arith) (λ k d low high. front (suc k) d (omega arith) (omega arith)) (λ k d low high. back (suc k) d (omega arith) (omega arith))))
 
--- of names that are all above one, none is below it
+-- of names that are all greater than one, none is less than it
 none_below : (x : Bytes) (xs : List Bytes) → AllByRecursion (λ y. name_cmp x y ≡ Less) xs → length (filter (λ y. is_lt (name_cmp y x)) xs) ≡ 0
 none_below x [] above = refl
 none_below x (y ∷ ys) above = rw (ap is_lt (name_total.antisymm y x ∙ ap ordering_reverse above.0)) (none_below x ys above.1)
 
--- a name among them is above what all of them are above
+-- a name among them is greater than what all of them are greater than
 above_first : (x q : Bytes) (xs : List Bytes) → AllByRecursion (λ y. name_cmp x y ≡ Less) xs → list_any (same_name q) xs ≡ true → name_cmp x q ≡ Less
 above_first x q [] above here = absurd (true≢false (sym here))
 above_first x q (y ∷ ys) above here = elim (or_cases (same_name q y) _ here) [
@@ -45,6 +45,6 @@ place_of (x ∷ xs) q sorted here = elim (or_cases (same_name q x) _ here) [
   | inr later ↦ rw (ap is_lt (above_first x q xs sorted.0 later)) (place_of xs q sorted.1 later)
 ]
 
--- it is the place of a name that is one of them
+-- the number of a name that is one of them is its place
 pub slice_get-number_in : (names : List Bytes) (q : Bytes) → IsStrictlySortedBy name_cmp names → contains (from_list {R = name_cmp} names) q ≡ true → slice_get names (number_in names q) ≡ Some q
 slice_get-number_in names q sorted here = place_of names q sorted (sym (contains-from_list name_total names q) ∙ here)

@@ -1,4 +1,4 @@
--- What the numbers of a set of roles tell of them.
+-- The roles of a set by their numbers.
 use Rattle.std.proofs.Common.{◌≡◌, ℕ, sym, ◌∙◌, ap}
 use Rattle.std.specs.Prelude.{IsTrue, Some, nat_eq}
 use Rattle.std.specs.List.{slice_get}
@@ -17,11 +17,11 @@ module _ (roles : Names) where
   abbrev pub number : Bytes → ℕ
   number role = number_in (members roles) role
 
-  -- a role stands at its number
+  -- a role is at the place of its number
   pub placed : (role : Bytes) → IsTrue (contains roles role) → slice_get (members roles) (number role) ≡ Some role
   placed role here = slice_get-number_in (members roles) role (members-rise name_cmp roles) (ap (λ s. contains s role) (from_members name_total name_exact roles) ∙ here)
 
-  -- two roles have one number where they are one
+  -- two roles have the same number exactly if they are equal
   pub same-number : (role : Bytes) → IsTrue (contains roles role) → (q : Bytes) → IsTrue (contains roles q) → nat_eq (number q) (number role) ≡ same_name q role
   same-number role here q there = both_ways _ _
       (λ e. (tie_Decides name_total name_exact q role).1

@@ -1,4 +1,4 @@
--- A role and those below it, by the pairs of the closure that begin with it.
+-- A role and its juniors, by the pairs of the closure that begin with it.
 use Rattle.std.proofs.Common.{◌≡◌, ◌||◌, ◌+◌, ◌-◌, ◌<◌, ◌≤◌, false, arith, ◌++◌, ℕ, List, [], ◌∷◌, length, map, take, get_or, inl, inr, Bool, refl, sym, ◌∙◌, ap, subst}
 use Rattle.std.specs.Prelude.{IsTrue}
 use Rattle.std.specs.List.{list_any}
@@ -28,7 +28,7 @@ use Rattle.role_order.proofs.Members.{same_or_other}
 pub second_total : IsTotalOrder second_cmp
 second_total = on_total (λ (p : Pair). p.1) name_total
 
--- a role, and the second names of its run in the closure, are what it is or is above
+-- a role and the second names of its run in the closure are the roles that it equals or dominates
 pub below-are : (edges pairs : Pairs) → IsClosure edges pairs → (role q : Bytes) → (same_name q role || list_any (λ (pair : Pair). same_name q pair.1) (run_of pairs role)) ≡ geq edges role q
 unfolding any
 below-are edges pairs closed role q =
@@ -56,7 +56,7 @@ below-are edges pairs closed role q =
       ))
     ])
 
--- with the entry of the next role put, a row has one role more
+-- with the entry of the next role, a row has one more role
 pub row_more : (edges pairs : Pairs) → IsClosure edges pairs → (role : Bytes) (run : List Pair) (roles : List Bytes) (i : ℕ) (q : Bytes) → i < length roles → q ≡ get_or roles i q → run ≡ run_of pairs role
     → (old : List Bool) (value : Bool) (new : List Bool) → value ≡ (same_name q role || list_any (λ (pair : Pair). same_name q pair.1) run)
     → old ≡ map (λ (below : Bytes). geq edges role below) (take i roles) → new ≡ old ++ value ∷ [] → new ≡ map (λ (below : Bytes). geq edges role below) (take (i + 1) roles)
@@ -65,10 +65,10 @@ row_more edges pairs closed role run roles i q within is begins old value new to
     let right : value ≡ geq edges role (get_or roles i q) = told ∙ ap test begins ∙ below-are edges pairs closed role q ∙ ap (geq edges role) is in
     put ∙ (λ k. before k ++ right k ∷ []) ∙ sym (map_more (λ (below : Bytes). geq edges role below) roles i q within)
 
--- ---- where a second name would stand among pairs in the order of these
+-- ---- the place of a second name among pairs in the order of their second names
 
 module _ (run : List Pair) (rises : IsStrictlySortedBy second_cmp run) (second : Bytes) (at : ℕ) (pair : Pair) where
-  -- what is above the pair before a place is above all before it
+  -- what is greater than the pair before a place is greater than all before it
   pub all_before : at ≤ length run → 0 < at → name_cmp (get_or run (at - 1) pair).1 second ≡ Less → AllWithin (λ (p : Pair). name_cmp p.1 second ≡ Less) run 0 at
   all_before within some less k d low high = elim (cases_lt k (at - 1)) [
     | inl before ↦ name_total.trans (get_or run k d).1 (get_or run (at - 1) d).1 second (Less-from_sorted second_cmp run k (at - 1) d rises before (omega (arith, within, some)))
@@ -78,7 +78,7 @@ module _ (run : List Pair) (rises : IsStrictlySortedBy second_cmp run) (second :
         subst (λ i. name_cmp (get_or run i d).1 second ≡ Less) is (subst (λ (p : Pair). name_cmp p.1 second ≡ Less) (get_or_default run (at - 1) pair d (omega (arith, within, some))) less)
   ]
 
-  -- what is below the pair at a place is below all from it on
+  -- what is less than the pair at a place is less than all from it on
   pub all_from : at < length run → name_cmp second (get_or run at pair).1 ≡ Less → AllWithin (λ (p : Pair). name_cmp p.1 second ≡ Greater) run at (length run)
   all_from within less k d low high =
       let first : name_cmp second (get_or run at d).1 ≡ Less = subst (λ (p : Pair). name_cmp second p.1 ≡ Less) (get_or_default run at pair d within) less in

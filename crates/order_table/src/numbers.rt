@@ -8,10 +8,10 @@ ghost use Rattle.order_table.specs.Table.{number_in, numbers_of};
 use rbac_sets::{Name, Refusal};
 use std::alloc::Global;
 
-/// The number of a name among names in byte order: its place, where it is one of them, and else how
-/// many of them are below it.
+/// The number of a name among names in byte order: how many of them are less than it, which is its
+/// place if it is one of them.
 ///
-/// It takes no memory.
+/// It doesn't allocate.
 pub fn number(names: &[Name], name: &Name) -> usize
     requires { IsStrictlySortedBy name_cmp names.now }
     ensures number { result ≡ number_in names.now name.now }
@@ -24,7 +24,7 @@ pub fn number(names: &[Name], name: &Name) -> usize
 ///
 /// # Errors
 ///
-/// `Memory` where memory for the numbers was refused.
+/// `Memory` if allocation failed.
 pub fn second_numbers(
     alloc: Global,
     names: &[Name],

@@ -1,4 +1,4 @@
-//! The table of the order of roles.
+//! The reachability matrix of roles.
 ghost use Rattle.std.specs.Prelude.{◌≡◌, ◌<◌, ◌≤◌, ◌||◌, length, IsTrue, false, get_or, map, IfOk, IfErr};
 ghost use Rattle.std.specs.List.{AllWithin, list_any};
 ghost use Rattle.std.specs.declared.cmp.Ordering.TheVariants.{Less, Greater};
@@ -14,10 +14,10 @@ use role_order::RoleOrder;
 use std::alloc::Global;
 use std::marker::Model;
 
-/// For each two of some roles, whether the first is the second or above it, by their numbers: a
-/// role's number is its place among the roles.
+/// The reachability matrix of some roles: for two of them, by their numbers, whether the first equals
+/// or dominates the second. A role's number is its place among the roles.
 ///
-/// It is as large as the square of the number of roles. A contract sees the rows of the table.
+/// It has as many entries as the square of the number of roles. In contracts the value is its rows.
 #[derive(Drop)]
 pub struct OrderTable {
     rows: Vec<Vec<bool>>,
@@ -36,11 +36,11 @@ impl Model for OrderTable {
 }
 
 impl OrderTable {
-    /// The table of these roles, which may be any.
+    /// The matrix of these roles, which may be any names.
     ///
     /// # Errors
     ///
-    /// `Memory` where memory for the table was refused.
+    /// `Memory` if allocation failed.
     pub fn new(alloc: Global, order: &RoleOrder, roles: &[Name]) -> Result<OrderTable, Refusal>
         ensures ok { IfOk result (λ table. table ≡ table_of order.now.edges roles.now) }
         ensures tells { IfOk result (λ table. TellsOrder order.now.edges roles.now table) }
@@ -54,28 +54,28 @@ impl OrderTable {
         Ok(OrderTable { rows })
     }
 
-    /// Whether the role of the first number is the role of the second number, or above it. Where one
-    /// of them is no role's number, it is `false`.
+    /// Whether the role with the number `above` equals or dominates the role with the number `below`. If
+    /// one of them is not the number of a role, it is `false`.
     ///
-    /// It takes no memory.
+    /// It doesn't allocate.
     pub fn geq(&self, above: usize, below: usize) -> bool
         ensures { result ≡ entry self.now above below }
     {
         above < self.rows.len() && is_set(&self.rows[above], below)
     }
 
-    /// Whether one of the roles of these numbers is the role of this number, or above it.
+    /// Whether one of the roles with these numbers equals or dominates the role with the number `below`.
     ///
-    /// It takes no memory.
+    /// It doesn't allocate.
     pub fn reaches(&self, numbers: &[usize], below: usize) -> bool
         ensures { result ≡ reaches self.now numbers.now below }
     {
         numbers.iter().any(|number| self.geq(*number, below))
     }
 
-    /// How many of the roles are the role of this number, or above it.
+    /// How many of the roles equal or dominate the role with the number `below`.
     ///
-    /// It takes no memory.
+    /// It doesn't allocate.
     pub fn count_above(&self, below: usize) -> usize
         ensures { result ≡ count_above self.now below }
     {
@@ -83,9 +83,9 @@ impl OrderTable {
     }
 }
 
-// The row of a role: for each of the roles, whether the role is that one, or above it. Where the roles
-// are in byte order, as the run is, it goes once through both: what is looked for is the next of the
-// run, or stands before it.
+// The row of a role: for each of the roles, whether the role equals or dominates it. If the roles are in
+// byte order, as the run is, it goes once through both: each of the roles is the next in the run, or comes
+// before it.
 fn row_of(
     alloc: Global,
     order: &RoleOrder,
@@ -110,8 +110,8 @@ fn row_of(
     Ok(row)
 }
 
-// Whether the role is the other one, or above it: whether its run of the closure has a pair with it,
-// which is looked for at the place `next` first.
+// Whether the role equals or dominates the other one: whether it is the other one, or its run of the closure
+// has a pair with it, whose expected place is `next`.
 fn is_at_or_above(run: &[(Name, Name)], role: &Name, next: usize, other: &Name) -> bool
     requires { IsStrictlySortedBy second_cmp run.now }
     ensures { result ≡ (same_name other.now role.now || list_any (λ (pair : Pair). same_name other.now pair.1) run.now) }
@@ -126,7 +126,7 @@ fn is_set(row: &[bool], number: usize) -> bool
     number < row.len() && row[number]
 }
 
-// Whether the two names are one.
+// Whether the two names are equal.
 #[tactic(auto, using(rbac_sets::proofs::SetLaws::same_bytes))]
 fn is_same(a: &Name, b: &Name) -> bool
     ensures { result ≡ same_name a.now b.now }
@@ -134,22 +134,22 @@ fn is_same(a: &Name, b: &Name) -> bool
     a == b
 }
 
-// Whether the first name is below the second in byte order.
+// Whether the first name is less than the second in byte order.
 fn is_below(a: &Name, b: &Name) -> bool
     ensures { result ≡ is_lt (name_cmp a.now b.now) }
 {
     a.cmp(b).is_lt()
 }
 
-// Whether the pair at this place has the second name.
+// Whether there is a pair at this place, and it has this second name.
 fn is_second_at(run: &[(Name, Name)], at: usize, second: &Name) -> bool
     ensures { IsTrue result → (at < length run.now) × IsTrue (list_any (λ (pair : Pair). same_name second.now pair.1) run.now) }
 {
     at < run.len() && is_same(second, &run[at].1)
 }
 
-// Whether one of the pairs, which are in the order of their second names, has this second name. It is
-// not searched for where it would stand at the place `at`.
+// Whether one of the pairs, which are in the order of their second names, has this second name. There is
+// no search if the place at which it would be inserted is `at`.
 fn has_second(run: &[(Name, Name)], at: usize, second: &Name) -> bool
     requires { IsStrictlySortedBy second_cmp run.now }
     ensures { result ≡ list_any (λ (pair : Pair). same_name second.now pair.1) run.now }
@@ -160,7 +160,7 @@ fn has_second(run: &[(Name, Name)], at: usize, second: &Name) -> bool
     run.binary_search_by(|pair| pair.1.cmp(second)).is_ok()
 }
 
-// Whether the name is above the second names before this place.
+// Whether the name is greater than the second names before this place.
 fn is_above_before(run: &[(Name, Name)], at: usize, second: &Name) -> bool
     requires { IsStrictlySortedBy second_cmp run.now }
     ensures { IsTrue result → (at ≤ length run.now) × AllWithin (λ (pair : Pair). name_cmp pair.1 second.now ≡ Less) run.now 0 at }
@@ -168,7 +168,7 @@ fn is_above_before(run: &[(Name, Name)], at: usize, second: &Name) -> bool
     at == 0 || (at <= run.len() && is_below(&run[at - 1].1, second))
 }
 
-// Whether the name is below the second names from this place on.
+// Whether the name is less than the second names from this place on.
 fn is_below_from(run: &[(Name, Name)], at: usize, second: &Name) -> bool
     requires { IsStrictlySortedBy second_cmp run.now }
     ensures { IsTrue result → AllWithin (λ (pair : Pair). name_cmp pair.1 second.now ≡ Greater) run.now at (length run.now) }

@@ -3,7 +3,7 @@ use Rattle.std.proofs.Common.{inl, inr, ℕ, ◌+◌, ◌-◌, ◌^◌, ◌≤�
 use Rattle.std.proofs.lemmas.Bool.{cases_Bool, ltb-false}
 use Rattle.rbac_sets.specs.Stream.{one_more, idle_after, HasRisen}
 
--- one more call is one more, but at the greatest value
+-- one more call raises the count, unless it has saturated
 pub one_more-rises : (calls : ℕ) → HasRisen calls (one_more calls)
 one_more-rises calls = elim (cases_Bool (nat_lt calls (2 ^ 64 - 1))) [
   | inl below ↦ rw below (inl (omega arith))
@@ -30,7 +30,7 @@ idle_after-grows idle size (Ok count) = elim (nat_lt 0 size && nat_eq count 0) a
   | false ↦ omega arith
 ]
 
--- what rose from a later value on rose from an earlier one on
+-- a count that rose from a later value rose from an earlier one too
 pub risen_since : (first before now : ℕ) → first ≤ before → HasRisen before now → HasRisen first now
 risen_since first before now le (inl less) = inl (omega arith)
 risen_since first before now le (inr most) = inr most

@@ -1,4 +1,4 @@
--- The first bytes of a text as a number: texts whose numbers differ are in the order of these.
+-- The first bytes of a text as a number: texts whose numbers differ are ordered as these.
 use Rattle.std.proofs.Common.{◌≡◌, ◌≢◌, ◌⊎◌, inl, inr, ℕ, zero, suc, ◌+◌, ◌*◌, ◌^◌, ◌%◌, ◌<◌, ◌≤◌, true, List, [], ◌∷◌, length, refl, sym, ap, ◌∙◌, arith, slice_index_or, pow-suc, mul_comm, true≢false}
 use Rattle.std.specs.List.{list_all}
 use Rattle.std.specs.Cmp.{first_so, second_so}
@@ -11,7 +11,7 @@ use Rattle.std.specs.Cmp.Lexicographic.{slice_cmp, nat_list_cmp_total}
 use Rattle.std.proofs.lemmas.Bool.{cases_lt}
 use Rattle.rbac_sets.specs.Name.{first_bytes, has_name_length, is_name, is_printable}
 
--- the number that the first eight bytes make, written out
+-- the number of the first eight bytes, written out
 pub eight_bytes : (text : List ℕ) → slice_index_or text 0 0 * 72057594037927936 + slice_index_or text 1 0 * 281474976710656 + slice_index_or text 2 0 * 1099511627776
     + slice_index_or text 3 0 * 4294967296 + slice_index_or text 4 0 * 16777216 + slice_index_or text 5 0 * 65536 + slice_index_or text 6 0 * 256 + slice_index_or text 7 0
     ≡ first_bytes 8 text
@@ -44,7 +44,7 @@ below_power (suc n) (byte ∷ rest) bytes =
     let step : suc byte * unit ≡ byte * unit + unit = omega arith in
     rw wider (omega arith)
 
--- of two numbers the one with the lower highest digit is lower, where what is below is less than the digit's unit
+-- of two numbers the one with the lower highest digit is lower, if the rest is less than the digit's unit
 higher_digit : (unit x y f g : ℕ) → f < unit → x < y → x * unit + f < y * unit + g
 higher_digit unit x y f g p less =
     let higher : suc x * unit ≤ y * unit = mul-le-mul_right {m = suc x} {n = y} unit less in
@@ -72,7 +72,7 @@ lower_first (suc n) (x ∷ xs) (y ∷ ys) p q lower = by (cases_lt x y) (cases_l
         ap (λ r. ordering_then r (slice_cmp nat_cmp xs ys)) (sym (nat_cmp_is x y Equal same))
         ∙ later (omega arith)
 
--- equal numbers have one highest digit
+-- equal numbers have the same highest digit
 same_digit : (unit x y f g : ℕ) → f < unit → g < unit → x * unit + f ≡ y * unit + g → x ≡ y
 same_digit unit x y f g p q same = by (cases_lt x y) (cases_lt y x)
   where
@@ -85,7 +85,7 @@ printable_is_positive : (byte : ℕ) → is_printable byte ≡ true → 1 ≤ by
 printable_is_positive zero p = absurd (true≢false (sym p))
 printable_is_positive (suc byte) p = omega arith
 
--- a text of printable bytes that is shorter than the bytes of its number is told by the number
+-- a text of printable bytes that is shorter than the bytes of its number is determined by the number
 short_same : (n : ℕ) (xs ys : List ℕ) → list_all is_printable xs ≡ true → list_all is_printable ys ≡ true → AreBytes xs → AreBytes ys → length xs < n
     → first_bytes n xs ≡ first_bytes n ys → xs ≡ ys
 short_same zero xs ys a b p q short same = absurd (omega arith)
@@ -106,7 +106,7 @@ short_same (suc n) (x ∷ xs) (y ∷ ys) a b p q short same =
     let rest = short_same n xs ys (second_so (is_printable x) _ a) (second_so (is_printable y) _ b) later later_other (omega arith) (omega arith) in
     λ i. first i ∷ rest i
 
--- two names with one number are one, where the number has no eighth byte
+-- two names with the same number are equal, if the number's eighth byte is zero
 pub same_where_short : (xs ys : List ℕ) → is_name xs ≡ true → is_name ys ≡ true → AreBytes xs → AreBytes ys → first_bytes 8 xs ≡ first_bytes 8 ys
     → first_bytes 8 xs % 256 ≡ 0 → xs ≡ ys
 same_where_short xs ys a b p q same short = short_same 8 xs ys printable (printable_of ys b) p q (by (cases_lt (length xs) 8)) same

@@ -1,4 +1,4 @@
--- Lists with a gap, in which what was taken still stands.
+-- Lists with a gap of entries that were removed.
 use Rattle.std.proofs.Common.{◌≡◌, ℕ, ◌+◌, ◌-◌, ◌<◌, ◌≤◌, ◌≢◌, ◌↔◌, IsTrue, true, false, inl, inr, List, [], ◌∷◌, ◌++◌, length, take, drop, get_or, set, refl, sym, ap, subst, ◌∙◌, arith, append_assoc, length-drop}
 use Rattle.std.specs.List.{AllByRecursion, AllWithin, list_any}
 use Rattle.std.specs.List.Sorted.{IsStrictlySortedBy, IsPartitionedBy, IsPartitionPoint}
@@ -16,7 +16,7 @@ use Rattle.rbac_sets.specs.Taking.{around, StandsFirst, IsNotBelow, IsPassed}
 use Rattle.rbac_sets.proofs.SetLaws.{contains-from_list}
 use Rattle.rbac_sets.proofs.InOrder.{all_front, all_map, none_passes, less_of, sorted_without, sorted_back, from_list-without, remove_absent}
 
--- what stands behind the gap comes to its front: the list around the gap is the same
+-- swapping the items at the gap's start and end and moving the gap by one keeps the list around it
 pub around-swap : {K : Type 0} (xs ys : List K) (start end : ℕ) (d : K) → start ≤ end → end < length xs → ys ≡ set (set xs start (get_or xs end d)) end (get_or xs start d)
     → around (start + 1) (end + 1) ys ≡ around start end xs
 around-swap {K} xs ys start end d order within is = elim (cases_lt start end) [
@@ -35,7 +35,7 @@ around-swap {K} xs ys start end d order within is = elim (cases_lt start end) [
     moved : List K
     moved = set xs start (get_or xs end d)
 
--- what was below the gap is, after the swap, with one more
+-- what holds of all items before the gap holds, after the swap, of one more
 pub below-swap : {K : Type 0} (P : K → Type 0) (xs ys : List K) (start end : ℕ) (x : K) → start ≤ end → ((d : K) → get_or ys start d ≡ get_or xs end d)
     → ((k : ℕ) (d : K) → (k ≢ start) → (k ≢ end) → get_or ys k d ≡ get_or xs k d) → AllWithin P xs 0 start → ((d : K) → P (get_or xs end d)) → AllWithin P ys 0 (start + 1)
 below-swap P xs ys start end x order there others below next k d from to = elim (cases_lt k start) [
@@ -53,7 +53,7 @@ unfolding IsStrictlySortedBy
 sorted-first R [] r s = tt
 sorted-first R (x ∷ l) r s = (all_front (λ y. R x y ≡ Less) l r s.0, sorted-first R l r s.1)
 
--- an ordering that is neither of two
+-- an ordering that is neither of the other two
 third : (a : Ordering) → (a ≡ Less → ⊥) → (a ≡ Equal → ⊥) → a ≡ Greater
 third Less not_less not_equal = absurd (not_less refl)
 third Equal not_less not_equal = absurd (not_equal refl)
@@ -67,7 +67,7 @@ module _ {K : Type 0} {R : K → K → Ordering} (o : IsTotalOrder R) where
     | inr not_before ↦ (let same : j ≡ i = omega (arith, order, not_before) in ap (λ n. is_lt (R (get_or xs n d) x)) (sym same) ∙ low)
   ]
 
-  -- all are less than x just if the last is
+  -- all are less than x exactly if the last is
   pub below_last : (xs : List K) (x last : K) → IsStrictlySortedBy R xs → 0 < length xs → last ≡ get_or xs (length xs - 1) last → IsTrue (is_lt (R last x)) ↔ AllWithin (λ y. R y x ≡ Less) xs 0 (length xs)
   below_last xs x last s some is = (
     λ low k d from to. less_of (R (get_or xs k d) x) (below_first xs x s k (length xs - 1) d (omega (arith, to)) (omega (arith, to))
@@ -75,7 +75,7 @@ module _ {K : Type 0} {R : K → K → Ordering} (o : IsTotalOrder R) where
     λ all. ap is_lt (ap (λ y. R y x) is ∙ all (length xs - 1) last (omega arith) (omega (arith, some))),
   )
 
-  -- the first behind the gap is the one that goes
+  -- the first item behind the gap is the one to remove
   pub taken_first : IsAntisymmetric R → (l r : List K) (x : K) → IsStrictlySortedBy R (l ++ r) → StandsFirst R x r
       → (0 < length r) × IsStrictlySortedBy R (l ++ drop 1 r) × (contains (from_list {R = R} (l ++ r)) x ≡ true) × (from_list {R = R} (l ++ drop 1 r) ≡ remove (from_list {R = R} (l ++ r)) x)
   taken_first exact l [] x s first = absurd first
@@ -87,7 +87,7 @@ module _ {K : Type 0} {R : K → K → Ordering} (o : IsTotalOrder R) where
     from_list-without o exact l r y s ∙ ap (remove (from_list {R = R} (l ++ y ∷ r))) (exact y x first),
   )
 
-  -- what is less than all behind the gap, and more than all before it, isn't there
+  -- an item that is greater than all before the gap, and less than all behind it, isn't there
   pub taken_none : IsAntisymmetric R → (l r : List K) (x : K) → IsStrictlySortedBy R (l ++ r) → AllByRecursion (λ y. R y x ≡ Less) l → IsNotBelow R x r → (StandsFirst R x r → ⊥)
       → (contains (from_list {R = R} (l ++ r)) x ≡ false) × (from_list {R = R} (l ++ r) ≡ remove (from_list {R = R} (l ++ r)) x)
   taken_none exact l r x s below from other = (absent, remove_absent o (from_list {R = R} (l ++ r)) x exact absent)
@@ -112,7 +112,7 @@ module _ {K : Type 0} {R : K → K → Ordering} (o : IsTotalOrder R) where
           let back = none_passes (eq_by_cmp R x) r (all_map (λ y. R y x ≡ Greater) (λ y. eq_by_cmp R x y ≡ false) more r (behind r s from other)) in
           contains-from_list o (l ++ r) x ∙ list_any-append (eq_by_cmp R x) l r ∙ rw (front, back)
 
--- what stands where those less than x end, if they all come first
+-- a gap at the place at which the items less than x end, if these come first
 pub passed-partition : {K : Type 0} (R : K → K → Ordering) (xs : List K) (x : K) (at : ℕ) → at ≤ length xs
     → IsPartitionPoint (λ y. is_lt (R y x) ≡ true) (λ y. is_lt (R y x) ≡ false) xs at → IsPassed R x at at xs
 passed-partition {K} R xs x at within point = (λ k d from to. less_of (R (get_or xs k d) x) (point.0 k d from to), first (drop at xs) (λ d some. ap (λ y. is_lt (R y x)) (get_or-drop at xs 0 d) ∙ point.1 (at + 0) d (omega arith) (omega (arith, some, length-drop at xs))))

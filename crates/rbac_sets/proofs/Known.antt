@@ -33,11 +33,11 @@ Consumes-more (Some os) None new xs ys first later = absurd first
 Consumes-more (Some os) (Some bs) None xs ys first later = absurd later
 Consumes-more (Some os) (Some bs) (Some ns) xs ys first later = first ∙ ap (λ l. xs ++ l) later ∙ sym (append_assoc xs ys ns)
 
--- bytes were taken, and then none
+-- bytes were consumed, and then none
 pub Consumes-no_more : (old between new : Option (List ℕ)) (xs : List ℕ) → Consumes old between xs → Consumes between new [] → Consumes old new xs
 Consumes-no_more old between new xs first none = subst (Consumes old new) (append-nil xs) (Consumes-more old between new xs [] first none)
 
--- known bytes are no fewer than those that were taken
+-- known bytes are no fewer than those that were consumed
 pub length-Consumes : (known left : Option (List ℕ)) (taken : List ℕ) (n : ℕ) → Consumes known left taken → n ≤ length taken → IfSome known (λ input. n ≤ length input)
 length-Consumes None left taken n all long = tt
 length-Consumes (Some input) None taken n all long = absurd all

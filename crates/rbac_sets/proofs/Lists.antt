@@ -1,4 +1,4 @@
--- Lists: what is found in a filter, in a list under a function, and in two lists one behind the other.
+-- Lists: the items of filtered, mapped and appended lists.
 use Rattle.std.proofs.Common.{◌≡◌, ℕ, suc, Bool, true, false, cond, not, ◌||◌, List, [], ◌∷◌, ◌++◌, length, map, refl, sym, ◌∙◌, ap, arith}
 use Rattle.std.specs.Prelude.{Option, Some, None, is_some, find, count_by, ◌==◌}
 use Rattle.std.specs.Option.{option_map}
@@ -8,14 +8,14 @@ use Rattle.std.proofs.lemmas.List.Folds.{list_any-append}
 use Rattle.std.proofs.lemmas.List.Sums.{length-filter}
 use Rattle.std.proofs.Math.Bool.{or_comm, or-false}
 
--- ---- two lists, one behind the other
+-- ---- appended lists
 
 -- what holds along both holds along the whole
 pub all_join : {K : Type 0} (P : K → Type 0) (l r : List K) → AllByRecursion P l → AllByRecursion P r → AllByRecursion P (l ++ r)
 all_join P [] r front back = back
 all_join P (x ∷ l) r front back = (front.0, all_join P l r front.1 back)
 
--- a test of some item, with one more at the end
+-- whether some item passes a test, with one more at the end
 pub any-push : {K : Type 0} (p : K → Bool) (xs : List K) (x : K) → list_any p (xs ++ x ∷ []) ≡ (p x || list_any p xs)
 any-push p xs x = list_any-append p xs (x ∷ []) ∙ ap (λ b. list_any p xs || b) (or-false (p x)) ∙ or_comm (list_any p xs) (p x)
 
@@ -24,7 +24,7 @@ any-push p xs x = list_any-append p xs (x ∷ []) ∙ ap (λ b. list_any p xs ||
 no_zero : (n : ℕ) → (suc n == 0) ≡ false
 no_zero n = false_from_ne_true (suc n == 0) (λ h. let e = eqb-true (suc n) 0 h in absurd (omega (arith, e)))
 
--- some item passes where the filter leaves one
+-- some item passes if the filter keeps one
 pub any_filter : {X : Type 0} (p : X → Bool) (xs : List X) → list_any p xs ≡ not (length (filter p xs) == 0)
 any_filter p [] = refl
 any_filter {X} p (x ∷ xs) = step (any_filter p xs) (p x)
@@ -33,7 +33,7 @@ any_filter {X} p (x ∷ xs) = step (any_filter p xs) (p x)
     step rest true = sym (ap not (no_zero (length (filter p xs))))
     step rest false = rest
 
--- the first item that passes is the first that the filter leaves
+-- the first item that passes is the first that the filter keeps
 pub find_filter : {X : Type 0} (p : X → Bool) (xs : List X) → find p xs ≡ slice_get (filter p xs) 0
 find_filter p [] = refl
 find_filter {X} p (x ∷ xs) = step (find_filter p xs) (p x)
@@ -42,7 +42,7 @@ find_filter {X} p (x ∷ xs) = step (find_filter p xs) (p x)
     step rest true = refl
     step rest false = rest
 
--- there is one exactly where some item passes
+-- there is one exactly if some item passes
 is_some_find : {X : Type 0} (p : X → Bool) (xs : List X) → is_some (find p xs) ≡ list_any p xs
 is_some_find p [] = refl
 is_some_find {X} p (x ∷ xs) = step (is_some_find p xs) (p x)
@@ -55,11 +55,11 @@ mapped_some : {X Y : Type 0} (f : X → Y) (o : Option X) → is_some (option_ma
 mapped_some f None = refl
 mapped_some f (Some x) = refl
 
--- and so is what f gives at it
+-- and so is the value of f at it
 pub is_some_found : {X Y : Type 0} (f : X → Y) (p : X → Bool) (xs : List X) → is_some (option_map f (find p xs)) ≡ list_any p xs
 is_some_found f p xs = mapped_some f (find p xs) ∙ is_some_find p xs
 
--- ---- lists under a function
+-- ---- mapped lists
 
 pub any_map : {X Y : Type 0} (f : X → Y) (p : Y → Bool) (xs : List X) → list_any p (map f xs) ≡ list_any (λ x. p (f x)) xs
 any_map f p [] = refl

@@ -1,4 +1,4 @@
--- Laws of the sets of names, pairs and triples, and of their words.
+-- Laws of the sets of names, pairs and triples, and of their operations.
 use Rattle.std.proofs.Common.{◌≡◌, Bool, true, false, cond, not, ◌&&◌, ◌||◌, List, [], ◌∷◌, ◌++◌, length, map, refl, sym, ◌∙◌, ap, subst, inl, inr}
 use Rattle.std.specs.Prelude.{IsTrue, nat_eq, ◌⊎◌, ◌↔◌, Option, Some, None, is_some}
 use Rattle.std.specs.Bool.{Decides, one_answer}
@@ -86,7 +86,7 @@ module _ {K : Type 0} {R : K → K → Ordering} (total : IsTotalOrder R) where
     unfolding contains retain
     contains-retain s p x = ap is_some (finmap.get-retain_keys s p x (λ y tie. ap p (sym (exact x y tie)))) ∙ or_none (p x) (finmap.get s x)
 
-    -- two sets with the same members are one
+    -- two sets with the same members are equal
     pub same_set : (s t : FinSet R) → ((x : K) → contains s x ≡ contains t x) → s ≡ t
     unfolding contains
     same_set s t same = finmap.same_map total exact s t (λ x. marked _ _ (same x))
@@ -140,7 +140,7 @@ module _ {K : Type 0} {R : K → K → Ordering} (total : IsTotalOrder R) where
       | inr rest ↦ or_right _ _ (list_any-here p ys x rest px)
     ]
 
-    -- some member passes exactly where there is one that does
+    -- some member passes exactly if there is one that does
     pub any-Decides : (p : K → Bool) (s : FinSet R) → Decides (any p s) ((x : K) × IsTrue (contains s x) × IsTrue (p x))
     unfolding any
     any-Decides p s = (
@@ -167,7 +167,7 @@ module _ {K : Type 0} {R : K → K → Ordering} (total : IsTotalOrder R) where
       λ each. list_all-from p (members s) (λ x h. each x (contains-members s x ∙ h)),
     )
 
-    -- no member of s is in t exactly where the two have none in common
+    -- no member of s is in t exactly if the two have none in common
     pub disjoint-Decides : (s t : FinSet R) → Decides (all (λ x. not (contains t x)) s) (IsDisjoint s t)
     disjoint-Decides s t = (
       λ h x member. not-true (contains t x) ((all-Decides (λ y. not (contains t y)) s).0 h x member),
@@ -183,7 +183,7 @@ module _ {K J : Type 0} {R : K → K → Ordering} {Q : J → J → Ordering} (t
   unfolding image any
   contains-image f s y = contains-from_list totals (map f (members s)) y ∙ list_any-map (eq_by_cmp Q y) f (members s)
 
-  -- y is in the image exactly where f gives it at a member
+  -- y is in the image exactly if it is the value of f at a member
   pub image-Decides : (f : K → J) (s : FinSet R) (y : J) → Decides (contains (image {Q = Q} f s) y) ((x : K) × IsTrue (contains s x) × (f x ≡ y))
   image-Decides f s y = (
     λ h. (let found = (any-Decides total exact (λ x. eq_by_cmp Q y (f x)) s).0 (sym (contains-image f s y) ∙ h) in
@@ -191,7 +191,7 @@ module _ {K J : Type 0} {R : K → K → Ordering} {Q : J → J → Ordering} (t
     λ (x, member, gives). contains-image f s y ∙ (any-Decides total exact (λ x. eq_by_cmp Q y (f x)) s).1 (x, member, (tie_Decides totals exacts y (f x)).1 (sym gives)),
   )
 
--- ---- what the code does to its lists
+-- ---- names and lists of the code
 
 pub same_bytes : (x y : Bytes) → pointwise nat_eq x y ≡ same_name x y
 same_bytes x y = one_answer (pointwise nat_eq x y) (same_name x y) (bytes_decides x y) (tie_Decides name_total name_exact x y)
@@ -201,7 +201,7 @@ module _ {K : Type 0} {R : K → K → Ordering} (total : IsTotalOrder R) (exact
   from_list_push xs x = same_set total exact _ _ (λ y. contains-from_list total (xs ++ x ∷ []) y ∙ any-push (eq_by_cmp R y) xs x
       ∙ ap (λ b. eq_by_cmp R y x || b) (sym (contains-from_list total xs y)) ∙ sym (contains-insert total (from_list xs) x y))
 
--- ---- what a loop gathers: f of the items that pass a test, in a set
+-- ---- what a loop collects: the values of f at the items that pass a test, in a set
 
 module _ {K J : Type 0} {R : K → K → Ordering} {Q : J → J → Ordering} (total : IsTotalOrder R) (exact : IsAntisymmetric R) (totals : IsTotalOrder Q) (exacts : IsAntisymmetric Q) (p : K → Bool) (f : K → J) where
   abbrev pub gathered : List K → FinSet Q
@@ -223,7 +223,7 @@ module _ {K J : Type 0} {R : K → K → Ordering} {Q : J → J → Ordering} (t
       step rest true = ap (λ b. eq_by_cmp Q y (f x) || b) rest
       step rest false = rest
 
-  -- all gathered is the image of the members that pass
+  -- at the end it is the image of the members that pass
   pub gathered-image : (xs : List K) → gathered xs ≡ image {R = R} {Q = Q} f (retain (from_list xs) p)
   gathered-image xs = same_members totals exacts _ _ (λ y. (
     λ h. (let found = list_any-found total exact (λ x. p x && eq_by_cmp Q y (f x)) xs (sym (any-gathered y xs) ∙ sym (contains-from_list totals (map f (filter p xs)) y) ∙ h) in
@@ -249,7 +249,7 @@ seconds-Decides s x y = (
       ((x, y), contains-retain pair_total pair_exact s (λ (p : Pair). same_name p.0 x) (x, y) ∙ and_from _ _ h ((tie_Decides name_total name_exact x x).1 refl), refl),
 )
 
--- to keep members that all pass is to keep all
+-- if all members pass, all are kept
 pub retain-all : {K : Type 0} {R : K → K → Ordering} (total : IsTotalOrder R) (exact : IsAntisymmetric R) (s : FinSet R) (p : K → Bool) → ((x : K) → IsTrue (contains s x) → IsTrue (p x)) → retain s p ≡ s
 retain-all total exact s p each = same_members total exact _ _ (λ x. (
   λ h. (and_parts _ _ (sym (contains-retain total exact s p x) ∙ h)).0,

@@ -1,4 +1,4 @@
--- What a command asks for, without the memory in which its sets and its list are kept.
+-- What a command asks for, regardless of the memory in which its sets and its list are kept.
 use Rattle.std.specs.Prelude.{List}
 use Rattle.rbac_sets.specs.Sets.{Bytes, Names, Pair, name_cmp, members}
 use Rattle.rbac_sets.specs.SortedSet.{Stored, set_of}

@@ -1,9 +1,9 @@
--- The words and the numbers of the limits.
+-- The names and the values of the limits.
 use Rattle.std.specs.Prelude.{ℕ, List, codes, ◌==◌, if◌then◌else◌}
 use Rattle.rbac_sets.specs.declared.kind.Kind.{Kind}
 use Rattle.rbac_sets.specs.declared.kind.Kind.TheVariants.{User, Role, Object, Permission, Grant, Assignment, Edge, SsdSet, DsdSet, Member, Session, ActiveRole, Record, Byte}
 
--- the word of what a limit counts
+-- the name of what a limit counts
 abbrev pub word_of : Kind → List ℕ
 word_of User = codes "user"
 word_of Role = codes "role"

@@ -3,7 +3,7 @@ use Rattle.std.specs.Prelude.{ℕ, suc, zero, Bool, not, ◌&&◌, ◌==◌, ◌
 use Rattle.std.specs.List.{list_all}
 use Rattle.std.specs.Str.{is_utf8}
 
--- a byte that is no control character of ASCII
+-- a byte that is not an ASCII control character
 abbrev pub is_printable : ℕ → Bool
 is_printable byte = nat_le 32 byte && not (byte == 127)
 
@@ -11,17 +11,17 @@ is_printable byte = nat_le 32 byte && not (byte == 127)
 abbrev pub has_name_length : List ℕ → Bool
 has_name_length text = nat_le 1 (length text) && nat_le (length text) 64
 
--- whether a text is a name: UTF-8 of 1 to 64 bytes, none of them a control character of ASCII
+-- whether a text is a valid name: UTF-8 of 1 to 64 bytes, none of them an ASCII control character
 abbrev pub is_name : List ℕ → Bool
 is_name text = has_name_length text && (list_all is_printable text && is_utf8 text)
 
--- so many first bytes of a text as one number, the first byte the highest, with zeros behind a shorter text
+-- the first n bytes of a text as one big-endian number; a shorter text is padded with zeros
 abbrev pub first_bytes : ℕ → List ℕ → ℕ
 first_bytes zero text = 0
 first_bytes (suc n) [] = 0
 first_bytes (suc n) (byte ∷ rest) = byte * 256 ^ n + first_bytes n rest
 
--- a number below 4,096 that texts have in common whose first eight bytes are the same: these as a number, times 2 to the 64th divided by the golden ratio, of
--- whose lowest 64 bits the highest 12 are taken
+-- a number below 4,096, computed from the first eight bytes of a text: these as a number, times 2 to the 64th divided by
+-- the golden ratio; of the lowest 64 bits of this product the highest 12
 unfoldable pub fingerprint : List ℕ → ℕ
 fingerprint text = first_bytes 8 text * 11400714819323198485 % 18446744073709551616 / 4503599627370496

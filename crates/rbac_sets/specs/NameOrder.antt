@@ -1,4 +1,4 @@
--- The byte orders of names, pairs and triples are total, and only equal ones tie.
+-- The byte orders of names, pairs and triples are total, and only equal values tie.
 use Rattle.std.specs.Prelude.{◌≡◌, ◌⊎◌, ◌≤◌, refl}
 use Rattle.std.proofs.Common.{inl, inr, ap, ◌∙◌, arith}
 use Rattle.std.specs.declared.cmp.Ordering.{Ordering}
@@ -45,7 +45,7 @@ cardinality_exact x y e =
     let parts = both_equal (name_cmp x.0 y.0) (nat_cmp x.1 y.1) e in
     λ i. (name_exact x.0 y.0 parts.0 i, nat_cmp-IsAntisymmetric x.1 y.1 parts.1 i)
 
--- ---- the first parts rise with the whole
+-- ---- the first parts of a greater entry are not less
 
 below_at_first : (a b : Ordering) → ordering_then a b ≡ Less → (a ≡ Less) ⊎ (a ≡ Equal)
 below_at_first Less b e = inl refl
@@ -60,7 +60,7 @@ module _ {K : Type 0} {R : K → K → Ordering} (total : IsTotalOrder R) where
   index_rises Equal Greater low high = omega arith
   index_rises Greater b low high = rw (high refl) (omega arith)
 
-  -- what is below or tied compares with z no higher
+  -- a lesser or tied value compares with z no higher
   pub rises : (x y z : K) → (R x y ≡ Less) ⊎ (R x y ≡ Equal) → ordering_index (R x z) ≤ ordering_index (R y z)
   rises x y z (inl less) = index_rises (R x z) (R y z)
       (λ below. total.trans x y z less below)

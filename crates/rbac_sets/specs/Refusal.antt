@@ -1,9 +1,9 @@
--- The numbers and the words of refusals.
+-- The codes and the names of refusals.
 use Rattle.std.specs.Prelude.{ℕ, Bool, true, false, List, codes}
 use Rattle.rbac_sets.specs.declared.refusal.Refusal.{Refusal}
 use Rattle.rbac_sets.specs.declared.refusal.Refusal.TheVariants.{BadName, NoUser, UserExists, NoRole, RoleExists, NoObject, ObjectExists, NoPermission, PermissionExists, AlreadyAssigned, NotAssigned, AlreadyGranted, NotGranted, EdgeExists, NoEdge, Cycle, RoleInUse, ObjectInUse, SetExists, NoSet, MemberExists, NoMember, BadCardinality, StaticSeparation, DynamicSeparation, NoSession, SessionExists, NotOwner, NotAuthorized, AlreadyActive, NotActive, TooMany, NoOperation, BadRequest, UnknownFunction, BadCsv, UserLocked, Memory, Store, Closed, NotAnOffice, Version, Damaged}
 
--- the number of a refusal
+-- the code of a refusal
 abbrev pub code_of : Refusal → ℕ
 code_of BadName = 1
 code_of NoUser = 2
@@ -49,7 +49,7 @@ code_of NotAnOffice = 50
 code_of (Version _) = 51
 code_of (Damaged _) = 52
 
--- memory was refused
+-- an allocation failed
 abbrev pub is_memory : Refusal → Bool
 is_memory Memory = true
 is_memory _ = false

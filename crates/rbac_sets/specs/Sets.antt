@@ -1,9 +1,9 @@
 -- Finite sets of names, of pairs of names and of triples, in byte order, the first part first.
 --     empty, contains, insert, remove, retain, len, union, difference     as of Rust's `BTreeSet`
 --     members s                        the members in byte order
---     any p s, all p s, count p s      some, each, how many members pass the test p
---     image f s                        what f gives at the members, as a set
---     firsts s y, seconds s x          what stands before y, or behind x, in a pair of s
+--     any p s, all p s, count p s      whether some or all members pass the test p, and how many do
+--     image f s                        the values of f at the members, as a set
+--     firsts s y, seconds s x          the first names of the pairs that end in y; the second names of those that begin with x
 use Rattle.std.specs.Prelude.{◌≡◌, refl, ℕ, Bool, true, false, not, List, [], ◌∷◌, count_by}
 use Rattle.std.specs.Prelude.{map as list_map}
 use Rattle.std.specs.List.{list_any, list_all}
@@ -15,7 +15,7 @@ use Rattle.std.specs.FinSet.{FinSet}
 use base.Stored.{coded_unit}
 use Rattle.std.specs.Coded.{Coded, coded_ℕ, coded_list, coded×, code_by}
 
--- a set is stored as std's finite map that has nothing at each key
+-- a set is stored as std's finite map, with the unit value at each key
 abbrev pub coded_set : {K : Type 0} {R : K → K → Ordering} → Coded K → Coded (FinSet R)
 coded_set k = map.code k coded_unit
 
@@ -33,7 +33,7 @@ Triple = Bytes × Bytes × Bytes
 abbrev pub Cardinality : Type 0
 Cardinality = Bytes × ℕ
 
--- byte order: of names, then of pairs and triples by their first part first
+-- byte order of names; pairs and triples are ordered by their first part first
 abbrev pub name_cmp : Bytes → Bytes → Ordering
 name_cmp = slice_cmp nat_cmp
 
@@ -93,11 +93,11 @@ module _ {K : Type 0} {R : K → K → Ordering} where
   unfoldable pub union : FinSet R → FinSet R → FinSet R
   union s t = insert_all s (members t)
 
-  -- the members of s that are none of t
+  -- the members of s that are not members of t
   unfoldable pub difference : FinSet R → FinSet R → FinSet R
   difference s t = retain s (λ x. not (contains t x))
 
-  -- no member of s is one of t
+  -- no member of s is a member of t
   abbrev pub IsDisjoint : FinSet R → FinSet R → Type 0
   IsDisjoint s t = (x : K) → contains s x ≡ true → contains t x ≡ false
 
@@ -114,15 +114,15 @@ module _ {K : Type 0} {R : K → K → Ordering} where
   count test s = count_by test (members s)
 
 module _ {K J : Type 0} {R : K → K → Ordering} {Q : J → J → Ordering} where
-  -- what f gives at the members
+  -- the values of f at the members
   unfoldable pub image : (K → J) → FinSet R → FinSet Q
   image f s = from_list (list_map f (members s))
 
--- whether two names are one
+-- whether two names are equal
 abbrev pub same_name : Bytes → Bytes → Bool
 same_name = eq_by_cmp name_cmp
 
--- what stands before a name, and what behind it, in a set of pairs
+-- the first names of the pairs that end in a name, and the second names of those that begin with it
 unfoldable pub firsts : Pairs → Bytes → Names
 firsts pairs second = image (λ (pair : Pair). pair.0) (retain pairs (λ pair. same_name pair.1 second))
 

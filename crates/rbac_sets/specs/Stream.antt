@@ -1,11 +1,11 @@
--- What calls on a stream leave.
+-- The state of sources and sinks of bytes, and what calls change of it.
 use Rattle.std.specs.Prelude.{ℕ, ◌+◌, ◌-◌, ◌^◌, ◌<◌, ◌⊎◌, ◌≤◌, ◌&&◌, nat_eq, nat_lt, List, Result, Ok, Err, is_ok, if◌then◌else◌}
 use Rattle.rbac_sets.specs.declared.source.MemorySource.{MemorySource}
 use Rattle.rbac_sets.specs.declared.source.Reader.{Reader}
 use Rattle.rbac_sets.specs.declared.sink.MemorySink.{MemorySink}
 use Rattle.rbac_sets.specs.declared.sink.Writer.{Writer}
 
--- the count of calls after one more. At its greatest value it stays
+-- the count of calls after one more; it saturates
 abbrev pub one_more : ℕ → ℕ
 one_more calls = if nat_lt calls (2 ^ 64 - 1) then calls + 1 else calls
 
@@ -13,16 +13,16 @@ one_more calls = if nat_lt calls (2 ^ 64 - 1) then calls + 1 else calls
 abbrev pub failures_after : {X E : Type 0} → ℕ → Result X E → ℕ
 failures_after failures result = if is_ok result then failures else one_more failures
 
--- the count of the writes that took no byte of a piece that has some, after a write of so many bytes with this result
+-- the count of the writes that accepted no byte of a nonempty piece, after a write of a piece of this size with this result
 abbrev pub idle_after : {E : Type 0} → ℕ → ℕ → Result ℕ E → ℕ
 idle_after idle size (Ok count) = if nat_lt 0 size && nat_eq count 0 then one_more idle else idle
 idle_after idle size (Err e) = idle
 
--- a count rose from the first value to the second. At the greatest value this is not told apart
+-- a count rose from the first value to the second, or has saturated
 abbrev pub HasRisen : ℕ → ℕ → Type 0
 HasRisen before now = (before < now) ⊎ (2 ^ 64 - 1 ≤ now)
 
--- the bytes that are left
+-- the remaining bytes
 abbrev pub left_in_memory : MemorySource → List ℕ
 left_in_memory source = source.bytes.now
 
@@ -34,11 +34,11 @@ held_in_memory sink = sink.bytes.items
 abbrev pub failed_in_memory : MemorySink → ℕ
 failed_in_memory sink = sink.failures
 
--- how many reads were made of it
+-- the number of its reads
 abbrev pub reads_of_memory : MemorySource → ℕ
 reads_of_memory source = source.reads
 
--- the reader that a source stands over, how many reads were made of it, and how many of these failed
+-- the reader of a source, the number of reads of it, and how many of these failed
 abbrev pub reader_of : {R : Type 0} → Reader R → R
 reader_of source = source.inner
 
@@ -48,7 +48,7 @@ reads_of_reader source = source.reads
 abbrev pub failed_reads : {R : Type 0} → Reader R → ℕ
 failed_reads source = source.failures
 
--- the writer that a sink stands over, and how many of its writes failed
+-- the writer of a sink, and how many of its writes failed
 abbrev pub writer_of : {W : Type 0} → Writer W → W
 writer_of sink = sink.inner
 

@@ -1,4 +1,4 @@
--- The table of a row, and the order of the tables.
+-- The relation of a row, and the order of the relations.
 use Rattle.std.specs.Prelude.{ℕ, Bool, false, Option, Some, None, nat_eq, if◌then◌else◌}
 use Rattle.rbac_sets.specs.declared.row.Row.{Row}
 use Rattle.rbac_sets.specs.declared.row.Row.TheVariants.{NameRow, PairRow, GrantRow, SetRow, LockedRow}
@@ -6,7 +6,7 @@ use Rattle.rbac_sets.specs.declared.row.TheConstants.Row.{USER, ROLE, OBJECT, PE
 use Rattle.rbac_sets.specs.declared.table.Table.{Table}
 use Rattle.rbac_sets.specs.declared.table.Table.TheVariants.{Users, Roles, Objects, Permissions, Assignments, Inheritances, ClosurePairs, StaticMembers, DynamicMembers, Sessions, ActivatedRoles, Grants, StaticCardinalities, DynamicCardinalities, Locks}
 
--- the table in which a row stands, if there is one of its kind
+-- the relation that a row belongs to, if there is one of its kind
 abbrev pub table_of : Row → Option Table
 table_of (NameRow kind name) =
     if nat_eq kind USER then Some Users
@@ -30,7 +30,7 @@ table_of (SetRow kind set cardinality) =
     else None
 table_of (LockedRow user) = Some Locks
 
--- the number of a table in their order
+-- the number of a relation in their order
 abbrev pub number_of : Table → ℕ
 number_of Users = 0
 number_of Roles = 1
@@ -48,7 +48,7 @@ number_of StaticCardinalities = 12
 number_of DynamicCardinalities = 13
 number_of Locks = 14
 
--- it is the table of this number
+-- whether it is the relation of this number
 abbrev pub is_number : ℕ → Option Table → Bool
 is_number number None = false
 is_number number (Some table) = nat_eq (number_of table) number

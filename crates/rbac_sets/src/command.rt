@@ -1,46 +1,48 @@
-//! What an administrator or a user may ask to have changed.
+//! The commands that change an office.
 use crate::name::Name;
 use crate::sets::NameSet;
 
-/// A change that is asked of an office: the administrative commands of the standard, with its
-/// commands on sessions, the locks of version 2 and the import of assignments.
+/// A command that changes an office: one of the administrative commands of the standard, of its
+/// commands on sessions, of the locks of version 2, or the import of assignments.
 ///
-/// What each one does, when it is refused and in which order the refusals are judged stands in
-/// docs/MODEL.md. `asc` is the ascendant and `desc` the descendant of an inheritance, `cardinality`
-/// is the number of members of a set from which on they may not come together. With each change the
-/// sessions end whose user is gone or locked, or isn't authorized any more for an activated role.
+/// docs/MODEL.md describes what each command does, when it is refused and in which order the
+/// refusals are judged. `asc` is the ascendant and `desc` the descendant of an inheritance.
+/// `cardinality` is how many members of a separation of duty set are too many: a user is authorized
+/// for fewer members of a static set, and a session has fewer members of a dynamic set among its
+/// roles. Each change ends the sessions whose user is deleted or locked, or is no longer authorized
+/// for an activated role.
 #[derive(Drop)]
 pub enum Command {
-    /// AddUser: makes a user.
+    /// AddUser: creates a user.
     AddUser {
         user: Name,
     },
-    /// DeleteUser: takes a user with its assignments, its sessions and its lock.
+    /// DeleteUser: deletes a user with its assignments, its sessions and its lock.
     DeleteUser {
         user: Name,
     },
-    /// AddRole: makes a role.
+    /// AddRole: creates a role.
     AddRole {
         role: Name,
     },
-    /// DeleteRole: takes a role with its assignments and grants.
+    /// DeleteRole: deletes a role with its assignments and grants.
     DeleteRole {
         role: Name,
     },
-    /// Makes an object.
+    /// Creates an object.
     AddPermObj {
         object: Name,
     },
-    /// Takes an object that has no permission.
+    /// Deletes an object that has no permission.
     DeletePermObj {
         object: Name,
     },
-    /// Makes the permission for an operation on an object.
+    /// Creates the permission for an operation on an object.
     AddPermission {
         object: Name,
         operation: Name,
     },
-    /// Takes a permission with its grants.
+    /// Deletes a permission with its grants.
     DeletePermission {
         object: Name,
         operation: Name,
@@ -51,7 +53,7 @@ pub enum Command {
         operation: Name,
         role: Name,
     },
-    /// RevokePermission: takes the grant of a permission to a role.
+    /// RevokePermission: removes the grant of a permission to a role.
     RevokePermission {
         object: Name,
         operation: Name,
@@ -62,7 +64,7 @@ pub enum Command {
         user: Name,
         role: Name,
     },
-    /// DeassignUser: takes the assignment of a user to a role.
+    /// DeassignUser: removes the assignment of a user to a role.
     DeassignUser {
         user: Name,
         role: Name,
@@ -72,22 +74,22 @@ pub enum Command {
         asc: Name,
         desc: Name,
     },
-    /// DeleteInheritance: takes the immediate inheritance of `asc` from `desc`.
+    /// DeleteInheritance: removes the immediate inheritance of `asc` from `desc`.
     DeleteInheritance {
         asc: Name,
         desc: Name,
     },
-    /// AddAscendant: makes the role `asc` as an immediate ascendant of `desc`.
+    /// AddAscendant: creates the role `asc` as an immediate ascendant of `desc`.
     AddAscendant {
         asc: Name,
         desc: Name,
     },
-    /// AddDescendant: makes the role `desc` as an immediate descendant of `asc`.
+    /// AddDescendant: creates the role `desc` as an immediate descendant of `asc`.
     AddDescendant {
         asc: Name,
         desc: Name,
     },
-    /// CreateSsdSet: makes a static separation of duty set.
+    /// CreateSsdSet: creates a static separation of duty set.
     CreateSsdSet {
         set: Name,
         roles: NameSet,
@@ -98,7 +100,7 @@ pub enum Command {
         set: Name,
         role: Name,
     },
-    /// DeleteSsdRoleMember: takes a member from a static separation of duty set.
+    /// DeleteSsdRoleMember: removes a member from a static separation of duty set.
     DeleteSsdRoleMember {
         set: Name,
         role: Name,
@@ -108,11 +110,11 @@ pub enum Command {
         set: Name,
         cardinality: u32,
     },
-    /// DeleteSsdSet: takes a static separation of duty set.
+    /// DeleteSsdSet: deletes a static separation of duty set.
     DeleteSsdSet {
         set: Name,
     },
-    /// CreateDsdSet: makes a dynamic separation of duty set.
+    /// CreateDsdSet: creates a dynamic separation of duty set.
     CreateDsdSet {
         set: Name,
         roles: NameSet,
@@ -123,7 +125,7 @@ pub enum Command {
         set: Name,
         role: Name,
     },
-    /// DeleteDsdRoleMember: takes a member from a dynamic separation of duty set.
+    /// DeleteDsdRoleMember: removes a member from a dynamic separation of duty set.
     DeleteDsdRoleMember {
         set: Name,
         role: Name,
@@ -133,17 +135,17 @@ pub enum Command {
         set: Name,
         cardinality: u32,
     },
-    /// DeleteDsdSet: takes a dynamic separation of duty set.
+    /// DeleteDsdSet: deletes a dynamic separation of duty set.
     DeleteDsdSet {
         set: Name,
     },
-    /// CreateSession: makes a session of a user in which exactly these roles are activated.
+    /// CreateSession: creates a session of a user in which exactly these roles are activated.
     CreateSession {
         user: Name,
         roles: NameSet,
         session: Name,
     },
-    /// DeleteSession: takes a user's session.
+    /// DeleteSession: deletes a user's session.
     DeleteSession {
         user: Name,
         session: Name,
@@ -160,11 +162,11 @@ pub enum Command {
         session: Name,
         role: Name,
     },
-    /// Locks a user and ends its sessions. Known to version 2 alone.
+    /// Locks a user and ends its sessions. Version 2 only.
     LockUserAccount {
         user: Name,
     },
-    /// Takes the lock of a user. Known to version 2 alone.
+    /// Removes the lock of a user. Version 2 only.
     UnlockUserAccount {
         user: Name,
     },

@@ -36,7 +36,7 @@ pub enum Kind {
 }
 
 impl Kind {
-    /// The word by which a refusal names this kind.
+    /// The name of this kind in a refusal.
     pub fn name(self) -> &'static str
         ensures { result.now ≡ word_of self }
     {
@@ -58,9 +58,9 @@ impl Kind {
         }
     }
 
-    /// How many of this kind an office of `version` may have; of records and bytes, how many one
-    /// import and one file of assignments may have. `version` is 1 or 2, and version 2 takes more
-    /// users, roles and immediate inheritances.
+    /// The limit of what this kind counts, in an office of `version`, which is 1 or 2. Version 2 allows
+    /// more users, roles and immediate inheritances. The limits of records and bytes are those of one
+    /// import and one file of assignments.
     pub fn limit(self, version: u32) -> u32
         requires { (version ≡ 1) ⊎ (version ≡ 2) }
         ensures { result ≡ limit_of self version }

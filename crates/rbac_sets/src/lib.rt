@@ -1,8 +1,8 @@
-//! The vocabulary of the role administration office: names, sets of names and of their tuples,
-//! commands, rows of the tables, refusals, limits, and the two ends of a stream of bytes.
+//! The shared types of the role administration office: names, sets of names and of tuples of names,
+//! commands, rows of the relations, refusals, limits, and sources and sinks of bytes.
 //!
-//! Every other crate of the office speaks in these words. The sets are those of the standard
-//! (USERS, ROLES, UA, PA and so on), kept in byte order.
+//! Every other crate of the office uses them. The sets are those of the standard (USERS, ROLES, UA,
+//! PA and so on), kept in byte order.
 //!
 //! # Example
 //!

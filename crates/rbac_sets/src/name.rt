@@ -10,7 +10,7 @@ use std::alloc::Global;
 use std::cmp::Ordering;
 use std::marker::Model;
 
-/// The most bytes of a name.
+/// The greatest length of a name, in bytes.
 const LONGEST_NAME: usize = 64;
 
 /// How many fingerprints there are.
@@ -22,11 +22,11 @@ const SPREAD: u64 = 11_400_714_819_323_198_485;
 /// The name of a user, a role, an object, an operation, a session or a separation of duty set:
 /// UTF-8 of 1 to 64 bytes, with no byte below 0x20 and no 0x7F.
 ///
-/// Names are equal where their bytes are, and are ordered byte by byte; there is no
-/// normalisation and no case folding. A contract sees a name as its bytes.
+/// Names are equal if their bytes are, and are ordered byte by byte; there is no normalisation and
+/// no case folding. In contracts the value of a name is its bytes.
 #[derive(Debug, Drop)]
 pub struct Name {
-    // The first bytes of the text as a number: most names differ in these, and then no text is read.
+    // The first eight bytes of the text as a number. Most names differ in them, and then no text is read.
     front: u64,
     text: String,
 }
@@ -43,12 +43,12 @@ impl Model for Name {
 }
 
 impl Name {
-    /// The name with this text, which may be any.
+    /// The name with this text, which may be any text.
     ///
     /// # Errors
     ///
-    /// `BadName` where the text is no name: it is empty, longer than 64 bytes, or has a byte
-    /// below 0x20 or a 0x7F. `Memory` where memory for the text was refused.
+    /// `BadName` if the text is not a valid name: it is empty, longer than 64 bytes, or has a byte
+    /// below 0x20 or a 0x7F. `Memory` if allocation failed.
     pub fn new(alloc: Global, text: &str) -> Result<Name, Refusal>
         ensures ok { IfOk result (λ name. (name ≡ text.now) × (is_name text.now ≡ true)) }
         ensures err { IfErr result (λ refusal. (refusal ≡ Refusal.Memory) ⊎ ((refusal ≡ Refusal.BadName) × (is_name text.now ≡ false))) }
@@ -70,11 +70,11 @@ impl Name {
         self.text.as_str()
     }
 
-    /// The same name, in memory of its own.
+    /// A copy of the name, in memory of its own.
     ///
     /// # Errors
     ///
-    /// `Memory` where memory for the text was refused.
+    /// `Memory` if allocation failed.
     pub fn copy(&self, alloc: Global) -> Result<Name, Refusal>
         ensures ok { IfOk result (λ name. name ≡ self.now) }
         ensures cause { IfErr result (λ refusal. refusal ≡ Refusal.Memory) }
@@ -86,10 +86,10 @@ impl Name {
         })
     }
 
-    /// A number below `FINGERPRINTS` that is drawn from the name's first eight bytes. Names that
-    /// are equal have one fingerprint, so names whose fingerprints differ are not equal.
+    /// A number below `FINGERPRINTS`, computed from the name's first eight bytes. Equal names have the
+    /// same fingerprint, so names with different fingerprints are not equal.
     ///
-    /// It takes no memory, and reads no text.
+    /// It doesn't allocate, and reads no text.
     #[tactic(auto, unfolding(crate::specs::Name::fingerprint))]
     pub fn fingerprint(&self) -> usize
         ensures value { result ≡ fingerprint self.now }
@@ -152,8 +152,8 @@ impl Ord for Name {
     }
 }
 
-// The order of two texts of names, byte by byte: that of the numbers of their first bytes, where these
-// differ. Where they don't, and end in zero, both texts are shorter than eight bytes, and are the same.
+// The order of two texts of names, byte by byte: that of the numbers of their first bytes, if these
+// differ. If they don't, and their last byte is zero, both texts are shorter than eight bytes and equal.
 #[inline(always)]
 fn order(text: &str, front: u64, other: &str, other_front: u64) -> Ordering
     requires names { (is_name text.now ≡ true) × (is_name other.now ≡ true) }
@@ -170,8 +170,7 @@ fn order(text: &str, front: u64, other: &str, other_front: u64) -> Ordering
     text.cmp(other)
 }
 
-// The first eight bytes of the text as a number, the first of them the highest, with zeros for those that
-// it doesn't have.
+// The first eight bytes of the text as a big-endian number. A shorter text is padded with zeros.
 fn front_of(text: &str) -> u64
     ensures { result ≡ first_bytes 8 text.now }
 {
@@ -188,14 +187,14 @@ fn front_of(text: &str) -> u64
     ])
 }
 
-// The byte at this place, or zero where the text has ended before it.
+// The byte at this place, or zero if the text has ended before it.
 fn byte_or_zero(bytes: &[u8], place: usize) -> u8
     ensures { result ≡ slice_index_or bytes.now place 0 }
 {
     if place < bytes.len() { bytes[place] } else { 0 }
 }
 
-// Whether the text is a name. It is UTF-8 already, as every `&str`.
+// Whether the text is a valid name. It is UTF-8 already, as every `&str`.
 fn is_name(text: &str) -> bool
     ensures { result ≡ is_name text.now }
 {
@@ -206,14 +205,14 @@ fn is_name(text: &str) -> bool
     is_printable(bytes)
 }
 
-// Whether there is a byte and no more than a name may have.
+// Whether there is at least one byte, and no more than a name may have.
 fn has_name_length(bytes: &[u8]) -> bool
     ensures { result ≡ has_name_length bytes.now }
 {
     !bytes.is_empty() && bytes.len() <= LONGEST_NAME
 }
 
-// Whether no byte is a control character of ASCII.
+// Whether no byte is an ASCII control character.
 fn is_printable(bytes: &[u8]) -> bool
     ensures { result ≡ list_all is_printable bytes.now }
 {

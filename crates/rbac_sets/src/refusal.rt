@@ -6,10 +6,10 @@ use crate::kind::Kind;
 use crate::name::Name;
 use std::alloc::{AllocError, AllocFailed};
 
-/// Why a call was refused. A refused call changes nothing, but for what `Store` says.
+/// Why a call was refused. A refused call changes nothing, except as described for `Store`.
 #[derive(Debug, Drop)]
 pub enum Refusal {
-    /// 1: a text is no name.
+    /// 1: a text is not a valid name.
     BadName,
     /// 2: there is no user of this name.
     NoUser,
@@ -37,7 +37,7 @@ pub enum Refusal {
     NotGranted,
     /// 14: the first role is an immediate ascendant of the second already.
     EdgeExists,
-    /// 15: the first role is no immediate ascendant of the second.
+    /// 15: the first role is not an immediate ascendant of the second.
     NoEdge,
     /// 16: the descendant is the ascendant itself or inherits from it already.
     Cycle,
@@ -51,7 +51,7 @@ pub enum Refusal {
     NoSet,
     /// 21: the role is a member of the set already.
     MemberExists,
-    /// 22: the role is no member of the set.
+    /// 22: the role is not a member of the set.
     NoMember,
     /// 23: the cardinality of the set would not be at least 2 and at most its number of members.
     BadCardinality,
@@ -71,7 +71,7 @@ pub enum Refusal {
     AlreadyActive,
     /// 31: the role is not activated in the session.
     NotActive,
-    /// 32: the limit of this kind would be passed.
+    /// 32: the limit of this kind would be exceeded.
     TooMany(Kind),
     /// 33: no permission has this operation.
     NoOperation,
@@ -83,18 +83,18 @@ pub enum Refusal {
     BadCsv(u32),
     /// 37: the user is locked.
     UserLocked,
-    /// 40: memory was refused.
+    /// 40: an allocation failed.
     Memory,
-    /// 41: the store refused a call. An office is closed then, and a stop leaves the state before the
-    /// command or the one after it. Or a sink failed or took no byte: it may hold the start of a text.
+    /// 41: a call of the store failed. The office is closed then, and a crash leaves the state before the
+    /// command or the one after it. Or a sink failed or accepted no byte: it may hold the start of a text.
     Store,
     /// 42: the office is closed.
     Closed,
     /// 50: the database holds no office.
     NotAnOffice,
-    /// 51: the office has this version, which is not the one asked for.
+    /// 51: the office has this version, which is not the requested one.
     Version(i64),
-    /// 52: the database fails this check, and is no sound office.
+    /// 52: the database fails this check, and is not a sound office.
     Damaged(u32),
 }
 
@@ -121,7 +121,7 @@ impl<T: Drop> From<AllocFailed<T>> for Refusal {
 }
 
 impl Refusal {
-    /// The number of the refusal.
+    /// The code of the refusal.
     pub fn code(&self) -> u32
         ensures { result ≡ code_of self.now }
     {
@@ -172,14 +172,14 @@ impl Refusal {
         }
     }
 
-    /// Whether memory was refused, which is no verdict on what was asked.
+    /// Whether an allocation failed, which says nothing about the request itself.
     pub fn is_memory(&self) -> bool
         ensures { result ≡ is_memory self.now }
     {
         matches!(self, Refusal::Memory)
     }
 
-    /// The name of the refusal, without what comes with it.
+    /// The name of the refusal, without the value that it carries.
     pub fn name(&self) -> &'static str
         ensures { result.now ≡ name_of self.now }
     {

@@ -1,4 +1,4 @@
-//! Rows of an office's tables, and changes of them.
+//! Rows of an office's relations, and changes of them.
 ghost use Rattle.std.specs.Prelude.{◌≡◌, true};
 ghost use Rattle.rbac_sets.specs.declared.row.Row.TheVariants.{NameRow, PairRow, GrantRow, SetRow, LockedRow};
 ghost use Rattle.rbac_sets.specs.Named.{is_named, row_of};
@@ -7,8 +7,8 @@ ghost use Rattle.rbac_sets.specs.Table.{table_of};
 use crate::name::Name;
 use crate::table::Table;
 
-/// One row of an office's tables, which is one entry of one of its relations. Its kind, where its form
-/// has one, is one of the constants below; no table has a row of another kind.
+/// One row of an office, which is one entry of one of its relations. Its kind, if its variant has one,
+/// is one of the constants below; no relation has a row of another kind.
 #[derive(Drop)]
 pub enum Row {
     /// A name of a kind: a user, a role or an object.
@@ -20,7 +20,7 @@ pub enum Row {
     GrantRow(Name, Name, Name),
     /// The cardinality of a separation of duty set, static or dynamic by its kind.
     SetRow(u8, Name, u32),
-    /// A locked user. Known to version 2 alone.
+    /// A locked user. Version 2 only.
     LockedRow(Name),
 }
 
@@ -63,7 +63,7 @@ impl Row {
 }
 
 impl Row {
-    /// The table in which the row stands, and `None` where no table has rows of its kind.
+    /// The relation that the row belongs to, or `None` if no relation has rows of its kind.
     pub fn table(&self) -> Option<Table>
         ensures { result ≡ table_of self.now }
     {
@@ -123,7 +123,7 @@ impl Row {
     }
 
     /// The row of a pair of the role order: `asc` inherits from `desc`, another role, immediately or
-    /// over others.
+    /// through others.
     pub fn closure_pair(asc: Name, desc: Name) -> Row
         ensures { result ≡ PairRow Row.CLOSURE_PAIR asc desc }
     {
@@ -186,7 +186,7 @@ impl Row {
         Row::LockedRow(user)
     }
 
-    /// What holds of every row: each of its names is a name.
+    /// Recalls, for a proof, that each name of the row is valid. It has no effect.
     pub fn is_named(&self)
         ensures { is_named self.now ≡ true }
     {
@@ -207,17 +207,17 @@ impl Row {
     }
 }
 
-/// The change of one row.
+/// The insertion or deletion of one row.
 #[derive(Drop)]
 pub enum Change {
-    /// A row that is not there is put.
+    /// Inserts a row that is not there.
     Put(Row),
-    /// A row that is there is taken.
+    /// Deletes a row that is there.
     Take(Row),
 }
 
 impl Change {
-    /// What holds of every change: each name of its row is a name.
+    /// Recalls, for a proof, that each name of the row is valid. It has no effect.
     pub fn is_named(&self)
         ensures { is_named (row_of self.now) ≡ true }
     {

@@ -10,15 +10,15 @@ use std::cmp::Ordering;
 /// A set of names, such as the users of an office.
 pub type NameSet = SortedSet<Name>;
 
-/// A set of pairs of names, such as the assignments (user, role), by the first name first.
+/// A set of pairs of names, such as the assignments (user, role), ordered by the first name first.
 pub type PairSet = SortedSet<(Name, Name)>;
 
-/// A set of triples of names, such as the grants (object, operation, role), by the first name
-/// first.
+/// A set of triples of names, such as the grants (object, operation, role), ordered by the first
+/// name first.
 pub type GrantSet = SortedSet<(Name, Name, Name)>;
 
-/// A set of names with a number, such as the cardinalities of separation of duty sets, by the name
-/// first.
+/// A set of names with a number, such as the cardinalities of separation of duty sets, ordered by
+/// the name first.
 pub type CountSet = SortedSet<(Name, u32)>;
 
 impl Entry for Name {

@@ -1,4 +1,4 @@
-//! Where bytes go.
+//! Sinks for bytes.
 ghost use Rattle.std.specs.Prelude.{◌≡◌, ◌≤◌, ◌⊎◌, ℕ, List, [], ◌++◌, Option, length, IfOk, OnOk, OnErr};
 ghost use Rattle.std.specs.Io.KnownBytes.{Appends, WriteAppends};
 ghost use Rattle.rbac_sets.specs.Stream.{failures_after, idle_after, HasRisen, held_in_memory, failed_in_memory, writer_of, failed_writes};
@@ -7,36 +7,36 @@ use crate::source::Fault;
 use std::alloc::Global;
 use std::io;
 
-/// Where bytes are written to.
+/// A sink for bytes.
 ///
-/// A contract speaks of the bytes that were written where they are known, as in memory.
+/// Contracts cover the bytes that were written if they are known, as in memory.
 pub trait Sink {
-    // The bytes that were written, where they are known.
+    // The bytes that were written, if they are known.
     ghost written: { Self → Option (List ℕ) };
 
     // How many calls failed.
     ghost failed: { Self → ℕ };
 
-    // How many calls took no byte of a piece that has some, and did not fail. At its greatest value the count stays.
+    // How many calls accepted no byte of a nonempty piece, and did not fail. The count saturates.
     ghost idle: { Self → ℕ };
 
-    /// Writes bytes from the front of `piece`, which may have any length, and gives how many.
+    /// Writes bytes from the front of `piece`, which may have any length, and returns how many.
     ///
     /// # Errors
     ///
-    /// `Fault` where the write failed. No byte was taken then.
+    /// `Fault` if the write failed. Then no byte was accepted.
     fn write(&mut self, piece: &[u8]) -> Result<usize, Fault>
         ensures bound { IfOk result (λ count. count ≤ length piece.now) }
         ensures bytes { WriteAppends (written self.old) (written self.new) result piece.now }
         ensures failures { failed self.new ≡ failures_after (failed self.old) result }
         ensures idle { idle self.new ≡ idle_after (idle self.old) (length piece.now) result };
 
-    /// How many calls of `write` failed. At its greatest value it stays.
+    /// How many calls of `write` failed. The count saturates.
     fn failures(&self) -> u64
         ensures { result ≡ failed self.now };
 }
 
-/// A sink that keeps the bytes in memory. A write of it fails where memory was refused.
+/// A sink that keeps the bytes in memory. A write fails if allocation failed.
 #[derive(Drop)]
 pub struct MemorySink {
     bytes: Vec<u8>,
@@ -44,7 +44,7 @@ pub struct MemorySink {
 }
 
 impl MemorySink {
-    /// A sink without bytes. It takes no memory yet.
+    /// A sink without bytes. It doesn't allocate yet.
     pub fn new(alloc: Global) -> MemorySink
         ensures bytes { held_in_memory result ≡ [] }
         ensures failures { failed_in_memory result ≡ 0 }
@@ -90,7 +90,7 @@ impl Sink for MemorySink {
 
 /// A sink over any writer of std.
 ///
-/// A write that takes no byte of a piece that has some is a failure here, as in `write_all` of std.
+/// A write that accepts no byte of a nonempty piece is a failure here, as in `write_all` of std.
 #[derive(Drop)]
 pub struct Writer<W> {
     inner: W,
@@ -98,7 +98,7 @@ pub struct Writer<W> {
 }
 
 impl<W: io::Write> Writer<W> {
-    /// The sink that writes to `inner`, of which no call has failed yet.
+    /// A sink that writes to `inner`, without failures so far.
     pub fn new(inner: W) -> Writer<W>
         ensures inner { writer_of result ≡ inner }
         ensures failures { failed_writes result ≡ 0 }
@@ -131,12 +131,12 @@ impl<W: io::Write> Sink for Writer<W> {
     }
 }
 
-/// Writes the whole of `piece`, in as few writes as the sink lets it.
+/// Writes the whole of `piece`, in as few writes as the sink allows.
 ///
 /// # Errors
 ///
-/// `Fault` where a write failed, or took no byte though there was one. A part of the piece that is
-/// not the whole was written then.
+/// `Fault` if a write failed, or accepted no byte though there was one. Then only a part of the
+/// piece was written, or nothing of it.
 pub fn write_all<W: Sink>(sink: &mut W, piece: &[u8]) -> Result<(), Fault>
     ensures ok { OnOk result (Appends (W.written sink.old) (W.written sink.new) piece.now) }
     ensures part { OnErr result ((part rest : List ℕ) × (piece.now ≡ part ++ rest) × (1 ≤ length rest) × Appends (W.written sink.old) (W.written sink.new) part) }

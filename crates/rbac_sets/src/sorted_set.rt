@@ -1,4 +1,4 @@
-//! Sets as lists in order, which take a new entry without memory once room was made for it.
+//! Sets as sorted lists. Once room is reserved, entries are inserted without allocation.
 ghost use Rattle.std.specs.Prelude.{◌≡◌, ◌+◌, ◌<◌, ◌≤◌, ◌↔◌, length, take, drop, vec_len, vec_capacity, true, false, not, IsTrue, filter, OnOk, IfOk, IfErr};
 ghost use Rattle.std.specs.List.{HoldsAt, list_all, AllWithin, remove_range};
 ghost use Rattle.std.specs.Slice.Iter.{iter_rest};
@@ -19,13 +19,13 @@ use std::marker::Model;
 use std::mem;
 use std::slice::Iter;
 
-/// What a set may hold: values with a total order in which only equal ones tie.
+/// An entry of a set: a value of a type with a total order in which only equal values tie.
 pub trait Entry: Ord + Drop {
-    /// The same entry, in memory of its own.
+    /// A copy of the entry, in memory of its own.
     ///
     /// # Errors
     ///
-    /// `Memory` where memory for the copy was refused.
+    /// `Memory` if allocation failed.
     fn copy(&self, alloc: Global) -> Result<Self, Refusal>
         ensures ok { IfOk result (λ entry. entry ≡ self.now) }
         ensures cause { IfErr result (λ refusal. refusal ≡ Refusal.Memory) };
@@ -34,19 +34,19 @@ pub trait Entry: Ord + Drop {
     ghost exact: { IsAntisymmetric Self.cmp };
 }
 
-/// References to the parts of an entry, by which it is looked for: `&entry` itself, or a tuple of
-/// references to its parts, so that nothing has to be copied to look for it.
+/// A key to search for an entry: `&entry` itself, or a tuple of references to its parts, so that
+/// nothing has to be copied for the search.
 pub trait Probe<K: Ord>: Copy {
-    // The entry of these parts.
+    // The entry with these parts.
     ghost entry: { Self → K };
 
-    /// How `other` compares with the entry of these parts.
+    /// How `other` compares with the entry with these parts.
     fn compare(&self, other: &K) -> Ordering
         ensures { result ≡ K.cmp other.now (entry self.now) };
 }
 
-/// References to the first parts of an entry, by which the entries that begin so are found: a name,
-/// or a pair of references to names for triples.
+/// A key to search for all entries that begin with the same parts: a reference to a name, or a pair
+/// of references to names for triples.
 pub trait Prefix<K: Ord>: Copy {
     // How the first parts of an entry compare with these.
     ghost place: { Self → K → Ordering };
@@ -55,15 +55,15 @@ pub trait Prefix<K: Ord>: Copy {
     fn compare(&self, other: &K) -> Ordering
         ensures { result ≡ place self.now other.now };
 
-    // The first parts rise with the entries.
+    // The first parts of a greater entry are not less.
     ghost rises: { (prefix : Self) (x y : K) → K.cmp x y ≡ Less → ordering_index (place prefix x) ≤ ordering_index (place prefix y) };
 }
 
 /// A set of entries, kept in their order in one piece of memory.
 ///
-/// An entry is found by binary search. Memory is taken by `reserve` and `copy` alone: once room was
-/// made, entries are put without memory, and so without a refusal. A contract sees the entries in
-/// their order and the room for more; `set_of` is the set of the entries.
+/// An entry is found by binary search. Only `reserve` and `copy` allocate: once room is reserved,
+/// entries are inserted without allocation, and so without a refusal. In contracts the value is the
+/// entries in their order and the room for more; `set_of` is the set of the entries.
 #[derive(Drop)]
 pub struct SortedSet<K: Entry> {
     entries: Vec<K>,
@@ -84,7 +84,7 @@ impl<K: Entry> Model for SortedSet<K> {
 }
 
 impl<K: Entry> SortedSet<K> {
-    /// The set without entries. It takes no memory yet.
+    /// The set without entries. It doesn't allocate yet.
     pub fn new(alloc: Global) -> SortedSet<K>
         ensures { set_of K.cmp result ≡ empty }
     {
@@ -107,7 +107,7 @@ impl<K: Entry> SortedSet<K> {
         self.len() == 0
     }
 
-    /// How many more entries can be put without memory.
+    /// How many more entries can be inserted without allocation.
     pub fn room(&self) -> usize
         ensures { result ≡ self.now.room }
     {
@@ -128,11 +128,11 @@ impl<K: Entry> SortedSet<K> {
         has_none_of(&self.entries, other)
     }
 
-    /// Makes room for `count` more entries, or for more than that.
+    /// Reserves room for at least `count` more entries.
     ///
     /// # Errors
     ///
-    /// `Memory` where memory for them was refused. The entries are kept in any case.
+    /// `Memory` if allocation failed. The entries are kept in any case.
     pub fn reserve(&mut self, count: usize) -> Result<(), Refusal>
         ensures ok { OnOk result (count ≤ self.new.room) }
         ensures keeps { set_of K.cmp self.new ≡ set_of K.cmp self.old }
@@ -143,9 +143,9 @@ impl<K: Entry> SortedSet<K> {
         Ok(())
     }
 
-    /// Puts an entry that is not there, in the room that was made.
+    /// Inserts an entry that is not there, into reserved room.
     ///
-    /// It takes no memory and can't fail.
+    /// It doesn't allocate and can't fail.
     pub fn insert_reserved(&mut self, entry: K)
         requires absent { contains (set_of K.cmp self.old) entry ≡ false }
         requires room { 1 ≤ self.old.room }
@@ -156,7 +156,7 @@ impl<K: Entry> SortedSet<K> {
         self.entries.insert(gap, entry).unwrap();
     }
 
-    /// Takes the entry that `probe` looks for, and says whether it was there.
+    /// Removes the entry that `probe` looks for, and returns whether it was there.
     pub fn remove<P: Probe<K>>(&mut self, probe: P) -> bool
         ensures was_there { result ≡ contains (set_of K.cmp self.old) (P.entry probe) }
         ensures removed { set_of K.cmp self.new ≡ remove (set_of K.cmp self.old) (P.entry probe) }
@@ -192,8 +192,8 @@ impl<K: Entry> SortedSet<K> {
         run(&self.entries, prefix)
     }
 
-    /// Puts an entry above all that are there, in the room that was made, without a search. It takes no
-    /// memory and can't fail.
+    /// Inserts an entry that is greater than all that are there, into reserved room, without a search. It
+    /// doesn't allocate and can't fail.
     pub fn push_last(&mut self, entry: K)
         requires above { (x : K) → contains (set_of K.cmp self.old) x ≡ true → K.cmp x entry ≡ Less }
         requires room { 1 ≤ self.old.room }
@@ -203,9 +203,9 @@ impl<K: Entry> SortedSet<K> {
         self.entries.push(entry).unwrap();
     }
 
-    /// Puts all entries of `other`, none of which is there, in the room that was made.
+    /// Inserts all entries of `other`, none of which is there, into reserved room.
     ///
-    /// It goes once through both sets, takes no memory and can't fail.
+    /// It goes once through both sets, doesn't allocate and can't fail.
     pub fn merge_reserved(&mut self, other: SortedSet<K>)
         requires disjoint { IsDisjoint (set_of K.cmp self.old) (set_of K.cmp other) }
         requires room { len (set_of K.cmp other) ≤ self.old.room }
@@ -217,7 +217,7 @@ impl<K: Entry> SortedSet<K> {
         self.entries = merge(entries, other.entries);
     }
 
-    /// Takes each entry of `other` that is there.
+    /// Removes each entry of `other` that is there.
     ///
     /// It goes once through both sets.
     pub fn take_all(&mut self, other: &SortedSet<K>)
@@ -229,8 +229,8 @@ impl<K: Entry> SortedSet<K> {
         self.entries = without(entries, &other.entries);
     }
 
-    /// Starts to take entries one after another: gives the set out, from which they are taken, and
-    /// leaves none here. It allocates nothing.
+    /// Starts the removal of entries one after another: returns the set from which they are removed, and
+    /// leaves an empty set here. It doesn't allocate.
     pub fn start_taking(&mut self) -> Taking<K>
         ensures taking { set_of K.cmp result ≡ set_of K.cmp self.old }
         ensures room { self.old.room ≤ result.room }
@@ -240,7 +240,7 @@ impl<K: Entry> SortedSet<K> {
         Taking::new(mem::replace(&mut self.entries, nothing))
     }
 
-    // The set of entries that stand in their order.
+    // The set of these sorted entries.
     pub(crate) fn of_entries(entries: Vec<K>) -> SortedSet<K>
         requires { IsStrictlySortedBy K.cmp entries.items }
         ensures entries { result.in_order ≡ entries.items }
@@ -249,11 +249,11 @@ impl<K: Entry> SortedSet<K> {
         SortedSet { entries }
     }
 
-    /// The same set, in memory of its own.
+    /// A copy of the set, in memory of its own.
     ///
     /// # Errors
     ///
-    /// `Memory` where memory for the copy was refused.
+    /// `Memory` if allocation failed.
     pub fn copy(&self, alloc: Global) -> Result<SortedSet<K>, Refusal>
         ensures ok { IfOk result (λ copy. set_of K.cmp copy ≡ set_of K.cmp self.now) }
         ensures cause { IfErr result (λ refusal. refusal ≡ Refusal.Memory) }
@@ -275,11 +275,11 @@ impl<K: Entry> Probe<K> for &K {
     }
 }
 
-/// Where the entry that `probe` looks for stands in entries in order, or else where it would stand.
+/// The place of the entry that `probe` looks for in these sorted entries.
 ///
 /// # Errors
 ///
-/// The place at which the entry would have to be inserted, where it is not there.
+/// The place at which the entry would have to be inserted, if it is not there.
 pub fn place<K: Entry, P: Probe<K>>(entries: &[K], probe: P) -> Result<usize, usize>
     requires { IsStrictlySortedBy K.cmp entries.now }
     ensures found { IfOk result (λ i. (i < length entries.now) × HoldsAt (λ y. K.cmp y (P.entry probe) ≡ Equal) entries.now i) }
@@ -305,7 +305,7 @@ fn run<K: Entry, P: Prefix<K>>(entries: &[K], prefix: P) -> &[K]
     &entries[start..start + count]
 }
 
-// Where the entries that begin with these parts start, and how many they are.
+// The place of the first entry that begins with these parts, and how many such entries there are.
 fn span<K: Entry, P: Prefix<K>>(entries: &[K], prefix: P) -> (usize, usize)
     requires { IsStrictlySortedBy K.cmp entries.now }
     ensures within { result.0 + result.1 ≤ length entries.now }
@@ -316,7 +316,7 @@ fn span<K: Entry, P: Prefix<K>>(entries: &[K], prefix: P) -> (usize, usize)
     (start, count)
 }
 
-// How many entries begin with these parts, where they stand first. Its time grows with the logarithm of
+// How many entries begin with these parts, if they come first. Its time grows with the logarithm of
 // this number, not with that of the number of entries.
 fn count_first<K: Entry, P: Prefix<K>>(entries: &[K], prefix: P) -> usize
     requires { IsPartitionedBy (λ entry. is_eq (P.place prefix entry)) entries.now }
@@ -328,8 +328,8 @@ fn count_first<K: Entry, P: Prefix<K>>(entries: &[K], prefix: P) -> usize
     near.partition_point(|entry| prefix.compare(entry).is_eq())
 }
 
-// A place behind all entries that begin with these parts, where they stand first. It is found by steps
-// that double, and lies at most twice as far as the last of them, or is 1.
+// A place behind all entries that begin with these parts, if they come first. It is found by doubling,
+// and is at most twice the place of the last of them, or is 1.
 fn bound_of_first<K: Entry, P: Prefix<K>>(entries: &[K], prefix: P) -> usize
     requires { IsPartitionedBy (λ entry. is_eq (P.place prefix entry)) entries.now }
     ensures bound { result ≤ length entries.now }
@@ -342,7 +342,7 @@ fn bound_of_first<K: Entry, P: Prefix<K>>(entries: &[K], prefix: P) -> usize
     bound.min(entries.len())
 }
 
-// The entries of both, in order, in the room of the first. They go round: what is placed stands behind what is left.
+// The entries of both, sorted, in the memory of the first. It is used as a ring: merged entries go behind the remaining ones.
 fn merge<K: Entry>(entries: Vec<K>, others: Vec<K>) -> Vec<K>
     requires sorted { IsStrictlySortedBy K.cmp entries.items }
     requires others_sorted { IsStrictlySortedBy K.cmp others.items }
@@ -370,7 +370,7 @@ fn merge<K: Entry>(entries: Vec<K>, others: Vec<K>) -> Vec<K>
     ring.into_vec()
 }
 
-// The entries that are none of the others. They go round, as in `merge`.
+// The entries that are none of the others, by a ring as in `merge`.
 fn without<K: Entry>(entries: Vec<K>, others: &[K]) -> Vec<K>
     requires sorted { IsStrictlySortedBy K.cmp entries.items }
     requires others_sorted { IsStrictlySortedBy K.cmp others.now }

@@ -1,4 +1,4 @@
-//! Where bytes come from.
+//! Sources of bytes.
 ghost use Rattle.std.specs.Prelude.{◌≡◌, ◌≤◌, ◌<◌, ℕ, List, Option, length, IfOk};
 ghost use Rattle.std.specs.Io.KnownBytes.{ReadConsumes};
 ghost use Rattle.rbac_sets.specs.Stream.{failures_after, one_more, reader_of, failed_reads, reads_of_reader};
@@ -6,38 +6,38 @@ ghost use Rattle.rbac_sets.specs.Stream.{failures_after, one_more, reader_of, fa
 use std::io::{self, ErrorKind};
 use thiserror::Error;
 
-/// A read or a write failed. Why is not told: `failures` of the source or sink counts it.
+/// A read or a write failed. The cause is not reported: `failures` of the source or sink counts it.
 #[derive(Clone, Copy, Debug, PartialEq, Eq, Error)]
 #[error("a read or a write failed")]
 pub struct Fault;
 
-/// Where bytes are read from.
+/// A source of bytes.
 ///
-/// A contract speaks of the bytes that are left where they are known, as in memory; of a file or a
-/// socket it says nothing but that what was read is no longer left.
+/// Contracts cover the remaining bytes if they are known, as in memory. Of a file or a socket they
+/// state only that bytes that were read no longer remain.
 pub trait Source {
-    // The bytes that are left, where they are known.
+    // The remaining bytes, if they are known.
     ghost remaining: { Self → Option (List ℕ) };
 
-    // How many reads were made, failed ones too. At its greatest value the count stays.
+    // The number of reads, including failed ones. The count saturates.
     ghost reads: { Self → ℕ };
 
     // How many of them failed.
     ghost failed: { Self → ℕ };
 
-    /// Reads into the front of `buffer`, which may have any length, and gives how many bytes were
-    /// read: 0 at the end alone, or where the buffer has no place.
+    /// Reads into the front of `buffer`, which may have any length, and returns how many bytes were
+    /// read: 0 only at the end, or if the buffer is empty.
     ///
     /// # Errors
     ///
-    /// `Fault` where the read failed. No byte was taken then.
+    /// `Fault` if the read failed. Then no byte was consumed.
     fn read(&mut self, buffer: &mut [u8]) -> Result<usize, Fault>
         ensures bound { IfOk result (λ count. count ≤ length buffer.new) }
         ensures bytes { ReadConsumes (remaining self.old) (remaining self.new) result buffer.new }
         ensures reads { reads self.new ≡ one_more (reads self.old) }
         ensures failures { failed self.new ≡ failures_after (failed self.old) result };
 
-    /// How many calls of `read` failed. At its greatest value it stays.
+    /// How many calls of `read` failed. The count saturates.
     fn failures(&self) -> u64
         ensures { result ≡ failed self.now };
 }
@@ -52,7 +52,7 @@ pub struct MemorySource<'a> {
 impl<'a> MemorySource<'a> {
     ghost use Rattle.rbac_sets.specs.Stream.{left_in_memory, reads_of_memory};
 
-    /// The source that gives these bytes, from the first to the last.
+    /// A source that returns these bytes, from the first to the last.
     pub fn new(bytes: &'a [u8]) -> MemorySource<'a>
         ensures bytes { left_in_memory result ≡ bytes.now }
         ensures reads { reads_of_memory result ≡ 0 }
@@ -85,10 +85,10 @@ impl Source for MemorySource<'_> {
     }
 }
 
-/// The most times that one read of a reader is tried, where a signal interrupts each try.
+/// The most attempts at one read of a reader, if a signal interrupts each of them.
 const MOST_TRIES: u32 = 1_000_000_000;
 
-/// A source over any reader of std. A read that a signal interrupts is tried again.
+/// A source over any reader of std. A read that a signal interrupts is retried.
 #[derive(Drop)]
 pub struct Reader<R> {
     inner: R,
@@ -97,7 +97,7 @@ pub struct Reader<R> {
 }
 
 impl<R: io::Read> Reader<R> {
-    /// The source that reads from `inner`, of which no read was made yet.
+    /// A source that reads from `inner`, without reads so far.
     pub fn new(inner: R) -> Reader<R>
         ensures inner { reader_of result ≡ inner }
         ensures reads { reads_of_reader result ≡ 0 }

@@ -1,8 +1,8 @@
-//! The tables of an office, one for each of its relations.
+//! The relations of an office.
 ghost use Rattle.std.specs.Prelude.{◌≡◌, ◌<◌};
 ghost use Rattle.rbac_sets.specs.Table.{number_of};
 
-/// A table of an office: the rows of one of its relations.
+/// A relation of an office.
 #[derive(Clone, Copy, Debug, PartialEq, Eq)]
 pub enum Table {
     /// USERS.
@@ -17,7 +17,7 @@ pub enum Table {
     Assignments,
     /// The immediate inheritances: an ascendant and a descendant.
     Inheritances,
-    /// The role order: a role, and another one that it inherits from, immediately or over others.
+    /// The role order: a role, and another role that it inherits from, immediately or through others.
     ClosurePairs,
     /// The roles of static separation of duty sets: a set and a role.
     StaticMembers,
@@ -33,15 +33,15 @@ pub enum Table {
     StaticCardinalities,
     /// The dynamic separation of duty sets: a set and its cardinality.
     DynamicCardinalities,
-    /// The locked users. Known to version 2 alone.
+    /// The locked users. Version 2 only.
     Locks,
 }
 
 impl Table {
-    /// How many tables there are.
+    /// How many relations there are.
     pub const COUNT: usize = 15;
 
-    /// The number of the table in their order, from 0.
+    /// The number of the relation in the order above, from 0.
     pub fn number(self) -> usize
         ensures number { result ≡ number_of self }
         ensures below { result < Table.COUNT }

@@ -1,4 +1,4 @@
-//! Entries that are taken from a set one after another.
+//! Removing entries from a set one after another.
 ghost use Rattle.std.specs.Prelude.{◌≡◌, ◌↔◌, ◌+◌, ◌≤◌, IsTrue, length, vec_len, vec_capacity};
 ghost use Rattle.std.specs.List.{AllWithin};
 ghost use Rattle.std.specs.List.Sorted.{IsStrictlySortedBy};
@@ -10,15 +10,15 @@ ghost use Rattle.rbac_sets.specs.Taking.{around, IsPassed, StandsFirst};
 use crate::sorted_set::{Entry, Probe, SortedSet};
 use std::marker::Model;
 
-/// A set from which entries are taken, one after another.
+/// A set from which entries are removed, one after another.
 ///
-/// If they are taken in their order, each entry that stays is moved at most once, and what stands
-/// behind the last of them only at the end. `SortedSet::start_taking` starts it, and `into_set`
-/// gives the set back. Nothing is allocated. A contract sees the entries that are left, in their
-/// order, and the room for more; `set_of` is the set of these entries.
+/// If they are removed in their order, each remaining entry is moved at most once, and those behind
+/// the last removed entry only at the end. `SortedSet::start_taking` starts the removal, and
+/// `into_set` returns the set. Nothing is allocated. In contracts the value is the remaining
+/// entries, in their order, and the room for more; `set_of` is the set of these entries.
 #[derive(Drop)]
 pub struct Taking<K: Entry> {
-    // The entries before `start` and those from `end` on are left. What stands between them was taken.
+    // The entries before `start` and those from `end` on remain. The entries between them were removed.
     entries: Vec<K>,
     start: usize,
     end: usize,
@@ -40,7 +40,7 @@ impl<K: Entry> Model for Taking<K> {
 }
 
 impl<K: Entry> Taking<K> {
-    /// Starts to take entries of these, which stand in their order.
+    /// Starts the removal from these entries, which are in their order.
     pub(crate) fn new(entries: Vec<K>) -> Taking<K>
         requires { IsStrictlySortedBy K.cmp entries.items }
         ensures entries { result.in_order ≡ entries.items }
@@ -53,7 +53,7 @@ impl<K: Entry> Taking<K> {
         }
     }
 
-    /// Takes the entry that `probe` looks for, and says whether it was there.
+    /// Removes the entry that `probe` looks for, and returns whether it was there.
     pub fn take<P: Probe<K>>(&mut self, probe: P) -> bool
         ensures was_there { result ≡ contains (set_of K.cmp self.old) (P.entry probe) }
         ensures removed { set_of K.cmp self.new ≡ remove (set_of K.cmp self.old) (P.entry probe) }
@@ -69,7 +69,7 @@ impl<K: Entry> Taking<K> {
         is_there
     }
 
-    /// The set of the entries that are left.
+    /// The set of the remaining entries.
     pub fn into_set(self) -> SortedSet<K>
         ensures left { set_of K.cmp result ≡ set_of K.cmp self }
         ensures room { self.room ≤ result.room }
@@ -84,7 +84,7 @@ impl<K: Entry> Taking<K> {
     }
 }
 
-// Whether all entries, which stand in their order, stand before the one that `probe` looks for.
+// Whether all of these sorted entries are less than the one that `probe` looks for.
 fn are_before<K: Entry, P: Probe<K>>(entries: &[K], probe: P) -> bool
     requires { IsStrictlySortedBy K.cmp entries.now }
     ensures { IsTrue result ↔ AllWithin (λ y. K.cmp y (P.entry probe) ≡ Less) entries.now 0 (length entries.now) }
@@ -105,8 +105,8 @@ fn is_first<K: Entry, P: Probe<K>>(entries: &[K], probe: P) -> bool
     }
 }
 
-// Moves the gap from `start` to `end` in entries in order to where the entry that `probe` looks for stands or would
-// stand, and gives its new ends.
+// Moves the gap from `start` to `end` in sorted entries to the place of the entry that `probe` looks for, even if there
+// is none, and returns its new ends.
 fn move_gap<K: Entry, P: Probe<K>>(
     entries: &mut Vec<K>,
     start: usize,
@@ -130,8 +130,8 @@ fn move_gap<K: Entry, P: Probe<K>>(
     (at, at)
 }
 
-// Moves those entries that stand from `end` on and before the one that `probe` looks for to `start`, and
-// says how many they are.
+// Moves the entries from `end` on that are less than the one that `probe` looks for to `start`, and
+// returns how many they are.
 fn pass<K: Entry, P: Probe<K>>(entries: &mut Vec<K>, start: usize, end: usize, probe: P) -> usize
     requires gap { (start ≤ end) × (end ≤ vec_len entries.old) }
     requires below { AllWithin (λ y. K.cmp y (P.entry probe) ≡ Less) entries.old.items 0 start }

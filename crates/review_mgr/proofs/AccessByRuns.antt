@@ -17,7 +17,7 @@ use Rattle.admin_mgr.proofs.Verdicts.HeldLaws.{session_reached}
 use Rattle.review_mgr.specs.Questions.{has_operation}
 use Rattle.review_mgr.specs.Review.{permission_of, is_grant_of}
 
--- a role that is granted the permission is reached from what was activated
+-- an activated role equals or dominates a role that is granted the permission exactly if the session has access
 pub access_reached : (S : RbacState) → IsGood S → (session operation object : Bytes) →
     list_any (λ (grant : Triple). is_reached S.edges (run_of S.active session) grant.2) (filter (is_grant_of object operation) (members S.grants)) ≡ has_access S session operation object
 unfolding has_access any session_roles
@@ -54,7 +54,7 @@ pub any-members : (p : Pair → Bool) (pairs : Pairs) → list_any p (members pa
 unfolding any
 any-members p pairs = refl
 
--- ---- what is there where something is found
+-- ---- what is there if activated roles or grants are found
 
 -- the session of an activated role is there
 pub session_if_activated : (S : RbacState) → IsGood S → (session : Bytes) → not (length (run_of S.active session) == 0) ≡ true → has_session S session ≡ true

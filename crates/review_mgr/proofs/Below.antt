@@ -1,4 +1,4 @@
--- Roles with those below them, gathered as a list in order.
+-- Roles with their juniors, collected as a sorted list.
 use Rattle.std.proofs.Common.{◌≡◌, ℕ, ◌+◌, ◌<◌, ◌≤◌, inl, inr, Bool, ◌||◌, ◌≢◌, ◌↔◌, List, [], ◌∷◌, ◌++◌, length, take, get_or, refl, sym, ◌∙◌, ap, subst}
 use Rattle.std.specs.Prelude.{IsTrue, Result, Ok, Err, IfOk}
 use Rattle.std.specs.List.{list_any}
@@ -25,13 +25,13 @@ use Rattle.admin_mgr.proofs.Verdicts.HeldLaws.{authorized_reached, session_reach
 
 -- ---- a loop over a list
 
--- a test of some of the first items of a list, with one more
+-- whether some of the first items of a list pass a test, with one more item
 any-more : {A : Type 0} (p : A → Bool) (xs : List A) (i : ℕ) (x : A) → i < length xs → x ≡ get_or xs i x → list_any p (take (i + 1) xs) ≡ (p x || list_any p (take i xs))
 any-more p xs i x within is = ap (list_any p) (take_more xs i x within ∙ ap (λ y. take i xs ++ y ∷ []) (sym is)) ∙ any-push p (take i xs) x
 
--- ---- the names behind the pairs of a list are joined to those that are there
+-- ---- the second names of the pairs of a list are added to those that are there
 
--- the list has in order what was there and what stands behind the pairs
+-- the list has, in order, what was there and the second names of the pairs
 pub record Joins (start entries : List Bytes) (items : List Pair) : Type 0 where
   pub sorted : IsStrictlySortedBy name_cmp entries
   pub all : (q : Bytes) → contains (from_list {R = name_cmp} entries) q ≡ (list_any (λ (pair : Pair). same_name q pair.1) items || contains (from_list {R = name_cmp} start) q)
@@ -40,7 +40,7 @@ pub record Joins (start entries : List Bytes) (items : List Pair) : Type 0 where
 pub joins_start : (start : List Bytes) (items : List Pair) → IsStrictlySortedBy name_cmp start → Joins start start (take 0 items)
 joins_start start items sorted = record { sorted = sorted; all = λ q. refl }
 
--- with the name behind the next pair put, it is so with one pair more
+-- with the second name of the next pair inserted, it has those of one more pair
 pub joins_put : (start entries more : List Bytes) (items : List Pair) (i : ℕ) (x : Pair) → i < length items → x ≡ get_or items i x → Joins start entries (take i items)
     → IsStrictlySortedBy name_cmp more → from_list {R = name_cmp} more ≡ insert (from_list {R = name_cmp} entries) x.1 → Joins start more (take (i + 1) items)
 joins_put start entries more items i x within is old sorted put = record {
@@ -50,7 +50,7 @@ joins_put start entries more items i x within is old sorted put = record {
       ∙ ap (λ b. b || contains (from_list {R = name_cmp} start) q) (sym (any-more (λ (pair : Pair). same_name q pair.1) items i x within is));
 }
 
--- ---- a role and those below it
+-- ---- a role and its juniors
 
 -- the role, and the second names of its run in the closure
 pub below-are : (edges pairs : Pairs) → IsClosure edges pairs → (role q : Bytes) → (same_name q role || list_any (λ (pair : Pair). same_name q pair.1) (run_of pairs role)) ≡ geq edges role q
@@ -80,7 +80,7 @@ below-are edges pairs closed role q =
       ))
     ])
 
--- the role, and the roles above it
+-- the role, and its seniors
 pub above-are : (edges : Pairs) (above : Names) (role : Bytes) → ((p : Bytes) → IsTrue (contains above p) ↔ ((p ≢ role) × Geq edges p role))
     → (p : Bytes) → (same_name p role || contains above p) ≡ geq edges p role
 above-are edges above role are p = both_ways _ _
@@ -93,7 +93,7 @@ above-are edges above role are p = both_ways _ _
       | inr other ↦ or_right _ _ ((are p).1 (other, (geq-Decides edges p role).0 h))
     ])
 
--- with both put, what is there is what was there and what the role reaches
+-- with both inserted, the list has what was there, the role and its juniors
 pub joined-below : (edges pairs : Pairs) → IsClosure edges pairs → (role : Bytes) (before named entries : List Bytes) (items : List Pair) (i : ℕ)
     → from_list {R = name_cmp} named ≡ insert (from_list {R = name_cmp} before) role → items ≡ run_of pairs role → length items ≤ i → Joins named entries (take i items)
     → (q : Bytes) → contains (from_list {R = name_cmp} entries) q ≡ (geq edges role q || contains (from_list {R = name_cmp} before) q)
@@ -105,19 +105,19 @@ joined-below edges pairs closed role before named entries items i put run past a
     ∙ or_turned (list_any ends (run_of pairs role)) (same_name q role) (contains (from_list {R = name_cmp} before) q)
     ∙ sym (or_assoc (same_name q role) _ _) ∙ ap (λ b. b || contains (from_list {R = name_cmp} before) q) (below-are edges pairs closed role q)
 
--- ---- what is reached from the second names of pairs
+-- ---- the second names of pairs, and their juniors
 
--- the list has in order what is reached
+-- the list has these in order
 pub record Reaches (edges : Pairs) (items : List Pair) (entries : List Bytes) : Type 0 where
   pub sorted : IsStrictlySortedBy name_cmp entries
   pub all : (q : Bytes) → contains (from_list {R = name_cmp} entries) q ≡ is_reached edges items q
 
--- from no pair nothing is reached
+-- without pairs there are none
 pub reaches_start : (edges : Pairs) (items : List Pair) (entries : List Bytes) → entries ≡ [] → Reaches edges (take 0 items) entries
 unfolding IsStrictlySortedBy from_list
 reaches_start edges items entries none = subst (Reaches edges []) (sym none) (record { sorted = tt; all = λ q. contains-empty name_cmp q })
 
--- with the next role and those below it put, it is so with one pair more
+-- with the next role and its juniors inserted, it has those of one more pair
 pub reaches_put : (edges : Pairs) (entries more : List Bytes) (items : List Pair) (i : ℕ) (x : Pair) → i < length items → x ≡ get_or items i x → Reaches edges (take i items) entries
     → IsStrictlySortedBy name_cmp more → ((q : Bytes) → contains (from_list {R = name_cmp} more) q ≡ (geq edges x.1 q || contains (from_list {R = name_cmp} entries) q)) → Reaches edges (take (i + 1) items) more
 reaches_put edges entries more items i x within is old sorted put = record {
@@ -125,19 +125,19 @@ reaches_put edges entries more items i x within is old sorted put = record {
   all = λ q. put q ∙ ap (λ b. geq edges x.1 q || b) (old.all q) ∙ sym (any-more (λ (pair : Pair). geq edges pair.1 q) items i x within is);
 }
 
--- after the last of the pairs it is what is reached from them all
+-- after the last of the pairs it has those of all pairs
 pub reached-all : (edges : Pairs) (entries : List Bytes) (items : List Pair) (i : ℕ) → length items ≤ i → Reaches edges (take i items) entries
     → (q : Bytes) → contains (from_list {R = name_cmp} entries) q ≡ is_reached edges items q
 reached-all edges entries items i past all q = all.all q ∙ ap (λ ys. is_reached edges ys q) (take_whole i items past)
 
--- ---- what is reached in a state are roles
+-- ---- juniors of roles of a state are roles of the state
 
 -- edges lead from a role to roles
 leads_role : (S : RbacState) → IsWellFormed S → (a b : Bytes) → Geq S.edges a b → IsTrue (contains S.roles a) → IsTrue (contains S.roles b)
 leads_role S well_formed a b here is_role = is_role
 leads_role S well_formed a b (step {b = next} edge rest) is_role = leads_role S well_formed next b rest (well_formed.edges a next edge).1
 
--- what is reached from roles is a role
+-- roles of the state and their juniors are roles of the state
 reached_role : (S : RbacState) → IsWellFormed S → (pairs : Pairs) (first : Bytes) → ((role : Bytes) → IsTrue (contains pairs (first, role)) → IsTrue (contains S.roles role))
     → (role : Bytes) → IsTrue (is_reached S.edges (run_of pairs first) role) → IsTrue (contains S.roles role)
 unfolding any
@@ -150,7 +150,7 @@ reached_role S well_formed pairs first are_roles role h =
     leads_role S well_formed found.0.1 role ((geq-Decides S.edges found.0.1 role).0 found.2)
     (are_roles found.0.1 (subst (λ a. IsTrue (contains pairs (a, found.0.1))) same parts.0))
 
--- the list in order of what is reached has the roles that pass, where these are the same
+-- the sorted list has the roles of the state that pass a test, if its entries are the names that pass
 listed-roles : (S : RbacState) (entries : List Bytes) (held test : Bytes → Bool) → IsStrictlySortedBy name_cmp entries → ((q : Bytes) → contains (from_list {R = name_cmp} entries) q ≡ held q)
     → ((q : Bytes) → test q ≡ held q) → ((q : Bytes) → IsTrue (held q) → IsTrue (contains S.roles q)) → entries ≡ members (retain S.roles test)
 listed-roles S entries held test sorted all same are_roles =
@@ -162,7 +162,7 @@ listed-roles S entries held test sorted all same are_roles =
       λ h. all q ∙ sym (same q) ∙ (and_parts _ _ (sym (contains-retain name_total name_exact S.roles test q) ∙ h)).1,
     )))
 
--- what is reached from a user's assignments are its authorized roles
+-- the roles that a user is assigned and their juniors are its authorized roles
 pub authorized_roles-listed : (S : RbacState) → IsGood S → (user : Bytes) (entries : List Bytes) → IsStrictlySortedBy name_cmp entries
     → ((q : Bytes) → contains (from_list {R = name_cmp} entries) q ≡ is_reached S.edges (run_of S.assignments user) q) → entries ≡ members (authorized_roles S user)
 unfolding authorized_roles
@@ -170,7 +170,7 @@ authorized_roles-listed S good user entries sorted all =
     listed-roles S entries (is_reached S.edges (run_of S.assignments user)) (is_authorized S user) sorted all (authorized_reached S user)
     (reached_role S good.well_formed S.assignments user (λ role h. (good.well_formed.assignments user role h).1))
 
--- what is reached from what was activated are the roles of the session
+-- the roles that were activated in a session and their juniors are the roles of the session
 pub session_roles-listed : (S : RbacState) → IsGood S → (session : Bytes) (entries : List Bytes) → IsStrictlySortedBy name_cmp entries
     → ((q : Bytes) → contains (from_list {R = name_cmp} entries) q ≡ is_reached S.edges (run_of S.active session) q) → entries ≡ members (session_roles S session)
 unfolding session_roles

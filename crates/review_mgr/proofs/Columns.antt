@@ -41,7 +41,7 @@ lines-more S roles i role within is =
 
 -- ---- a start of the report
 
--- what was written so far, and a start of what is written next that is not the whole, are a start of the report that is not the whole
+-- what was written so far and a proper start of what is written next are a proper start of the report
 pub begun : (old between new : Option (List ℕ)) (whole so_far next after : List ℕ) → Appends old between so_far → (part rest : List ℕ) × (next ≡ part ++ rest) × (1 ≤ length rest) × Appends between new part
     → whole ≡ so_far ++ (next ++ after) → (part rest : List ℕ) × (whole ≡ part ++ rest) × (1 ≤ length rest) × Appends old new part
 begun old between new whole so_far next after written (part, rest, is, some, more) all = (
@@ -69,7 +69,7 @@ pub report-whole : (S : RbacState) (roles : List Bytes) (i : ℕ) → roles ≡ 
 unfolding report
 report-whole S roles i all past = ap (λ l. heading ++ lines_of S l) (take_whole i roles past ∙ all)
 
--- the report has a byte at least
+-- the report has at least one byte
 pub report-some : (S : RbacState) → 1 ≤ length (report S)
 unfolding report
 report-some S = omega (arith, length-append heading (lines_of S (members S.roles)))
@@ -94,7 +94,7 @@ pub on_err : {X E : Type 0} (P : Type 0) (r : Result X E) → P → OnErr r P
 on_err P (Ok x) h = tt
 on_err P (Err e) h = h
 
--- ---- a number at the right of twelve places is what `{:>12}` writes
+-- ---- a number, right-aligned in twelve places, is what `{:>12}` writes
 
 spaces : (n : ℕ) → repeat {A = ℕ} n (32 ∷ []) ≡ replicate n 32
 spaces zero = refl

@@ -1,4 +1,4 @@
--- How many members of a set a function gives, counted by runs of the set, and by numbers of its members.
+-- How many values a function has at the members of a set, counted by runs of the set, and by numbers of its members.
 use Rattle.std.proofs.Common.{◌≡◌, ℕ, Bool, true, false, ◌&&◌, map, refl, sym, ◌∙◌, ap, subst}
 use Rattle.std.specs.Prelude.{IsTrue, count_by}
 use Rattle.std.specs.List.{list_any, filter}
@@ -43,7 +43,7 @@ module _ {K J : Type 0} {R : K → K → Ordering} {Q : J → J → Ordering} (t
   abbrev has : J → Bool
   has g = any p (retain s (gives g))
 
-  -- f gives at the members that pass as many as there are for which one passes
+  -- the number of values of f at the members that pass is the number of groups with a member that passes
   len-image : len (image {Q = Q} f (retain s p)) ≡ count has groups
   len-image = sym (count-len totals exacts has groups ∙ ap len (same_members totals exacts (retain groups has) (image {Q = Q} f (retain s p)) (λ g. (
     λ h.
@@ -69,7 +69,7 @@ module _ {K J : Type 0} {R : K → K → Ordering} {Q : J → J → Ordering} (t
         ∙ ap (list_any (λ x. test (number x))) (sym (members-retain total exact s (gives g)))
         ∙ any-agree total exact (retain s (gives g)) (λ x. test (number x)) p (λ x member. agree x (and_parts _ _ (sym (contains-retain total exact s (gives g) x) ∙ member)).0)
 
-    -- and as many as there are with a number that passes among those of its run
+    -- and the number of groups whose runs have a number that passes
     pub count-runs : count_by (list_any test) (map (λ g. map number (filter (gives g) (members s))) (members groups)) ≡ len (image {Q = Q} f (retain s p))
     unfolding count
     count-runs =

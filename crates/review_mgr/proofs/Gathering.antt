@@ -1,4 +1,4 @@
--- What a loop gathers: what a function gives at the items that pass a test, as a list in order.
+-- What a loop collects: the values of a function at the items that pass a test, as a sorted list.
 use Rattle.std.proofs.Common.{◌≡◌, ℕ, ◌+◌, ◌<◌, ◌≤◌, Bool, true, false, cond, List, [], ◌∷◌, ◌++◌, length, map, take, get_or, refl, sym, ◌∙◌, ap, subst, inl, inr}
 use Rattle.std.specs.Prelude.{IsTrue}
 use Rattle.std.specs.List as lists
@@ -16,12 +16,12 @@ use Rattle.rbac_sets.proofs.SetLaws.{gathered_push, gathered-image, from_members
 use Rattle.rbac_sets.proofs.InOrder.{members-sorted, sorted-insert, from_list-insert, contains-found}
 use Rattle.rbac_sets.proofs.Runs.{take_whole}
 
--- the list has in order what f gives at the items that pass
+-- the list has, in order, the values of f at the items that pass
 pub record Gathers {K J : Type 0} (Q : J → J → Ordering) (p : K → Bool) (f : K → J) (items : List K) (entries : List J) : Type 0 where
   pub sorted : IsStrictlySortedBy Q entries
   pub all : from_list {R = Q} entries ≡ from_list {R = Q} (map f (filter p items))
 
--- nothing is in order
+-- the empty list is in order
 pub sorted_start : {J : Type 0} (Q : J → J → Ordering) (entries : List J) → entries ≡ [] → IsStrictlySortedBy Q entries
 unfolding IsStrictlySortedBy
 sorted_start Q entries none = subst (IsStrictlySortedBy Q) (sym none) tt
@@ -36,7 +36,7 @@ module _ {K J : Type 0} {R : K → K → Ordering} {Q : J → J → Ordering} (t
         ap (λ ys. from_list {R = Q} (map f (filter p ys))) (take_more items i x within ∙ ap (λ y. take i items ++ y ∷ []) (sym is))
         ∙ gathered_push total exact totals exacts p f (take i items) x
 
-    -- an item that passes is put
+    -- an item that passes is inserted
     pub gathers_put : (entries more : List J) → Gathers Q p f (take i items) entries → p x ≡ true → IsStrictlySortedBy Q more → from_list {R = Q} more ≡ insert (from_list {R = Q} entries) (f x)
         → Gathers Q p f (take (i + 1) items) more
     gathers_put entries more old passes sorted put = record {
@@ -44,29 +44,29 @@ module _ {K J : Type 0} {R : K → K → Ordering} {Q : J → J → Ordering} (t
       all = put ∙ ap (λ s. insert s (f x)) old.all ∙ sym (one_more ∙ ap (λ b. cond b (insert (from_list {R = Q} (map f (filter p (take i items)))) (f x)) (from_list {R = Q} (map f (filter p (take i items))))) passes);
     }
 
-    -- one that does not pass is passed over
+    -- one that does not pass is skipped
     pub gathers_skip : (entries : List J) → Gathers Q p f (take i items) entries → p x ≡ false → Gathers Q p f (take (i + 1) items) entries
     gathers_skip entries old fails = record {
       sorted = old.sorted;
       all = old.all ∙ sym (one_more ∙ ap (λ b. cond b (insert (from_list {R = Q} (map f (filter p (take i items)))) (f x)) (from_list {R = Q} (map f (filter p (take i items))))) fails);
     }
 
-  -- at the end it is the image in order
+  -- at the end it is the image, in order
   pub gathered-members : (s : FinSet R) (items : List K) (i : ℕ) (entries : List J) → items ≡ members s → length items ≤ i → Gathers Q p f (take i items) entries → entries ≡ members (image {Q = Q} f (retain s p))
   gathered-members s items i entries is past all =
       sym (members-sorted totals entries all.sorted)
       ∙ ap members (all.all ∙ ap (λ ys. from_list {R = Q} (map f (filter p ys))) (take_whole i items past ∙ is)
       ∙ gathered-image total exact totals exacts p f (members s) ∙ ap (λ t. image {Q = Q} f (retain t p)) (from_members total exact s))
 
--- ---- where each item passes
+-- ---- each item passes
 
 pub retain-always : {K : Type 0} {R : K → K → Ordering} (total : IsTotalOrder R) (exact : IsAntisymmetric R) (s : FinSet R) → retain s (λ (x : K). true) ≡ s
 retain-always total exact s = retain-all total exact s (λ x. true) (λ x h. refl)
 
--- ---- an entry is put where it stands in order, unless it is there
+-- ---- an entry is inserted at its place in the order, unless it is there
 
 module _ {K : Type 0} {R : K → K → Ordering} (total : IsTotalOrder R) (exact : IsAntisymmetric R) where
-  -- to put what is there changes nothing
+  -- inserting what is there changes nothing
   pub insert-there : (s : FinSet R) (x : K) → contains s x ≡ true → s ≡ insert s x
   insert-there s x here = same_members total exact s (insert s x) (λ y. (
     λ h. contains-insert total s x y ∙ or_right _ _ h,

@@ -1,4 +1,4 @@
--- What the numbers of the roles tell of them.
+-- The counts of the report, by the numbers of the roles.
 use Rattle.std.proofs.Common.{◌≡◌, ℕ, ◌+◌, Bool, false, cond, List, [], length, get_or, map, refl, sym, ◌∙◌, ap, subst, inl, inr}
 use Rattle.std.specs.Prelude.{IsTrue, count_by}
 use Rattle.std.specs.List.{list_any}
@@ -21,14 +21,14 @@ use Rattle.order_table.proofs.Roles.{number, placed}
 use Rattle.review_mgr.specs.Numbering.{assigned_runs, granted_runs, grant_numbers}
 use Rattle.review_mgr.proofs.Counts.{count-numbers, count-runs}
 
--- ---- the table and the numbers of roles
+-- ---- the matrix and the numbers of roles
 
 one_senior_more : (edges : Pairs) (role : Bytes) → len (insert (seniors edges role) role) ≡ len (seniors edges role) + 1
 unfolding len insert contains
 one_senior_more edges role = finmap.len-insert name_total (seniors edges role) role tt ∙ ap (λ b. cond b (len (seniors edges role)) (len (seniors edges role) + 1)) (not_own_senior edges role)
 
 module _ (roles : Names) where
-  -- the roles above one and the role itself, counted in the table
+  -- the seniors of a role and the role itself, counted in the matrix
   pub count_above-seniors : (edges : Pairs) (table : Table) → table ≡ table_of edges (members roles) → ((a b : Bytes) → HasPair edges a b → IsTrue (contains roles a))
       → (role : Bytes) → IsTrue (contains roles role) → count_above table (number roles role) ≡ len (seniors edges role) + 1
   unfolding count
@@ -55,7 +55,7 @@ module _ (roles : Names) where
       )))
       ∙ one_senior_more edges role
 
--- the roles below one, by the pairs of the closure that begin with it
+-- the juniors of a role, by the pairs of the closure that begin with it
 pub length-juniors : (edges pairs : Pairs) → IsClosure edges pairs → (role : Bytes) → length (run_of pairs role) ≡ len (juniors edges role)
 length-juniors edges pairs closed role =
     run-count pairs role ∙ ap len (juniors-same edges role (seconds pairs role) (λ q. (

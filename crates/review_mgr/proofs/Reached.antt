@@ -1,4 +1,4 @@
--- What users and sessions have, by the runs of what they hold.
+-- The permissions of users and sessions, by the runs of their assigned and activated roles.
 use Rattle.std.proofs.Common.{◌≡◌, Bool, List, sym, ◌∙◌, ap}
 use Rattle.std.proofs.lemmas.Bool.{and_parts, and_from}
 use Rattle.rbac_sets.specs.Sets.{Bytes, Pair, Pairs, Triple, Triples, name_cmp, pair_cmp, same_name, contains, retain, image, seconds}
@@ -13,7 +13,7 @@ use Rattle.admin_mgr.specs.Held.{run_of, is_reached}
 use Rattle.admin_mgr.proofs.Verdicts.HeldLaws.{session_reached}
 use Rattle.review_mgr.specs.Review.{permission_of, assigned_roles, user_permissions, session_permissions}
 
--- what is granted to a role that is reached from these pairs
+-- the permissions that are granted to the role of one of these pairs or to a junior of one
 abbrev pub reached_permissions : RbacState → List Pair → Pairs
 reached_permissions S held = image permission_of (retain S.grants (λ (grant : Triple). is_reached S.edges held grant.2))
 
@@ -21,7 +21,7 @@ pub user_permissions-reached : (S : RbacState) (user : Bytes) → reached_permis
 unfolding user_permissions assigned_roles
 user_permissions-reached S user = sym (λ i. image permission_of (retain S.grants (λ (grant : Triple). any_seconds (λ role. geq S.edges role grant.2) S.assignments user i)))
 
--- a role with a grant is a role, so that it is one of the session's where it is reached
+-- a granted role is a role of the state, so that it is one of the session's if an activated role equals or dominates it
 pub session_permissions-reached : (S : RbacState) → IsGood S → (session : Bytes) → reached_permissions S (run_of S.active session) ≡ session_permissions S session
 unfolding session_permissions session_roles
 session_permissions-reached S good session =
@@ -43,7 +43,7 @@ session_permissions-reached S good session =
 
 -- ---- the operations on one object
 
--- those of the grants of the object are those behind it in the permissions
+-- the operations of the grants of the object are those of its permissions
 pub seconds-permissions : (grants : Triples) (test : Triple → Bool) (object : Bytes) →
     image {Q = name_cmp} (λ (grant : Triple). grant.1) (retain (retain grants (λ grant. same_name grant.0 object)) test) ≡ seconds (image permission_of (retain grants test)) object
 seconds-permissions grants test object =

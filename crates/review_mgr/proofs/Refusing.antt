@@ -9,7 +9,7 @@ use Rattle.review_mgr.specs.QuestionLaws.{refuses_questions, RefusalsOfQuestions
 use Rattle.review_mgr.specs.declared.query.Query.{Query}
 use Rattle.review_mgr.specs.declared.query.Query.TheVariants.{CheckAccess, AssignedUsers, AssignedRoles, AuthorizedUsers, AuthorizedRoles, RolePermissions, UserPermissions, SessionRoles, SessionPermissions, RoleOperationsOnObject, UserOperationsOnObject, SsdRoleSets, SsdRoleSetRoles, SsdRoleSetCardinality, DsdRoleSets, DsdRoleSetRoles, DsdRoleSetCardinality, PermissionRoles}
 
--- none, or one that a question may be refused by
+-- none, or one that a question may be refused with
 abbrev MayBeTold : Option Refusal → Type 0
 MayBeTold None = Unit {0}
 MayBeTold (Some refusal) = refuses_questions refusal ≡ true

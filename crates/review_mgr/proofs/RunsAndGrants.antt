@@ -1,4 +1,4 @@
--- A run of pairs and the grants of a permission, gone through at once.
+-- A walk through a run of pairs and the grants of a permission at once.
 use Rattle.std.proofs.Common.{◌≡◌, ℕ, zero, suc, ◌+◌, ◌-◌, ◌<◌, ◌≤◌, Bool, true, false, ◌||◌, cond, List, [], ◌∷◌, length, drop, get_or, true≢false, refl, sym, ◌∙◌, ap, subst, arith}
 use Rattle.std.specs.List.{list_any, All, AllByRecursion, AllWithin, filter}
 use Rattle.std.specs.List.Sorted.{IsStrictlySortedBy}
@@ -19,7 +19,7 @@ use Rattle.review_mgr.specs.Meeting.{third_cmp, may_have, meets}
 use Rattle.review_mgr.specs.Review.{permission_of, is_grant_of}
 use Rattle.review_mgr.proofs.Below.{below-are}
 
--- ---- what lies below all of the others is passed
+-- ---- what is less than all of the others is skipped
 
 other : (a b : Bytes) → name_cmp a b ≡ Less → same_name b a ≡ false
 other a b less = ap is_eq (name_total.antisymm b a ∙ ap ordering_reverse less)
@@ -43,7 +43,7 @@ below_pairs : (a b : Bytes) (ps : List Pair) → name_cmp a b ≡ Less → AllBy
 below_pairs a b [] less all = tt
 below_pairs a b (q ∷ ps) less all = (name_total.trans a b q.1 less all.0, below_pairs a b ps less all.1)
 
--- the pairs up to one below the first grant
+-- the pairs up to one that is less than the first grant
 pass_pairs : (k : ℕ) (ps : List Pair) (g : Triple) (gs : List Triple) (d : Pair) → IsStrictlySortedBy second_cmp ps → AllByRecursion (λ (h : Triple). name_cmp g.2 h.2 ≡ Less) gs
     → k < length ps → name_cmp (get_or ps k d).1 g.2 ≡ Less → meets ps (g ∷ gs) ≡ meets (drop (suc k) ps) (g ∷ gs)
 unfolding IsStrictlySortedBy
@@ -53,7 +53,7 @@ pass_pairs (suc k) (p ∷ ps) g gs d rise all within less =
     let first : name_cmp p.1 g.2 ≡ Less = name_total.trans p.1 (get_or ps k d).1 g.2 (Less-from_sorted second_cmp (p ∷ ps) 0 (suc k) d rise (omega arith) within) less in
     drop_pair p ps (g ∷ gs) (first, below_all p.1 g.2 gs first all) ∙ pass_pairs k ps g gs d rise.1 all (omega arith) less
 
--- the grants up to one below the first pair
+-- the grants up to one that is less than the first pair
 pass_grants : (k : ℕ) (p : Pair) (ps : List Pair) (gs : List Triple) (d : Triple) → IsStrictlySortedBy third_cmp gs → AllByRecursion (λ (q : Pair). name_cmp p.1 q.1 ≡ Less) ps
     → k < length gs → name_cmp (get_or gs k d).2 p.1 ≡ Less → meets (p ∷ ps) gs ≡ meets (p ∷ ps) (drop (suc k) gs)
 unfolding IsStrictlySortedBy
@@ -71,7 +71,7 @@ rises-drop R zero xs rise = rise
 rises-drop R (suc n) [] rise = tt
 rises-drop R (suc n) (x ∷ xs) rise = rises-drop R n xs rise.1
 
--- what is left at a place in order lies above its first
+-- the rest of a sorted list behind a place is greater than the element there
 above_first : {K : Type 0} (R : K → K → Ordering) (n : ℕ) (xs : List K) (d : K) → IsStrictlySortedBy R xs → n < length xs → AllByRecursion (λ y. R (get_or xs n d) y ≡ Less) (drop (n + 1) xs)
 unfolding IsStrictlySortedBy
 above_first R n xs d rise within = (subst (IsStrictlySortedBy R) (drop_more xs n d within) (rises-drop R n xs rise)).0
@@ -104,7 +104,7 @@ meets_past_grants pairs grants at next past p d rise rising on within there less
     ∙ pass_grants k first (drop (at + 1) pairs) (drop next grants) d (rises-drop third_cmp next grants rising) (above_first second_cmp at pairs p rise there) (omega (arith, length-drop next grants)) below
     ∙ (λ i. meets (sym rest i) ((drop-drop (suc k) next grants ∙ ap (λ n. drop n grants) end) i))
 
--- the next of both have one name
+-- the next elements of both have the same name
 pub meets_here : (pairs : List Pair) (grants : List Triple) (at next : ℕ) (p : Pair) (g : Triple) → at < length pairs → next < length grants
     → name_cmp (get_or pairs at p).1 (get_or grants next g).2 ≡ Equal → meets (drop at pairs) (drop next grants) ≡ true
 meets_here pairs grants at next p g there here tie =
@@ -118,16 +118,16 @@ no_pairs : (grants : List Triple) → meets [] grants ≡ false
 no_pairs [] = refl
 no_pairs (g ∷ grants) = no_pairs grants
 
--- one of both is used up
+-- one of the two is exhausted
 pub meets_no_more : (pairs : List Pair) (grants : List Triple) (at next : ℕ) → length pairs ≤ at → meets (drop at pairs) (drop next grants) ≡ false
 meets_no_more pairs grants at next past = ap (λ ps. meets ps (drop next grants)) (drop_all at pairs past) ∙ no_pairs (drop next grants)
 
 pub meets_nothing : (pairs : List Pair) (grants : List Triple) (at next : ℕ) → length grants ≤ next → meets (drop at pairs) (drop next grants) ≡ false
 meets_nothing pairs grants at next past = ap (meets (drop at pairs)) (drop_all next grants past)
 
--- ---- what has none of the fingerprints is passed
+-- ---- what has none of the fingerprints is skipped
 
--- a role that may not be one of those with these fingerprints is none of them
+-- a role that can't be one of those with these fingerprints is none of them
 apart_of : (flags : List Bool) (role other : Bytes) → may_have flags role ≡ true → may_have flags other ≡ false → (b : Bool) → same_name role other ≡ b → b ≡ false
 apart_of flags role other may may_not false same = refl
 apart_of flags role other may may_not true same =
@@ -140,7 +140,7 @@ drop_unseen flags p ps (h ∷ gs) all none =
     let rest : All (λ (g : Triple). may_have flags g.2 ≡ true) gs = λ k d less. all (suc k) d (omega arith) in
     λ i. (apart_of flags h.2 p.1 (all 0 h (omega arith)) none _ refl i || list_any (λ (q : Pair). same_name h.2 q.1) ps) || drop_unseen flags p ps gs rest none i
 
--- the first so many pairs
+-- the first k pairs
 pass_unseen : (flags : List Bool) (k : ℕ) (ps : List Pair) (gs : List Triple) → All (λ (h : Triple). may_have flags h.2 ≡ true) gs
     → ((j : ℕ) (d : Pair) → j < k → may_have flags (get_or ps j d).1 ≡ false) → k ≤ length ps → meets ps gs ≡ meets (drop k ps) gs
 pass_unseen flags zero ps gs all none within = refl
@@ -160,7 +160,7 @@ meets_past_unseen flags pairs grants at next past all none on within there =
     λ j d less. ap (λ (p : Pair). may_have flags p.1) (get_or-drop at pairs j d) ∙ none (at + j) d (omega arith) (omega arith) in
     pass_unseen flags k (drop at pairs) (drop next grants) rest passed (omega (arith, length-drop at pairs)) ∙ (λ i. meets ((drop-drop k at pairs ∙ ap (λ n. drop n pairs) end) i) (drop next grants))
 
--- ---- by the runs of what is held
+-- ---- by the runs of the activated roles
 
 any-same : {A : Type 0} (p q : A → Bool) (xs : List A) → ((x : A) → p x ≡ q x) → list_any p xs ≡ list_any q xs
 any-same p q [] same = refl
@@ -184,7 +184,7 @@ any-swap : {A B : Type 0} (p : A → B → Bool) (xs : List A) (ys : List B) →
 any-swap p [] ys = sym (any-false ys)
 any-swap p (x ∷ xs) ys = ap (λ b. list_any (p x) ys || b) (any-swap p xs ys) ∙ sym (any-or (p x) (λ y. list_any (λ z. p z y) xs) ys)
 
--- the roles that are held, and the runs of each in the closure
+-- the activated roles, and the run of each in the closure
 pub meets_reached : (edges pairs : Pairs) → IsClosure edges pairs → (held : List Pair) (grants : List Triple)
     → (meets held grants || list_any (λ (pair : Pair). meets (run_of pairs pair.1) grants) held) ≡ list_any (λ (grant : Triple). is_reached edges held grant.2) grants
 meets_reached edges pairs closed held grants =

@@ -1,4 +1,4 @@
--- What is answered to a question that isn't refused.
+-- The answer to a question that isn't refused.
 use Rattle.std.specs.Prelude.{ℕ, Bool, List, Option, Some}
 use Rattle.rbac_sets.specs.Sets.{Bytes, Names, Pair, Pairs, members}
 use Rattle.admin_mgr.specs.RbacState.{RbacState, members_of, cardinality_of}
@@ -9,14 +9,14 @@ use Rattle.review_mgr.specs.declared.query.Query.TheVariants.{CheckAccess, Assig
 use Rattle.review_mgr.specs.declared.query.Answer.{Answer}
 use Rattle.review_mgr.specs.declared.query.Answer.TheVariants as answers
 
--- an answer without where it lies in memory
+-- an answer, regardless of its place in memory
 pub data Told : Type 0 where
   NamesTold : List Bytes → Told
   PermissionsTold : List Pair → Told
   CountTold : Option ℕ → Told
   AccessTold : Bool → Told
 
--- what an answer tells
+-- the content of an answer
 abbrev pub told : Answer → Told
 told (answers.Names names) = NamesTold names.items
 told (answers.Permissions permissions) = PermissionsTold permissions.items
@@ -30,7 +30,7 @@ names_told names = NamesTold (members names)
 abbrev pub permissions_told : Pairs → Told
 permissions_told permissions = PermissionsTold (members permissions)
 
--- the value of each question
+-- the content of the answer to each question
 unfoldable pub value : RbacState → Query → Told
 value S (CheckAccess session operation object) = AccessTold (has_access S session operation object)
 value S (AssignedUsers role) = names_told (assigned_users S role)

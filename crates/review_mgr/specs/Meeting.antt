@@ -13,6 +13,6 @@ third_cmp p q = name_cmp p.2 q.2
 abbrev pub meets : List Pair → List Triple → Bool
 meets pairs grants = list_any (λ (grant : Triple). list_any (λ (pair : Pair). same_name grant.2 pair.1) pairs) grants
 
--- whether a role may be one of those whose fingerprints have a flag that is true: it isn't where its own fingerprint has one that is false
+-- whether a role may be one of those whose fingerprints are flagged: it isn't if the flag of its own fingerprint is false
 abbrev pub may_have : List Bool → Bytes → Bool
 may_have flags role = get_or flags (fingerprint role) true

@@ -20,7 +20,7 @@ granted_runs roles permissions grants =
 abbrev pub grant_numbers : Names → Triples → List ℕ
 grant_numbers roles grants = map (λ (grant : Triple). number_in (members roles) grant.2) (members grants)
 
--- the numbers are those of the state, and the table tells the order of its roles
+-- the numbers are those of the state, and the matrix is that of its roles
 pub record IsNumbering (S : RbacState) (numbers : Numbers) : Type 0 where
   pub table : numbers.table ≡ table_of S.edges (members S.roles)
   pub assigned : map (λ run. run.items) numbers.assigned.items ≡ assigned_runs S.roles S.users S.assignments

@@ -6,7 +6,7 @@ use Rattle.admin_mgr.specs.RbacState.{RbacState}
 use Rattle.review_mgr.specs.Questions.{refused}
 use Rattle.review_mgr.specs.declared.query.Query.{Query}
 
--- a question may be refused so: something that it names isn't there
+-- whether the refusal is one of those of questions: something that the question names isn't there
 abbrev pub refuses_questions : Refusal → Bool
 refuses_questions NoUser = true
 refuses_questions NoRole = true
@@ -17,6 +17,6 @@ refuses_questions NoSet = true
 refuses_questions NoSession = true
 refuses_questions _ = false
 
--- no question is refused by anything else
+-- no question is refused with another refusal
 abbrev pub RefusalsOfQuestions : Type 0
 RefusalsOfQuestions = (S : RbacState) (query : Query) (refusal : Refusal) → refused S query ≡ Some refusal → refuses_questions refusal ≡ true

@@ -13,11 +13,11 @@ use Rattle.review_mgr.specs.declared.query.Query.TheVariants.{CheckAccess, Assig
 abbrev pub has_operation : RbacState → Bytes → Bool
 has_operation S operation = any (λ (permission : Pair). same_name permission.1 operation) S.permissions
 
--- refused where no permission has the operation
+-- refused if no permission has the operation
 abbrev pub wants_operation : RbacState → Bytes → Option Refusal
 wants_operation S operation = refuse_unless (has_operation S operation) NoOperation
 
--- refused where there is no separation of duty set of this name
+-- refused if there is no separation of duty set of this name
 abbrev pub wants_set : Separation → Bytes → Option Refusal
 wants_set separation name = refuse_unless (has_set separation name) NoSet
 
@@ -42,6 +42,6 @@ refusals S (DsdRoleSetRoles name) = wants_set S.dsd name ∷ []
 refusals S (DsdRoleSetCardinality name) = wants_set S.dsd name ∷ []
 refusals S (PermissionRoles object operation) = wants_object S object ∷ wants_permission S object operation ∷ []
 
--- the first refusal that holds; with none the question is answered
+-- the first refusal that applies; if there is none, the question is answered
 unfoldable pub refused : RbacState → Query → Option Refusal
 refused S query = first (refusals S query)

@@ -7,11 +7,11 @@ use Rattle.admin_mgr.specs.RbacState.{RbacState}
 use Rattle.admin_mgr.specs.Authorization.{authorized_users, authorized_permissions}
 use Rattle.review_mgr.specs.Review.{assigned_users}
 
--- a number at the right of twelve places
+-- a number, right-aligned in twelve places
 abbrev pub column : ℕ → List ℕ
 column number = replicate (12 - length (decimal number)) 32 ++ decimal number
 
--- the columns of numbers, one behind another
+-- the columns of numbers, one after another
 abbrev pub columns : List ℕ → List ℕ
 columns [] = []
 columns (number ∷ numbers) = column number ++ columns numbers
@@ -20,7 +20,7 @@ columns (number ∷ numbers) = column number ++ columns numbers
 abbrev pub counts_of : List ℕ → Bytes → List ℕ
 counts_of numbers name = columns numbers ++ (codes "  " ++ (name ++ codes "\n"))
 
--- how many assigned users, authorized users, directly granted permissions, permissions, descendants and ascendants a role has
+-- how many assigned users, authorized users, directly granted permissions, permissions, juniors and seniors a role has
 unfoldable pub line_of : RbacState → Bytes → List ℕ
 line_of S role = counts_of (
     len (assigned_users S role)

@@ -1,4 +1,4 @@
--- What the review functions of the standard give, in sets.
+-- The values of the review functions of the standard, as sets.
 use Rattle.std.specs.Prelude.{Bool}
 use Rattle.std.specs.Ordering.{eq_by_cmp}
 use Rattle.rbac_sets.specs.Sets.{Bytes, Names, Pair, Pairs, Triple, Cardinality, pair_cmp, any, contains, firsts, image, retain, seconds}
@@ -23,11 +23,11 @@ module _ (S : RbacState) where
   unfoldable pub assigned_roles : Bytes → Names
   assigned_roles user = seconds S.assignments user
 
-  -- UserPermissions: what is granted to a role that is assigned to the user, or to a role below one
+  -- UserPermissions: the permissions that are granted to a role that is assigned to the user, or to a junior of one
   unfoldable pub user_permissions : Bytes → Pairs
   user_permissions user = image permission_of (retain S.grants (λ grant. any (λ role. geq S.edges role grant.2) (assigned_roles user)))
 
-  -- SessionPermissions: what is granted to a role of the session
+  -- SessionPermissions: the permissions that are granted to a role of the session
   unfoldable pub session_permissions : Bytes → Pairs
   session_permissions session = image permission_of (retain S.grants (λ grant. contains (session_roles S session) grant.2))
 

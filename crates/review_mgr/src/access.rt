@@ -13,19 +13,19 @@ use crate::meeting::is_granted;
 use admin_mgr::State;
 use rbac_sets::{Name, Refusal};
 
-/// CheckAccess: whether the session may do the operation on the object, which is so where the
-/// permission is granted to a role of the session: one that was activated in it, or a descendant of
-/// such a role.
+/// CheckAccess: whether the session may do the operation on the object. It may if the permission is
+/// granted to a role of the session: one that was activated in it, or a junior of such a role.
 ///
-/// It takes no memory. The activated roles of the session and the grants of the permission are found
-/// by binary search. One or two grants are then looked for below each of these roles; more of them are
-/// gone through once beside what lies below each. Where there are activated roles and grants, the
-/// session, the object and the operation are there; else these are looked for.
+/// It doesn't allocate. The activated roles of the session and the grants of the permission are found
+/// by binary search. One or two grants are then tested one by one against each of these roles; more
+/// of them are compared with the juniors of each in one pass through both. If there are activated
+/// roles and grants, the session, the object and the operation are there; otherwise these are looked
+/// up.
 ///
 /// # Errors
 ///
-/// The first of these that holds: `NoSession` where there is no such session, `NoObject` where there
-/// is no such object, `NoOperation` where no permission, of whatever object, has the operation.
+/// The first of these that applies: `NoSession` if there is no such session, `NoObject` if there is
+/// no such object, `NoOperation` if no permission, of any object, has the operation.
 #[tactic(auto, unfolding(crate::specs::Questions::refused, crate::specs::Questions::refusals))]
 pub fn check_access(
     state: &State,
@@ -58,7 +58,7 @@ fn granted_for<'a>(state: &'a State, operation: &Name, object: &Name) -> &'a [(N
     state.grants().with_first((object, operation))
 }
 
-// Whether there is such a session. It has a user where it has an activated role.
+// Whether there is such a session. A session with an activated role has a user.
 fn is_session(state: &State, session: &Name, activated: &[(Name, Name)]) -> bool
     requires { activated.now ≡ run_of state.now.facts.active session.now }
     ensures { result ≡ has_session state.now.facts session.now }
@@ -67,7 +67,7 @@ fn is_session(state: &State, session: &Name, activated: &[(Name, Name)]) -> bool
     !activated.is_empty() || has_session(state, session)
 }
 
-// Whether there is such an object. It is there where the permission is granted.
+// Whether there is such an object. It is there if the permission is granted.
 fn is_object(state: &State, operation: &Name, object: &Name, granted: &[(Name, Name, Name)]) -> bool
     requires { granted.now ≡ filter (is_grant_of object.now operation.now) (members state.now.facts.grants) }
     ensures { result ≡ contains state.now.facts.objects object.now }
@@ -76,7 +76,7 @@ fn is_object(state: &State, operation: &Name, object: &Name, granted: &[(Name, N
     !granted.is_empty() || state.objects().contains(object)
 }
 
-// Whether some permission has the operation. One has it where the permission is granted.
+// Whether some permission has the operation. One has it if the permission is granted.
 fn is_operation(
     state: &State,
     operation: &Name,
@@ -90,8 +90,8 @@ fn is_operation(
     !granted.is_empty() || has_operation(state, object, operation)
 }
 
-// Whether one of these grants of the permission is to a role that was activated in the session, or to
-// one below it.
+// Whether one of these grants of the permission is to a role that was activated in the session, or to a
+// junior of one.
 fn has_access(
     state: &State,
     session: &Name,

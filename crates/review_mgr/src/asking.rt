@@ -1,4 +1,4 @@
-//! Every question, answered by its function.
+//! The answer to any question, by the function for it.
 ghost use Rattle.std.specs.Prelude.{◌≡◌, ◌⊎◌, Some, None, OnOk, IfOk, IfErr};
 ghost use Rattle.review_mgr.specs.Answering.{told, value};
 ghost use Rattle.review_mgr.specs.Questions.{refused};
@@ -15,11 +15,11 @@ use admin_mgr::State;
 use rbac_sets::Refusal;
 use std::alloc::Global;
 
-/// The answer to a question, as the function that it names gives it.
+/// The answer to a question, as the function that it names returns it.
 ///
 /// # Errors
 ///
-/// Those of the function that the question names. `Memory` where memory for the answer was refused.
+/// Those of the function that the question names. `Memory` if allocation failed.
 #[tactic(auto, unfolding(crate::specs::Answering::value))]
 pub fn ask(alloc: Global, state: &State, query: &Query) -> Result<Answer, Refusal>
     ensures answered { OnOk result (refused state.now.facts query.now ≡ None) }

@@ -1,5 +1,5 @@
-//! Which fingerprints the roles of some grants have: a role whose fingerprint none of them has is none of
-//! these roles, which is told without a comparison of names.
+//! The fingerprints of the roles of some grants. A role with another fingerprint is none of these roles,
+//! which is decided without a comparison of names.
 ghost use Rattle.std.specs.Prelude.{◌≡◌, true};
 ghost use Rattle.std.specs.List.{All};
 ghost use Rattle.rbac_sets.specs.Sets.{Triple};
@@ -18,7 +18,7 @@ pub(crate) fn fingerprints_of(grants: &[(Name, Name, Name)]) -> [bool; FINGERPRI
     flags
 }
 
-// Whether the role may be one of those whose fingerprints these flags tell. Without flags, any may.
+// Whether the role may be one of those whose fingerprints are flagged. Without flags, any role may.
 pub(crate) fn may_have(flags: &[bool], role: &Name) -> bool
     ensures { result ≡ may_have flags.now role.now }
 {

@@ -1,4 +1,4 @@
-//! Lists in byte order, gathered from the sets of a state.
+//! Lists in byte order, collected from the sets of a state.
 ghost use Rattle.std.specs.Prelude.{◌≡◌, ◌||◌, Bool, IfOk, IfErr, OnOk};
 ghost use Rattle.std.specs.FinSet.{FinSet};
 ghost use Rattle.std.specs.Fn.{FnReturnsAt};
@@ -14,9 +14,9 @@ use rbac_sets::{CountSet, Entry, GrantSet, Name, PairSet, Probe, Refusal, place}
 use role_order::RoleOrder;
 use std::alloc::Global;
 
-// References to the parts of an entry, of which a copy can be made.
+// References to the parts of an entry, from which a copy of it can be made.
 trait Part<K: Entry>: Probe<K> {
-    // The entry of these parts, in memory of its own.
+    // The entry with these parts, in memory of its own.
     fn to_entry(self, alloc: Global) -> Result<K, Refusal>
         ensures ok { IfOk result (λ entry. entry ≡ Self.entry self) }
         ensures cause { IfErr result (λ refusal. refusal ≡ Refusal.Memory) };
@@ -34,7 +34,7 @@ impl Part<(Name, Name)> for (&Name, &Name) {
     }
 }
 
-// Puts a copy of an entry where it stands in order, unless it is there.
+// Inserts a copy of an entry at its place in the order, unless it is there.
 fn put<K: Entry, P: Part<K>>(alloc: Global, entries: &mut Vec<K>, part: P) -> Result<(), Refusal>
     requires { IsStrictlySortedBy K.cmp entries.old.items }
     ensures sorted { OnOk result (IsStrictlySortedBy K.cmp entries.new.items) }
@@ -47,7 +47,7 @@ fn put<K: Entry, P: Part<K>>(alloc: Global, entries: &mut Vec<K>, part: P) -> Re
     Ok(())
 }
 
-// What `part` gives of the items that pass the test, in order and each once.
+// The values of `part` at the items that pass the test, in order and each once.
 fn gather<'a, A: Entry, K: Entry, P: Part<K>, T: Fn(&A) -> bool, F: Fn(&'a A) -> P>(
     alloc: Global,
     items: &'a [A],
@@ -70,7 +70,7 @@ fn gather<'a, A: Entry, K: Entry, P: Part<K>, T: Fn(&A) -> bool, F: Fn(&'a A) ->
     Ok(entries)
 }
 
-// What `part` gives of the items, in order and each once.
+// The values of `part` at the items, in order and each once.
 fn gather_all<'a, A: Entry, K: Entry, P: Part<K>, F: Fn(&'a A) -> P>(
     alloc: Global,
     items: &'a [A],
@@ -113,7 +113,7 @@ pub(crate) fn names_of(alloc: Global, cardinalities: &CountSet) -> Result<Vec<Na
     gather_all(alloc, cardinalities.as_slice(), |entry| &entry.0)
 }
 
-// The users who are assigned the role or a role above it.
+// The users that are assigned to the role or to a senior of it.
 pub(crate) fn users_above(
     alloc: Global,
     order: &RoleOrder,
@@ -132,7 +132,7 @@ pub(crate) fn users_above(
     )
 }
 
-// Puts a role and those below it where they stand in byte order, those that are not there.
+// Inserts a role and its juniors at their places in byte order, unless they are there.
 fn put_below(
     alloc: Global,
     order: &RoleOrder,
@@ -151,7 +151,7 @@ fn put_below(
     Ok(())
 }
 
-// The role and those below it.
+// The role and its juniors.
 fn roles_below(alloc: Global, order: &RoleOrder, role: &Name) -> Result<Vec<Name>, Refusal>
     ensures sorted { IfOk result (λ names. IsStrictlySortedBy name_cmp names.items) }
     ensures below { IfOk result (λ names. (q : Bytes) → contains (from_list {R = name_cmp} names.items) q ≡ geq order.now.edges role.now q) }
@@ -162,7 +162,7 @@ fn roles_below(alloc: Global, order: &RoleOrder, role: &Name) -> Result<Vec<Name
     Ok(names)
 }
 
-// The roles that are reached from the second names of the pairs: these names and what is below them.
+// The second names of the pairs, and their juniors.
 pub(crate) fn roles_reached(
     alloc: Global,
     order: &RoleOrder,
@@ -179,7 +179,7 @@ pub(crate) fn roles_reached(
     Ok(names)
 }
 
-// Whether a name is one of these, which stand in byte order.
+// Whether a name is one of these, which are in byte order.
 fn has_name(names: &[Name], name: &Name) -> bool
     requires { IsStrictlySortedBy name_cmp names.now }
     ensures { result ≡ contains (from_list {R = name_cmp} names.now) name.now }
@@ -187,7 +187,7 @@ fn has_name(names: &[Name], name: &Name) -> bool
     place(names, name).is_ok()
 }
 
-// The permissions that are granted to the role or to one below it.
+// The permissions that are granted to the role or to a junior of it.
 pub(crate) fn permissions_below(
     alloc: Global,
     order: &RoleOrder,
@@ -206,7 +206,7 @@ pub(crate) fn permissions_below(
     )
 }
 
-// The permissions that are granted to a role which is reached from the second names of the pairs.
+// The permissions that are granted to the second name of a pair or to a junior of one.
 pub(crate) fn permissions_reached(
     alloc: Global,
     order: &RoleOrder,
@@ -225,7 +225,7 @@ pub(crate) fn permissions_reached(
     )
 }
 
-// The operations of the grants of the object to the role or to one below it.
+// The operations of the grants of the object to the role or to a junior of it.
 pub(crate) fn operations_below(
     alloc: Global,
     order: &RoleOrder,
@@ -245,8 +245,7 @@ pub(crate) fn operations_below(
     )
 }
 
-// The operations of the grants of the object to a role which is reached from the second names of the
-// pairs.
+// The operations of the grants of the object to the second name of a pair or to a junior of one.
 pub(crate) fn operations_reached(
     alloc: Global,
     order: &RoleOrder,

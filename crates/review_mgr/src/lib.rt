@@ -1,8 +1,8 @@
-//! What is asked of the office: access decisions, and the review functions of the standard.
+//! The questions to an office: access decisions, and the review functions of the standard.
 //!
-//! No question changes the state. A question about what isn't there is refused; else the answer is
-//! the set that the standard defines, as a list in byte order. The role report tells the numbers of
-//! each role.
+//! No question changes the state. A question about something that isn't there is refused; otherwise
+//! the answer is the set that the standard defines, as a list in byte order. The role report counts,
+//! for each role, its users, permissions, juniors and seniors.
 //!
 //! # Example
 //!

@@ -1,4 +1,4 @@
-//! What is there, and what is reached from a role.
+//! Lookups in a state.
 ghost use Rattle.std.specs.Prelude.{◌≡◌};
 ghost use Rattle.std.specs.List.{list_any};
 ghost use Rattle.rbac_sets.specs.Sets.{Pair, any, pair_cmp, same_name};
@@ -11,7 +11,7 @@ use admin_mgr::State;
 use rbac_sets::{Name, PairSet};
 use role_order::RoleOrder;
 
-// Whether the two names are one.
+// Whether the two names are equal.
 #[tactic(auto, using(rbac_sets::proofs::SetLaws::same_bytes))]
 pub(crate) fn is_same(a: &Name, b: &Name) -> bool
     ensures { result ≡ same_name a.now b.now }
@@ -57,7 +57,7 @@ pub(crate) fn has_second(pairs: &[(Name, Name)], second: &Name) -> bool
     pairs.iter().any(|pair| is_same(&pair.1, second))
 }
 
-// Whether some permission has the operation. The permission (object, operation) is looked for first.
+// Whether some permission has the operation. The permission (object, operation) is tried first.
 pub(crate) fn has_operation(state: &State, object: &Name, operation: &Name) -> bool
     ensures { result ≡ has_operation state.now.facts operation.now }
 {
@@ -79,7 +79,7 @@ pub(crate) fn activated_in<'a>(state: &'a State, session: &Name) -> &'a [(Name, 
     state.active().with_first(session)
 }
 
-// Whether the role is the second part of one of the pairs, or below it.
+// Whether the second part of one of the pairs equals or dominates the role.
 pub(crate) fn is_reached(order: &RoleOrder, held: &[(Name, Name)], role: &Name) -> bool
     ensures { result ≡ is_reached order.now.edges held.now role.now }
 {

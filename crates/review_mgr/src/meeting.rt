@@ -1,4 +1,4 @@
-//! Whether a role that is held, or one below it, is among the roles of grants.
+//! Whether one of the activated roles, or a junior of one, is among the roles of some grants.
 ghost use Rattle.std.specs.Prelude.{◌≡◌, ◌<◌, ◌≤◌, ◌-◌, true, false, length};
 ghost use Rattle.std.specs.List.{All, AllWithin, HoldsAt, list_any};
 ghost use Rattle.std.specs.List.Sorted.{IsStrictlySortedBy};
@@ -15,7 +15,7 @@ use rbac_sets::{Name, PairSet};
 use role_order::RoleOrder;
 use std::cmp::Ordering;
 
-// The most grants that are gone through without their fingerprints, which cost more than they spare then.
+// Up to this many grants are compared without their fingerprints, which would cost more than they save.
 const FEW_GRANTS: usize = 32;
 
 // A pair that ends with a role, or a grant to one.
@@ -43,8 +43,8 @@ impl OfRole for (Name, Name, Name) {
     }
 }
 
-// Goes on from a place whose role is below `name`, by steps that double, while the roles stay below: the
-// last such place, and the step that was too far.
+// Goes on from a place whose role is less than `name`, by steps that double, as long as the roles are less:
+// returns the last such place, and the step that was too far.
 fn leap<T: OfRole>(entries: &[T], at: usize, name: &Name) -> (usize, usize)
     requires within { at < length entries.now }
     requires below { HoldsAt (λ entry. name_cmp (T.role entry) name.now ≡ Less) entries.now at }
@@ -60,8 +60,8 @@ fn leap<T: OfRole>(entries: &[T], at: usize, name: &Name) -> (usize, usize)
     (low, step)
 }
 
-// A place behind one whose role is below `name`, such that the role before it is below, too. It is found by
-// steps that double and then halve, so that its time grows with the logarithm of the way.
+// A place behind one whose role is less than `name`, such that the role before it is less, too. It is found by
+// steps that double and then halve, so that its time grows with the logarithm of the distance.
 fn past<T: OfRole>(entries: &[T], at: usize, name: &Name) -> usize
     requires within { at < length entries.now }
     requires below { HoldsAt (λ entry. name_cmp (T.role entry) name.now ≡ Less) entries.now at }
@@ -78,8 +78,8 @@ fn past<T: OfRole>(entries: &[T], at: usize, name: &Name) -> usize
     low + 1
 }
 
-// The first place from this one on at which the role of the pair may be one of those whose fingerprints the
-// flags tell, or the end.
+// The first place from this one on at which the role of the pair may be one of those whose fingerprints are
+// flagged, or the end.
 fn first_that_may(pairs: &[(Name, Name)], at: usize, flags: &[bool]) -> usize
     requires { at ≤ length pairs.now }
     ensures bound { (at ≤ result) × (result ≤ length pairs.now) }
@@ -92,9 +92,9 @@ fn first_that_may(pairs: &[(Name, Name)], at: usize, flags: &[bool]) -> usize
     place
 }
 
-// Whether the role of one of the grants is the second part of one of the pairs. It goes once through both,
-// and passes by doubled steps what lies below the next of the other, and pairs whose roles have none of the
-// fingerprints of the grants, which the flags tell.
+// Whether the role of one of the grants is the second part of one of the pairs. It goes once through both. It
+// skips by doubled steps the roles that are less than the next role of the other list, and then pairs whose
+// roles have no flagged fingerprint: the fingerprints of the grants' roles are flagged.
 fn meets(pairs: &[(Name, Name)], grants: &[(Name, Name, Name)], flags: &[bool]) -> bool
     requires pairs { IsStrictlySortedBy second_cmp pairs.now }
     requires grants { IsStrictlySortedBy third_cmp grants.now }
@@ -135,7 +135,8 @@ fn is_below_held(
     false
 }
 
-// Whether the role of one of the grants is one of those held or below it, by the runs of these in the closure.
+// Whether the role of one of the grants is the second part of one of `held` or a junior of one, by the runs of
+// these in the closure.
 fn is_granted_by_runs(
     order: &RoleOrder,
     held: &[(Name, Name)],
@@ -151,7 +152,7 @@ fn is_granted_by_runs(
     meets(held, grants, flags) || is_below_held(pairs, held, grants, flags)
 }
 
-// The same, by the runs and the fingerprints of the roles of the grants.
+// The same, by the runs and by the fingerprints of the roles of the grants.
 fn is_granted_by_fingerprints(
     order: &RoleOrder,
     held: &[(Name, Name)],
@@ -165,8 +166,8 @@ fn is_granted_by_fingerprints(
     is_granted_by_runs(order, held, grants, &flags)
 }
 
-// Whether the role of one of the grants is one of those held or below it. One or two grants are looked for
-// one by one, which costs less than to find the runs.
+// Whether the role of one of the grants is the second part of one of `held` or a junior of one. One or two
+// grants are tested one by one, which costs less than a search for the runs.
 pub(crate) fn is_granted(
     order: &RoleOrder,
     held: &[(Name, Name)],

@@ -24,7 +24,7 @@ mod numbering;
 const HEADING: &str =
     "    assigned  authorized     granted   permitted     juniors     seniors  role\n";
 
-// A number at the right of twelve places.
+// A number, right-aligned in twelve places.
 fn column(alloc: Global, number: u64) -> Result<String, Refusal>
     ensures ok { IfOk result (λ text. string_bytes text ≡ column number) }
     ensures cause { IfErr result (λ refusal. refusal ≡ Refusal.Memory) }
@@ -69,7 +69,7 @@ fn count_granted(state: &State, numbers: &Numbers, role: &Name) -> u64
     count_number(&numbers.grants, number_of(state, role))
 }
 
-// How many permissions the role has.
+// How many permissions the role has, by its own grants and those of its juniors.
 fn count_permitted(state: &State, numbers: &Numbers, role: &Name) -> u64
     requires numbering { IsNumbering state.now.facts numbers.now }
     requires role { IsTrue (contains state.now.facts.roles role.now) }
@@ -79,14 +79,14 @@ fn count_permitted(state: &State, numbers: &Numbers, role: &Name) -> u64
     count_runs_below(&numbers.table, &numbers.granted, number_of(state, role))
 }
 
-// How many descendants the role has.
+// How many juniors the role has.
 fn count_juniors(state: &State, role: &Name) -> u64
     ensures { result ≡ len (juniors state.now.facts.edges role.now) }
 {
     state.order().pairs().with_first(role).len() as u64
 }
 
-// How many ascendants the role has. The table tells how many are above it, with the role itself.
+// How many seniors the role has. The matrix counts the role itself with them.
 fn count_seniors(state: &State, numbers: &Numbers, role: &Name) -> u64
     requires numbering { IsNumbering state.now.facts numbers.now }
     requires role { IsTrue (contains state.now.facts.roles role.now) }
@@ -132,15 +132,14 @@ fn line_of(alloc: Global, state: &State, numbers: &Numbers, role: &Name) -> Resu
 }
 
 /// Writes the role report: a heading line, then one line for each role in byte order. A line has
-/// six numbers and the role, each number at the right of twelve places: how many users are assigned
-/// to the role, how many are authorized for it, how many permissions are granted to it directly, how
-/// many it has, and how many descendants and ascendants it has.
+/// six numbers, each right-aligned in twelve places, and the role: how many users are assigned to
+/// the role, how many are authorized for it, how many permissions are granted to it directly, how
+/// many it has, and how many juniors and seniors it has.
 ///
 /// # Errors
 ///
-/// `Store` where a write to the sink failed, or took no byte. `Memory` where memory for the numbers of
-/// the roles or for a line was refused. What was written then is the start of the report, and not the
-/// whole.
+/// `Store` if a write to the sink failed, or accepted no byte. `Memory` if allocation failed. In both
+/// cases only a start of the report was written, or nothing of it.
 pub fn report_roles<W: Sink>(alloc: Global, state: &State, sink: &mut W) -> Result<(), Refusal>
     ensures ok { OnOk result (Appends (W.written sink.old) (W.written sink.new) (report state.now.facts)) }
     ensures part { OnErr result ((part rest : List ℕ) × (report state.now.facts ≡ part ++ rest) × (1 ≤ length rest) × Appends (W.written sink.old) (W.written sink.new) part) }

@@ -1,6 +1,6 @@
 //! The review functions of the standard, by subject, and one of this office.
 //!
-//! Each gives a list in byte order in which nothing is twice, or a number. None changes the state.
+//! Each returns a list in byte order without duplicates, or a number. None changes the state.
 
 pub use operations::{role_operations_on_object, user_operations_on_object};
 pub use permissions::{permission_roles, role_permissions, user_permissions};

@@ -21,7 +21,7 @@ use Rattle.role_cli.specs.declared.choice.Choice.TheVariants as choice
 use Rattle.role_cli.specs.declared.choice.Place.TheVariants as place
 use Rattle.role_cli.specs.declared.memory_file.MemoryFile.{MemoryFile}
 
--- what neither makes nor migrates an office opens one
+-- a choice that neither creates nor migrates an office opens one
 module _ (chosen : Choice) (never_makes : (x : String Global) → chosen ≡ choice.Init x → ⊥) (never_migrates : (x : String Global) → chosen ≡ choice.Migrate x → ⊥) where
   pub starts_open : (S : RbacState) → StartsWell chosen S
   starts_open S = go chosen never_makes never_migrates

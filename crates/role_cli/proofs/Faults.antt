@@ -1,4 +1,4 @@
--- Faults of words, by their kinds.
+-- Faults of arguments, by their kinds.
 use Rattle.std.proofs.Common.{inl, inr, sym, subst}
 use Rattle.clap.specs.Words.{HasKind, IsAmong, Kinds, kind_of}
 use Rattle.clap.specs.declared.error.Error.{Error}
@@ -6,7 +6,7 @@ use Rattle.role_cli.specs.Choosing.{IsFaultBy, IsOfKind}
 use Rattle.role_cli.specs.declared.choice.Unchosen.{Unchosen}
 use Rattle.role_cli.specs.declared.choice.Unchosen.TheVariants as unchosen
 
--- an error of one of the kinds is a fault of one of them, where it is a fault
+-- if an error of one of the kinds is a fault, it is a fault of one of them
 pub fault_by : (kinds : Kinds) (error : Error) (u : Unchosen) → HasKind kinds error → IsOfKind (kind_of error) u → IsFaultBy kinds u
 fault_by kinds error (unchosen.Fault e) (inl memory) of_kind = absurd (of_kind.1 memory)
 fault_by kinds error (unchosen.Fault e) (inr among) of_kind = subst (λ k. IsAmong k kinds) (sym of_kind.0) among

@@ -1,4 +1,4 @@
--- What the getters give of a given argument.
+-- What the getters return for an argument that is given.
 use Rattle.std.proofs.Common.{◌≡◌, ◌∙◌, ◌<◌, ◌≤◌, ◌^◌, ℕ, List, [], Option, Some, None, Result, Ok, Err, refl, sym, subst, ap}
 use Rattle.std.specs.Prelude.{IfErr, IfOk, option_map, pos, unwrap_or}
 use Rattle.std.specs.Str.Parse.{ParsesUnsigned}
@@ -18,7 +18,7 @@ pub kind_at_err : {T : Type 0} (kinds : Kinds) (r : Result T Error) → FailsBy 
 kind_at_err kinds (Ok x) h = tt
 kind_at_err kinds (Err e) h = h
 
--- a number that `get_one` reads of a given argument is there, in its range, and the one that its word writes
+-- the number that `get_one` reads of a given argument is there, in its range, and the one that its text is in digits
 pub reads_number : (E : Type 0) (G : List ℕ → Result ℕ E → Type 0) (k low high : ℕ) (id : Text) (rows : List Row) (r : Option ℕ)
     → IsGiven (parser.Signed (pos low) (pos high)) id rows → ((t : Text) → one_of id rows ≡ Some t → ReadsOne G t r)
     → ((u : List ℕ) (x : Result ℕ E) → G u x → ParsesUnsigned k 10 u x) → high < 2 ^ k

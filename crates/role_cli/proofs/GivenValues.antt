@@ -1,4 +1,4 @@
--- Where words have no fault, each row of a subcommand has a value that its argument's parser took,
+-- If the arguments have no fault, each row of a subcommand has a value that its argument's parser accepts,
 -- and each required argument has a row.
 use Rattle.std.proofs.Common.{◌≡◌, ◌∙◌, ◌&&◌, ◌||◌, ℕ, Bool, cond, codes, true, false, not, zero, suc, refl, sym, ap, subst, List, [], ◌∷◌, ◌++◌, length, drop, Option, Some, None, is_some, true≢false, find}
 use Rattle.std.specs.Prelude.{⊤, slice_get, encode_utf8, fold, nat_lt, option_map}
@@ -35,7 +35,7 @@ abbrev pub IsFull : List Text → Type 0
 IsFull [] = ⊥
 IsFull (v ∷ vs) = ⊤
 
--- the row has a value, and its argument's parser took each
+-- the row has a value, and its argument's parser accepts each
 abbrev pub IsGood : List Rule → Row → Type 0
 IsGood c r = IsFull r.values × ((a : Rule) → arg_by_id c r.id ≡ Some a → (values_pass a r.values ≡ true) × (r.reading ≡ reading_by a))
 
@@ -282,9 +282,9 @@ module _ (c : List Rule) (again : Bool) (fits : Each (Fits c) c) where
                   let p = or_none (react_fault c again a [] h) _ n in
                   more rest 0 done (reacted c a [] h) p.1 (reacted_good a [] h fit p.0 all)
 
--- ---- the words
+-- ---- the arguments
 
--- the subcommand that was met is not `help`, where that is one
+-- the subcommand is not `help`, if `help` is one
 abbrev IsNoHelp : Bool → Step → Type 0
 IsNoHelp d (next waiting) = ⊤
 IsNoHelp d (trailing position) = ⊤
@@ -390,7 +390,7 @@ module _ (s : Shape) (names : Names) (fits : Each (Fits s.rules) s.rules) where
       let q = turn_good w x p.0 all stop in
       walk_good (walked s.rules names w x) xs p.1 q.0 q.1
 
--- ---- after the words
+-- ---- after the arguments
 
 default_good : (c : List Rule) (a : Rule) (rows : List Row) → Fits c a → Each (IsGood c) rows → Each (IsGood c) (with_default rows a)
 default_good c a rows fit all = go (has_row a.id rows)
@@ -468,7 +468,7 @@ level_gives s names words has below id p fits negates none wants =
     let row = given_row s.rules id rows is all in
     subst (λ (x : ValueParser). IsGiven x id rows) wants.5 (row_gives s.rules rows id a row.0 row.1 wants.1 wants.4 row.2 row.3)
 
--- the subcommand that words without a fault enter
+-- the subcommand of arguments without a fault
 pub record Enters (subs : List Shape) (d : Bool) (m : Option (Text × List Row)) : Type 0 where
   pub shape : Shape
   pub words : List Text
@@ -478,7 +478,7 @@ pub record Enters (subs : List Shape) (d : Bool) (m : Option (Text × List Row))
   pub free : (bytes_eq met (codes "help") && not d) ≡ false
   pub none : level_fault shape [] nothing_held words false [] ≡ []
 
--- words without a fault enter a subcommand, where one is required
+-- arguments without a fault have a subcommand, if one is required
 pub enters : (a : App) (words : List Text) → Each (Fits (built a).top.rules) (built a).top.rules → (built a).top.subcommand_required ≡ true → fault_of a words ≡ []
     → Enters (built a).subs (built a).top.disable_help_subcommand (subcommand_of a words)
 enters a words fits required none =
@@ -515,11 +515,11 @@ when_true : (b : Bool) (A : Type 0) → b ≡ true → When b A → A
 when_true true A e x = x
 when_true false A e x = absurd (true≢false (sym e))
 
--- the subcommand requires the argument, and its arguments are as above
+-- the subcommand requires the argument, and each of its arguments fits (`Fits`)
 abbrev pub Needs : Text → ValueParser → Shape → Type 0
 Needs id p s = Each (Fits s.rules) s.rules × (s.subcommand_negates_reqs ≡ false) × Wants s.rules id p
 
--- what a subcommand of such a name requires is given
+-- what a subcommand with such a name requires is given
 pub entered_gives : (subs : List Shape) (d : Bool) (m : Text × List Row) (q : Text → Bool) (id : Text) (p : ValueParser)
     → Each (λ s. When (q s.name) (Needs id p s)) subs → Enters subs d (Some m) → q m.0 ≡ true → IsGiven p id m.1
 entered_gives subs d m q id p needs enters is =

@@ -1,4 +1,4 @@
--- What files stored is stored in the connection that was opened on them.
+-- The state that files stored is stored in the connection that was opened on them.
 use Rattle.std.proofs.Common.{◌∙◌, ap}
 use Rattle.sqlite.specs.Effect.{Database}
 use Rattle.sqlite.specs.Files.{IsOpened, file_state}

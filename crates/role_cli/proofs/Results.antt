@@ -1,4 +1,4 @@
--- What follows of a result at Ok, and at Err.
+-- What follows for the value of an Ok, and for the error of an Err.
 use Rattle.std.proofs.Common.{Result, Ok, Err, sym}
 use Rattle.std.proofs.lemmas.Bool.{true≢false}
 use Rattle.std.specs.Prelude.{IfErr, IfOk, IsErr, IsOk}
@@ -21,7 +21,7 @@ pub if_ok-join : {T E : Type 0} (r : Result T E) (P Q Z : T → Type 0) → IfOk
 if_ok-join (Ok t) P Q Z one other step = step t one other
 if_ok-join (Err e) P Q Z one other step = tt
 
--- and of an error
+-- and two facts of an error
 pub if_err-join : {T E : Type 0} (r : Result T E) (P Q Z : E → Type 0) → IfErr r P → IfErr r Q → ((e : E) → P e → Q e → Z e) → IfErr r Z
 if_err-join (Ok t) P Q Z one other step = tt
 if_err-join (Err e) P Q Z one other step = step e one other
@@ -29,3 +29,15 @@ if_err-join (Err e) P Q Z one other step = step e one other
 pub if_err-three : {T E : Type 0} (r : Result T E) (P Q R Z : E → Type 0) → IfErr r P → IfErr r Q → IfErr r R → ((e : E) → P e → Q e → R e → Z e) → IfErr r Z
 if_err-three (Ok t) P Q R Z one two three step = tt
 if_err-three (Err e) P Q R Z one two three step = step e one two three
+<<<<<<< HEAD
+=======
+
+-- what follows from a fact of a value, and of an error
+pub if_ok-then : {T E : Type 0} (r : Result T E) (P Q : T → Type 0) → IfOk r P → ((t : T) → P t → Q t) → IfOk r Q
+if_ok-then (Ok t) P Q holds step = step t holds
+if_ok-then (Err e) P Q holds step = tt
+
+pub if_err-then : {T E : Type 0} (r : Result T E) (P Q : E → Type 0) → IfErr r P → ((e : E) → P e → Q e) → IfErr r Q
+if_err-then (Ok t) P Q holds step = tt
+if_err-then (Err e) P Q holds step = step e holds
+>>>>>>> main

@@ -18,7 +18,7 @@ use Rattle.role_wire.proofs.Performed.{same_run}
 use Rattle.role_wire.proofs.Replayed.{runs_then}
 use Rattle.role_cli.specs.Serving.{AreServed, IsServed, Serves, is_closing}
 
--- a connection that was not answered by the status 500 leaves the office open
+-- a connection that was not answered with status 500 doesn't close the office
 pub not_closing : (status : Option ℕ) → (status ≡ Some 500 → ⊥) → is_closing status ≡ false
 not_closing (Some status) other = ne_eqb status 500 (λ same. other (ap Some same))
 not_closing None other = refl
@@ -28,7 +28,7 @@ or_none true = refl
 or_none false = refl
 
 module _ {S : Type 0} (shown : Held S → State) where
-  -- ---- one connection more
+  -- ---- one more connection
 
   pub served_then : (old mid new : Opened S) (statuses : List (Option ℕ)) (status : Option ℕ)
       → AreServed shown old statuses mid → IsServed shown mid status new → AreServed shown old (statuses ++ status ∷ []) new
@@ -40,7 +40,14 @@ module _ {S : Type 0} (shown : Held S → State) where
   open_then statuses status open_before open_now =
       list_any-append is_closing statuses (status ∷ []) ∙ ap (λ b. b || (is_closing status || false)) open_before ∙ or_none (is_closing status) ∙ open_now
 
+<<<<<<< HEAD
   -- ---- the run goes on
+=======
+  pub weaker : (limit : ℕ) (All More : Type 0) (old new : Opened S) → (More → All) → AreServedUpTo shown limit All old new → AreServedUpTo shown limit More old new
+  weaker limit All More old new step it = record { statuses = it.statuses; served = it.served; within = it.within; ends = it.ends; all = λ more. it.all (step more) }
+
+  -- ---- the run continues
+>>>>>>> main
 
   pub same_continues : (old new : Opened S) → new ≡ old → Continues shown old new
   same_continues old new same = subst (Continues shown old) (sym same) (record { clean = λ clean. clean; runs = same_run shown old })

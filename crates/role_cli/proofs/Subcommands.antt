@@ -1,4 +1,4 @@
--- What the subcommands of the program have where its words have no fault.
+-- What the subcommands of the program have if its arguments have no fault.
 use Rattle.std.proofs.Common.{◌≡◌, ◌||◌, List, [], Option, Some, None, codes, refl, false}
 use Rattle.std.specs.Str.{bytes_eq}
 use Rattle.clap.specs.Walk.{Row, Text}

@@ -1,4 +1,4 @@
--- What the work of a subcommand leaves of the office.
+-- An office after the work of a subcommand.
 use Rattle.std.proofs.Common.{◌≡◌, ◌⊎◌, inl, inr, ℕ, List, [], ◌∷◌, ◌++◌, length-append, Option, Result, Ok, Err, refl, arith}
 use Rattle.std.specs.Prelude.{OnOk, IfErr}
 use Rattle.std.specs.Io.KnownBytes.{Appends}
@@ -20,11 +20,11 @@ use Rattle.role_cli.specs.Work.{FailsToImport, FailsToServe, Imports, WritesPart
 use Rattle.role_cli.specs.declared.failure.Failure.{Failure}
 use Rattle.role_cli.proofs.Served.{breaks_continues, reaches_continues, same_continues, server_continues}
 
--- nothing of a text was written that has a byte
+-- nothing was written of a text that has a byte
 pub writes_none : (byte : ℕ) (text : List ℕ) (written : Option (List ℕ)) → WritesPart (byte ∷ text) written written
 writes_none byte text written = ([], byte ∷ text, refl, omega arith, Appends-none written)
 
--- nothing of a line was written
+-- nothing was written of a line
 pub writes_no_line : (line : List ℕ) (written : Option (List ℕ)) → WritesPart (line ++ 10 ∷ []) written written
 writes_no_line line written = ([], line ++ 10 ∷ [], refl, omega (arith, length-append line (10 ∷ [])), Appends-none written)
 

@@ -1,4 +1,4 @@
--- What the words of a command line choose.
+-- What the arguments of a command line choose.
 use Rattle.std.specs.Prelude.{⊤, ◌≡◌, ◌≢◌, ◌≤◌, ◌||◌, ◌⊎◌, ℕ, Bool, List, true, false, codes, Option, Some, None, IsSome, String, string_bytes}
 use Rattle.std.specs.Str.{bytes_eq}
 use Rattle.std.specs.Str.Parse.{digits_value, without_leading_plus}
@@ -13,7 +13,7 @@ use Rattle.role_cli.specs.declared.choice.Place.TheVariants.{File, Memory}
 use Rattle.role_cli.specs.declared.choice.Unchosen.{Unchosen}
 use Rattle.role_cli.specs.declared.choice.Unchosen.TheVariants as unchosen
 
--- the word is there, and it writes the number
+-- there is a text, and it is the number in digits
 abbrev pub IsWordOf : Option Text → ℕ → Type 0
 IsWordOf None n = ⊥
 IsWordOf (Some t) n = digits_value 10 (without_leading_plus t) ≡ n
@@ -22,7 +22,7 @@ IsWordOf (Some t) n = digits_value 10 (without_leading_plus t) ≡ n
 abbrev pub IsValueOf : {A : Type 0} → Text → List Row → String A → Type 0
 IsValueOf id rows s = first_of id rows ≡ Some (string_bytes s)
 
--- the flag `--memory` is there
+-- the flag `--memory` is given
 abbrev pub IsInMemory : List Row → Type 0
 IsInMemory rows = first_of (codes "memory") rows ≡ Some (codes "true")
 
@@ -40,12 +40,12 @@ ChoosesOf name rows (Report f) = (name ≡ codes "report") × IsValueOf (codes "
 ChoosesOf name rows (Check f) = (name ≡ codes "check") × IsValueOf (codes "FILE") rows f
 ChoosesOf name rows (Migrate f) = (name ≡ codes "migrate") × IsValueOf (codes "FILE") rows f
 
--- what the words choose, by the subcommand that they meet
+-- what the arguments choose, by their subcommand and its matches
 abbrev pub Chooses : Option (Text × List Row) → Choice → Type 0
 Chooses None c = ⊥
 Chooses (Some m) c = ChoosesOf m.0 m.1 c
 
--- FILE and `--memory` are both there, or neither is
+-- FILE and `--memory` are both given, or neither is
 abbrev pub HasBothOrNeither : List Row → Type 0
 HasBothOrNeither rows = (IsSome (first_of (codes "FILE") rows) × IsInMemory rows) ⊎ ((first_of (codes "FILE") rows ≡ None) × ¬ (IsInMemory rows))
 
@@ -54,38 +54,38 @@ abbrev pub ReplaysBothOrNeither : Option (Text × List Row) → Type 0
 ReplaysBothOrNeither None = ⊥
 ReplaysBothOrNeither (Some m) = (m.0 ≡ codes "replay") × HasBothOrNeither m.1
 
--- the words are no command line, or ask for help
+-- the arguments are no command line of the program, or ask for help
 abbrev pub IsFault : Unchosen → Type 0
 IsFault (unchosen.Fault e) = ⊤
 IsFault unchosen.Either = ⊥
 IsFault unchosen.Memory = ⊥
 
--- an error of this kind was taken for a fault, which is no want of memory
+-- a fault has an error of this kind, which is not that of a failed allocation
 abbrev pub IsOfKind : ErrorKind → Unchosen → Type 0
 IsOfKind k (unchosen.Fault e) = (kind_of e ≡ k) × (k ≢ kind.OutOfMemory)
 IsOfKind k _ = ⊤
 
--- a fault has one of these kinds
+-- a fault has an error of one of these kinds
 abbrev pub IsFaultBy : Kinds → Unchosen → Type 0
 IsFaultBy kinds (unchosen.Fault e) = IsAmong (kind_of e) kinds
 IsFaultBy kinds _ = ⊤
 
--- the kind of what is no mistake
+-- the kind is that of a request for help or for the version, which is no mistake
 abbrev pub IsHelp : ErrorKind → Type 0
 IsHelp k = (k ≡ kind.DisplayHelp) ⊎ (k ≡ kind.DisplayVersion)
 
--- `clap` does not promise to take the words, and help is among what it may make of them
+-- `clap` does not promise to accept the arguments, and may answer them with help or the version
 abbrev pub AsksHelp : App → List Text → Type 0
 AsksHelp app words = (takes app words ≡ false) × ((k : ErrorKind) × IsHelp k × IsAmong k (fault_of app words))
 
--- ---- what each subcommand has where the words are taken
+-- ---- what each subcommand has if the arguments are accepted
 
--- the argument has a first value, which its parser takes and by which it is read
+-- the argument has a first value, which its parser accepts and reads
 abbrev pub IsGiven : ValueParser → Text → List Row → Type 0
 IsGiven p id rows =
     (t : Text) × (first_of id rows ≡ Some t) × (one_of id rows ≡ Some (read_as (reading_of p) t)) × Accepts false p t
 
--- the subcommands of which FILE alone is required
+-- the subcommands that require FILE alone
 abbrev pub is_of_file : Text → Bool
 is_of_file name = bytes_eq name (codes "init") || (bytes_eq name (codes "export") || (bytes_eq name (codes "report")
     || (bytes_eq name (codes "check") || bytes_eq name (codes "migrate"))))
@@ -102,7 +102,7 @@ pub record IsWhole (name : Text) (rows : List Row) : Type 0 where
   pub port : bytes_eq name (codes "serve") ≡ true → IsGiven port_parser (codes "port") rows
   pub limit : bytes_eq name (codes "serve") ≡ true → IsGiven limit_parser (codes "limit") rows
 
--- a subcommand is met, and it is whole
+-- there is a subcommand, and it has what it requires
 abbrev pub IsEntered : Option (Text × List Row) → Type 0
 IsEntered None = ⊥
 IsEntered (Some m) = IsWhole m.0 m.1

@@ -1,4 +1,4 @@
--- What the program has done for what its arguments chose.
+-- What the program did for the choice in its arguments.
 use Rattle.std.specs.Prelude.{ℕ, Bool, true, false, List, Option}
 use Rattle.sqlite.specs.Held.{state}
 use Rattle.sqlite.specs.Files.{over_files}
@@ -15,8 +15,8 @@ abbrev pub is_in_memory : Choice → Bool
 is_in_memory (choice.Replay Memory) = true
 is_in_memory _ = false
 
--- It was done: a replay in memory over a new office, all else over an office of some good state, in files of type F. Over which
--- state, the contract of `run_on_path` says, which hands the connection back.
+-- The choice was done: a replay in memory over a new office, anything else over an office of some good state, in files of type F.
+-- The contract of `run_on_path`, which hands the connection back, says which state it was.
 abbrev pub IsDone : Ghosts MemoryFile → {F : Type 0} → Ghosts F → Choice → (remaining now_remaining written now_written : Option (List ℕ)) → Type 0
 IsDone in_memory on_disk (choice.Replay Memory) remaining now_remaining written now_written = ReplaysInMemory in_memory remaining now_remaining written now_written
 IsDone in_memory on_disk chosen remaining now_remaining written now_written = DoesOverSome (state (over_files {g = on_disk})) chosen remaining now_remaining written now_written

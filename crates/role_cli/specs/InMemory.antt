@@ -22,7 +22,7 @@ use Rattle.role_cli.specs.declared.failure.Failure.TheVariants.{Refused, Stopped
 abbrev pub first_state : RbacState
 first_state = empty_state 2
 
--- an open office in memory, whose state is the first and stands in its tables
+-- an open office in memory, whose state is `first_state` and is stored in its tables
 pub record IsNewOffice {g : Ghosts MemoryFile} (office : Opened (FileStore MemoryFile g)) : Type 0 where
   pub state_is : office.facts ≡ first_state
   pub is_closed : office.is_closed ≡ false
@@ -33,18 +33,18 @@ abbrev pub ReplaysInMemory : Ghosts MemoryFile → (remaining now_remaining writ
 ReplaysInMemory g remaining now_remaining written now_written = (first last : Opened (FileStore MemoryFile g)) × IsNewOffice first
     × Does (state over_files) (Replay Memory) first remaining now_remaining written now_written last
 
--- the replay stopped over an office that was new, once these bytes were read
+-- the replay stopped over an office that was new, after these bytes were read
 abbrev pub FailsOverNew : Ghosts MemoryFile → Failure → List ℕ → Type 0 → Option (List ℕ) → Option (List ℕ) → Type 0
 FailsOverNew g (Stopped stop) taken at_end written now_written =
     (first left : Opened (FileStore MemoryFile g)) × IsNewOffice first × IsHalted (state over_files) first left taken at_end written now_written stop.cause stop.answered
 FailsOverNew g _ taken at_end written now_written = ⊥
 
--- no office could be made, for want of memory
+-- no office could be created, because an allocation failed
 abbrev pub IsUnmade : Failure → Type 0
 IsUnmade (Refused why) = (why ≡ refusal.Memory) ⊎ (why ≡ refusal.Store)
 IsUnmade _ = ⊥
 
--- a replay in memory failed: it stopped over a new office, or none could be made and nothing was touched
+-- a replay in memory failed: it stopped over a new office, or none could be created and nothing was touched
 abbrev pub FailsInMemory : Ghosts MemoryFile → Failure → Type 0 → Option (List ℕ) → Option (List ℕ) → Option (List ℕ) → Option (List ℕ) → Type 0
 FailsInMemory g failure untouched remaining now_remaining written now_written =
     ((taken : List ℕ) × Consumes remaining now_remaining taken × FailsOverNew g failure taken (IsAtEnd now_remaining) written now_written)
@@ -60,6 +60,6 @@ abbrev pub IsReadFault : Failure → Type 0
 IsReadFault (Stopped stop) = stop.cause ≡ Read
 IsReadFault _ = ⊥
 
--- a fault of writing, and one of reading, is told only where one was
+-- the cause is a write only if a write failed, and a read only if a read failed
 abbrev pub IsCaused : Failure → Type 0 → Type 0 → Type 0
 IsCaused failure write_failed read_failed = (IsWriteFault failure → write_failed) × (IsReadFault failure → read_failed)

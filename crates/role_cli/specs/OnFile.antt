@@ -1,4 +1,4 @@
--- Work over the files at a path: what they held when they were opened, and what came of it.
+-- Work over the files at a path: what they held when they were opened, and what the work did.
 use Rattle.sqlite.specs.Held.{Held}
 use Rattle.sqlite.specs.Files.{HoldsDatabase, IsOpened, file_state}
 use Rattle.sqlite.specs.Recovery.{Image}

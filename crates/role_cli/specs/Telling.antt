@@ -1,4 +1,4 @@
--- What the program says on standard error.
+-- What the program writes to standard error.
 use Rattle.std.specs.Prelude.{⊤, ◌≡◌, ◌⊎◌, ◌++◌, ℕ, List, Option, codes}
 use Rattle.std.specs.Io.KnownBytes.{Appends}
 use Rattle.rbac_sets.specs.declared.refusal.Refusal.TheVariants.{Memory}
@@ -7,11 +7,11 @@ use Rattle.role_cli.specs.Work.{WritesPart}
 use Rattle.role_cli.specs.declared.failure.Failure.{Failure}
 use Rattle.role_cli.specs.declared.failure.Failure.TheVariants.{Refused, Stopped, NotListening, NotAccepting, Closed}
 
--- the line that says that memory failed
+-- the line that reports that an allocation failed
 abbrev pub no_memory_line : List ℕ
 no_memory_line = codes "rbac: " ++ (refusal_text Memory ++ codes "\n")
 
--- The line says why. Of the lines of a refusal and of a replay that stopped nothing is said here; they are tested.
+-- The line reports the failure. The lines of a refusal and of a replay that stopped are not specified here; they are tested.
 abbrev pub IsLineOf : Failure → List ℕ → Type 0
 IsLineOf (Refused refusal) line = ⊤
 IsLineOf (Stopped stop) line = ⊤
@@ -19,7 +19,7 @@ IsLineOf NotListening line = line ≡ codes "rbac: cannot listen\n"
 IsLineOf NotAccepting line = line ≡ codes "rbac: cannot accept\n"
 IsLineOf Closed line = line ≡ codes "rbac: closed\n"
 
--- the line was written: whole, unless a write failed or took nothing
+-- the line was written: whole, unless a write failed or accepted no byte
 abbrev pub Says : List ℕ → Option (List ℕ) → Option (List ℕ) → Type 0 → Type 0
 Says line written now_written has_failed = Appends written now_written line ⊎ (WritesPart line written now_written × has_failed)
 

@@ -1,4 +1,4 @@
--- The work of a subcommand over the office of an open connection: what it reads and writes, and what the office is after it.
+-- The work of a subcommand over the office of an open connection: what it reads and writes, and the office after it.
 use Rattle.std.specs.Prelude.{⊤, ◌≡◌, ◌⊎◌, ◌≤◌, ◌++◌, ℕ, Bool, true, false, List, [], ◌∷◌, length, Option, Ok, Err, codes}
 use Rattle.std.specs.Fmt.{decimal}
 use Rattle.std.specs.Io.KnownBytes.{Appends, Consumes, IsAtEnd}
@@ -40,7 +40,7 @@ abbrev pub reads_input : Choice → Bool
 reads_input (choice.Replay _) = true
 reads_input _ = false
 
--- the line by which a server says where it listens
+-- the line by which a server reports where it listens
 abbrev pub listening_line : ℕ → List ℕ
 listening_line port = codes "listening on 127.0.0.1:" ++ (decimal port ++ codes "\n")
 
@@ -52,11 +52,11 @@ WritesPart text written now_written = (part rest : List ℕ) × (text ≡ part +
 abbrev pub IsUnread : Failure → Type 0
 IsUnread failure = (failure ≡ Refused Memory) ⊎ (failure ≡ Stopped (record { cause = Read; answered = 0 }))
 
--- the text is refused so, or memory was
+-- this refuses the text, or an allocation failed
 abbrev pub RefusesText : List ℕ → Refusal → Type 0
 RefusesText text refusal = (refusal ≡ Memory) ⊎ (assignments text ≡ Err refusal)
 
--- the state of an office over which the work begins: a new one is empty, and one that was migrated is of version 2
+-- the state of the office when the work begins: a new one is empty, and one that was migrated is of version 2
 abbrev pub StartsWell : Choice → RbacState → Type 0
 StartsWell (choice.Init _) S = S ≡ empty_state 2
 StartsWell (choice.Migrate _) S = S.version ≡ 2
@@ -65,13 +65,13 @@ StartsWell _ S = ⊤
 module _ {C : Type 0} (shown : Held C → State) where
   -- ---- an import
 
-  -- the pairs of a text were imported, and the answer to that was written as a line
+  -- the pairs of a text were imported, and the answer was written as a line
   abbrev pub Imports : Opened C → Option (List ℕ) → Option (List ℕ) → Opened C → Type 0
   Imports old written now_written new = (text : List ℕ) × (pairs : List Pair) × (line : List ℕ)
       × (assignments text ≡ Ok pairs) × Performs shown old (Change (Import pairs)) line new × Appends written now_written (line ++ line_feed ∷ [])
 
-  -- the file was not read or its text was refused, which changes nothing; or the office refused to import its pairs; or it did,
-  -- and the line that says so was not written whole
+  -- the file was not read or its text was refused, which changes nothing; or the office refused to import its pairs; or it
+  -- imported them, and the answer line was not written whole
   abbrev pub FailsToImport : Opened C → Failure → Option (List ℕ) → Option (List ℕ) → Opened C → Type 0
   FailsToImport old failure written now_written new =
       ((IsUnread failure ⊎ ((text : List ℕ) × (refusal : Refusal) × (failure ≡ Refused refusal) × RefusesText text refusal)) × (new ≡ old) × Appends written now_written [])
@@ -91,8 +91,7 @@ module _ {C : Type 0} (shown : Held C → State) where
 
   -- ---- any subcommand
 
-  -- Over an open office the work was done: this was read of the source, this was written to the output, and this became of the
-  -- office.
+  -- The work was done over an open office: what was read of the source, what was written to the output, and the office after it.
   abbrev pub Does : Choice → Opened C → (remaining now_remaining written now_written : Option (List ℕ)) → Opened C → Type 0
   Does (choice.Init _) old remaining now_remaining written now_written new = (now_written ≡ written) × (new ≡ old)
   Does (choice.Migrate _) old remaining now_remaining written now_written new = (now_written ≡ written) × (new ≡ old)
@@ -106,7 +105,7 @@ module _ {C : Type 0} (shown : Held C → State) where
   Does (choice.Report _) old remaining now_remaining written now_written new = Appends written now_written (report old.facts) × (new ≡ old)
   Does (choice.Check _) old remaining now_remaining written now_written new = Appends written now_written (codes "good\n") × (new ≡ old)
 
-  -- Over an open office the work failed.
+  -- The work failed over an open office.
   abbrev pub Fails : Choice → Failure → Opened C → (remaining now_remaining written now_written : Option (List ℕ)) → Opened C → Type 0
   Fails (choice.Init _) failure old remaining now_remaining written now_written new = ⊥
   Fails (choice.Migrate _) failure old remaining now_remaining written now_written new = ⊥
@@ -121,21 +120,21 @@ module _ {C : Type 0} (shown : Held C → State) where
 
   -- ---- over a connection
 
-  -- The office begins a run over what the connection held: a new office where none could be found, a migrated one, or the one whose
+  -- The office begins a run over what the connection held: a new office if one could be created, a migrated one, or the one whose
   -- state was stored.
   abbrev pub Begins : Choice → State → Opened C → Type 0
   Begins (choice.Init _) before office = MayCreate 2 before × IsInRun shown (empty_state 2) [] office
   Begins (choice.Migrate _) before office = WhateverStands before (λ S. (S.version ≡ 1) × IsInRun shown (taken_into_version_2 S) [] office)
   Begins _ before office = WhateverStands before (λ S. IsInRun shown S [] office)
 
-  -- No office was made, migrated or opened: why, what the connection holds now, and what a crash would leave.
+  -- No office was created, migrated or opened: why, what the connection holds now, and what a crash would leave.
   abbrev pub IsUnopened : Choice → State → Refusal → State → Type 0
   IsUnopened (choice.Init _) before refusal after = (refusal ≡ Store) × HoldsAsBefore before after × LeavesBeforeOr before after (empty_state 2)
   IsUnopened (choice.Migrate _) before refusal after = RefusesMigration (held_in before.now) refusal × StaysRefused before after refusal × LeavesEitherVersion before after
   IsUnopened _ before refusal after =
       ((refusal ≡ Store) ⊎ RefusesFound (held_in before.now) refusal) × HoldsAsBefore before after × WhateverStands before (λ S. IsMemoryOrStore refusal × LeavesOnly after S)
 
-  -- Work that led from the first office to the last: the first began a run over what the connection held, the last goes on with it,
+  -- Work that led from the first office to the last: the first began a run over what the connection held, the last continues it,
   -- and its connection was handed back.
   pub record Works (chosen : Choice) (before : State) (Work : Opened C → Opened C → Type 0) (handed_back : Held C) : Type 0 where
     pub first : Opened C

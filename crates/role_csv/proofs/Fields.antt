@@ -1,4 +1,4 @@
--- What a record with another number of fields than two is, and a field that isn't UTF-8.
+-- Records that don't have two fields, and fields that aren't UTF-8.
 use Rattle.std.proofs.Common.{◌≡◌, ℕ, [], ◌∷◌, length, Some, None, false, refl, arith, inl, inr}
 use Rattle.std.proofs.lemmas.Bool.{cases_Bool}
 use Rattle.std.proofs.lemmas.Str.{is_utf8-from_IsUtf8, IsUtf8-from_is_utf8}
@@ -10,7 +10,7 @@ use Rattle.rbac_sets.specs.declared.refusal.Refusal.TheVariants.{BadCsv}
 use Rattle.role_csv.specs.Assignments.{pair_of, is_header}
 use Rattle.role_csv.specs.Records.{Fields}
 
--- of two fields those at the places 0 and 1 are all
+-- if there are two fields, they are those at positions 0 and 1
 pub two_fields-some : (fields : Fields) (a b : Bytes) → length fields ≡ 2 → Some a ≡ field_at fields 0 → Some b ≡ field_at fields 1 → fields ≡ a ∷ b ∷ []
 unfolding field_at
 two_fields-some [] a b two first second = absurd (omega arith)
@@ -18,7 +18,7 @@ two_fields-some (x ∷ []) a b two first second = absurd (omega arith)
 two_fields-some (x ∷ y ∷ []) a b two first second = cc
 two_fields-some (x ∷ y ∷ z ∷ fields) a b two first second = absurd (omega arith)
 
--- where nothing stands at the place 0, or at the place 1, there are not two
+-- if there is no field at position 0, or none at position 1, there are not two
 pub two_fields-none : (fields : Fields) → None ≡ field_at fields 0 → length fields ≢ 2
 unfolding field_at
 two_fields-none [] none two = omega arith

@@ -1,4 +1,4 @@
--- What the records that were read say of the assignments of a text.
+-- The assignments of a text, derived from the records that were read.
 use Rattle.std.proofs.Common.{◌≡◌, ◌≤◌, ◌<◌, ◌∙◌, ◌+◌, ℕ, suc, List, [], ◌∷◌, ◌++◌, length, length-append, append_assoc, Ok, Err, true, false, refl, arith, rules}
 use Rattle.std.specs.Prelude.{Result, nat_le}
 use Rattle.rbac_sets.specs.Sets.{Bytes, Pair}
@@ -11,7 +11,7 @@ use Rattle.role_csv.proofs.ReadRecords.{records-first}
 
 -- ---- the pairs of records
 
--- pairs and those behind them, or the refusal of these
+-- pairs and the pairs after them, or the refusal of the latter
 abbrev pairs_then : List Pair → Result (List Pair) Refusal → Result (List Pair) Refusal
 pairs_then pairs (Ok rest) = Ok (pairs ++ rest)
 pairs_then pairs (Err refusal) = Err refusal
@@ -45,7 +45,7 @@ pairs_from-append k (fields ∷ body) rest pairs e = by (judged k fields) (pairs
 
 -- ---- the assignments of a text
 
--- a text that isn't too long lists what stands under its header
+-- a text that isn't too long lists the records after its header
 assignments-fit : (text : Bytes) → length text ≤ most_bytes → assignments text ≡ under_header (records_of text)
 unfolding assignments
 assignments-fit text h =
@@ -64,7 +64,7 @@ pub bad_header : (text : Bytes) (header : Fields) (reader : TextReader) → leng
 bad_header text header reader h has bad =
     let (later, all) = records-first text (header ∷ []) reader has in assignments-fit text h ∙ rw (all, bad) refl
 
--- a reader has read the header and the records of these pairs, and the record that is next has this number
+-- a reader has read the header and the records of these pairs, and the next record has this number
 pub record HasListed (text : Bytes) (number : ℕ) (pairs : List Pair) (reader : TextReader) : Type 0 where
   pub fits : length text ≤ most_bytes
   pub header : Fields
@@ -103,14 +103,14 @@ module _ (text : Bytes) (number : ℕ) (pairs : List Pair) (old : TextReader) (h
       let (later, told) = next_listed fields new read in
       let fits : nat_le number most_records ≡ true = search rules in told ∙ rw (fits, bad) refl
 
-  -- it is one too many
+  -- it is beyond the limit
   pub listed-too_many : (fields : Fields) (new : TextReader) → HasRead text ((has.header ∷ has.body) ++ fields ∷ []) new
       → most_records < number → assignments text ≡ Err (TooMany kind.Record)
   listed-too_many fields new read h =
       let (later, told) = next_listed fields new read in
       let many : nat_le number most_records ≡ false = search rules in told ∙ rw many refl
 
-  -- it is a pair
+  -- it lists a pair
   pub listed-more : (fields : Fields) (new : TextReader) (pair : Pair) (more : List Pair) → HasRead text ((has.header ∷ has.body) ++ fields ∷ []) new
       → number ≤ most_records → pair_of number fields ≡ Ok pair → more ≡ pairs ++ pair ∷ [] → HasListed text (number + 1) more new
   unfolding pairs_from

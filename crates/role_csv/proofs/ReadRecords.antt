@@ -13,7 +13,7 @@ use Rattle.csv.proofs.ReadFacts.{rows-end, rows-more}
 use Rattle.rbac_sets.specs.Sets.{Bytes}
 use Rattle.role_csv.specs.Records.{Fields, HasRead, TextReader, records_of}
 
--- a record takes a byte, or stands at the end of the text
+-- reading a record consumes a byte, or the text is at its end
 abbrev TakesByte : Bytes → Read → Type 0
 TakesByte bytes read = (length read.2 < length bytes) ⊎ ((read.2 ≡ []) × (read.1 ≡ state.StartRecord))
 
@@ -39,7 +39,7 @@ next_record-takes cfg s fields field (byte ∷ rest) read e =
           ]
     ]
 
--- the records that were reached come first, and then those of the bytes that are left
+-- the records that were read come first, and then those of the remaining bytes
 reached-first : (cfg : Config) (rows : List Fields) (m n : ℕ) (s s2 : State) (bytes left : Bytes) → m ≡ length rows + n
     → Reached cfg s bytes rows s2 left → records_from cfg m s bytes ≡ rows ++ records_from cfg n s2 left
 unfolding Reached records_from
@@ -54,7 +54,7 @@ reached-end : (cfg : Config) (row : Fields) (rows : List Fields) (s2 : State) (l
 unfolding Reached next_record
 reached-end cfg row rows s2 left (read, next, is, later) = let no : ⊥ = cc next in no
 
--- there is at most one record more than bytes
+-- there is at most one more record than bytes
 reached-length : (cfg : Config) (rows : List Fields) (s s2 : State) (bytes left : Bytes) → Reached cfg s bytes rows s2 left → length rows ≤ length bytes + 1
 unfolding Reached
 reached-length cfg [] s s2 bytes left reached = omega arith
@@ -65,14 +65,14 @@ reached-length cfg (row ∷ second ∷ rows) s s2 bytes left (read, next, is, la
       | inr (none, start) ↦ absurd (reached-end cfg second rows s2 left (rw (none, start) at later))
     ]
 
--- nothing more is read behind the last record
+-- nothing more is read after the last record
 none-left : (cfg : Config) (n : ℕ) (s : State) (left : Bytes) → next_record cfg s [] [] left ≡ None → records_from cfg n s left ≡ []
 unfolding records_from
 none-left cfg zero s left e = refl
 none-left cfg (suc n) s left e = rw e refl
 
 module _ (text : Bytes) (rows : List Fields) (reader : TextReader) (has : HasRead text rows reader) where
-  -- all records are those that were read, and some of what is left
+  -- all records are those that were read, and those of the remaining bytes
   read_then : records_of text ≡ rows ++ records_from default_config (length (strip_bom text) + 1 - length rows) (reader_state reader) has.left
   read_then =
       let most = reached-length default_config rows state.StartRecord (reader_state reader) (strip_bom text) has.left has.reached in
@@ -82,16 +82,16 @@ module _ (text : Bytes) (rows : List Fields) (reader : TextReader) (has : HasRea
   pub records-first : (later : List Fields) × (records_of text ≡ rows ++ later)
   records-first = (_, read_then)
 
-  -- where no more can be read, they are all
+  -- if no more can be read, they are all
   pub records-all : next_record default_config (reader_state reader) [] [] has.left ≡ None → records_of text ≡ rows
   records-all none = read_then ∙ rw (none-left default_config (length (strip_bom text) + 1 - length rows) (reader_state reader) has.left none) (append-nil rows)
 
--- what a reader of a text has left, by its source
+-- the remaining bytes of the source of a reader
 abbrev left_of : Bor Bytes → Option Bytes
 left_of slice = Some slice.now
 
 module _ (old new : TextReader) (fields : Fields) (text : Bytes) (rows : List Fields) (has : HasRead text rows old) where
-  -- one record more was read
+  -- one more record was read
   pub read-more : ((reader_trim old ≡ trim.None) → Ready old → ReadRecord left_of old new true fields) → took_first new ≡ true → is_flexible new ≡ is_flexible old
       → HasRead text (rows ++ fields ∷ []) new
   read-more reads first flexible =

@@ -12,12 +12,12 @@ use Rattle.role_csv.specs.Assignments.{assignments, is_header, judged, most_byte
 use Rattle.role_csv.specs.Records.{Fields, records_of}
 use Rattle.role_csv.specs.TextLaws.{refuses_texts, RefusalsOfTexts}
 
--- a value, or a refusal that a text may be refused by
+-- a value, or a refusal by which a text may be refused
 abbrev MayBeTold : {A : Type 0} → Result A Refusal → Type 0
 MayBeTold (Ok value) = Unit {0}
 MayBeTold (Err refusal) = refuses_texts refusal ≡ true
 
--- one where a test does not hold
+-- a value, or such a refusal if a test fails
 unless : {A : Type 0} (b : Bool) (value : Result A Refusal) (refusal : Refusal) → MayBeTold value → refuses_texts refusal ≡ true → MayBeTold (if b then value else Err refusal)
 unless true value refusal told bad = told
 unless false value refusal told bad = bad
@@ -26,7 +26,7 @@ names_told : (user role : Bytes) → MayBeTold (pair_of_names user role)
 unfolding pair_of_names
 names_told user role = unless (is_name user && is_name role) (Ok (user, role)) BadName tt refl
 
--- a record whose number is one of those that may be there
+-- a record whose number is within the limit
 pair_told : (number : ℕ) (fields : Fields) → nat_le number most_records ≡ true → MayBeTold (pair_of number fields)
 unfolding pair_of
 pair_told number [] fits = fits
@@ -54,7 +54,7 @@ records_told : (records : List Fields) → MayBeTold (under_header records)
 records_told [] = refl
 records_told (header ∷ rest) = unless (is_header header) (pairs_from 1 rest) (BadCsv 0) (pairs_told 1 rest) refl
 
--- so a text is refused by one of them
+-- so a text is refused only by one of them
 pub refusals_of_texts : RefusalsOfTexts
 unfolding assignments
 refusals_of_texts text refusal is =

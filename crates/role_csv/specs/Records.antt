@@ -11,7 +11,7 @@ use Rattle.rbac_sets.specs.Sets.{Bytes}
 abbrev pub Fields : Type 0
 Fields = List Bytes
 
--- the records of a text as `csv` reads it by default, behind a byte order mark where it begins with one
+-- the records of a text as `csv` reads it by default, without the byte order mark if it begins with one
 abbrev pub records_of : Bytes → List Fields
 records_of text = records default_config (strip_bom text)
 
@@ -19,7 +19,7 @@ records_of text = records default_config (strip_bom text)
 abbrev pub TextReader : Type 0
 TextReader = Reader (Bor Bytes)
 
--- the reader takes records of any length, and has read these, the first of the text, and no byte behind them
+-- the reader accepts records with any number of fields, and has read these, the first of the text, and no byte after them
 pub record HasRead (text : Bytes) (rows : List Fields) (reader : TextReader) : Type 0 where
   pub untrimmed : reader_trim reader ≡ trim.None
   pub flexible : is_flexible reader ≡ true
@@ -29,10 +29,10 @@ pub record HasRead (text : Bytes) (rows : List Fields) (reader : TextReader) : T
   pub source : source_of (λ (slice : Bor Bytes). Some slice.now) reader ≡ Some left
   pub reached : Reached default_config state.StartRecord (strip_bom text) rows (reader_state reader) left
 
--- the reader reads one record more, with these fields
+-- the reader reads one more record, with these fields
 abbrev pub ReadsOneMore : TextReader → Fields → TextReader → Type 0
 ReadsOneMore old fields new = (text : Bytes) (rows : List Fields) → HasRead text rows old → HasRead text (rows ++ fields ∷ []) new
 
--- what the reader has read are all records of its text
+-- the reader has read all records of its text
 abbrev pub HasReadAll : TextReader → Type 0
 HasReadAll reader = (text : Bytes) (rows : List Fields) → HasRead text rows reader → records_of text ≡ rows

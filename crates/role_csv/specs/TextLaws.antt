@@ -6,8 +6,8 @@ use Rattle.rbac_sets.specs.declared.refusal.Refusal.{Refusal}
 use Rattle.rbac_sets.specs.declared.refusal.Refusal.TheVariants.{BadName, BadCsv, TooMany}
 use Rattle.role_csv.specs.Assignments.{assignments, most_records}
 
--- a text of assignments may be refused so: it has too many bytes or records, a record up to the last that may be there
--- cannot be read, or a text in it is no name
+-- whether a text of assignments may be refused by this: it has too many bytes or records, the header or a record within the
+-- limit cannot be read, or a text in it is not a valid name
 abbrev pub refuses_texts : Refusal → Bool
 refuses_texts BadName = true
 refuses_texts (BadCsv number) = nat_le number most_records
@@ -15,6 +15,6 @@ refuses_texts (TooMany Record) = true
 refuses_texts (TooMany Byte) = true
 refuses_texts _ = false
 
--- no text is refused by anything else
+-- a text is refused by nothing else
 abbrev pub RefusalsOfTexts : Type 0
 RefusalsOfTexts = (text : Bytes) (refusal : Refusal) → assignments text ≡ Err refusal → refuses_texts refusal ≡ true

@@ -1,4 +1,5 @@
-//! Assignments of users to roles as CSV: the pairs that a text lists, and the text of those of a state.
+//! Assignments of users to roles as CSV: reads the pairs that a text lists, and writes the assignments
+//! of a state as text.
 //!
 //! # Example
 //!

@@ -8,29 +8,30 @@ use csv::ByteRecord;
 use rbac_sets::{Kind, Name, Refusal};
 use std::alloc::Global;
 
-/// The most records under the header.
+/// The most records after the header.
 const MOST_RECORDS: u32 = 10_000;
 
 /// The most bytes of a text.
 const MOST_BYTES: usize = 2_097_152;
 
 /// The assignments that a CSV text lists, as pairs of a user and a role in the order of its records.
-/// They are what importAssignments takes: nothing is asked of an office here, and a pair that is
-/// listed twice is there twice.
 ///
-/// `text` may be any bytes. Its records are those of `csv`: fields stand between commas, with no
-/// space taken away, and may be in double quotes, within which a double quote is written twice; a
-/// record ends with LF, CR or CRLF, and a line without a byte is none. One byte order mark at the
-/// start is passed over. The first record is the header `user,role`; those under it are numbered
-/// from 1.
+/// These are the pairs of the command importAssignments. They are not checked against an office, and
+/// a pair that is listed twice is returned twice.
+///
+/// `text` may be any bytes. Its records are those of the crate `csv`: fields are separated by commas,
+/// spaces are kept, and a field may be in double quotes, within which a double quote is written
+/// twice; a record ends with LF, CR or CRLF, and an empty line is not a record. One byte order mark
+/// at the start is skipped. The first record is the header `user,role`; the records after it are
+/// numbered from 1.
 ///
 /// # Errors
 ///
-/// `TooMany(Kind::Byte)` where the text has more than 2,097,152 bytes, and `BadCsv(0)` where its
-/// first record isn't the header. Else the first record at fault decides: `TooMany(Kind::Record)`
-/// where it is behind 10,000 others, `BadCsv` with its number where it hasn't two fields or one of
-/// them isn't UTF-8, `BadName` where one is no name. `Memory` where memory was refused, which may
-/// stand in place of any other answer.
+/// `TooMany(Kind::Byte)` if the text has more than 2,097,152 bytes, and `BadCsv(0)` if its first
+/// record isn't the header. Otherwise the first invalid record decides: `TooMany(Kind::Record)` if
+/// its number is greater than 10,000, `BadCsv` with its number if it doesn't have two fields or one
+/// of them isn't UTF-8, `BadName` if one isn't a valid name. `Memory` if allocation failed; it may
+/// replace any other result.
 pub fn read_assignments(alloc: Global, text: &[u8]) -> Result<Vec<(Name, Name)>, Refusal>
     ensures ok { IfOk result (λ pairs. assignments text.now ≡ Ok pairs.items) }
     ensures err { IfErr result (λ refusal. (refusal ≡ Refusal.Memory) ⊎ (assignments text.now ≡ Err refusal)) }
@@ -68,7 +69,7 @@ fn is_header(row: &ByteRecord) -> bool
     }
 }
 
-// The pair that the record of this number lists.
+// The pair that the record with this number lists.
 #[tactic(auto, using(crate::proofs::Fields::pair_steps))]
 fn read_pair(alloc: Global, number: u32, row: &ByteRecord) -> Result<(Name, Name), Refusal>
     ensures ok { IfOk result (λ pair. pair_of number (fields_of row.now) ≡ Ok pair) }
@@ -80,7 +81,7 @@ fn read_pair(alloc: Global, number: u32, row: &ByteRecord) -> Result<(Name, Name
     read_fields(alloc, number, user, role)
 }
 
-// The pair of the two fields of the record of this number.
+// The pair that the two fields of the record with this number list.
 #[tactic(auto, unfolding(crate::specs::Assignments::pair_of))]
 fn read_fields(
     alloc: Global,
@@ -97,7 +98,7 @@ fn read_fields(
     read_names(alloc, user, role)
 }
 
-// The pair of two texts that are names.
+// The pair of two texts, which must both be valid names.
 #[tactic(auto, unfolding(crate::specs::Assignments::pair_of_names))]
 fn read_names(alloc: Global, user: &str, role: &str) -> Result<(Name, Name), Refusal>
     ensures ok { IfOk result (λ pair. pair_of_names user.now role.now ≡ Ok pair) }

@@ -9,7 +9,7 @@ use csv::{ByteRecord, Reader, ReaderBuilder};
 use rbac_sets::Refusal;
 use std::alloc::Global;
 
-// A reader of all records of a text, which has read none.
+// A reader of the records of a text, which has read none yet.
 pub(crate) fn reader_of(alloc: Global, text: &[u8]) -> Reader<&[u8]>
     ensures { HasRead text.entry.now [] result }
 {
@@ -19,8 +19,8 @@ pub(crate) fn reader_of(alloc: Global, text: &[u8]) -> Reader<&[u8]>
         .from_reader(alloc, text)
 }
 
-// Reads the next record into `row`, and tells whether there was one. A reader that takes records of any length
-// fails for want of memory alone.
+// Reads the next record into `row`, and returns whether there was one. A reader that accepts any number of fields in
+// a record fails only if allocation failed.
 pub(crate) fn next_record(reader: &mut Reader<&[u8]>, row: &mut ByteRecord) -> Result<bool, Refusal>
     requires { is_flexible reader.old ≡ true }
     ensures more { IfOk result (λ found. found ≡ true → ReadsOneMore reader.old (fields_of row.new) reader.new) }
@@ -33,7 +33,7 @@ pub(crate) fn next_record(reader: &mut Reader<&[u8]>, row: &mut ByteRecord) -> R
     Ok(found)
 }
 
-// The two fields of a record that has two.
+// The two fields of a record, or `None` if it doesn't have two.
 #[tactic(auto, using(crate::proofs::Fields::two_fields_steps))]
 pub(crate) fn two_fields(row: &ByteRecord) -> Option<(&[u8], &[u8])>
     ensures some { IfSome result (λ fields. fields_of row.entry.now ≡ fields.0.now ∷ fields.1.now ∷ []) }
@@ -45,7 +45,7 @@ pub(crate) fn two_fields(row: &ByteRecord) -> Option<(&[u8], &[u8])>
     Some((row.get(0)?, row.get(1)?))
 }
 
-// The text of a field that is UTF-8.
+// The text of a field, or `None` if it isn't UTF-8.
 #[tactic(auto, using(crate::proofs::Fields::utf8_steps))]
 pub(crate) fn text_of(field: &[u8]) -> Option<&str>
     ensures some { IfSome result (λ text. (text.now ≡ field.entry.now) × (is_utf8 field.entry.now ≡ true)) }

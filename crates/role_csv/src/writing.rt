@@ -11,20 +11,19 @@ use rbac_sets::{Fault, Name, Refusal, Sink, write_all};
 use std::alloc::Global;
 
 /// Writes the assignments of a state as CSV: the header `user,role`, then a record with user and
-/// role for each assignment in byte order. Each record ends with LF, and a field that has a comma
-/// or a double quote is in double quotes, its own written twice. It is the form that
-/// `read_assignments` reads, which takes 10,000 records at most: an export may have more. The text
-/// is made whole before its first byte is written.
+/// role for each assignment in byte order. Each record ends with LF. A field that has a comma or a
+/// double quote is in double quotes, and each double quote in it is written twice.
+/// `read_assignments` reads this format, but at most 10,000 records of it; an export may have more.
+/// The text is complete before its first byte is written.
 ///
 /// # Errors
 ///
-/// `Memory` where memory for the text was refused; nothing was written then. `Store` where a write
-/// to the sink failed, or took no byte; what was written then is the start of the text, and not the
-/// whole.
+/// `Memory` if allocation failed; nothing was written then. `Store` if a write to the sink failed or
+/// accepted no byte; what was written then is the start of the text, but not the whole text.
 pub fn write_assignments<W: Sink>(alloc: Global, state: &State, sink: &mut W) -> Result<(), Refusal>
     ensures ok { OnOk result (Appends (W.written sink.old) (W.written sink.new) (exported state.now.facts)) }
 
-    // Of a text that isn't whole its start was written, where memory was refused nothing.
+    // After an error the start of the text was written, but not the whole text; if allocation failed, nothing was.
     ensures part { OnErr result ((part rest : List ℕ) × (exported state.now.facts ≡ part ++ rest) × (1 ≤ length rest) × Appends (W.written sink.old) (W.written sink.new) part) }
     ensures memory { result ≡ Err Refusal.Memory → sink.new ≡ sink.old }
 

@@ -1,4 +1,4 @@
--- The number that digits write, read from the front.
+-- The number that digits denote, read from the front.
 use Rattle.std.proofs.Common.{◌≡◌, ◌<◌, ◌≤◌, ◌∙◌, ◌+◌, ◌-◌, ◌*◌, ℕ, suc, List, [], ◌∷◌, true, false, length, drop, get_or, Ok, Err, ap, refl, sym, rules, arith, add-one, inl, inr}
 use Rattle.std.specs.Prelude.{nat_le, nat_lt}
 use Rattle.std.specs.Char.{digit_value, is_ascii_digit}
@@ -9,12 +9,12 @@ use Rattle.std.proofs.lemmas.Bool.{cases_Bool, and_parts, true≢false}
 use Rattle.std.proofs.lemmas.List.Folds.{list_all_at}
 use Rattle.role_http.specs.Judging.{is_length, length_of}
 
--- more digits write no smaller number
+-- more digits don't denote a smaller number
 after_le : (n : ℕ) (digits : List ℕ) → n ≤ digits_value_after 10 n digits
 after_le n [] = omega arith
 after_le n (c ∷ cs) = let more = after_le (n * 10 + digit_value c) cs in omega arith
 
--- a digit is what stands behind `0`
+-- the value of a digit is its distance from `0`
 pub digit_of : (c : ℕ) → is_ascii_digit c ≡ true → (48 ≤ c) × (c ≤ 57) × (c ≡ 48 + digit_value c)
 digit_of c h = search rules
 
@@ -34,7 +34,7 @@ digit_step digits i n more good h e before =
     let same : digit_value (get_or digits i 0) ≡ more = omega (arith, is, e) in
     before ∙ ap (digits_value_after 10 n) (drop-cons digits i 0 h) ∙ ap (λ z. digits_value_after 10 (n * 10 + z) (drop (suc i) digits)) same ∙ rw (add-one i) refl
 
--- too large a number so far
+-- the number is too large already
 pub length_of-large : (most n : ℕ) (digits rest : List ℕ) → digits_value 10 digits ≡ digits_value_after 10 n rest → most < n → length_of most digits ≡ Err 413
 unfolding length_of
 length_of-large most n digits rest e h =

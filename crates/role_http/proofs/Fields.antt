@@ -1,4 +1,4 @@
--- The fields of a head, gone through in order.
+-- The fields of a head, read in order.
 use Rattle.std.proofs.Common.{◌≡◌, ◌<◌, ◌≤◌, ◌+◌, ℕ, List, [], ◌∷◌, true, false, length, map, drop, get_or, Option, Some, Ok, Err, refl, add-one}
 use Rattle.std.specs.Prelude.{◌&&◌}
 use Rattle.std.specs.Str.{str_eq_ignore_ascii_case}

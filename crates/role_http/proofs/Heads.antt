@@ -1,4 +1,4 @@
--- Heads: none ends before a line feed, none past the bytes that were taken, and bytes begin with one at most.
+-- Heads: each ends with a line feed, no byte past one is read, and bytes begin with at most one.
 use Rattle.std.proofs.Common.{◌≡◌, ◌≤◌, ◌<◌, ◌∙◌, ◌⊎◌, ◌≢◌, inl, inr, ℕ, List, [], ◌∷◌, ◌++◌, length, drop, Option, Some, None, Ok, Err, append_assoc, length-append, take, ap, sym, refl, arith}
 use Rattle.std.proofs.lemmas.List.{append-nil, same_from_push, take-append-drop, take-append-le, take_all}
 use Rattle.std.proofs.lemmas.Bool.{cases_lt}
@@ -47,7 +47,7 @@ no_request-nil h rest r =
     let p = print_request-last h in
     nothing p.0 rest (rw p.1 at r.1)
 
--- where no prefix was a head, a head takes the byte that came last
+-- if the bytes before the last one don't begin with a head, a head includes the last one
 pub whole_at_last : (bs : List ℕ) (b : ℕ) (h : RequestHead) (rest : List ℕ) → HasNoRequest bs → ReadsRequest (bs ++ b ∷ []) h rest → rest ≡ []
 whole_at_last bs b h rest none r =
     elim (last_of rest) [
@@ -58,7 +58,7 @@ whole_at_last bs b h rest none r =
           absurd (none h front (r.0, (same_from_push bs (print_request h ++ front) b x whole).0))
     ]
 
--- a byte that is no line feed ends no head
+-- a byte that is not a line feed doesn't end a head
 pub no_request-push : (bs : List ℕ) (b : ℕ) → HasNoRequest bs → b ≢ 10 → HasNoRequest (bs ++ b ∷ [])
 no_request-push bs b none other h rest r =
     let e = whole_at_last bs b h rest none r in
@@ -75,7 +75,7 @@ front_of a b c d e h =
     let same : take (length a) c ≡ a = sym right ∙ ap (take (length a)) (sym e) ∙ left in
     sym (take-append-drop (length a) c) ∙ ap (λ (z : List ℕ). z ++ drop (length a) c) same
 
--- a head at their front ends past them, whatever follows
+-- a head that they begin ends past them, whatever follows
 ends_past : (bytes later : List ℕ) → HasNoRequest bytes → (head : RequestHead) (rest : List ℕ) → ReadsRequest (bytes ++ later) head rest
     → length bytes < length (print_request head)
 ends_past bytes later none head rest reads =
@@ -84,23 +84,23 @@ ends_past bytes later none head rest reads =
       | inr fits ↦ absurd (none head (drop (length (print_request head)) bytes) (reads.0, front_of (print_request head) rest bytes later (sym reads.1) fits))
     ]
 
--- so one byte more than them lies in it
+-- so one more byte is still within it
 in_head : (bytes last : List ℕ) → HasNoRequest bytes → length last ≤ 1 → IsInHead (bytes ++ last)
 in_head bytes last none one later head rest reads =
     let past = ends_past bytes (last ++ later) none head rest (rw (append_assoc bytes last later) at reads) in
     omega (arith, past, one, length-append bytes last)
 
--- they were taken
+-- they were read
 pub TakesHead-all : (old new : Option (List ℕ)) (bytes : List ℕ) → HasNoRequest bytes → length bytes ≤ longest_head → Consumes old new bytes → TakesHead old new bytes
 TakesHead-all old new bytes none short all = (all, rw (append-nil bytes) at (in_head bytes [] none (omega arith)), short)
 
--- they were taken, and then none
+-- they were read, and then nothing
 pub TakesHead-kept : (old between new : Option (List ℕ)) (bytes : List ℕ) → HasNoRequest bytes → length bytes ≤ longest_head → Consumes old between bytes
     → Keeps between new → TakesHead old new bytes
 TakesHead-kept old between new bytes none short before kept =
     TakesHead-all old new bytes none short (Consumes-no_more old between new bytes before (Consumes-kept between new kept))
 
--- a byte was taken besides
+-- one more byte was read
 pub TakesHead-more : (old between new : Option (List ℕ)) (bytes : List ℕ) (byte : ℕ) → HasNoRequest bytes → length bytes < longest_head → Consumes old between bytes
     → Consumes between new (byte ∷ []) → TakesHead old new (bytes ++ byte ∷ [])
 TakesHead-more old between new bytes byte none short before more =
@@ -111,11 +111,11 @@ TakesHead-more old between new bytes byte none short before more =
 pub heads_are_unique : HeadsAreUnique
 heads_are_unique bytes head other rest after has has_other = request_unique bytes head other rest after has.0 has_other.0
 
--- a head that is all of the bytes is the head of those that go on
+-- a head that is all of the bytes is also the head of longer bytes that begin with them
 pub HasHead-append : (bytes rest : List ℕ) (head : RequestHead) → HasHead bytes head [] → HasHead (bytes ++ rest) head rest
 HasHead-append bytes rest head has = (ReadsRequest-append bytes head [] rest has.0, has.1, has.2)
 
--- what follows the bytes that were taken
+-- what follows the bytes that were read
 pub with_left-later : (taken : List ℕ) (left : Option (List ℕ)) → (later : List ℕ) × (with_left taken left ≡ taken ++ later)
 with_left-later taken None = ([], sym (append-nil taken))
 with_left-later taken (Some left) = (left, refl)

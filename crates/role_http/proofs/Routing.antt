@@ -1,4 +1,4 @@
--- What the router of one route answers.
+-- What the router of the one route finds.
 use Rattle.std.proofs.Common.{◌≡◌, ◌<◌, ◌∙◌, ◌-◌, ℕ, zero, suc, List, [], ◌∷◌, ◌++◌, true, false, cond, ◌⊎◌, length, Option, Some, None, ap, subst, refl, sym, rules, arith, inl, inr, codes}
 use Rattle.std.specs.Prelude.{◌&&◌, ◌==◌, not, option_and_then, option_map, ltb, leb}
 use Rattle.std.specs.List.{list_any, list_all}
@@ -80,12 +80,12 @@ module _ {K : Type 0} where
   seek-over rows [] = refl
   seek-over rows (b ∷ path) = seek-over rows path
 
-  -- a path goes on where the route ends
+  -- a path that goes on after the end of the route
   seek-past : (key : K) (b : ℕ) (path : List ℕ) → seek 0 (([], key) ∷ []) (b ∷ path) ≡ None
   unfolding seek
   seek-past key b path = rw (seek-none 0 path, seek-no_param b path) refl
 
-  -- what is found is the parameter's, whatever is found before
+  -- the parameter decides what is found, whether or not the key is found before
   seek-part : (key : K) (b : ℕ) (rest : List ℕ) (before : Option K) → (before ≡ None) ⊎ ((before ≡ Some key) × (has_slash (b ∷ rest) ≡ false))
       → or_else before (or_else (seek ((param_step (([], key) ∷ []) (b ∷ rest)).0 - 1) (param_step (([], key) ∷ []) (b ∷ rest)).1 rest) None) ≡ option_map (λ part. key) (one_part (b ∷ rest))
   unfolding param_step
@@ -124,7 +124,7 @@ first-route path = seek-start (codes "/v1/") (param_token ∷ []) route path ref
     by None = refl
     by (Some rest) = seek-param route rest
 
--- what follows a beginning is the rest
+-- a text that begins with a prefix is the prefix and the rest
 after-rest : (start text rest : List ℕ) → after start text ≡ Some rest → text ≡ start ++ rest
 after-rest [] text rest e = cc
 after-rest (x ∷ start) [] rest e = let no : ⊥ = cc e in absurd no
@@ -169,15 +169,15 @@ whole part =
     let d : suc (suc (suc (suc (length part)))) - 4 ≡ length part = omega arith in
     rw (a, b, d) (take-length part)
 
--- what the parameter of the route took
+-- the value of the parameter of the route
 pub walk-part : (part : List ℕ) → walk route.pattern route.text (codes "/v1/" ++ part) route.names 0 0 ≡ (codes "function", part) ∷ []
 walk-part part = rw (fourth (length part)) (ap (λ (z : List ℕ). (codes "function", z) ∷ []) (whole part))
 
--- the text behind a character of ASCII
+-- what follows an ASCII character in a UTF-8 text is UTF-8
 text-past : (c : ℕ) (rest : List ℕ) → c < 128 → IsUtf8 (c ∷ rest) → IsUtf8 rest
 text-past c rest h text = IsUtf8-past_char (c ∷ rest) rest c text (ap (λ z. z ++ rest) (sym (encode_ascii c h)))
 
--- the part is text where the target is
+-- the part is UTF-8 if the target is
 pub part-text : (part : List ℕ) → IsUtf8 (codes "/v1/" ++ part) → IsUtf8 part
 part-text part text =
     text-past 47 part (omega arith) (text-past 49 (codes "/" ++ part) (omega arith) (text-past 118 (codes "1/" ++ part) (omega arith) (text-past 47 (codes "v1/" ++ part) (omega arith) text)))
@@ -206,7 +206,7 @@ function_in-unrouted target good none = rw good (by (part_of target) refl (sym (
     by None is e = rw is refl
     by (Some part) is e = let no : ⊥ = cc e in absurd no
 
--- what the parameter `function` of a found route took
+-- the value of the parameter `function` of a route that was found
 pub record Took (target : List ℕ) (found : RouteOf (Unit {0})) (path : List ℕ) : Type 0 where
   pub part : List ℕ
   pub function : function_in target ≡ function_named part

@@ -15,11 +15,11 @@ most_fields = 64
 abbrev pub HasHead : List ℕ → RequestHead → List ℕ → Type 0
 HasHead bytes head rest = ReadsRequest bytes head rest × (length (print_request head) ≤ longest_head) × (length head.fields ≤ most_fields)
 
--- whatever follows these bytes, a head at the front has all of them
+-- whatever follows these bytes, if it all begins with a head, the head includes all of them
 abbrev pub IsInHead : List ℕ → Type 0
 IsInHead taken = (later : List ℕ) (head : RequestHead) (rest : List ℕ) → ReadsRequest (taken ++ later) head rest → length taken ≤ length (print_request head)
 
--- these bytes were taken from a source with the first bytes left, so that the second are: none past a head, and no more than a head
--- may have
+-- these bytes were read from a source that had the remaining bytes `old` before and has `new` after: none past a head, and no
+-- more than a head may have
 abbrev pub TakesHead : Option (List ℕ) → Option (List ℕ) → List ℕ → Type 0
 TakesHead old new taken = Consumes old new taken × IsInHead taken × (length taken ≤ longest_head)

@@ -1,4 +1,4 @@
--- What reading a head came to.
+-- How reading a head ended.
 use Rattle.std.specs.Prelude.{◌≡◌, ℕ, List, length, Option, ⊤}
 use Rattle.std.specs.Io.KnownBytes.{IsAtEnd}
 use Rattle.httparse.specs.Grammar.{RequestHead, HasNoRequest, NeverHasRequest, print_request}
@@ -8,7 +8,7 @@ use Rattle.role_http.specs.Head.{longest_head}
 use Rattle.role_http.specs.declared.head.HeadEnd.{HeadEnd}
 use Rattle.role_http.specs.declared.head.HeadEnd.TheVariants.{Whole, Invalid, TooManyFields, TooLong, Ended}
 
--- what is said of the bytes that were read, and of those that a source has left after them
+-- what each case means for the bytes that were read, and for the remaining bytes of the source
 abbrev pub EndsHead : List ℕ → List HeaderSpan → Option (List ℕ) → HeadEnd → Type 0
 EndsHead bytes headers left (Whole spans) = (head : RequestHead) × IsRequestAt bytes headers spans head × (length (print_request head) ≡ length bytes)
 EndsHead bytes headers left Invalid = NeverHasRequest bytes
@@ -16,7 +16,7 @@ EndsHead bytes headers left TooManyFields = RequestExceeds (length headers) byte
 EndsHead bytes headers left TooLong = HasNoRequest bytes × (length bytes ≡ longest_head)
 EndsHead bytes headers left Ended = HasNoRequest bytes × IsAtEnd left
 
--- the parts of a whole head lie in the bytes
+-- the parts of a complete head are within the bytes
 abbrev pub IsWholeWithin : List ℕ → List HeaderSpan → HeadEnd → Type 0
 IsWholeWithin bytes headers (Whole spans) = IsRequestWithin bytes headers spans
 IsWholeWithin bytes headers Invalid = ⊤

@@ -1,4 +1,4 @@
--- What the head of a request is answered before its body is read.
+-- The answer to the head of a request, before its body is read.
 use Rattle.std.specs.Prelude.{ℕ, List, [], ◌∷◌, Bool, true, ◌&&◌, codes, length, nat_le, nat_lt, map, Option, Some, None, Result, Ok, Err, if◌then◌else◌}
 use Rattle.std.specs.Char.{is_ascii_digit}
 use Rattle.std.specs.List.{list_all, list_any}
@@ -20,7 +20,7 @@ abbrev pub ◌>>=◌ : {A B : Type 0} → Result A ℕ → (A → Result B ℕ) 
 (Ok a) >>= f = f a
 (Err status) >>= f = Err status
 
--- the value, or this status where there is none
+-- the value, or this status if there is none
 abbrev pub or_status : {A : Type 0} → ℕ → Option A → Result A ℕ
 or_status status (Some a) = Ok a
 or_status status None = Err status
@@ -34,16 +34,16 @@ unfoldable pub values_of : List ℕ → List Field → List (List ℕ)
 values_of name [] = []
 values_of name (field ∷ fields) = if str_eq_ignore_ascii_case field.0 name then field.1 ∷ values_of name fields else values_of name fields
 
--- digits alone, one at least
+-- whether the value has digits only, and at least one
 unfoldable pub is_length : List ℕ → Bool
 is_length value = nat_lt 0 (length value) && list_all is_ascii_digit value
 
--- the value is the one before, if there is one before
+-- whether the value is the same as the one before, if there is one before
 abbrev pub agrees : Option (List ℕ) → List ℕ → Bool
 agrees None value = true
 agrees (Some before) value = bytes_eq before value
 
--- the value of all of these, each of which is a length and has the same bytes
+-- the value of `before` and of all of these, if there is any; each of these must be a length, and all must have the same bytes
 unfoldable pub one_length : Option (List ℕ) → List (List ℕ) → Result (Option (List ℕ)) ℕ
 one_length before [] = Ok before
 one_length before (value ∷ values) = if is_length value && agrees before value then one_length (Some value) values else Err 400
@@ -52,12 +52,12 @@ one_length before (value ∷ values) = if is_length value && agrees before value
 abbrev pub most_bytes_of : Function → ℕ
 most_bytes_of called = if takes_csv called then 2097152 else 65536
 
--- the number of bytes of a body, where no more than these are taken
+-- the number of bytes of a body, if it is at most `most`
 unfoldable pub length_of : ℕ → List ℕ → Result ℕ ℕ
 length_of most digits = if nat_le (digits_value 10 digits) most then Ok (digits_value 10 digits) else Err 413
 
--- the function that a head calls and how many bytes its body has, or the status of its refusal. `named` is the function that
--- its target names
+-- the function that a head calls and the number of bytes that its body has, or the status by which the head is refused. `named`
+-- is the function that its target names, if it names one
 unfoldable pub judged : List ℕ → Option Function → List Field → Result (Function × ℕ) ℕ
 judged method named fields =
     if has_field (codes "transfer-encoding") fields then Err 501 else (
@@ -68,6 +68,6 @@ judged method named fields =
     length_of (most_bytes_of called) digits >>= λ count.
     Ok (called, count)) else Err 405)
 
--- the same of a whole head
+-- the same for a complete head
 abbrev pub judged_head : RequestHead → Result (Function × ℕ) ℕ
 judged_head head = judged head.method (function_in head.target) (map name_and_value head.fields)

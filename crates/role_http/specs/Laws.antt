@@ -10,12 +10,12 @@ use Rattle.role_http.specs.Judging.{judged_head}
 abbrev pub HeadsAreUnique : Type 0
 HeadsAreUnique = (bytes : List ℕ) (head other : RequestHead) (rest after : List ℕ) → HasHead bytes head rest → HasHead bytes other after → (head ≡ other) × (rest ≡ after)
 
--- bytes that are refused as no head begin with none within the limits, with those that are left
+-- bytes that are refused because they are not a head, with the remaining bytes, don't begin with a head within the limits
 abbrev pub RefusedHaveNoHead : Type 0
 RefusedHaveNoHead = (taken : List ℕ) (left : Option (List ℕ)) (answer : Result (Function × ℕ) ℕ) → RefusesBytes taken left answer
     → (head : RequestHead) (rest : List ℕ) → ¬ (HasHead (with_left taken left) head rest)
 
--- where the bytes that were read and those that are left begin with a head within the limits, it is what was read, and it is answered
+-- if the bytes that were read and the remaining ones begin with a head within the limits, it is what was read, and it is answered
 abbrev pub AnswersAreOfHeads : Type 0
 AnswersAreOfHeads = (taken : List ℕ) (left : Option (List ℕ)) (answer : Result (Function × ℕ) ℕ) → Answers taken left answer
     → (head : RequestHead) (rest : List ℕ) → HasHead (with_left taken left) head rest → (taken ≡ print_request head) × (answer ≡ judged_head head)

@@ -3,11 +3,11 @@ use Rattle.std.specs.Prelude.{decimal, ℕ, ◌==◌, List, [], ◌∷◌, codes
 use Rattle.http.specs.StatusCode.{reason_phrase}
 use Rattle.role_http.specs.Pieces.{joined}
 
--- the field that 405 has besides
+-- the further field of a reply with status 405; nothing for any other status
 abbrev pub allow : ℕ → List ℕ
 allow status = if status == 405 then codes "Allow: POST\r\n" else []
 
--- the phrase of a status
+-- the reason phrase of a status
 abbrev pub phrase : ℕ → List ℕ
 phrase status = unwrap_or (reason_phrase status) (codes "<unknown status code>")
 
@@ -20,6 +20,6 @@ pieces code reason count more body =
     ∷ codes "\r\n" ∷ body
     ∷ []
 
--- the bytes of a reply of this status with this body
+-- the bytes of a reply with this status and this body
 unfoldable pub reply_bytes : ℕ → List ℕ → List ℕ
 reply_bytes status body = joined (pieces (decimal status) (phrase status) (decimal (length body)) (allow status) body)

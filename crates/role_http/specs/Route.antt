@@ -11,22 +11,22 @@ use Rattle.role_json.specs.declared.function.Function.{Function}
 abbrev pub slash : ℕ
 slash = 47
 
--- what follows a beginning
+-- what follows a prefix, if the text begins with it
 abbrev pub after : List ℕ → List ℕ → Option (List ℕ)
 after [] text = Some text
 after (x ∷ start) [] = None
 after (x ∷ start) (byte ∷ text) = if x == byte then after start text else None
 
--- one part of a path: a byte at least, and none between parts
+-- one part of a path: at least one byte, and no slash
 abbrev pub one_part : List ℕ → Option (List ℕ)
 one_part [] = None
 one_part (byte ∷ text) = if list_any (λ b. b == slash) (byte ∷ text) then None else Some (byte ∷ text)
 
--- the part of a target behind `/v1/`
+-- the part of a target after `/v1/`
 unfoldable pub part_of : List ℕ → Option (List ℕ)
 part_of target = option_and_then one_part (after (codes "/v1/") target)
 
--- the function that a target names, which is UTF-8
+-- the function that a target names; the target must be UTF-8
 unfoldable pub function_in : List ℕ → Option Function
 function_in target = if is_utf8 target then option_and_then function_named (part_of target) else None
 

@@ -1,11 +1,11 @@
--- The statuses of refusals, and the bodies that go with those of heads.
+-- The statuses of refusals, and the bodies of replies that refuse a head.
 use Rattle.std.specs.Prelude.{ℕ, ◌||◌, ◌==◌, List, if◌then◌else◌}
 use Rattle.rbac_sets.specs.Refusal.{code_of}
 use Rattle.rbac_sets.specs.declared.refusal.Refusal.{Refusal}
 use Rattle.rbac_sets.specs.declared.refusal.Refusal.TheVariants.{BadRequest, UnknownFunction}
 use Rattle.role_json.specs.Answer.{refusal_text}
 
--- the status by which a refusal is told
+-- the status of a reply that reports a refusal
 abbrev pub status_of : Refusal → ℕ
 status_of refusal =
     if code_of refusal == 1 || (code_of refusal == 34 || code_of refusal == 36) then 400 else (

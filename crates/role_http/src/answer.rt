@@ -1,4 +1,4 @@
-//! What the head of a request is answered.
+//! The answer to the head of a request.
 ghost use Rattle.std.specs.Prelude.{◌≡◌, ◌≤◌, ℕ, List, IfErr, IfOk, OnErr, OnOk, length};
 ghost use Rattle.httparse.specs.Grammar.{RequestHead};
 ghost use Rattle.httparse.specs.Spans.{IsRequestAt, IsRequestWithin};
@@ -19,18 +19,18 @@ use rbac_sets::Source;
 use role_json::Function;
 use std::alloc::Global;
 
-/// Reads the head of a request from `source`, no byte past it, and judges it. `router` is that of
-/// `one_route`.
+/// Reads the head of a request from `source`, and no byte past it, and judges it. `router` must be the
+/// router that `one_route` returns.
 ///
-/// The answer is the function that the head calls and how many bytes its body has, or the status by which
-/// it is refused, the first of these that holds:
+/// The answer is the function that the head calls and the number of bytes that its body has, or the status
+/// by which it is refused, the first of these that applies:
 ///
-/// | Status | Where |
+/// | Status | If |
 /// |---|---|
-/// | 400 | the bytes are no head, or the input ends before a whole one |
+/// | 400 | the bytes are not a head, or the input ends before a complete one |
 /// | 431 | the head has more than 64 fields, or doesn't end within 8,192 bytes |
 /// | 501 | there is a Transfer-Encoding |
-/// | 400 | a Content-Length is empty or isn't digits alone, or two have different bytes |
+/// | 400 | a Content-Length is empty or has a byte that isn't a digit, or two have different bytes |
 /// | 404 | the target isn't that of the route, or names no function |
 /// | 405 | the method isn't POST |
 /// | 411 | there is no Content-Length |
@@ -38,8 +38,8 @@ use std::alloc::Global;
 ///
 /// # Errors
 ///
-/// `Fault` where a read of the source failed, and `Memory` where memory for the head was refused. No byte
-/// past the head was taken then either.
+/// `Fault` if a read of the source failed, and `Memory` if allocation failed. Then, too, no byte past the
+/// head was read.
 pub fn answer_head<R: Source>(
     alloc: Global,
     router: &Router<()>,
@@ -63,7 +63,7 @@ pub fn answer_head<R: Source>(
     }
 }
 
-// What a whole head is answered.
+// The answer to a complete head.
 fn judge_whole(
     router: &Router<()>,
     bytes: &[u8],

@@ -10,13 +10,13 @@ use std::alloc::Global;
 // The most bytes of one read.
 const PIECE: usize = 8192;
 
-/// Reads `count` bytes, or all that there are where there are fewer, and none past them. Memory is taken for
-/// what comes, and not for what was announced.
+/// Reads `count` bytes, or all bytes of the source if there are fewer, and none past them. It allocates for
+/// the bytes that arrive, and not for those that were announced.
 ///
 /// # Errors
 ///
-/// `Fault` where a read of the source failed, and `Memory` where memory for the bytes was refused. No more
-/// than `count` bytes were taken then.
+/// `Fault` if a read of the source failed, and `Memory` if allocation failed. At most `count` bytes were
+/// read then.
 pub fn read_bytes<R: Source>(alloc: Global, source: &mut R, count: usize) -> Result<Vec<u8>, Unread>
     ensures reads { IfOk result (λ bytes. Consumes (R.remaining source.old) (R.remaining source.new) bytes.items) }
     ensures within { IfOk result (λ bytes. length bytes.items ≤ count) }

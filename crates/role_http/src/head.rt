@@ -16,22 +16,22 @@ pub const MOST_FIELDS: usize = 64;
 // The most bytes of a head.
 const MOST_BYTES: usize = 8192;
 
-/// What reading a head came to.
+/// How reading a head ended.
 pub enum HeadEnd {
-    /// A whole head was read, and no byte past it.
+    /// A complete head was read, and no byte past it.
     Whole(RequestSpans),
-    /// No bytes that follow make it a head.
+    /// The bytes that were read don't begin a head, whatever follows them.
     Invalid,
-    /// It has more fields than there is room for.
+    /// The head has more fields than `headers` has room for.
     TooManyFields,
-    /// As many bytes as a head may have are no whole head.
+    /// As many bytes as a head may have were read, without a complete head.
     TooLong,
-    /// The input ended before a whole head.
+    /// The input ended before a complete head.
     Ended,
 }
 
-/// Reads up to the end of a head, and no byte past it. The bytes go into `bytes`, which are none before, and
-/// where the fields are goes into `headers`, which has the room for them.
+/// Reads up to the end of a head, and no byte past it. The bytes are written to `bytes`, which must be empty
+/// before, and the positions of the fields to `headers`, whose length limits their number.
 pub fn read_head<R: Source>(
     source: &mut R,
     bytes: &mut Vec<u8>,
@@ -64,7 +64,7 @@ pub fn read_head<R: Source>(
     Ok(HeadEnd::TooLong)
 }
 
-// The next byte, or nothing at the end.
+// Reads the next byte, or `None` at the end of the source.
 fn next_byte<R: Source>(source: &mut R) -> Result<Option<u8>, Fault>
     ensures byte { IfOk result (λ o. MatchOption o (IsAtEnd (R.remaining source.new)) (λ b. Consumes (R.remaining source.old) (R.remaining source.new) (b ∷ []))) }
     ensures end { IfOk result (λ o. MatchOption o (Keeps (R.remaining source.old) (R.remaining source.new)) (λ b. ℕ)) }

@@ -1,4 +1,4 @@
-//! What a head is answered before its body is read.
+//! The answer to a head, before its body is read.
 ghost use Rattle.std.specs.Prelude.{◌≡◌, ◌≤◌, ◌&&◌, true, Ok, Err, IfOk, IfErr, IfSome, All, Some, None, length, map, codes, option_map};
 ghost use Rattle.std.specs.Char.{is_ascii_digit};
 ghost use Rattle.std.specs.List.{list_all};
@@ -18,10 +18,11 @@ const MOST_JSON: u32 = 65_536;
 // The most bytes of a body of CSV.
 const MOST_CSV: u32 = 2_097_152;
 
-/// The function that a head calls and how many bytes its body has, or the status of its refusal.
+/// The function that a head calls and the number of bytes that its body has, or the status by which the head
+/// is refused.
 ///
-/// `spans` and `headers` are where the parts of the head are in `bytes`, and `named` is the function that
-/// its target names.
+/// `spans` and `headers` are the positions of the parts of the head in `bytes`, and `named` is the function
+/// that its target names, if it names one.
 pub fn judge_head(
     bytes: &[u8],
     headers: &[HeaderSpan],
@@ -36,7 +37,7 @@ pub fn judge_head(
     judge(method, named, bytes, &headers[..spans.headers])
 }
 
-// The same of the parts of a head.
+// The same for the parts of a head.
 #[tactic(auto, unfolding(crate::specs::Judging::judged))]
 fn judge(
     method: &[u8],
@@ -84,14 +85,14 @@ fn has_field(bytes: &[u8], fields: &[HeaderSpan], name: &[u8]) -> bool
     false
 }
 
-// Whether two names of fields are one.
+// Whether two field names are the same, without regard to ASCII case.
 fn is_name(text: &[u8], name: &[u8]) -> bool
     ensures { result ≡ str_eq_ignore_ascii_case text.now name.now }
 {
     text.eq_ignore_ascii_case(name)
 }
 
-// The value of the fields `content-length`, which is the same of all of them.
+// The value of the `content-length` fields, which must all have the same, or `None` if there are none.
 fn one_length<'b>(bytes: &'b [u8], fields: &[HeaderSpan]) -> Result<Option<&'b [u8]>, StatusCode>
     requires { All (IsHeaderWithin (length bytes.now)) fields.now }
     ensures ok { IfOk result (λ told. one_length None (values_of (codes "content-length") (map (header_bytes bytes.entry.now) fields.now)) ≡ Ok (option_map (λ value. value.now) told)) }
@@ -111,14 +112,14 @@ fn one_length<'b>(bytes: &'b [u8], fields: &[HeaderSpan]) -> Result<Option<&'b [
     Ok(told)
 }
 
-// Whether the value is a length and is the one before.
+// Whether the value is a length and the same as the one before, if there is one before.
 fn fits(before: Option<&[u8]>, value: &[u8]) -> bool
     ensures { result ≡ (is_length value.now && agrees (option_map (λ text. text.now) before.entry) value.now) }
 {
     is_length(value) && agrees(before, value)
 }
 
-// Whether the value is the one before, if there is one before.
+// Whether the value is the same as the one before, if there is one before.
 fn agrees(before: Option<&[u8]>, value: &[u8]) -> bool
     ensures { result ≡ agrees (option_map (λ text. text.now) before.entry) value.now }
 {
@@ -128,7 +129,7 @@ fn agrees(before: Option<&[u8]>, value: &[u8]) -> bool
     }
 }
 
-// Whether the value is digits alone, one at least.
+// Whether the value has digits only, and at least one.
 #[tactic(auto, unfolding(crate::specs::Judging::is_length))]
 fn is_length(value: &[u8]) -> bool
     ensures { result ≡ is_length value.now }
@@ -154,7 +155,7 @@ fn most_bytes_of(called: Function) -> u32
     }
 }
 
-// The number that digits write, where it is at most this.
+// The number that the digits denote, if it is at most `most`.
 fn length_of(most: u32, digits: &[u8]) -> Result<u32, StatusCode>
     requires small { most ≤ 2097152 }
     requires digits { is_length digits.now ≡ true }

@@ -1,5 +1,5 @@
-//! Requests over HTTP: the one route, the head of a request and what it is answered, the body, and how a
-//! reply is written.
+//! Requests over HTTP: the one route, the head of a request and the answer to it, the body, and how a reply
+//! is written.
 //!
 //! A request is `POST /v1/{function}` with a Content-Length; its body holds the arguments of the function.
 #![tactic(auto)]

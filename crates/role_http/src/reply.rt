@@ -9,13 +9,12 @@ use http::StatusCode;
 use itoa::Buffer;
 use rbac_sets::{Fault, Sink, write_all};
 
-/// Writes a reply with this status and body, and with `Allow: POST` where the status is 405. It takes no
-/// memory.
+/// Writes a reply with this status and body, and with `Allow: POST` if the status is 405. It doesn't allocate.
 ///
 /// # Errors
 ///
-/// `Fault` where a write failed, or took no byte though there was one. A part of the reply that is not the
-/// whole was written then.
+/// `Fault` if a write failed, or accepted no byte of a piece that isn't empty. The start of the reply was
+/// written then, but not the whole reply.
 pub fn write_reply<W: Sink>(sink: &mut W, status: StatusCode, body: &[u8]) -> Result<(), Fault>
     ensures ok { OnOk result (Appends (W.written sink.old) (W.written sink.new) (reply_bytes status body.now)) }
     ensures part { OnErr result ((part rest : List ℕ) × (reply_bytes status body.now ≡ part ++ rest) × (1 ≤ length rest) × Appends (W.written sink.old) (W.written sink.new) part) }
@@ -62,14 +61,14 @@ fn pieces_of<'a>(
     ]
 }
 
-// The phrase of a status.
+// The reason phrase of a status.
 fn reason(status: StatusCode) -> &'static str
     ensures { result.now ≡ phrase status }
 {
     status.canonical_reason().unwrap_or("<unknown status code>")
 }
 
-// The field that 405 has besides.
+// The further field of a reply with status 405; nothing for any other status.
 fn allow(status: StatusCode) -> &'static [u8]
     ensures { result.now ≡ allow status }
 {

@@ -8,11 +8,11 @@ use rbac_sets::Refusal;
 use role_json::Function;
 use std::alloc::Global;
 
-/// The router of the one route, `/v1/{function}`. It is made once, and lent to each `answer_head`.
+/// The router of the one route, `/v1/{function}`. Create it once, and pass it to each `answer_head`.
 ///
 /// # Errors
 ///
-/// `Memory` where memory for the router was refused.
+/// `Memory` if allocation failed.
 pub fn one_route(alloc: Global) -> Result<Router<()>, Refusal>
     ensures ok { IfOk result (λ router. router ≡ routes) }
     ensures cause { IfErr result (λ error. error ≡ Refusal.Memory) }
@@ -24,8 +24,8 @@ pub fn one_route(alloc: Global) -> Result<Router<()>, Refusal>
     Ok(router)
 }
 
-/// The function that a target names, or `None` where the target isn't UTF-8, isn't that of the route, or names
-/// no function. It takes no memory.
+/// The function that a target names, or `None` if the target isn't UTF-8, isn't that of the route, or names no
+/// function. It doesn't allocate.
 pub(crate) fn function_of(router: &Router<()>, target: &[u8]) -> Option<Function>
     requires { router.now ≡ routes }
     ensures { result ≡ function_in target.now }
@@ -42,7 +42,7 @@ pub(crate) fn function_of(router: &Router<()>, target: &[u8]) -> Option<Function
     Function::from_name(name)
 }
 
-// The bytes as text, where they are UTF-8.
+// The bytes as text, or `None` if they aren't UTF-8.
 #[tactic(auto, using(crate::proofs::Routing::utf8_steps))]
 fn text(bytes: &[u8]) -> Option<&str>
     ensures some { IfSome result (λ text. (text.now ≡ bytes.entry.now) × (is_utf8 bytes.entry.now ≡ true)) }

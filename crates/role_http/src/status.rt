@@ -1,4 +1,4 @@
-//! Statuses: by which one a refusal is told, and the body of a reply that refuses a head.
+//! The statuses of refusals, and the body of a reply that refuses a head.
 ghost use Rattle.std.specs.Prelude.{◌≡◌};
 ghost use Rattle.role_http.specs.Status.{head_body, status_of};
 
@@ -9,8 +9,9 @@ const BAD_REQUEST: &str = "{\"code\":34,\"error\":\"BadRequest\"}";
 
 const UNKNOWN_FUNCTION: &str = "{\"code\":35,\"error\":\"UnknownFunction\"}";
 
-/// The status by which a refusal is told: 400 for what is badly made, 404 for a function that isn't there,
-/// 503 for want of memory, 500 where the store failed or is closed, and 409 for every other refusal.
+/// The status of a reply that reports a refusal: 400 for malformed input (`1 BadName`, `34 BadRequest`,
+/// `36 BadCsv`), 404 for an unknown function (`35 UnknownFunction`), 503 if allocation failed (`40 Memory`),
+/// 500 if the store failed or the office is closed (`41 Store`, `42 Closed`), and 409 for every other refusal.
 pub fn status_of(refusal: &Refusal) -> StatusCode
     ensures { result ≡ status_of refusal.now }
 {
@@ -24,7 +25,7 @@ pub fn status_of(refusal: &Refusal) -> StatusCode
 }
 
 /// The body of a reply that refuses a head by this status: the text of `UnknownFunction` for 404, and that of
-/// `BadRequest` for every other. It takes no memory.
+/// `BadRequest` for every other. It doesn't allocate.
 pub fn refused_body(status: StatusCode) -> &'static str
     ensures { result.now ≡ head_body status }
 {

@@ -1,13 +1,13 @@
-//! Why a request was not read on.
+//! Why reading a request failed.
 use rbac_sets::Fault;
 use std::alloc::{AllocError, AllocFailed};
 
-/// Why a head or a body was not read on. The bytes that were read are lost then.
+/// Why reading a head or a body failed. The bytes that were read before are lost.
 #[derive(Clone, Copy, PartialEq, Eq, Debug)]
 pub enum Unread {
     /// A read of the source failed.
     Fault,
-    /// Memory for what was read was refused.
+    /// An allocation failed.
     Memory,
 }
 

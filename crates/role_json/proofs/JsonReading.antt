@@ -22,7 +22,7 @@ unfolding json_of
 json_of-read line value h utf8 e =
     let fits : nat_le (length line) longest_line ≡ true = search rules in rw (fits, is_utf8-from_IsUtf8 line utf8, e) refl
 
--- a line that is no JSON text has none
+-- a line that is not a JSON text has no value
 pub json_of-unread : (line : List ℕ) → length line ≤ longest_line → (IsUtf8 line → read line ≡ None) → json_of line ≡ Err BadRequest
 unfolding json_of
 json_of-unread line h unread =

@@ -1,4 +1,4 @@
--- Values of answers: lists in the making, and that no answer has a number that is no integer.
+-- Values of answers: lists while they are built, and that each number in an answer is an integer.
 use Rattle.std.proofs.Common.{◌≡◌, ◌≤◌, ◌<◌, ◌+◌, ℕ, pos, negsuc, List, [], ◌∷◌, ◌++◌, length, map, drop, get_or, suc, add-one, append_assoc, ap, refl}
 use Rattle.std.specs.Prelude.{Some, None, false}
 use Rattle.std.proofs.lemmas.List.{append-nil, drop_all, map-append}
@@ -17,7 +17,7 @@ use Rattle.role_json.specs.Answer.{data_of, done_text, import_text, pair_data, p
 use Rattle.role_json.specs.declared.answer.Verdict.{Verdict}
 use Rattle.role_json.specs.declared.answer.Verdict.TheVariants as verdict
 
--- ---- lists in the making: the values made so far, and those of the elements that are left
+-- ---- lists while they are built: the values so far, and those of the remaining elements
 
 module _ {K : Type 0} (shown : K → Data) where
   abbrev pub items_with : List Value → List K → Items
@@ -90,7 +90,7 @@ has_float-refusal_data (Version (pos n)) = refl
 has_float-refusal_data (Version (negsuc n)) = refl
 has_float-refusal_data _ = refl
 
--- no answer has a number that is no integer
+-- each number in an answer is an integer
 pub has_float-data_of : (v : Verdict) → has_float (data_of v) ≡ false
 unfolding data_of
 has_float-data_of verdict.Done = refl

@@ -20,7 +20,7 @@ use Rattle.role_json.specs.Fields.{name, name_set}
 abbrev pub texts_of_refs : List (Bor (List ℕ)) → List (List ℕ)
 texts_of_refs refs = map (λ text. text.now) refs
 
--- a set that has the first texts, all of them names
+-- the set of the first `i` texts, which are all valid names
 pub record HasFirst (texts : List (Bor (List ℕ))) (i : ℕ) (made : Names) : Type 0 where
   pub all_names : list_all (λ (text : Bor (List ℕ)). is_name text.now) (take i texts) ≡ true
   pub made_set : made ≡ from_list (texts_of_refs (take i texts))
@@ -29,7 +29,7 @@ pub HasFirst-none : (texts : List (Bor (List ℕ))) (made : Names) → made ≡ 
 unfolding from_list
 HasFirst-none texts made e = record { all_names = refl; made_set = e }
 
--- a member may be put again
+-- inserting a member again changes nothing
 pub insert_known : (s : Names) (x : List ℕ) → contains s x ≡ true → insert s x ≡ s
 insert_known s x known = same_set name_total name_exact (insert s x) s (λ y. contains-insert name_total s x y ∙ by y (eq_by_cmp name_cmp y x) refl)
   where
@@ -50,7 +50,7 @@ named text made e =
       | inr bad ↦ let r = rw bad at e in absurd (let f : ⊥ = cc in f)
     ]
 
--- one more name was put
+-- one more name was inserted
 pub HasFirst-put : (texts : List (Bor (List ℕ))) (i : ℕ) (d : Bor (List ℕ)) (made new : Names) (x : List ℕ) → i < length texts → name (get_or texts i d).now ≡ Ok x
     → HasFirst texts i made → new ≡ insert made x → HasFirst texts (i + 1) new
 HasFirst-put texts i d made new x h is has put =
@@ -66,14 +66,14 @@ pub HasFirst-known : (texts : List (Bor (List ℕ))) (i : ℕ) (d : Bor (List �
     → HasFirst texts i made → contains made x ≡ true → new ≡ made → HasFirst texts (i + 1) new
 HasFirst-known texts i d made new x h is has known kept = HasFirst-put texts i d made new x h is has (kept ∙ sym (insert_known made x known))
 
--- all were put
+-- all were inserted
 pub HasFirst-all : (texts : List (Bor (List ℕ))) (i : ℕ) (made : Names) → length texts ≤ i → HasFirst texts i made → name_set (texts_of_refs texts) ≡ Ok made
 unfolding name_set
 HasFirst-all texts i made h has =
     let all : list_all is_name (texts_of_refs texts) ≡ true = list_all-map is_name (λ (text : Bor (List ℕ)). text.now) texts ∙ rw (take_all i texts h) at has.all_names in
     rw (all, has.made_set, take_all i texts h) refl
 
--- one is no name
+-- one is not a valid name
 pub HasFirst-bad : (texts : List (Bor (List ℕ))) (i : ℕ) (d : Bor (List ℕ)) (refusal : Refusal) → i < length texts → name (get_or texts i d).now ≡ Err refusal
     → name_set (texts_of_refs texts) ≡ Err refusal
 unfolding name name_set
@@ -91,7 +91,7 @@ pub ruleset name_set_steps = (HasFirst-none, HasFirst-put, HasFirst-known, HasFi
 
 -- ---- in another order
 
--- all pass where none fails
+-- all pass if and only if none fails
 all_by_any : (p : Bytes → Bool) (xs : List Bytes) → list_all p xs ≡ not (list_any (λ x. not (p x)) xs)
 all_by_any p [] = refl
 all_by_any p (x ∷ xs) = step (list_all p xs) (list_any (λ y. not (p y)) xs) (all_by_any p xs) (p x)

@@ -32,13 +32,13 @@ abbrev Tells : {A : Type 0} → (Refusal → Bool) → Result A Refusal → Type
 Tells may (Ok value) = Unit {0}
 Tells may (Err refusal) = may refusal ≡ true
 
--- the same, and the value is there
+-- the same, but the value must not be `None`
 abbrev Gives : {A : Type 0} → (Refusal → Bool) → Result (Option A) Refusal → Type 0
 Gives may (Ok (Some value)) = Unit {0}
 Gives may (Ok None) = ⊥
 Gives may (Err refusal) = may refusal ≡ true
 
--- a refusal that is told is of this kind
+-- a refusal that is returned is of this kind
 told_so : {A : Type 0} (may : Refusal → Bool) (result : Result A Refusal) (refusal : Refusal) → Tells may result → result ≡ Err refusal → may refusal ≡ true
 told_so may result refusal told is = subst (Tells may) is told
 
@@ -56,22 +56,22 @@ csv_told text = by (assignments text) refl
     by (Err refusal) is = refusals_of_texts text refusal is
 
 module _ (may : Refusal → Bool) where
-  -- a step after another
+  -- one step after another
   next : {A B : Type 0} (first : Result A Refusal) (f : A → Result B Refusal) → Tells may first → ((a : A) → Tells may (f a)) → Tells may (first >>= f)
   next (Ok a) f told more = more a
   next (Err refusal) f told more = told
 
-  -- a value made of another
+  -- a value computed from another
   then_some : {A B : Type 0} (first : Result A Refusal) (g : A → B) → Tells may first → Gives may (first >>= λ a. Ok (Some (g a)))
   then_some (Ok a) g told = tt
   then_some (Err refusal) g told = told
 
-  -- what has to be there
+  -- a value that must not be `None`
   wanted : {A : Type 0} (refusal : Refusal) (found : Option A) → may refusal ≡ true → Tells may (or_refuse refusal found)
   wanted refusal (Some a) bad = tt
   wanted refusal None bad = bad
 
-  -- what has to pass a test
+  -- a value that must pass a test
   unless : {A : Type 0} (b : Bool) (value : A) (refusal : Refusal) → may refusal ≡ true → Tells may (if b then Ok value else Err refusal)
   unless true value refusal bad = tt
   unless false value refusal bad = bad
@@ -159,7 +159,7 @@ module _ (may : Refusal → Bool) where
         by (Ok None) gives = absurd gives
         by (Err refusal) gives = gives
 
-    -- each function but that of an import
+    -- each function except the import
     call_told : (called : Function) (value : Data) → takes_csv called ≡ false → Tells may (request_to called value)
     unfolding command_to hierarchy_command_to separation_command_to session_command_to query_to separation_query_to permission_at assignment_at inheritance_at member_at owned_session_at grant_at activation_at access_at
     call_told AddUser value plain = by_command _ _ (then_some _ _ (name_told _ value))
@@ -230,7 +230,7 @@ module _ (may : Refusal → Bool) where
 
 -- ---- lines and bodies
 
--- a call may be refused for its arguments or for a text
+-- whether a call may be refused by this, for its arguments or for a text
 abbrev refuses_calls : Refusal → Bool
 refuses_calls refusal = refuses_arguments refusal || refuses_texts refusal
 
@@ -294,11 +294,11 @@ refusals_of_named_bodies function body refusal is = told_so refuses_requests (bo
 pub refusals_of_bodies : RefusalsOfBodies
 refusals_of_bodies called body refusal is = told_so (refuses_bodies called) (body_to called body) refusal (body_told called body) is
 
--- what is refused for arguments or a text is not refused as an unknown function
+-- a refusal for arguments or a text is not `UnknownFunction`
 known : {A : Type 0} (result : Result A Refusal) (refusal : Refusal) → Tells refuses_calls result → result ≡ Err refusal → refusal ≡ UnknownFunction → ⊥
 known result refusal told is unknown = let no : refuses_calls UnknownFunction ≡ true = told_so refuses_calls result UnknownFunction told (is ∙ ap Err unknown) in absurd (cc no)
 
--- a call of the function that was found, if one was
+-- a call of the function, if there is one
 abbrev calls : Data → Option Function → Result Requested Refusal
 calls value found = or_refuse UnknownFunction found >>= λ called. request_to called value
 

@@ -8,7 +8,7 @@ use Rattle.serde_json.specs.View.{view, items_view}
 use Rattle.serde_json.specs.declared.value.Value.{Value}
 use Rattle.role_json.specs.Fields.{texts_in}
 
--- the texts so far, and those of the values that are left
+-- the texts so far, and those of the remaining values
 abbrev pub texts_with : List (List ℕ) → List Value → Option (List (List ℕ))
 texts_with ts vs = option_map (λ us. ts ++ us) (texts_in (items_view vs))
 

@@ -1,4 +1,4 @@
--- The texts that answer requests: JSON with no space and with the keys in byte order.
+-- The texts that answer requests: JSON without spaces between tokens, and with the keys in byte order.
 use Rattle.std.specs.Prelude.{ℕ, List, [], ◌∷◌, codes, true, Option, Some, None}
 use Rattle.serde_json.specs.Data.{Data, null, boolean, number, unsigned, string, array, object, Items, no_items, item, Members, no_members, member, put}
 use Rattle.serde_json.specs.Find.{of_integer}
@@ -28,43 +28,43 @@ unfoldable pub pairs_of : List Pair → Items
 pairs_of [] = no_items
 pairs_of (pair ∷ pairs) = item (pair_data pair) (pairs_of pairs)
 
--- a record that was refused: its number, with the number of the refusal
+-- a refused record: its number and the code of the refusal
 unfoldable pub record_data : ℕ × ℕ → Data
 record_data refused = object (member (codes "code") (number (unsigned refused.1)) (member (codes "record") (number (unsigned refused.0)) no_members))
 
--- records that were refused as the items of a list
+-- refused records as the items of a list
 unfoldable pub records_of : List (ℕ × ℕ) → Items
 records_of [] = no_items
 records_of (refused ∷ rest) = item (record_data refused) (records_of rest)
 
--- what is told of an import
+-- the report of an import
 unfoldable pub report_data : Tally → Data
 report_data tally = object (
     member (codes "already") (number (unsigned tally.already)) (
     member (codes "assigned") (number (unsigned tally.assigned)) (
     member (codes "refused") (array (records_of tally.refused)) no_members)))
 
--- a cardinality as a number. No answer tells of a set that isn't there
+-- a cardinality as a number. No answer is about a set that doesn't exist
 abbrev pub count_data : Option ℕ → Data
 count_data (Some count) = number (unsigned count)
 count_data None = null
 
--- what is answered to a question
+-- the value of the answer to a question
 unfoldable pub value_data : Told → Data
 value_data (NamesTold names) = array (texts_of names)
 value_data (PermissionsTold permissions) = array (pairs_of permissions)
 value_data (CountTold count) = count_data count
 value_data (AccessTold access) = boolean access
 
--- what answers a request that was done
+-- the answer to a command that was done
 abbrev pub done_data : Data
 done_data = object (member (codes "ok") (boolean true) no_members)
 
--- what answers a request with a value
+-- an answer with this value
 abbrev pub with_value : Data → Data
 with_value value = object (member (codes "ok") (boolean true) (member (codes "value") value no_members))
 
--- what comes with a refusal, with its key
+-- the value that a refusal carries, with its key, if it carries one
 abbrev pub part_of : Refusal → Option (List ℕ × Data)
 part_of (StaticSeparation set) = Some (codes "set", string set)
 part_of (DynamicSeparation set) = Some (codes "set", string set)
@@ -74,17 +74,17 @@ part_of (Version version) = Some (codes "version", number (of_integer version))
 part_of (Damaged check) = Some (codes "check", number (unsigned check))
 part_of _ = None
 
--- the members, with one more in its place in byte order
+-- the members with one more, inserted in byte order
 abbrev pub with_part : Option (List ℕ × Data) → Members → Members
 with_part None members = members
 with_part (Some part) members = put part.0 part.1 members
 
--- what answers a request that was refused
+-- the answer to a request that was refused
 unfoldable pub refusal_data : Refusal → Data
 refusal_data refusal =
     object (with_part (part_of refusal) (member (codes "code") (number (unsigned (code_of refusal))) (member (codes "error") (string (name_of refusal)) no_members)))
 
--- what answers a request
+-- the answer to a request
 unfoldable pub data_of : Verdict → Data
 data_of verdict.Done = done_data
 data_of (verdict.Imported report) = with_value (report_data (tally_of_report report))
@@ -95,15 +95,16 @@ data_of (verdict.Refused refusal) = refusal_data refusal
 unfoldable pub done_text : List ℕ
 done_text = compact_text done_data
 
--- as `{"ok":true,"value":{"already":0,"assigned":2,"refused":[{"code":2,"record":3}]}}`
+-- such as `{"ok":true,"value":{"already":0,"assigned":2,"refused":[{"code":2,"record":3}]}}`
 unfoldable pub import_text : Tally → List ℕ
 import_text tally = compact_text (with_value (report_data tally))
 
--- as `{"ok":true,"value":["ann","bob"]}`, `{"ok":true,"value":[["safe","open"]]}`, `{"ok":true,"value":2}` or `{"ok":true,"value":true}`
+-- such as `{"ok":true,"value":["ann","bob"]}`, `{"ok":true,"value":[["safe","open"]]}`, `{"ok":true,"value":2}` or
+-- `{"ok":true,"value":true}`
 unfoldable pub told_text : Told → List ℕ
 told_text told = compact_text (with_value (value_data told))
 
--- as `{"code":2,"error":"NoUser"}`, with what comes with the refusal
+-- such as `{"code":2,"error":"NoUser"}`, with the value that the refusal carries, if it carries one
 unfoldable pub refusal_text : Refusal → List ℕ
 refusal_text refusal = compact_text (refusal_data refusal)
 

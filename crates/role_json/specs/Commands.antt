@@ -12,15 +12,15 @@ use Rattle.role_json.specs.Steps.{◌>>=◌}
 use Rattle.role_json.specs.declared.function.Function.{Function}
 use Rattle.role_json.specs.declared.function.Function.TheVariants as function
 
--- such a command is asked for
+-- the call asks for this command
 abbrev pub single : Command → Result (Option Asked) Refusal
 single command = Ok (Some (Single command))
 
--- an import of these assignments is asked for
+-- the call asks for an import of these assignments
 abbrev pub import : List Pair → Result (Option Asked) Refusal
 import pairs = Ok (Some (Import pairs))
 
--- the command on a session that a call asks for with the arguments in the value, if its function is one
+-- the command on a session that a call asks for with the arguments in `value`, if its function is one
 unfoldable pub session_command_to : Function → Data → Result (Option Asked) Refusal
 session_command_to function.CreateSession value = new_session_at value >>= λ p. single (command.CreateSession p.0 (without_room p.1) p.2)
 session_command_to function.DeleteSession value = owned_session_at value >>= λ p. single (command.DeleteSession p.0 p.1)

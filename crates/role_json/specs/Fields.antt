@@ -1,4 +1,4 @@
--- What stands at the keys of a call: texts, whole numbers, names and sets of names.
+-- The arguments at the keys of a call: texts, whole numbers, names and sets of names.
 use Rattle.std.specs.Prelude.{ℕ, List, [], ◌∷◌, ◌^◌, nat_lt, codes, Option, Some, None, option_and_then, option_map, Result, Ok, Err, if◌then◌else◌}
 use Rattle.std.specs.List.{list_all}
 use Rattle.serde_json.specs.Data.{Data, Items, no_items, item}
@@ -17,7 +17,7 @@ text_at key value = or_refuse BadRequest (option_and_then as_str (get key value)
 abbrev pub fits_u32 : ℕ → Option ℕ
 fits_u32 n = if nat_lt n (2 ^ 32) then Some n else None
 
--- the cardinality of a separation of duty set: a whole number that fits a `u32`, written in digits alone
+-- the cardinality of a separation of duty set: a whole number that fits a `u32`, written with digits only
 unfoldable pub cardinality_at : Data → Result ℕ Refusal
 cardinality_at value = or_refuse BadRequest (option_and_then fits_u32 (option_and_then as_u64 (option_and_then as_number (get (codes "cardinality") value))))
 
@@ -34,7 +34,7 @@ roles_at value = or_refuse BadRequest (option_and_then texts_in (option_and_then
 unfoldable pub name : Bytes → Result Bytes Refusal
 name text = if is_name text then Ok text else Err BadName
 
--- the texts as a set of names. A text that comes twice counts once
+-- the texts as a set of names. A text that occurs more than once counts once
 unfoldable pub name_set : List Bytes → Result Names Refusal
 name_set texts = if list_all is_name texts then Ok (from_list texts) else Err BadName
 
@@ -42,7 +42,7 @@ name_set texts = if list_all is_name texts then Ok (from_list texts) else Err Ba
 unfoldable pub name_at : Bytes → Data → Result Bytes Refusal
 name_at key value = text_at key value >>= name
 
--- the names at two keys. Both texts are judged before the names
+-- the names at two keys. Both keys are read before a text is checked to be a name
 unfoldable pub names_at : Bytes → Bytes → Data → Result (Bytes × Bytes) Refusal
 names_at first second value = do
   a ← text_at first value
@@ -99,11 +99,11 @@ grant_at value = three_at (codes "object") (codes "operation") (codes "role") va
 unfoldable pub activation_at : Data → Result (Bytes × Bytes × Bytes) Refusal
 activation_at value = three_at (codes "user") (codes "session") (codes "role") value
 
--- an access: the session, the operation and the object
+-- an access check: the session, the operation and the object
 unfoldable pub access_at : Data → Result (Bytes × Bytes × Bytes) Refusal
 access_at value = three_at (codes "session") (codes "operation") (codes "object") value
 
--- the keys of a separation of duty set
+-- the arguments of a new separation of duty set, with its name and its roles still as texts
 unfoldable pub separation_keys : Data → Result (Bytes × List Bytes × ℕ) Refusal
 separation_keys value = do
   set ← text_at (codes "set") value
@@ -111,7 +111,7 @@ separation_keys value = do
   cardinality ← cardinality_at value
   Ok (set, roles, cardinality)
 
--- a separation of duty set: its name, its roles and its cardinality. The keys are judged before the names
+-- a new separation of duty set: its name, its roles and its cardinality. All keys are read before a text is checked to be a name
 unfoldable pub separation_at : Data → Result (Bytes × Names × ℕ) Refusal
 separation_at value = do
   keys ← separation_keys value
@@ -127,7 +127,7 @@ limit_at value = do
   set ← name text
   Ok (set, cardinality)
 
--- the keys of a new session
+-- the arguments of a new session, with all names still as texts
 unfoldable pub new_session_keys : Data → Result (Bytes × List Bytes × Bytes) Refusal
 new_session_keys value = do
   user ← text_at (codes "user") value

@@ -67,7 +67,7 @@ functions =
 unfoldable pub function_named : List ℕ → Option Function
 function_named name = find (λ function. bytes_eq (name_of function) name) functions
 
--- whether the body of a call is CSV and no JSON
+-- whether the body of a call is CSV instead of JSON
 abbrev pub takes_csv : Function → Bool
 takes_csv ImportAssignments = true
 takes_csv _ = false

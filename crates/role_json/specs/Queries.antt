@@ -9,11 +9,11 @@ use Rattle.role_json.specs.Steps.{◌>>=◌}
 use Rattle.role_json.specs.declared.function.Function.{Function}
 use Rattle.role_json.specs.declared.function.Function.TheVariants as function
 
--- such a question is asked
+-- the call asks this question
 abbrev pub ask : Query → Result (Option Query) Refusal
 ask query = Ok (Some query)
 
--- the question on separation of duty sets that a call asks with the arguments in the value, if its function is one
+-- the question on separation of duty sets that a call asks with the arguments in `value`, if its function is one
 unfoldable pub separation_query_to : Function → Data → Result (Option Query) Refusal
 separation_query_to function.SsdRoleSets value = ask query.SsdRoleSets
 separation_query_to function.SsdRoleSetRoles value = name_at (codes "set") value >>= λ set. ask (query.SsdRoleSetRoles set)

@@ -21,16 +21,17 @@ use Rattle.role_json.specs.declared.function.Function.{Function}
 abbrev pub longest_line : ℕ
 longest_line = 65536
 
--- the JSON value of a line: UTF-8 of at most 65,536 bytes that is a JSON text. Of a key that comes more than once the last counts
+-- the JSON value of a line, which must be UTF-8 of at most 65,536 bytes and a JSON text. If a key occurs more than once, the last
+-- occurrence counts
 unfoldable pub json_of : List ℕ → Result Data Refusal
 json_of line = or_refuse BadRequest (if nat_le (length line) longest_line && is_utf8 line then read line else None)
 
--- the command if there is one, and else the question; each function is one of the two
+-- the command if there is one, otherwise the question; each function is one of the two
 abbrev pub command_or : Result (Option Query) Refusal → Option Asked → Result Requested Refusal
 command_or query (Some command) = Ok (Change command)
 command_or query None = query >>= λ asked. or_refuse UnknownFunction (option_map Ask asked)
 
--- what a call of a function asks for with the arguments in the value
+-- what a call of a function asks for with the arguments in `value`
 unfoldable pub request_to : Function → Data → Result Requested Refusal
 request_to called value = command_to called value >>= command_or (query_to called value)
 
@@ -42,20 +43,20 @@ request line = do
   called ← or_refuse UnknownFunction (function_named name)
   request_to called value
 
--- the JSON text of a body: none is an empty object
+-- the JSON text of a body: an empty body is an empty object
 abbrev pub json_body : List ℕ → List ℕ
 json_body body = if nat_eq (length body) 0 then codes "{}" else body
 
--- the value, where it is an object
+-- the value, if it is an object
 abbrev pub an_object : Data → Result Data Refusal
 an_object value = if is_some (as_object value) then Ok value else Err BadRequest
 
--- what a call of a function asks for with a body. The arguments stand in an object, also where the function has none
+-- what a call of a function asks for with a body. The arguments must be in an object, even if the function has none
 unfoldable pub body_to : Function → List ℕ → Result Requested Refusal
 body_to called body =
     if takes_csv called then assignments body >>= (λ pairs. Ok (Change (Import pairs)))
     else json_of (json_body body) >>= (λ value. an_object value >>= request_to called)
 
--- what a call of the function of this name asks for with a body
+-- what a call of the function with this name asks for with a body
 unfoldable pub body_request : List ℕ → List ℕ → Result Requested Refusal
 body_request function body = or_refuse UnknownFunction (function_named function) >>= λ called. body_to called body

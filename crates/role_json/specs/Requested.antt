@@ -1,4 +1,4 @@
--- What a request asks for, without the memory in which it is kept.
+-- What a request asks for, as a value that doesn't depend on the memory that holds it.
 use Rattle.rbac_sets.specs.Asked.{Asked, asked_of}
 use Rattle.review_mgr.specs.declared.query.Query.{Query}
 use Rattle.role_json.specs.declared.request.Request.{Request}

@@ -1,4 +1,4 @@
-//! Verdicts on requests, and their texts.
+//! The results of requests, and their texts.
 ghost use Rattle.std.specs.Prelude.{◌≡◌, IfOk, IfErr, option_map, string_bytes};
 ghost use Rattle.serde_json.specs.Data.{array};
 ghost use Rattle.serde_json.specs.View.{view};
@@ -12,36 +12,36 @@ use review_mgr::Answer;
 use serde_json::{Value, json};
 use std::alloc::{AllocError, Global};
 
-/// What came of a request.
+/// The result of a request.
 #[derive(Drop)]
 pub enum Verdict {
     /// A command was done.
     Done,
-    /// An import was done, and this is told of it.
+    /// An import was done, with this report.
     Imported(Report),
-    /// A question was answered so.
+    /// A question was answered, with this answer.
     Told(Answer),
-    /// It was refused.
+    /// The request was refused, with this refusal.
     Refused(Refusal),
 }
 
-/// The text that answers a request: JSON with no space and with the keys in byte order. In its texts
-/// `"` and `\` stand behind a `\`, and no other character is escaped.
+/// The text that answers a request: JSON without spaces between tokens, and with the keys in byte
+/// order. In its strings `"` and `\` are escaped by a `\`, and no other character is escaped.
 ///
 /// - Done: `{"ok":true}`
 /// - Imported: `{"ok":true,"value":{"already":1,"assigned":2,"refused":[{"code":2,"record":3}]}}`, with
-///   the number of the refusal and of the record for each record that was refused otherwise than by
-///   `AlreadyAssigned`.
-/// - Told: `{"ok":true,"value":V}`, where V is a list of names as `["ann","bob"]`, a list of
-///   permissions as `[["safe","open"]]`, a number, or `true` or `false`.
-/// - Refused: `{"code":2,"error":"NoUser"}`, with the number and the name of the refusal, and with
-///   what comes with it at a key of its own: `set` the name of the separation of duty set, `kind`
-///   the word of what the limit counts, `record` the number of the record, `version` the version
-///   of the office, `check` the number of the check that failed.
+///   the code of the refusal and the number of the record for each record that was refused by anything
+///   but `AlreadyAssigned`.
+/// - Told: `{"ok":true,"value":V}`. V is a list of names such as `["ann","bob"]`, a list of permissions
+///   such as `[["safe","open"]]`, a number, or `true` or `false`.
+/// - Refused: `{"code":2,"error":"NoUser"}`, with the code and the name of the refusal. The value that
+///   a refusal carries has a key of its own: `set` is the name of the separation of duty set, `kind`
+///   the name of what the limit counts, `record` the number of the record, `version` the version of
+///   the office, `check` the number of the check that failed.
 ///
 /// # Errors
 ///
-/// `Memory` where memory for the text was refused.
+/// `Memory` if allocation failed.
 #[tactic(auto, using(crate::proofs::JsonWriting::text_of_steps))]
 pub fn answer_text(alloc: Global, verdict: &Verdict) -> Result<String, Refusal>
     ensures ok { IfOk result (λ text. string_bytes text ≡ text_of verdict.now) }
@@ -119,7 +119,7 @@ fn pair_value(alloc: Global, pair: &(Name, Name)) -> Result<Value, AllocError>
     json!(in alloc; [pair.0.as_str(), pair.1.as_str()])
 }
 
-// What is told of an import as a JSON value.
+// The report of an import as a JSON value.
 #[tactic(auto, unfolding(crate::specs::Answer::report_data))]
 fn report_value(alloc: Global, report: &Report) -> Result<Value, AllocError>
     ensures { IfOk result (λ value. view value ≡ report_data (tally_of_report report.now)) }
@@ -128,7 +128,7 @@ fn report_value(alloc: Global, report: &Report) -> Result<Value, AllocError>
     json!(in alloc; {"already": report.already, "assigned": report.assigned, "refused": refused})
 }
 
-// The records that were refused as a JSON value.
+// The refused records as a JSON value.
 #[tactic(auto, using(crate::proofs::JsonWriting::records_of_steps))]
 fn records_value(alloc: Global, records: &[(u32, u32)]) -> Result<Value, AllocError>
     ensures { IfOk result (λ value. view value ≡ array (records_of records.now)) }
@@ -141,7 +141,7 @@ fn records_value(alloc: Global, records: &[(u32, u32)]) -> Result<Value, AllocEr
     Ok(Value::Array(items))
 }
 
-// A record that was refused, with the number of its refusal, as a JSON value.
+// The number of a refused record and the code of its refusal, as a JSON value.
 #[tactic(auto, unfolding(crate::specs::Answer::record_data))]
 fn record_value(alloc: Global, pair: (u32, u32)) -> Result<Value, AllocError>
     ensures { IfOk result (λ value. view value ≡ record_data pair) }
@@ -162,7 +162,7 @@ fn refusal_value(alloc: Global, refusal: &Refusal) -> Result<Value, AllocError>
     }
 }
 
-// What comes with a refusal, with its key.
+// The value that a refusal carries, with its key, or `None` if it carries none.
 fn refusal_part(
     alloc: Global,
     refusal: &Refusal,

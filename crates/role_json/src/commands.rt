@@ -14,8 +14,8 @@ use role_csv::read_assignments;
 use serde_json::Value;
 use std::alloc::Global;
 
-// The command that a call asks for with the arguments in the value, or `None` where its function is no command. Here
-// stand those on users, roles, objects, permissions and grants, and below the others.
+// The command that a call asks for with the arguments in `value`, or `None` if its function is not a command. This
+// function reads those on users, roles, objects, permissions and grants, and the functions that it calls the others.
 #[tactic(auto, unfolding(crate::specs::Commands::command_to, rbac_sets::specs::Asked::asked_of))]
 pub(crate) fn command_to(
     alloc: Global,
@@ -99,7 +99,7 @@ pub(crate) fn command_to(
     }
 }
 
-// The command on the hierarchy, on a separation of duty set or on a session that a call asks for, or `None`.
+// The command on the role hierarchy, on a separation of duty set or on a session that a call asks for, or `None`.
 #[tactic(auto, unfolding(crate::specs::Commands::hierarchy_command_to, rbac_sets::specs::Asked::asked_of))]
 fn hierarchy_command_to(
     alloc: Global,

@@ -1,6 +1,6 @@
-//! What stands at the keys of a call: texts, whole numbers, names and sets of names.
+//! The arguments at the keys of a call: texts, whole numbers, names and sets of names.
 //!
-//! Where a call has several arguments, the texts at all keys are read before a name is made of any.
+//! If a call has several arguments, all keys are read before any text is checked to be a name.
 ghost use Rattle.std.specs.Prelude.{◌≡◌, ◌⊎◌, Ok, Err, Some, None, IfOk, IfErr, map};
 ghost use Rattle.serde_json.specs.View.{view, items_view};
 ghost use Rattle.rbac_sets.specs.Sets.{name_cmp};
@@ -39,7 +39,7 @@ fn cardinality_at(value: &Value) -> Result<u32, Refusal>
     }
 }
 
-// The texts in a list of values, where each is a text.
+// The texts in a list of values, which must all be texts.
 #[tactic(auto, using(crate::proofs::TextReading::texts_steps))]
 fn text_items<'v>(alloc: Global, values: &'v [Value]) -> Result<Vec<&'v str>, Refusal>
     ensures ok { IfOk result (λ texts. texts_in (items_view values.entry.now) ≡ Some (map (λ text. text.now) texts.items)) }
@@ -76,8 +76,8 @@ fn checked_name(alloc: Global, text: &str) -> Result<Name, Refusal>
     Name::new(alloc, text)
 }
 
-// The set of the names with these texts. They are sorted first, so that each name goes to the end of
-// the set, and none behind it is moved.
+// The set of the names with these texts. The texts are sorted first, so that each name is inserted at
+// the end of the set and no other name is moved.
 #[tactic(auto, using(crate::proofs::NameReading::sorted_steps))]
 fn checked_set(alloc: Global, mut texts: Vec<&str>) -> Result<NameSet, Refusal>
     ensures ok { IfOk result (λ set. name_set (map (λ text. text.now) texts.entry.items) ≡ Ok (set_of name_cmp set)) }
@@ -87,7 +87,7 @@ fn checked_set(alloc: Global, mut texts: Vec<&str>) -> Result<NameSet, Refusal>
     set_of_names(alloc, &texts)
 }
 
-// The set of the names with these texts, put one after the other.
+// The set of the names with these texts, inserted one after another.
 #[tactic(auto, using(crate::proofs::NameReading::name_set_steps))]
 fn set_of_names(alloc: Global, texts: &[&str]) -> Result<NameSet, Refusal>
     ensures ok { IfOk result (λ set. name_set (map (λ text. text.now) texts.now) ≡ Ok (set_of name_cmp set)) }
@@ -218,7 +218,7 @@ pub(crate) fn member_at(alloc: Global, value: &Value) -> Result<(Name, Name), Re
     names_at(alloc, value, "set", "role")
 }
 
-// A session with the user that owns it, who stands first.
+// The user that owns a session, and the session.
 #[tactic(auto, unfolding(crate::specs::Fields::owned_session_at))]
 pub(crate) fn owned_session_at(alloc: Global, value: &Value) -> Result<(Name, Name), Refusal>
     ensures ok { IfOk result (λ names. owned_session_at (view value.now) ≡ Ok names) }
@@ -236,7 +236,7 @@ pub(crate) fn grant_at(alloc: Global, value: &Value) -> Result<(Name, Name, Name
     three_at(alloc, value, "object", "operation", "role")
 }
 
-// The user, the session and the role that is activated in it.
+// The user that owns a session, the session, and the role that is activated or deactivated in it.
 #[tactic(auto, unfolding(crate::specs::Fields::activation_at))]
 pub(crate) fn activation_at(alloc: Global, value: &Value) -> Result<(Name, Name, Name), Refusal>
     ensures ok { IfOk result (λ names. activation_at (view value.now) ≡ Ok names) }
@@ -245,7 +245,7 @@ pub(crate) fn activation_at(alloc: Global, value: &Value) -> Result<(Name, Name,
     three_at(alloc, value, "user", "session", "role")
 }
 
-// The session, the operation and the object of an access.
+// The session, the operation and the object of an access check.
 #[tactic(auto, unfolding(crate::specs::Fields::access_at))]
 pub(crate) fn access_at(alloc: Global, value: &Value) -> Result<(Name, Name, Name), Refusal>
     ensures ok { IfOk result (λ names. access_at (view value.now) ≡ Ok names) }
@@ -254,7 +254,7 @@ pub(crate) fn access_at(alloc: Global, value: &Value) -> Result<(Name, Name, Nam
     three_at(alloc, value, "session", "operation", "object")
 }
 
-// The keys of a separation of duty set.
+// The arguments of a new separation of duty set, with its name and its roles still as texts.
 #[tactic(auto, unfolding(crate::specs::Fields::separation_keys))]
 fn separation_keys<'v>(
     alloc: Global,
@@ -269,7 +269,7 @@ fn separation_keys<'v>(
     Ok((set, roles, cardinality))
 }
 
-// A separation of duty set.
+// A new separation of duty set: its name, its roles and its cardinality.
 #[tactic(auto, unfolding(crate::specs::Fields::separation_at))]
 pub(crate) fn separation_at(alloc: Global, value: &Value) -> Result<(Name, NameSet, u32), Refusal>
     ensures ok { IfOk result (λ made. separation_at (view value.now) ≡ Ok (made.0, set_of name_cmp made.1, made.2)) }
@@ -293,7 +293,7 @@ pub(crate) fn limit_at(alloc: Global, value: &Value) -> Result<(Name, u32), Refu
     Ok((set, cardinality))
 }
 
-// The keys of a new session.
+// The arguments of a new session, with all names still as texts.
 #[tactic(auto, unfolding(crate::specs::Fields::new_session_keys))]
 fn new_session_keys<'v>(
     alloc: Global,
@@ -308,7 +308,7 @@ fn new_session_keys<'v>(
     Ok((user, roles, session))
 }
 
-// A new session.
+// A new session: its user, its roles and its name.
 #[tactic(auto, unfolding(crate::specs::Fields::new_session_at))]
 pub(crate) fn new_session_at(alloc: Global, value: &Value) -> Result<(Name, NameSet, Name), Refusal>
     ensures ok { IfOk result (λ made. new_session_at (view value.now) ≡ Ok (made.0, set_of name_cmp made.1, made.2)) }

@@ -2,112 +2,114 @@
 ghost use Rattle.std.specs.Prelude.{◌≡◌};
 ghost use Rattle.role_json.specs.Function.{function_named, name_of, takes_csv};
 
-/// A function that a request may call: the functions of the standard, those of this office on
-/// objects, permissions and locks, and the import of assignments. It names the function alone; the
-/// arguments are those of `Command` or `Query`, which say more of each.
+/// A function that a request may call: one of the functions of the standard, of those of this office
+/// on objects, permissions and locks, or the import of assignments. It identifies the function alone.
+/// Each variant links to the variant of `rbac_sets::Command` or `review_mgr::Query` that describes the
+/// function and has its arguments. Before the link is the name of the function in the standard, if it
+/// has one.
 #[derive(Clone, Copy, Debug, PartialEq, Eq)]
 pub enum Function {
-    /// AddUser: makes a user.
+    /// AddUser: [`Command::AddUser`].
     AddUser,
-    /// DeleteUser: takes a user with its assignments, its sessions and its lock.
+    /// DeleteUser: [`Command::DeleteUser`].
     DeleteUser,
-    /// AddRole: makes a role.
+    /// AddRole: [`Command::AddRole`].
     AddRole,
-    /// DeleteRole: takes a role with its assignments and grants.
+    /// DeleteRole: [`Command::DeleteRole`].
     DeleteRole,
-    /// Makes an object.
+    /// [`Command::AddPermObj`].
     AddPermObj,
-    /// Takes an object that has no permission.
+    /// [`Command::DeletePermObj`].
     DeletePermObj,
-    /// Makes the permission for an operation on an object.
+    /// [`Command::AddPermission`].
     AddPermission,
-    /// Takes a permission with its grants.
+    /// [`Command::DeletePermission`].
     DeletePermission,
-    /// GrantPermission: grants a permission to a role.
+    /// GrantPermission: [`Command::GrantPermission`].
     GrantPermission,
-    /// RevokePermission: takes the grant of a permission to a role.
+    /// RevokePermission: [`Command::RevokePermission`].
     RevokePermission,
-    /// AssignUser: assigns a user to a role.
+    /// AssignUser: [`Command::AssignUser`].
     AssignUser,
-    /// DeassignUser: takes the assignment of a user to a role.
+    /// DeassignUser: [`Command::DeassignUser`].
     DeassignUser,
-    /// AddInheritance: makes a role an immediate ascendant of another.
+    /// AddInheritance: [`Command::AddInheritance`].
     AddInheritance,
-    /// DeleteInheritance: takes the immediate inheritance of a role from another.
+    /// DeleteInheritance: [`Command::DeleteInheritance`].
     DeleteInheritance,
-    /// AddAscendant: makes a role as an immediate ascendant of another.
+    /// AddAscendant: [`Command::AddAscendant`].
     AddAscendant,
-    /// AddDescendant: makes a role as an immediate descendant of another.
+    /// AddDescendant: [`Command::AddDescendant`].
     AddDescendant,
-    /// CreateSsdSet: makes a static separation of duty set.
+    /// CreateSsdSet: [`Command::CreateSsdSet`].
     CreateSsdSet,
-    /// AddSsdRoleMember: makes a role a member of a static separation of duty set.
+    /// AddSsdRoleMember: [`Command::AddSsdRoleMember`].
     AddSsdRoleMember,
-    /// DeleteSsdRoleMember: takes a member from a static separation of duty set.
+    /// DeleteSsdRoleMember: [`Command::DeleteSsdRoleMember`].
     DeleteSsdRoleMember,
-    /// SetSsdSetCardinality: changes the cardinality of a static separation of duty set.
+    /// SetSsdSetCardinality: [`Command::SetSsdSetCardinality`].
     SetSsdSetCardinality,
-    /// DeleteSsdSet: takes a static separation of duty set.
+    /// DeleteSsdSet: [`Command::DeleteSsdSet`].
     DeleteSsdSet,
-    /// CreateDsdSet: makes a dynamic separation of duty set.
+    /// CreateDsdSet: [`Command::CreateDsdSet`].
     CreateDsdSet,
-    /// AddDsdRoleMember: makes a role a member of a dynamic separation of duty set.
+    /// AddDsdRoleMember: [`Command::AddDsdRoleMember`].
     AddDsdRoleMember,
-    /// DeleteDsdRoleMember: takes a member from a dynamic separation of duty set.
+    /// DeleteDsdRoleMember: [`Command::DeleteDsdRoleMember`].
     DeleteDsdRoleMember,
-    /// SetDsdSetCardinality: changes the cardinality of a dynamic separation of duty set.
+    /// SetDsdSetCardinality: [`Command::SetDsdSetCardinality`].
     SetDsdSetCardinality,
-    /// DeleteDsdSet: takes a dynamic separation of duty set.
+    /// DeleteDsdSet: [`Command::DeleteDsdSet`].
     DeleteDsdSet,
-    /// CreateSession: makes a session of a user in which exactly the named roles are activated.
+    /// CreateSession: [`Command::CreateSession`].
     CreateSession,
-    /// DeleteSession: takes a user's session.
+    /// DeleteSession: [`Command::DeleteSession`].
     DeleteSession,
-    /// AddActiveRole: activates a role in a user's session.
+    /// AddActiveRole: [`Command::AddActiveRole`].
     AddActiveRole,
-    /// DropActiveRole: deactivates a role in a user's session.
+    /// DropActiveRole: [`Command::DropActiveRole`].
     DropActiveRole,
-    /// Locks a user and ends its sessions. Known to version 2 alone.
+    /// [`Command::LockUserAccount`].
     LockUserAccount,
-    /// Takes the lock of a user. Known to version 2 alone.
+    /// [`Command::UnlockUserAccount`].
     UnlockUserAccount,
-    /// Assigns users to roles, each pair as AssignUser does, one after the other.
+    /// [`Command::ImportAssignments`].
     ImportAssignments,
-    /// CheckAccess: whether a session may do an operation on an object.
+    /// CheckAccess: [`Query::CheckAccess`].
     CheckAccess,
-    /// AssignedUsers: the users that are assigned to a role.
+    /// AssignedUsers: [`Query::AssignedUsers`].
     AssignedUsers,
-    /// AssignedRoles: the roles that are assigned to a user.
+    /// AssignedRoles: [`Query::AssignedRoles`].
     AssignedRoles,
-    /// AuthorizedUsers: the users that are assigned to a role or to an ascendant of it.
+    /// AuthorizedUsers: [`Query::AuthorizedUsers`].
     AuthorizedUsers,
-    /// AuthorizedRoles: the roles for which a user is authorized.
+    /// AuthorizedRoles: [`Query::AuthorizedRoles`].
     AuthorizedRoles,
-    /// RolePermissions: what is granted to a role or to a descendant of it.
+    /// RolePermissions: [`Query::RolePermissions`].
     RolePermissions,
-    /// UserPermissions: the permissions of the roles that are assigned to a user.
+    /// UserPermissions: [`Query::UserPermissions`].
     UserPermissions,
-    /// SessionRoles: the roles that were activated in a session, and their descendants.
+    /// SessionRoles: [`Query::SessionRoles`].
     SessionRoles,
-    /// SessionPermissions: what is granted to the roles of a session.
+    /// SessionPermissions: [`Query::SessionPermissions`].
     SessionPermissions,
-    /// RoleOperationsOnObject: the operations on an object among the permissions of a role.
+    /// RoleOperationsOnObject: [`Query::RoleOperationsOnObject`].
     RoleOperationsOnObject,
-    /// UserOperationsOnObject: the operations on an object among the permissions of a user.
+    /// UserOperationsOnObject: [`Query::UserOperationsOnObject`].
     UserOperationsOnObject,
-    /// SsdRoleSets: the static separation of duty sets.
+    /// SsdRoleSets: [`Query::SsdRoleSets`].
     SsdRoleSets,
-    /// SsdRoleSetRoles: the roles of a static separation of duty set.
+    /// SsdRoleSetRoles: [`Query::SsdRoleSetRoles`].
     SsdRoleSetRoles,
-    /// SsdRoleSetCardinality: the cardinality of a static separation of duty set.
+    /// SsdRoleSetCardinality: [`Query::SsdRoleSetCardinality`].
     SsdRoleSetCardinality,
-    /// DsdRoleSets: the dynamic separation of duty sets.
+    /// DsdRoleSets: [`Query::DsdRoleSets`].
     DsdRoleSets,
-    /// DsdRoleSetRoles: the roles of a dynamic separation of duty set.
+    /// DsdRoleSetRoles: [`Query::DsdRoleSetRoles`].
     DsdRoleSetRoles,
-    /// DsdRoleSetCardinality: the cardinality of a dynamic separation of duty set.
+    /// DsdRoleSetCardinality: [`Query::DsdRoleSetCardinality`].
     DsdRoleSetCardinality,
-    /// The roles to which a permission is granted directly.
+    /// [`Query::PermissionRoles`].
     PermissionRoles,
 }
 
@@ -226,8 +228,8 @@ impl Function {
         }
     }
 
-    /// The function that a request calls by this name, or `None` where there is none. `name` may
-    /// be any text; names are compared byte by byte.
+    /// The function that a request calls by this name, or `None` if there is none. `name` may be any
+    /// text; names are compared byte by byte.
     #[tactic(auto, unfolding(crate::specs::Function::function_named))]
     pub fn from_name(name: &str) -> Option<Function>
         ensures { result ≡ function_named name.now }
@@ -238,7 +240,7 @@ impl Function {
             .find(|function| function.name() == name)
     }
 
-    /// Whether the body of a call is CSV and no JSON: only that of `importAssignments` is.
+    /// Whether the body of a call is CSV instead of JSON: only that of `importAssignments` is.
     pub fn takes_csv(self) -> bool
         ensures { result ≡ takes_csv self }
     {

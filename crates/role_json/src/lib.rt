@@ -1,5 +1,4 @@
-//! Requests and answers as texts of JSON: what a line or a body asks for, and the text that tells
-//! what came of it.
+//! Requests and answers as JSON texts: what a line or a body asks for, and the text that answers it.
 //!
 //! # Example
 //!

@@ -10,8 +10,8 @@ use review_mgr::Query;
 use serde_json::Value;
 use std::alloc::Global;
 
-// The question that a call asks with the arguments in the value, or `None` where its function is no question. Here
-// stand those on users, roles, sessions and permissions, and below the others.
+// The question that a call asks with the arguments in `value`, or `None` if its function is not a question. This
+// function reads those on users, roles, sessions and permissions, and the function that it calls the others.
 #[tactic(auto, unfolding(crate::specs::Queries::query_to))]
 pub(crate) fn query_to(
     alloc: Global,

@@ -1,4 +1,4 @@
-//! Requests, and how a line of JSON or a body asks for one.
+//! Requests, and how they are read from a line of JSON or from a body.
 ghost use Rattle.std.specs.Prelude.{◌≡◌, ◌⊎◌, Ok, Err, IfOk, IfErr};
 ghost use Rattle.serde_json.specs.View.{view};
 ghost use Rattle.role_json.specs.Request.{body_request, body_to, json_of, request, request_to};
@@ -14,40 +14,41 @@ use role_csv::read_assignments;
 use serde_json::Value;
 use std::alloc::Global;
 
-/// The most bytes of a line, and of a body that is no CSV.
+/// The most bytes of a line, and of a body that isn't CSV.
 pub const LONGEST_LINE: usize = 65_536;
 
 /// What a request asks for.
 #[derive(Drop)]
 pub enum Request {
-    /// To have a command carried out.
+    /// A command, to be done.
     Change(Command),
-    /// To have a question answered.
+    /// A question, to be answered.
     Ask(Query),
 }
 
-/// The request that a line asks for. `line` may be any bytes; its line end is no part of it.
+/// Reads the request on a line. `line` may be any bytes; its line end is not part of it.
 ///
 /// A request is a JSON object of at most 65,536 bytes. It has the function's name at the key `fn`
-/// and each argument at a key that is named as the field of `Command` or `Query`: a text at `user`,
+/// and each argument at a key with the name of the field of `Command` or `Query`: a text at `user`,
 /// `role`, `object`, `operation`, `session`, `set`, `asc` and `desc`, a list of texts at `roles`,
-/// and at `cardinality` a whole number from 0 to 4,294,967,295 in digits alone. For
+/// and at `cardinality` a whole number from 0 to 4,294,967,295, written with digits only. For
 /// `importAssignments` the key is `csv`, and its text is what `role_csv::read_assignments` reads.
-/// The keys may come in any order and other keys are ignored; of a key that comes more than once
-/// the last counts. A name that comes more than once in `roles` counts once.
+/// The keys may be in any order and other keys are ignored. If a key occurs more than once, the last
+/// occurrence counts. A name that occurs more than once in `roles` counts once.
 ///
 /// # Errors
 ///
 /// These are judged one after another:
 ///
-/// - `BadRequest` where the line is longer, is no JSON text (or one whose lists and objects nest
-///   more than 127 deep), is no object or has no text at `fn`;
-/// - `UnknownFunction` where no function has the name at `fn`;
-/// - `BadRequest` where the key of an argument is missing or holds what it may not;
-/// - `BadName` where a text that names something is no name;
-/// - what `read_assignments` refuses: `TooMany` with `Kind::Byte` or `Kind::Record`, `BadCsv`, `BadName`.
+/// - `BadRequest` if the line is longer, is not a JSON text (or its lists and objects nest more than
+///   127 deep), is not an object or has no text at `fn`;
+/// - `UnknownFunction` if no function has the name at `fn`;
+/// - `BadRequest` if the key of an argument is missing or has a value that it may not have;
+/// - `BadName` if a text that names something is not a valid name;
+/// - the refusals of `read_assignments`: `TooMany` with `Kind::Byte` or `Kind::Record`, `BadCsv`,
+///   `BadName`.
 ///
-/// `Memory` where memory was refused before the line was judged; the same line may be read again.
+/// `Memory` if allocation failed before the line was judged; the same line may be read again.
 #[tactic(auto, unfolding(crate::specs::Request::request))]
 pub fn read_request(alloc: Global, line: &[u8]) -> Result<Request, Refusal>
     ensures ok { IfOk result (λ read. request line.now ≡ Ok (requested read)) }
@@ -59,16 +60,16 @@ pub fn read_request(alloc: Global, line: &[u8]) -> Result<Request, Refusal>
     request_to(alloc, called, &value)
 }
 
-/// The request that calls the function of this name with this body. `function` may be any text and
-/// `body` any bytes.
+/// Reads the request that calls the function of this name with this body. `function` may be any text
+/// and `body` any bytes.
 ///
-/// The body is as a line is for `read_request`, but that no `fn` is needed, and one that is there
-/// is ignored. No bytes count as `{}`. For `importAssignments` the body itself is the CSV.
+/// The body has the form of a line for `read_request`, but needs no `fn`, and one that is there is
+/// ignored. An empty body counts as `{}`. For `importAssignments` the body itself is the CSV.
 ///
 /// # Errors
 ///
-/// `UnknownFunction` where no function has this name; else what `body_to` refuses. `Memory` where
-/// memory was refused before the body was judged; the same body may be read again.
+/// `UnknownFunction` if no function has this name, otherwise the refusals of `body_to`. `Memory` if
+/// allocation failed before the body was judged; the same body may be read again.
 #[tactic(auto, unfolding(crate::specs::Request::body_request))]
 pub fn read_body(alloc: Global, function: &str, body: &[u8]) -> Result<Request, Refusal>
     ensures ok { IfOk result (λ read. body_request function.now body.now ≡ Ok (requested read)) }
@@ -78,19 +79,19 @@ pub fn read_body(alloc: Global, function: &str, body: &[u8]) -> Result<Request, 
     body_to(alloc, called, body)
 }
 
-/// The request that calls the function with this body, which may be any bytes, as `read_body` reads
-/// it.
+/// Reads the request that calls the function with this body, which may be any bytes, as `read_body`
+/// does.
 ///
 /// # Errors
 ///
 /// These are judged one after another:
 ///
-/// - for `importAssignments` what `read_assignments` refuses: `TooMany`, `BadCsv`, `BadName`;
-/// - `BadRequest` where the body is longer than 65,536 bytes, is no JSON text or is no object, or the
-///   key of an argument is missing or holds what it may not;
-/// - `BadName` where a text that names something is no name.
+/// - for `importAssignments` the refusals of `read_assignments`: `TooMany`, `BadCsv`, `BadName`;
+/// - `BadRequest` if the body is longer than 65,536 bytes, is not a JSON text or is not an object, or
+///   the key of an argument is missing or has a value that it may not have;
+/// - `BadName` if a text that names something is not a valid name.
 ///
-/// `Memory` where memory was refused before the body was judged; the same body may be read again.
+/// `Memory` if allocation failed before the body was judged; the same body may be read again.
 #[tactic(auto, unfolding(crate::specs::Request::body_to, rbac_sets::specs::Asked::asked_of))]
 pub fn body_to(alloc: Global, called: Function, body: &[u8]) -> Result<Request, Refusal>
     ensures ok { IfOk result (λ read. body_to called body.now ≡ Ok (requested read)) }
@@ -112,7 +113,7 @@ pub fn body_to(alloc: Global, called: Function, body: &[u8]) -> Result<Request, 
     request_to(alloc, called, &value)
 }
 
-// What a call of the function asks for with the arguments in the value.
+// The request of a call of the function with the arguments in `value`.
 #[tactic(auto, unfolding(crate::specs::Request::request_to))]
 fn request_to(alloc: Global, called: Function, value: &Value) -> Result<Request, Refusal>
     ensures ok { IfOk result (λ read. request_to called (view value.now) ≡ Ok (requested read)) }

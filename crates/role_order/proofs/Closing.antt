@@ -1,4 +1,4 @@
--- Edges without a cycle, their closure, and what one more edge makes of them.
+-- Edges without a cycle, their closure, and how one more edge changes them.
 use Rattle.std.proofs.Common.{◌≡◌, ◌↔◌, ◌⊎◌, inl, inr, List, [], ◌∷◌, refl, sym, ◌∙◌, subst}
 use Rattle.rbac_sets.specs.Sets.{Bytes, Pairs, empty, insert}
 use Rattle.role_order.specs.Order.{HasPair, here, step, Geq, IsAcyclic, IsClosure}
@@ -12,7 +12,7 @@ no_way_back edges good a b e back =
     let same : a ≡ b = good.antisymmetric a b (Leads-once e) back in
     good.no_loop a (subst (λ (z : Bytes). HasPair edges a z) (sym same) e)
 
--- no edges lead nowhere
+-- without edges nothing leads anywhere
 pub Geq-none : (a b : Bytes) → Geq empty a b → a ≡ b
 Geq-none a b here = refl
 Geq-none a b (step {b = m} e k) = absurd (HasPair-none a m e)
@@ -64,7 +64,7 @@ IsAcyclic-subset edges more sub good = record {
   antisymmetric = λ a b l k. good.antisymmetric a b (Leads-mono (HasPair edges) (HasPair more) sub l) (Leads-mono (HasPair edges) (HasPair more) sub k);
 }
 
--- the pairs tell the order
+-- the pairs of the closure determine the order
 pub Geq-by_pairs : (edges pairs : Pairs) → IsClosure edges pairs → (a b : Bytes) → Geq edges a b ↔ ((a ≡ b) ⊎ HasPair pairs a b)
 Geq-by_pairs edges pairs closed a b = (
   λ l. elim (same_or_other a b) [ inl e ↦ inl e | inr n ↦ inr ((closed a b).1 (n, l)) ],

@@ -1,4 +1,4 @@
--- Sets that a walk in byte order builds, each entry behind all that are there.
+-- Sets that a walk in byte order builds by appending each entry.
 use Rattle.std.proofs.Common.{◌≡◌, ◌≢◌, ◌↔◌, ◌⊎◌, inl, inr, ℕ, ◌+◌, ◌<◌, ◌≤◌, true, List, length, get_or, take, refl, sym, ◌∙◌, ap, subst}
 use Rattle.std.specs.Prelude.{IsTrue, Contains}
 use Rattle.std.specs.List.Sorted.{IsStrictlySortedBy}
@@ -80,7 +80,7 @@ module _ (xs : List Pair) (i : ℕ) (p : Pair) (names : Names) (lt : i < length 
           ]),
         )
 
--- ---- a row: the pairs of a and those of a list that W does not hold of, beside old ones
+-- ---- a row: the pairs of a and the names of a list of which W does not hold, beside old pairs
 
 abbrev pub RowSoFar : (Bytes → Bytes → Type 0) → (Bytes → Type 0) → Bytes → List Bytes → Pairs → Type 0
 RowSoFar Old W a names puts = (x y : Bytes) → HasPair puts x y ↔ (Old x y ⊎ ((x ≡ a) × (Contains names y × (W y → ⊥))))

@@ -46,7 +46,7 @@ module _ {K : Type 0} {R : K → K → Ordering} (total : IsTotalOrder R) (exact
           later go (inl same) = (0, omega arith, sym ((tie_Decides total exact x y).0 same))
           later go (inr rest) = let k = go rest in (suc k.0, omega (arith, k.1), k.2)
 
-  -- the list of a set's members has them
+  -- the list of a set's members contains exactly these
   pub Contains-members : (s : FinSet R) (x : K) → Contains (members s) x ↔ IsTrue (contains s x)
   Contains-members s x = (
     λ h. contains-members s x ∙ (Contains-any (members s) x).0 h,
@@ -54,7 +54,7 @@ module _ {K : Type 0} {R : K → K → Ordering} (total : IsTotalOrder R) (exact
   )
 
 module _ {K : Type 0} (R : K → K → Ordering) where
-  -- what a walk along a strict order has passed is below what it comes to
+  -- what a walk along a strict order has passed is less than the current element
   pub passed_below : (xs : List K) (i : ℕ) (x y : K) → IsStrictlySortedBy R xs → i < length xs → x ≡ get_or xs i x → Contains (take i xs) y → R y x ≡ Less
   passed_below xs i x y rise lt is found =
       let early : found.0 < i = omega (arith, found.1, length-take i xs) in

@@ -1,4 +1,4 @@
--- What changes of the order where the edges change.
+-- How the order changes with the edges.
 use Rattle.std.proofs.Common.{◌≡◌, ◌↔◌, inl, inr, ℕ, ◌+◌, ◌*◌, true, false, refl, sym, ◌∙◌, ap, subst, arith}
 use Rattle.std.specs.Prelude.{IsTrue}
 use Rattle.std.proofs.lemmas.Bool.{false_from_ne_true}
@@ -35,7 +35,7 @@ IsClosure-after old new pairs puts takes closed gained lost a b = (
   ),
 )
 
--- what an order gains is not stored
+-- pairs that an order gains are not stored
 pub gained_apart : (old new pairs puts : Pairs) → IsClosure old pairs → IsGained old new puts → (x y : Bytes) → HasPair pairs x y → HasPair puts x y → ⊥
 gained_apart old new pairs puts closed gained x y h g = ((gained x y).0 g).1 ((closed x y).0 h).1
 
@@ -64,14 +64,14 @@ IsGained-crossed old new pairs asc desc above below puts order no_back closed up
 pub IsGained-none : (small large : Pairs) → ((a b : Bytes) → HasPair small a b → HasPair large a b) → IsGained large small empty
 IsGained-none small large sub a b = (λ h. absurd (HasPair-none a b h), λ h. absurd (h.1 (Leads-mono (HasPair small) (HasPair large) sub h.0)))
 
--- the plan's change, where its kind and its names are known
+-- the plan's change, if its kind and its names are known
 pub changed-adds : (edges : Pairs) (plan : Plan) (asc desc : Bytes) → plan.adds ≡ true → plan.asc ≡ asc → plan.desc ≡ desc → changed edges plan ≡ insert edges (asc, desc)
 changed-adds edges plan asc desc kind same_asc same_desc = rw (kind, same_asc, same_desc) refl
 
 pub changed-takes : (edges : Pairs) (plan : Plan) (asc desc : Bytes) → plan.adds ≡ false → plan.asc ≡ asc → plan.desc ≡ desc → changed edges plan ≡ remove edges (asc, desc)
 changed-takes edges plan asc desc kind same_asc same_desc = rw (kind, same_asc, same_desc) refl
 
--- a plan to put an edge that would make no cycle
+-- a plan to add an edge that would make no cycle
 pub Fits-added :
     (old pairs : Pairs) (asc desc : Bytes) (above below : Names) (plan : Plan)
     → plan.adds ≡ true → plan.asc ≡ asc → plan.desc ≡ desc → plan.takes ≡ empty
@@ -93,7 +93,7 @@ Fits-added old pairs asc desc above below plan kind same_asc same_desc none abse
       takes = subst (λ (edges : Pairs). IsGained edges old plan.takes) (sym is) lost;
     }
 
--- a plan to take an edge
+-- a plan to remove an edge
 pub Fits-taken :
     (old : Pairs) (asc desc : Bytes) (plan : Plan)
     → plan.adds ≡ false → plan.asc ≡ asc → plan.desc ≡ desc → plan.puts ≡ empty
@@ -110,7 +110,7 @@ Fits-taken old asc desc plan kind same_asc same_desc none good takes =
       takes = subst (λ (edges : Pairs). IsGained edges old plan.takes) (sym is) takes;
     }
 
--- how many pairs of a role of each there are
+-- how many pairs of a role of each set there are
 pub judged_are : (edges : Pairs) (asc desc : Bytes) (above below : Names) → above ≡ insert (seniors edges asc) asc → below ≡ insert (juniors edges desc) desc
     → len above * len below ≡ pairs_at edges asc desc
 judged_are edges asc desc above below ups downs =
@@ -121,7 +121,7 @@ judged_are edges asc desc above below ups downs =
     turned : (n : ℕ) → n + 1 ≡ 1 + n
     turned n = omega arith
 
--- an order stays one over a change that fits it
+-- an order remains an order after a change that fits it
 pub good_after :
     (old pairs : Pairs) (plan : Plan) (new pairs' : Pairs)
     → Fits old plan → IsClosure old pairs → new ≡ changed old plan → pairs' ≡ difference (union pairs plan.puts) plan.takes

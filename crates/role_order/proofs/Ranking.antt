@@ -1,4 +1,4 @@
--- Names in the order of how many juniors they have.
+-- Names ordered by how many juniors they have.
 use Rattle.std.proofs.Common.{◌≡◌, ◌≢◌, inl, inr, ◌+◌, ◌<◌, ◌≤◌, List, get_or, refl, sym, ◌∙◌, ap, subst, arith, false}
 use Rattle.std.specs.Prelude.{cond}
 use Rattle.std.specs.List.Sorted.{IsNonDecreasingBy}
@@ -18,7 +18,7 @@ pub len-new : (s : Names) (x : Bytes) → contains s x ≡ false → len (insert
 unfolding len insert contains
 len-new s x new = finmap.len-insert name_total s x tt ∙ ap (λ b. cond b (finmap.len s) (finmap.len s + 1)) new
 
--- where a has a pair with z and with all that z has pairs with, it has more of them
+-- if a has a pair with z and with all names that z has pairs with, it has more pairs than z
 pub junior_count-lt : (pairs : Pairs) (a z : Bytes) → HasPair pairs a z → (HasPair pairs z z → ⊥) → ((b : Bytes) → HasPair pairs z b → HasPair pairs a b)
     → junior_count pairs z < junior_count pairs a
 junior_count-lt pairs a z pair not_self row =
@@ -30,7 +30,7 @@ junior_count-lt pairs a z pair not_self row =
     ])) in
     omega (arith, more, len-new (seconds pairs z) z new)
 
--- so names in the order of their counts stand behind their juniors
+-- so names ordered by their counts come after their juniors
 pub AreJuniorsFirst-from_counts : (edges pairs : Pairs) (names : List Bytes) → IsAcyclic edges → IsClosure edges pairs
     → IsNonDecreasingBy (junior_count pairs) names → AreJuniorsFirst pairs names
 AreJuniorsFirst-from_counts edges pairs names good closed rising i a z lt is found pair =

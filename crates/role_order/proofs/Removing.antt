@@ -1,4 +1,4 @@
--- Which pairs an order loses where an edge goes, row by row.
+-- Which pairs an order loses when an edge is removed, row by row.
 use Rattle.std.proofs.Common.{◌≡◌, ◌≢◌, ◌↔◌, ◌⊎◌, inl, inr, ℕ, ◌<◌, List, [], length, get_or, take, sym, ◌∙◌, subst, arith}
 use Rattle.std.specs.Prelude.{IsTrue, Contains}
 use Rattle.std.proofs.lemmas.Bool.{true≢false}
@@ -15,7 +15,7 @@ use Rattle.role_order.proofs.Leading.{Leads-from_eq, Leads-trans, Leads-once, Le
 use Rattle.role_order.proofs.Closing.{no_way_back, crosses}
 use Rattle.role_order.proofs.Deciding.{geq_or_not}
 
--- the edges with the edge that goes are the old ones
+-- the remaining edges and the removed one are the old edges
 AddsPair-back : (old left : Pairs) (asc desc : Bytes) → HasPair old asc desc → TakesPair old left asc desc → AddsPair left old asc desc
 AddsPair-back old left asc desc edge takes x y = (
   λ h. elim (same_or_other x asc) [
@@ -31,7 +31,7 @@ AddsPair-back old left asc desc edge takes x y = (
   ],
 )
 
--- what is taken so far: the lost pairs of the rows that are done
+-- the pairs collected so far: the lost pairs of the rows that are done
 abbrev pub RowsLost : Pairs → List Bytes → Names → Pairs → Type 0
 RowsLost left done below takes = (p q : Bytes) → HasPair takes p q ↔ (Contains done p × (IsTrue (contains below q) × (Geq left p q → ⊥)))
 
@@ -128,7 +128,7 @@ module _ (left pairs : Pairs) (above : List Bytes) (below : Names) (s : AreSuspe
       let other = apart_from_distinct same_name above found.0 i a s.distinct early lt in
       true≢false (sym ((tie_Decides name_total name_exact (get_or above found.0 a) (get_or above i a)).1 (at ∙ is)) ∙ other)
 
--- what is lost of the closure is what the edges that are left lead over no longer
+-- the lost pairs of the closure are those between which the remaining edges no longer lead
 pub IsGained-lost : (left edges pairs takes : Pairs) → IsClosure edges pairs → AreLost left pairs takes → IsGained left edges takes
 IsGained-lost left edges pairs takes closed lost p q = (
   λ h. let k = (lost p q).0 h in (((closed p q).0 k.0).1, k.1),

@@ -1,4 +1,4 @@
--- The pairs that begin with one name, and two runs of pairs gone through at once.
+-- The pairs that begin with one name, and a walk through two runs of pairs at once.
 use Rattle.std.proofs.Common.{◌≡◌, ◌≢◌, ◌↔◌, ◌⊎◌, inl, inr, ℕ, zero, suc, ◌+◌, ◌<◌, ◌≤◌, Bool, true, false, cond, List, [], ◌∷◌, length, get_or, drop, map, refl, sym, ◌∙◌, ap, subst, arith}
 use Rattle.std.specs.Prelude.{IsTrue, Contains, count_by}
 use Rattle.std.specs.Bool.{Decides}
@@ -91,9 +91,9 @@ unfolding IsStrictlySortedBy
 mapped_rise [] rise = tt
 mapped_rise (p ∷ xs) rise = (mapped_below p xs rise.0, mapped_rise xs rise.1)
 
--- ---- what stands behind a name
+-- ---- the names that a name has a pair with
 
--- it is the second names of the run, in its order
+-- they are the second names of the run, in its order
 pub members_seconds : (pairs : Pairs) (first : Bytes) → members (seconds pairs first) ≡ map (λ (q : Pair). q.1) (run_of pairs first)
 unfolding seconds image
 members_seconds pairs first =
@@ -112,7 +112,7 @@ pub count_seconds : (p : Bytes → Bool) (pairs : Pairs) (first : Bytes) → cou
 unfolding count
 count_seconds p pairs first = ap (count_by p) (members_seconds pairs first) ∙ count_map (λ (q : Pair). q.1) p (run_of pairs first)
 
--- the run is as long as there are: as a has juniors
+-- the run is as long as a has juniors
 pub run-count : (pairs : Pairs) (a : Bytes) → length (run_of pairs a) ≡ junior_count pairs a
 run-count pairs a = sym (len-members (seconds pairs a) ∙ ap length (members_seconds pairs a) ∙ length-map (run_of pairs a) (λ (q : Pair). q.1))
 
@@ -122,7 +122,7 @@ abbrev is_empty : List Pair → Bool
 is_empty [] = true
 is_empty (p ∷ xs) = false
 
--- what a walk along the large list finds: it goes on in the small one where the second names are one
+-- the result of a walk along the large list that goes on in the small one if the second names are equal
 abbrev pub walk : List Pair → List Pair → Bool
 walk small [] = is_empty small
 walk small (q ∷ large) = walk (cond (is_next small q.1) (drop 1 small) small) large
@@ -173,7 +173,7 @@ module _ (p q : Pair) (ps qs : List Pair) (below_p : AllByRecursion (λ r. secon
         ],
   )
 
--- the walk tells whether all second names are there
+-- the walk decides whether all second names are there
 pub walk-Decides : (large small : List Pair) → IsStrictlySortedBy second_cmp large → IsStrictlySortedBy second_cmp small → Decides (walk small large) (HasSecondsOf large small)
 unfolding IsStrictlySortedBy
 walk-Decides [] [] rise rises = (λ _ p h. absurd (omega (arith, h.1)), λ _. refl)

@@ -1,4 +1,4 @@
--- What tells a closure without walking far, and what tells a cycle.
+-- Conditions that decide without long walks whether pairs are a closure, and whether edges have a cycle.
 use Rattle.std.proofs.Common.{◌≡◌, ◌↔◌, ◌⊎◌, inl, inr, ℕ, zero, suc, ◌<◌, List, [], ◌∷◌, length, refl, sym, ap, subst, arith}
 use Rattle.rbac_sets.specs.Sets.{Bytes, Pair, Pairs, insert, from_list, members, len}
 use Rattle.rbac_sets.specs.NameOrder.{pair_total, pair_exact}
@@ -13,7 +13,7 @@ use Rattle.role_order.proofs.Closing.{no_way_back, IsAcyclic-none, IsAcyclic-sub
 use Rattle.role_order.proofs.Ranking.{junior_count-lt}
 
 module _ (edges pairs : Pairs) (closed : IsClosedUnder edges pairs) where
-  -- where the edges lead, there is a pair
+  -- if edges lead from a to b, there is a pair
   pair_of : {a b : Bytes} → Geq edges a b → (a ≡ b) ⊎ HasPair pairs a b
   pair_of here = inl refl
   pair_of {a} {b} (step {b = m} e k) =
@@ -23,7 +23,7 @@ module _ (edges pairs : Pairs) (closed : IsClosedUnder edges pairs) where
         | inr h ↦ row.1 b h
       ])
 
-  -- pairs can be put together
+  -- edges and a pair compose
   onward : {a b : Bytes} (c : Bytes) → Geq edges a b → HasPair pairs b c → HasPair pairs a c
   onward c here h = h
   onward {a} {b} c (step {b = m} e k) h = (closed.goes_on a m e).1 c (onward c k h)
@@ -43,7 +43,7 @@ module _ (edges pairs : Pairs) (closed : IsClosedUnder edges pairs) where
       let row = closed.goes_on a z e in
       junior_count-lt pairs a z row.0 (λ h. closed.irreflexive z z h refl) row.1
 
-  -- so the first steps of a pair come to its end
+  -- so repeated first steps of a pair reach its end
   arrives : (n : ℕ) (a b : Bytes) → junior_count pairs a < n → HasPair pairs a b → Geq edges a b
   arrives zero a b lt h = absurd (omega (arith, lt))
   arrives (suc n) a b lt h =
@@ -115,7 +115,7 @@ sink edges good a =
     let same = from_members pair_total pair_exact edges in
     subst (λ (s : Pairs). EndsAt s a) same (sink_along (members edges) (subst IsAcyclic (sym same) good) a)
 
--- edges of which each goes on have a cycle
+-- edges each of which leads to another have a cycle
 leads_round : (edges : Pairs) → AllLeadOn edges → (a m : Bytes) → HasPair edges a m → IsAcyclic edges → ⊥
 leads_round edges on a m e good =
     let end = sink edges good a in
@@ -124,7 +124,7 @@ leads_round edges on a m e good =
       | inr into ↦ end.2 (on into.0 end.0 into.1)
     ]
 
--- the edges that go on
+-- the edges that lead to another
 abbrev pub KeepsLeading : Pairs → Pairs → Type 0
 KeepsLeading edges kept = (a m : Bytes) → HasPair kept a m ↔ (HasPair edges a m × LeadsOn edges m)
 
@@ -164,7 +164,7 @@ IsAcyclic-length_zero edges is = by (members edges) refl
     by [] same = subst IsAcyclic (from_members pair_total pair_exact edges) (subst (λ (es : List Pair). IsAcyclic (from_list es)) (sym same) no_items)
     by (e ∷ es) same = absurd (omega (arith, is, len-members edges, ap length same))
 
--- some edges, each of which goes on, have a cycle
+-- edges have a cycle if there are any and each leads to another
 pub cycle_left : (edges : Pairs) → AllLeadOn edges → (len edges ≡ 0 → ⊥) → IsAcyclic edges → ⊥
 cycle_left edges on some good =
     let e = a_member pair_total pair_exact edges (some_left (len edges) some) in

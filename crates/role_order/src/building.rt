@@ -1,4 +1,4 @@
-//! Sets that are built in byte order, each entry put behind all that are there.
+//! Sets that are built in byte order: each entry is appended.
 ghost use Rattle.std.specs.Prelude.{◌≡◌, ◌↔◌, ◌⊎◌, IsTrue, true, Contains, IfOk, IfErr, OnOk};
 ghost use Rattle.std.specs.declared.cmp.Ordering.TheVariants.{Less};
 ghost use Rattle.rbac_sets.specs.Sets.{Bytes, Pair, name_cmp, pair_cmp, contains, insert};
@@ -9,7 +9,7 @@ use crate::naming::{is_same, run};
 use rbac_sets::{Entry, Name, NameSet, PairSet, Refusal, SortedSet};
 use std::alloc::Global;
 
-// Puts an entry behind all that are there.
+// Appends an entry that is greater than all that are there.
 pub fn push<K: Entry>(set: &mut SortedSet<K>, entry: K) -> Result<(), Refusal>
     requires { (x : K) → contains (set_of K.cmp set.old) x ≡ true → K.cmp x entry ≡ Less }
     ensures ok { OnOk result (set_of K.cmp set.new ≡ insert (set_of K.cmp set.old) entry) }
@@ -46,7 +46,7 @@ pub fn seconds_of(alloc: Global, pairs: &PairSet, first: &Name) -> Result<NameSe
     Ok(names)
 }
 
-// Puts the pairs of `a` and each of `below` that are not stored. All that is there begins below `a`.
+// Appends the pairs of `a` and each of `below` that are not stored. Those that are there begin with lesser names.
 fn cross_row(
     alloc: Global,
     pairs: &PairSet,

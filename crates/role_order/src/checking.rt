@@ -23,7 +23,7 @@ fn is_irreflexive(pairs: &PairSet) -> bool
     true
 }
 
-// Whether the pairs from a place on begin with one of this second name.
+// Whether there is a pair at this place, and it has this second name.
 fn is_next_at(pairs: &[(Name, Name)], at: usize, second: &Name) -> bool
     ensures { result ≡ is_next (drop at pairs.now) second.now }
 {
@@ -33,7 +33,7 @@ fn is_next_at(pairs: &[(Name, Name)], at: usize, second: &Name) -> bool
     }
 }
 
-// Whether each second name of `small` is one of `large`. It goes once through both.
+// Whether each second name of `small` is a second name of `large`. It goes once through both.
 fn has_seconds_of(large: &[(Name, Name)], small: &[(Name, Name)]) -> bool
     requires large { IsStrictlySortedBy second_cmp large.now }
     requires small { IsStrictlySortedBy second_cmp small.now }
@@ -58,7 +58,7 @@ fn has_row_of(pairs: &PairSet, a: &Name, m: &Name) -> bool
     has_seconds_of(run(pairs, a), run(pairs, m))
 }
 
-// Whether each edge is a pair and goes on to the pairs of its end.
+// Whether each edge is a pair, and its start has a pair with each name that its end has a pair with.
 fn edges_go_on(edges: &PairSet, pairs: &PairSet) -> bool
     ensures { IsTrue result ↔ ((a m : Bytes) → HasPair (set_of pair_cmp edges.now) a m → HasRowOf (set_of pair_cmp pairs.now) a m) }
 {
@@ -114,7 +114,7 @@ fn leads_on(edges: &PairSet, m: &Name) -> bool
     !run(edges, m).is_empty()
 }
 
-// The edges whose end is the start of another, and whether these are all.
+// The edges whose end is the start of another, and whether these are all edges.
 fn leading_on(alloc: Global, edges: &PairSet) -> Result<(PairSet, bool), Refusal>
     ensures kept { IfOk result (λ r. (a m : Bytes) → HasPair (set_of pair_cmp r.0) a m ↔ (HasPair (set_of pair_cmp edges.now) a m × LeadsOn (set_of pair_cmp edges.now) m)) }
     ensures all { IfOk result (λ r. IsTrue r.1 → AllLeadOn (set_of pair_cmp edges.now)) }
@@ -133,7 +133,7 @@ fn leading_on(alloc: Global, edges: &PairSet) -> Result<(PairSet, bool), Refusal
     Ok((kept, all))
 }
 
-// Whether the edges have a cycle: those that lead to no further edge are left out as long as there are any.
+// Whether the edges have a cycle. Edges that lead to no further edge are dropped, as long as there are any.
 pub fn has_cycle(alloc: Global, edges: &PairSet) -> Result<bool, Refusal>
     ensures found { IfOk result (λ found. IsTrue found → IsAcyclic (set_of pair_cmp edges.now) → ⊥) }
     ensures none { IfOk result (λ found. (IsTrue found → ⊥) → IsAcyclic (set_of pair_cmp edges.now)) }

@@ -1,10 +1,10 @@
-//! The role hierarchy: a set of edges without a cycle, and its closure, which is kept up edge by
+//! The role hierarchy: a set of edges without a cycle, and its closure, which is updated with each
 //! edge.
 //!
-//! An edge (r, q) says that r is an immediate ascendant of q. The order `r >= q` holds where r is q,
-//! or where edges lead from r to q. Its pairs of two different roles are stored, so that one search
-//! answers whether a role inherits from another, and a change of an edge is planned first: a plan
-//! names the pairs that come and go.
+//! An edge (r, q) says that r is an immediate ascendant of q. The order `r >= q` holds if r is q, or
+//! if edges lead from r to q. Its pairs of two different roles are stored, so that one search
+//! answers whether a role inherits from another. A change of an edge is planned first: a plan lists
+//! the pairs that the order gains and loses.
 #![tactic(auto)]
 
 pub use order::RoleOrder;

@@ -1,4 +1,4 @@
-//! The pairs that are found to be lost where an edge goes, one role's after the other's.
+//! The pairs that are lost when an edge is removed, collected role by role.
 ghost use Rattle.std.specs.Prelude.{◌≡◌, ◌||◌, IfOk, IfErr, OnOk};
 ghost use Rattle.rbac_sets.specs.Sets.{IsDisjoint, pair_cmp, contains, empty, union};
 ghost use Rattle.rbac_sets.specs.SortedSet.{set_of};
@@ -8,11 +8,11 @@ use std::alloc::Global;
 use std::marker::Model;
 use std::mem;
 
-// How many pairs stand apart at most when more are added.
+// How many recent pairs are kept apart at most when more are added.
 const MOST_APART: usize = 16_384;
 
-// The pairs that are lost as far as they were found. The latest stand apart from the earlier ones, so that
-// the pairs of one role more are merged with few others, and not with all.
+// The lost pairs found so far. Recent ones are kept in a second set, so that the pairs of one more role are
+// merged with few others, and not with all.
 #[derive(Drop)]
 pub struct LostPairs {
     earlier: PairSet,
@@ -33,7 +33,7 @@ impl Model for LostPairs {
 }
 
 impl LostPairs {
-    // No pairs. It takes no memory yet.
+    // No pairs. It doesn't allocate yet.
     pub fn new(alloc: Global) -> LostPairs
         ensures { result ≡ empty }
     {
@@ -50,7 +50,7 @@ impl LostPairs {
         self.latest.contains((a, b)) || self.earlier.contains((a, b))
     }
 
-    // Adds pairs that are none of them yet.
+    // Adds pairs that are not among them yet.
     pub fn add(&mut self, alloc: Global, pairs: PairSet) -> Result<(), Refusal>
         requires { IsDisjoint self.old (set_of pair_cmp pairs) }
         ensures ok { OnOk result (self.new ≡ union self.old (set_of pair_cmp pairs)) }
@@ -62,7 +62,7 @@ impl LostPairs {
         Ok(())
     }
 
-    // Puts the latest to the earlier ones, where they are many.
+    // Merges the latest pairs into the earlier ones, if they are many.
     fn join(&mut self, alloc: Global) -> Result<(), Refusal>
         ensures keeps { self.new ≡ self.old }
         ensures cause { IfErr result (λ refusal. refusal ≡ Refusal.Memory) }

@@ -1,4 +1,4 @@
-//! Names at hand: whether two are one, and the runs of a set of pairs.
+//! Comparisons of names, and the runs of a set of pairs: those that begin with one name.
 ghost use Rattle.std.specs.Prelude.{◌≡◌, ◌↔◌, ◌⊎◌, IsTrue, Contains, length};
 ghost use Rattle.std.specs.List.Sorted.{IsStrictlySortedBy};
 ghost use Rattle.rbac_sets.specs.Sets.{Pair, pair_cmp, contains};
@@ -9,7 +9,7 @@ ghost use Rattle.role_order.specs.Removal.{junior_count};
 
 use rbac_sets::{Name, PairSet};
 
-// Whether the two names are one.
+// Whether the two names are equal.
 pub fn is_same(a: &Name, b: &Name) -> bool
     ensures { IsTrue result ↔ (a.now ≡ b.now) }
 {

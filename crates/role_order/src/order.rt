@@ -18,13 +18,13 @@ use std::marker::Model;
 
 /// The hierarchy of roles, the relation RH of the standard's general role hierarchies: a set of edges
 /// (ascendant, descendant), its immediate inheritances, without a cycle, with its closure, all pairs
-/// of two different roles of which the first is above the second.
+/// of two different roles of which the first is senior to the second.
 ///
-/// A role r is above q where edges lead from r to q, and `r >= q` holds where r is q or above it. The
-/// closure is stored and kept up edge by edge, so that `geq` is one search. A change of an edge takes
-/// three calls: a plan (`plan_add`, `plan_remove`), room for it (`make_room`), and `commit`, which
-/// can't fail. A contract sees the set of the edges, and how many more edges and pairs the order can
-/// take without memory.
+/// A role r is senior to q, and q is junior to r, if edges lead from r to q; `r >= q` holds if r is q
+/// or senior to it. The closure is stored and updated with each edge, so that `geq` is one search. A
+/// change of an edge takes three calls: a plan (`plan_add`, `plan_remove`), room for it
+/// (`make_room`), and `commit`, which can't fail. In contracts the value is the set of the edges, and
+/// how many more edges and pairs can be added without allocation.
 #[derive(Drop)]
 pub struct RoleOrder {
     edges: PairSet,
@@ -47,7 +47,7 @@ impl Model for RoleOrder {
 }
 
 impl RoleOrder {
-    /// The order without edges. It takes no memory yet.
+    /// The order without edges. It doesn't allocate yet.
     pub fn new(alloc: Global) -> RoleOrder
         ensures { result.edges ≡ empty }
     {
@@ -58,9 +58,9 @@ impl RoleOrder {
     }
 
     /// The edges (ascendant, descendant). They have no cycle: no edge leads from a role to itself, and
-    /// no two roles are each above the other.
+    /// no two roles are senior to each other.
     ///
-    /// It takes no memory.
+    /// It doesn't allocate.
     pub fn edges(&self) -> &PairSet
         ensures edges { set_of pair_cmp result.now ≡ self.now.edges }
         ensures acyclic { IsAcyclic self.now.edges }
@@ -70,7 +70,7 @@ impl RoleOrder {
 
     /// The closure: the pairs (r, q) with `r >= q` and r not q.
     ///
-    /// It takes no memory.
+    /// It doesn't allocate.
     pub fn pairs(&self) -> &PairSet
         ensures { IsClosure self.now.edges (set_of pair_cmp result.now) }
     {
@@ -79,7 +79,7 @@ impl RoleOrder {
 
     /// Whether `asc` is an immediate ascendant of `desc`.
     ///
-    /// It takes no memory.
+    /// It doesn't allocate.
     pub fn has_edge(&self, asc: &Name, desc: &Name) -> bool
         ensures { result ≡ contains self.now.edges (asc.now, desc.now) }
     {
@@ -88,8 +88,8 @@ impl RoleOrder {
 
     /// Whether `a >= b`: `a` is `b`, or edges lead from `a` to `b`, so that `a` inherits from `b`.
     ///
-    /// This is the order of the standard's role hierarchy. It takes no memory. The names may be any,
-    /// also of no role of an edge.
+    /// This is the order of the standard's role hierarchy. The names may be any names, including names
+    /// that no edge has. It doesn't allocate.
     pub fn geq(&self, a: &Name, b: &Name) -> bool
         ensures reaches { IsTrue result ↔ Geq self.now.edges a.now b.now }
         ensures test { result ≡ geq self.now.edges a.now b.now }
@@ -97,11 +97,11 @@ impl RoleOrder {
         is_geq(&self.pairs, a, b)
     }
 
-    /// The descendants of `r`: the roles below it, without `r` itself.
+    /// The juniors of `r`: the roles to which edges lead from it, without `r` itself.
     ///
     /// # Errors
     ///
-    /// `Memory` where memory for them was refused.
+    /// `Memory` if allocation failed.
     pub fn juniors(&self, alloc: Global, r: &Name) -> Result<NameSet, Refusal>
         ensures ok { IfOk result (λ names. set_of name_cmp names ≡ juniors self.now.edges r.now) }
         ensures members { IfOk result (λ names. (q : Bytes) → IsTrue (contains (set_of name_cmp names) q) ↔ ((r.now ≢ q) × Geq self.now.edges r.now q)) }
@@ -111,11 +111,11 @@ impl RoleOrder {
         Ok(names)
     }
 
-    /// The ascendants of `r`: the roles above it, without `r` itself.
+    /// The seniors of `r`: the roles from which edges lead to it, without `r` itself.
     ///
     /// # Errors
     ///
-    /// `Memory` where memory for them was refused.
+    /// `Memory` if allocation failed.
     pub fn seniors(&self, alloc: Global, r: &Name) -> Result<NameSet, Refusal>
         ensures ok { IfOk result (λ names. set_of name_cmp names ≡ seniors self.now.edges r.now) }
         ensures members { IfOk result (λ names. (p : Bytes) → IsTrue (contains (set_of name_cmp names) p) ↔ ((p ≢ r.now) × Geq self.now.edges p r.now)) }
@@ -125,7 +125,7 @@ impl RoleOrder {
         Ok(names)
     }
 
-    // `r` and the roles above it.
+    // `r` and its seniors.
     fn at_or_above(&self, alloc: Global, r: &Name) -> Result<NameSet, Refusal>
         ensures members { IfOk result (λ names. (p : Bytes) → IsTrue (contains (set_of name_cmp names) p) ↔ Geq self.now.edges p r.now) }
         ensures ok { IfOk result (λ names. set_of name_cmp names ≡ insert (seniors self.now.edges r.now) r.now) }
@@ -137,7 +137,7 @@ impl RoleOrder {
         Ok(names)
     }
 
-    // `r` and the roles below it.
+    // `r` and its juniors.
     fn at_or_below(&self, alloc: Global, r: &Name) -> Result<NameSet, Refusal>
         ensures members { IfOk result (λ names. (q : Bytes) → IsTrue (contains (set_of name_cmp names) q) ↔ Geq self.now.edges r.now q) }
         ensures ok { IfOk result (λ names. set_of name_cmp names ≡ insert (juniors self.now.edges r.now) r.now) }
@@ -149,16 +149,16 @@ impl RoleOrder {
         Ok(names)
     }
 
-    /// The plan to put the edge from `asc` to `desc`, which need not be roles of other edges: what
-    /// AddInheritance of the standard changes of the hierarchy.
+    /// The plan to add the edge from `asc` to `desc`, which need not be roles of other edges: what
+    /// AddInheritance of the standard changes in the hierarchy.
     ///
-    /// Its `puts` are the pairs of `asc` or a role above it and `desc` or a role below it that the
-    /// order hasn't yet, and its `takes` are empty.
+    /// Its `puts` are the pairs of `asc` or a senior of it and `desc` or a junior of it that the order
+    /// doesn't have yet, and its `takes` are empty.
     ///
     /// # Errors
     ///
-    /// `EdgeExists` where the edge is there. `Cycle` where it isn't, and `desc` is `asc` or above it.
-    /// `Memory` where memory for the plan was refused. The order is not changed in any case.
+    /// `EdgeExists` if the edge is there. `Cycle` if it isn't, and `desc` is `asc` or senior to it.
+    /// `Memory` if allocation failed. The order is not changed in any case.
     pub fn plan_add(&self, alloc: Global, asc: &Name, desc: &Name) -> Result<OrderPlan, Refusal>
         ensures exists { (result ≡ Err Refusal.EdgeExists) ↔ HasPair self.now.edges asc.now desc.now }
         ensures cycle { (result ≡ Err Refusal.Cycle) ↔ ((HasPair self.now.edges asc.now desc.now → ⊥) × Geq self.now.edges desc.now asc.now) }
@@ -188,16 +188,16 @@ impl RoleOrder {
         })
     }
 
-    /// The plan to take the edge from `asc` to `desc`: what DeleteInheritance of the standard changes
-    /// of the hierarchy.
+    /// The plan to remove the edge from `asc` to `desc`: what DeleteInheritance of the standard changes
+    /// in the hierarchy.
     ///
-    /// Its `takes` are the pairs of `asc` or a role above it and `desc` or a role below it between
-    /// which no other edges lead, and its `puts` are empty.
+    /// Its `takes` are the pairs of `asc` or a senior of it and `desc` or a junior of it between which
+    /// no other edges lead, and its `puts` are empty.
     ///
     /// # Errors
     ///
-    /// `NoEdge` where the edge isn't there. `Memory` where memory for the plan was refused. The order
-    /// is not changed in any case.
+    /// `NoEdge` if the edge isn't there. `Memory` if allocation failed. The order is not changed in any
+    /// case.
     pub fn plan_remove(&self, alloc: Global, asc: &Name, desc: &Name) -> Result<OrderPlan, Refusal>
         ensures absent { (result ≡ Err Refusal.NoEdge) ↔ (HasPair self.now.edges asc.now desc.now → ⊥) }
         ensures only { OnErr result ((result ≡ Err Refusal.NoEdge) ⊎ (result ≡ Err Refusal.Memory)) }
@@ -226,11 +226,11 @@ impl RoleOrder {
         })
     }
 
-    /// Makes room for what a plan puts.
+    /// Reserves room for what a plan adds.
     ///
     /// # Errors
     ///
-    /// `Memory` where memory was refused. The edges are kept in any case.
+    /// `Memory` if allocation failed. The edges are kept in any case.
     pub fn make_room(&mut self, plan: &OrderPlan) -> Result<(), Refusal>
         ensures edges { self.new.edges ≡ self.old.edges }
         ensures ok { OnOk result (HasRoom self.new plan.now) }
@@ -243,9 +243,9 @@ impl RoleOrder {
         Ok(())
     }
 
-    /// Makes the change of a plan that fits this order, in the room that was made.
+    /// Applies a plan that fits this order, in reserved room.
     ///
-    /// A plan fits the order that it was made for as long as the edges are the same. It takes no memory
+    /// A plan fits the order that it was made for as long as the edges are the same. It doesn't allocate
     /// and can't fail.
     pub fn commit(&mut self, plan: OrderPlan)
         requires fits { Fits self.old.edges plan }
@@ -269,13 +269,12 @@ impl RoleOrder {
         }
     }
 
-    /// The order of these edges, where they have no cycle and `pairs` is their closure.
+    /// The order of these edges, if they have no cycle and `pairs` is their closure.
     ///
     /// # Errors
     ///
-    /// `Damaged(5)` where the edges have a cycle, an edge from a role to itself included.
-    /// `Damaged(6)` where they have none and `pairs` isn't their closure. `Memory` where memory was
-    /// refused.
+    /// `Damaged(5)` if the edges have a cycle; an edge from a role to itself is one. `Damaged(6)` if they
+    /// have none and `pairs` isn't their closure. `Memory` if allocation failed.
     pub fn of_rows(alloc: Global, edges: PairSet, pairs: PairSet) -> Result<RoleOrder, Refusal>
         ensures order { IfOk result (λ order. order.edges ≡ set_of pair_cmp edges) }
         ensures acyclic { OnOk result (IsAcyclic (set_of pair_cmp edges)) }
@@ -294,8 +293,8 @@ impl RoleOrder {
     }
 }
 
-// How many pairs of a name of each there are. No sets that fit in memory have more than a `u64` holds,
-// which no proof knows: such a number would be refused by `Memory`.
+// How many pairs of a name of each there are. For sets that fit in memory the number fits in a `u64`, but
+// no proof knows this: a number that doesn't would be refused with `Memory`.
 fn count_judged(above: &NameSet, below: &NameSet) -> Result<u64, Refusal>
     ensures ok { IfOk result (λ judged. judged ≡ len (set_of name_cmp above.now) * len (set_of name_cmp below.now)) }
     ensures cause { IfErr result (λ refusal. refusal ≡ Refusal.Memory) }

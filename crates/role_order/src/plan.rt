@@ -6,11 +6,11 @@ ghost use Rattle.rbac_sets.specs.SortedSet.{set_of};
 use rbac_sets::{Name, PairSet};
 use std::marker::Model;
 
-/// A change of one edge of an order, with the pairs of the closure that come and go by it.
+/// A planned change of one edge of an order, with the pairs that its closure gains and loses.
 ///
-/// It is made by `RoleOrder::plan_add` or `RoleOrder::plan_remove`, and `RoleOrder::commit` makes the
-/// change. A contract sees the edge, whether it is put or taken, the two sets of pairs and the number
-/// of pairs that were judged.
+/// `RoleOrder::plan_add` or `RoleOrder::plan_remove` makes the plan, and `RoleOrder::commit` applies
+/// it. In contracts the value is the edge, whether it is added or removed, the two sets of pairs and
+/// the number of pairs that were judged.
 #[derive(Drop)]
 pub struct OrderPlan {
     pub(crate) adds: bool,
@@ -41,29 +41,29 @@ impl Model for OrderPlan {
 }
 
 impl OrderPlan {
-    /// The pairs of different roles of which the first comes to stand above the second.
+    /// The pairs of different roles of which the first becomes senior to the second.
     ///
-    /// It takes no memory.
+    /// It doesn't allocate.
     pub fn puts(&self) -> &PairSet
         ensures { set_of pair_cmp result.now ≡ self.now.puts }
     {
         &self.puts
     }
 
-    /// The pairs of different roles of which the first stands above the second no longer.
+    /// The pairs of different roles of which the first is no longer senior to the second.
     ///
-    /// It takes no memory.
+    /// It doesn't allocate.
     pub fn takes(&self) -> &PairSet
         ensures { set_of pair_cmp result.now ≡ self.now.takes }
     {
         &self.takes
     }
 
-    /// How many pairs were judged: those of the ascendant or a role above it and the descendant or a
-    /// role below it.
+    /// How many pairs were judged: those of the ascendant or a senior of it and the descendant or a
+    /// junior of it.
     ///
-    /// It says what the plan cost, for whoever measures or bounds the work of a change; `commit` goes by
-    /// the pairs alone. It takes no memory.
+    /// This is the cost of the plan, for callers that measure or bound the work of a change; `commit`
+    /// uses only the pairs. It doesn't allocate.
     pub fn judged(&self) -> u64
         ensures { result ≡ self.now.judged }
     {

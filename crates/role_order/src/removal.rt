@@ -1,4 +1,4 @@
-//! The pairs that an order loses where one of its edges goes.
+//! The pairs that an order loses when one of its edges is removed.
 ghost use Rattle.std.specs.Prelude.{◌≡◌, ◌↔◌, ◌⊎◌, IsTrue, Contains, IfOk, IfErr};
 ghost use Rattle.std.specs.List.{IsDistinct};
 ghost use Rattle.std.specs.List.Sorted.{IsNonDecreasingBy};
@@ -13,14 +13,14 @@ use crate::naming::{is_same, run};
 use rbac_sets::{Name, NameSet, PairSet, Refusal};
 use std::alloc::Global;
 
-// Whether `z` is `b`, or has a pair with it that is not taken.
+// Whether `z` is `b`, or has a pair with it that is not in `takes`.
 fn goes_on(pairs: &PairSet, takes: &LostPairs, z: &Name, b: &Name) -> bool
     ensures { IsTrue result ↔ ((z.now ≡ b.now) ⊎ (HasPair (set_of pair_cmp pairs.now) z.now b.now × (HasPair takes.now z.now b.now → ⊥))) }
 {
     is_same(z, b) || (!takes.contains(z, b) && pairs.contains((z, b)))
 }
 
-// Whether one of the edges that are left leads from `a` to `b`, or to a name with a pair to `b` that is not taken.
+// Whether one of the remaining edges leads from `a` to `b`, or to a name with a pair to `b` that is not in `takes`.
 fn has_way(left: &PairSet, pairs: &PairSet, takes: &LostPairs, a: &Name, b: &Name) -> bool
     ensures { IsTrue result ↔ HasWay (set_of pair_cmp left.now) (set_of pair_cmp pairs.now) takes.now a.now b.now }
 {
@@ -32,7 +32,7 @@ fn has_way(left: &PairSet, pairs: &PairSet, takes: &LostPairs, a: &Name, b: &Nam
     false
 }
 
-// The pairs of `a` and those of `below` to which no way is left.
+// The pairs of `a` and those of `below` to which it has no way by the remaining edges.
 fn lost_in_row(
     alloc: Global,
     left: &PairSet,
@@ -55,8 +55,8 @@ fn lost_in_row(
     Ok(lost)
 }
 
-// The pairs that the order loses where an edge goes and `left` remain: row by row the suspects to
-// which no way is left.
+// The pairs that the order loses when an edge is removed and `left` remain: row by row, the suspects
+// without a way by the remaining edges.
 pub fn lost_pairs(
     alloc: Global,
     left: &PairSet,
@@ -83,7 +83,7 @@ fn count_juniors(pairs: &PairSet, a: &Name) -> usize
     run(pairs, a).len()
 }
 
-// The names, one by one.
+// The names as a list.
 fn names_of(alloc: Global, names: &NameSet) -> Result<Vec<Name>, Refusal>
     ensures items { IfOk result (λ list. list.items ≡ members (set_of name_cmp names.now)) }
     ensures cause { IfErr result (λ refusal. refusal ≡ Refusal.Memory) }
@@ -95,7 +95,7 @@ fn names_of(alloc: Global, names: &NameSet) -> Result<Vec<Name>, Refusal>
     Ok(list)
 }
 
-// The names in the order of how many names each has a pair with.
+// The names, ordered by how many names each has a pair with.
 pub fn juniors_first(alloc: Global, pairs: &PairSet, names: &NameSet) -> Result<Vec<Name>, Refusal>
     ensures same { IfOk result (λ ordered. (x : Bytes) → Contains ordered.items x ↔ IsTrue (contains (set_of name_cmp names.now) x)) }
     ensures rising { IfOk result (λ ordered. IsNonDecreasingBy (junior_count (set_of pair_cmp pairs.now)) ordered.items) }

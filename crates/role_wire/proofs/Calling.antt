@@ -1,4 +1,4 @@
--- Calls: what stands behind a head.
+-- Calls: what follows a head.
 use Rattle.std.proofs.Common.{◌≡◌, ◌≤◌, ◌<◌, ◌∙◌, inl, ℕ, List, length, length-append, length-take, take, Option, Some, None, Err, sym, refl, arith, subst}
 use Rattle.std.specs.Io.KnownBytes.{IsAtEnd}
 use Rattle.std.proofs.lemmas.Bool.{le-ltb, lt-ltb}
@@ -18,7 +18,7 @@ use Rattle.role_wire.specs.declared.made.Made.{Made}
 use Rattle.role_wire.proofs.Performed.{stays}
 use Rattle.role_wire.proofs.Telling.{asks_nothing}
 
--- ---- bytes that were taken, and those that are left
+-- ---- bytes that were read, and those that are left
 
 length-with_left : (taken : List ℕ) (left : Option (List ℕ)) → length taken ≤ length (with_left taken left)
 length-with_left taken None = omega arith
@@ -43,12 +43,12 @@ called_whole taken left called count e =
 pub called_short : (taken : List ℕ) (left : Option (List ℕ)) (called : Function) (count : ℕ) → length taken < count → IsAtEnd left → called_for (with_left taken left) called count ≡ Err BadRequest
 called_short taken left called count less at_end = rw (with_left-end taken left at_end, lt-ltb (length taken) count less) refl
 
--- no more was taken than the call has
+-- no more was read than the call has
 pub taken_within : (taken : List ℕ) (left : Option (List ℕ)) (count : ℕ) → length taken ≤ count → length taken ≤ length (take count (with_left taken left))
 taken_within taken left count within = omega (arith, within, length-take count (with_left taken left), length-with_left taken left)
 
 module _ {S : Type 0} (shown : Held S → State) where
-  -- what comes of a short body
+  -- the reply to a short body
   pub short_told : (office : Opened S) (taken : List ℕ) (left : Option (List ℕ)) (called : Function) (count : ℕ) (made : Made) → length taken < count → IsAtEnd left
       → made.status ≡ 400 → bytes_in made.body ≡ head_body 400 → ComesOf shown office (called_for (with_left taken left) called count) made office
   unfolding head_body

@@ -1,4 +1,4 @@
--- Each command that a line asks for, but an import, is one that `Command` has.
+-- Each command that a line asks for, except an import, is a value of `Command`.
 use Rattle.std.proofs.Common.{◌≡◌, ℕ, List, [], ◌∷◌, map, false, Option, Some, None, option_map, Result, Ok, Err, IfOk, refl, ap, ◌∙◌}
 use Rattle.std.specs.Prelude.{codes}
 use Rattle.std.specs.List.{cons_option, list_any}
@@ -27,7 +27,7 @@ use Rattle.role_wire.specs.Running.{command_read, line_command, commands_in, is_
 abbrev IsAskedFor : Asked → Type 0
 IsAskedFor asked = (command : Command) × (asked_of command ≡ asked)
 
--- where this is asked for, and is no import, a command asks for it
+-- if this is asked for, and is no import, a command asks for it
 abbrev IsWithCommand : Option Asked → Type 0
 IsWithCommand None = Unit {0}
 IsWithCommand (Some asked) = is_import asked ≡ false → IsAskedFor asked

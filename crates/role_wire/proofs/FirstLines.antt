@@ -1,4 +1,4 @@
--- What a replay that stopped has written are the first answers to the bytes that it read.
+-- A replay that stopped has written the first answers to the bytes that it read.
 use Rattle.std.proofs.Common.{◌≡◌, ◌⊎◌, ◌≤◌, ◌<◌, append_assoc, inl, inr, ℕ, suc, not, true, false, List, [], ◌∷◌, ◌++◌, length, length-append, take, Option, Some, refl, sym, ap, subst, ◌∙◌, arith}
 use Rattle.std.specs.Prelude.{slice_get}
 use Rattle.std.specs.Io.KnownBytes.{Appends}
@@ -70,7 +70,7 @@ slice_get-front (x ∷ xs) ys y = slice_get-front xs ys y
 
 -- ---- the lines that are done are the first that ask
 
--- the part of an answer that was written is none, or a part of that to the first of the lines behind
+-- the part of an answer that was written is empty, or a part of the answer to the first of the lines that follow
 abbrev IsPart : RbacState → List (List ℕ) → List ℕ → List (List ℕ) → Type 0
 IsPart S done part more = (part ≡ []) ⊎ ((line : List ℕ) × (later : List (List ℕ)) × (rest : List ℕ) × (more ≡ line ∷ later) × (answer_to (after_lines S done) line ++ line_feed ∷ [] ≡ part ++ rest) × (1 ≤ length rest))
 
@@ -86,7 +86,7 @@ module _ (taken : List ℕ) (done : List (List ℕ)) where
   first_of before rest is fit asks =
       ap (λ all. asking (fitting all)) is ∙ ap asking (fitting-front before rest fit) ∙ asking-append before (fitting rest) ∙ ap (λ front. front ++ asking (fitting rest)) asks
 
-  -- behind the lines that ended
+  -- what follows lines that ended
   ended_first : (before rest : List (List ℕ)) → ended_lines taken ≡ before ++ rest → (last : List (List ℕ)) × (split_lines taken ≡ before ++ (rest ++ last))
   ended_first before rest is = (ends_first.0, ends_first.1 ∙ ap (λ l. l ++ ends_first.0) is ∙ append_assoc before rest ends_first.0)
 

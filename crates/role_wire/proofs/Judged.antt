@@ -32,7 +32,7 @@ use Rattle.role_wire.proofs.Performed.{stays}
 
 -- ---- what refuses a request
 
--- a refusal that tells of the request, and not of memory or the store
+-- a refusal that is about the request, and not about memory or the store
 abbrev IsJudged : Refusal → Type 0
 IsJudged Memory = ⊥
 IsJudged Store = ⊥
@@ -59,14 +59,14 @@ too_large : (b : Bool) (refusal : Refusal) → first (refuse_if b (TooMany Recor
 too_large true refusal is = subst IsJudged (let same : TooMany Record ≡ refusal = cc in same) tt
 too_large false refusal is = absurd (cc)
 
--- a refused request is refused for what it asks
+-- if a request has a refusal as its outcome, the refusal is about the request
 is_judged : (S : RbacState) (asked : Requested) (refusal : Refusal) → outcome_of S asked ≡ Err refusal → IsJudged refusal
 unfolding outcome_of asked_verdict
 is_judged S (Change (Single command)) refusal is = of_command refusal (verdicts_refuse_commands S command refusal (was_refused (verdict S command) _ refusal is))
 is_judged S (Change (Import pairs)) refusal is = too_large _ refusal (was_refused (first (too_many S Record (length pairs) ∷ [])) _ refusal is)
 is_judged S (Ask query) refusal is = of_question refusal (refusals_of_questions S query refusal (was_refused (refused S query) _ refusal is))
 
--- and leaves the state
+-- and the request doesn't change the state
 pub stays_refused : (S : RbacState) (asked : Requested) (refusal : Refusal) → outcome_of S asked ≡ Err refusal → state_after S asked ≡ S
 unfolding outcome_of state_after
 stays_refused S (Change asked) refusal is = rw (was_refused (asked_verdict S asked) _ refusal is) refl
@@ -108,7 +108,7 @@ module _ {S : Type 0} (shown : Held S → State) where
   line_failed old new line asked unanswered.Store read (closed, inl shut) = (closed, inl shut)
   line_failed old new line asked unanswered.Store read (closed, inr (accepted, broke)) = (closed, inr ((asked, read, accepted), rw read broke))
 
-  -- a line that asks for nothing
+  -- a line that is no request
   pub line_unread : (office : Opened S) (line : List ℕ) (refusal : Refusal) → (refusal ≡ Memory) ⊎ (request line ≡ Err refusal)
       → IfOk (told_unread refusal) (λ verdict. AnswersLine shown office line (text_of verdict) office) × IfErr (told_unread refusal) (λ unanswered. FailsLine shown office line unanswered office)
   unfolding answer_to after_line text_of

@@ -25,7 +25,7 @@ use Rattle.role_wire.specs.Outcome.{accepted_text, unless, told_as, outcome, out
 use Rattle.role_wire.specs.Reading.{HasNoLineFeed}
 use Rattle.role_wire.proofs.Splitting.{HasNoLineFeed-append, split_lines-ended}
 
--- a byte from 48 on is no line feed
+-- a byte from 11 on is no line feed
 high : (byte : ℕ) → 11 ≤ byte → (byte == line_feed) ≡ false
 high byte least = ne_eqb byte 10 (λ same. omega (arith, least, same))
 
@@ -152,7 +152,7 @@ unfolding answers_to answer_to
 plain_answers S [] = tt
 plain_answers S (line ∷ rest) = (plain_outcome S (request line), plain_answers (after_line S line) rest)
 
--- texts without LF, each with one, fall into the texts again
+-- texts without LF, each followed by LF, are split into the texts again
 split_texts : (texts : List (List ℕ)) → AllByRecursion HasNoLineFeed texts → split_lines (with_line_feeds texts) ≡ texts
 unfolding with_line_feeds
 split_texts [] plain = refl

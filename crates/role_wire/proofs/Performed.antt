@@ -28,11 +28,11 @@ use Rattle.role_wire.specs.Outcome.{accepted_text, outcome_of, state_after}
 use Rattle.role_wire.specs.Performing.{Performs, BreaksAt, Declines}
 
 module _ {S : Type 0} (shown : Held S → State) where
-  -- a run goes on with no event
+  -- an office is in its own run, with no event added
   pub same_run : (office : Opened S) → StaysInRun shown office office
   same_run office start events run = ([], subst (λ all. IsInRun shown start all office) (sym (append-nil events)) run)
 
-  -- an office that nothing was done with
+  -- an office to which nothing was done
   pub unchanged : (office : Opened S) → Keeps shown office office
   unchanged office = record { clean = λ clean. clean; runs = same_run office; stands = λ clean stands. stands }
 
@@ -85,7 +85,7 @@ module _ {S : Type 0} (shown : Held S → State) where
           }
     ]
 
-    -- one for which the store was refused
+    -- one in which the store failed
     broken : old.is_closed ≡ false → result ≡ Err Store → BreaksAt shown old (Change (asked_of command)) new
     broken works is =
         let told : Answers old command (Err Store) new = subst (λ r. Answers old command r new) is (answers works) in

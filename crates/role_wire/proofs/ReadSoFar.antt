@@ -21,7 +21,7 @@ module _ {S : Type 0} (answers : S → List ℕ → List ℕ → S → Type 0) w
     count = omega arith;
   }
 
-  -- a line that was answered, by a text and LF
+  -- a line that was answered, with a text and LF
   pub ends_answered : (old new : S) (line text answer : List ℕ) (written now_written : Option (List ℕ)) (answered now_answered : ℕ) → is_blank line ≡ false → answers old line text new
       → answer ≡ text ++ line_feed ∷ [] → Appends written now_written answer → now_answered ≡ answered + 1 → EndsLine answers old line new written now_written answered now_answered
   unfolding asking AreAnswered with_line_feeds
@@ -32,7 +32,7 @@ module _ {S : Type 0} (answers : S → List ℕ → List ℕ → S → Type 0) w
     count = count;
   }
 
-  -- bytes without LF that stand behind the open line
+  -- bytes without LF, which were appended to the open line
   pub read_open : (start now : Place S) (xs : List ℕ) → HasNoLineFeed xs → HasNoLineFeed start.line → length now.line ≤ longest_line
       → start.state ≡ now.state → now.line ≡ start.line ++ xs → now.number ≡ start.number → now.answered ≡ start.answered → start.written ≡ now.written
       → IsRead answers start now xs
@@ -70,7 +70,7 @@ module _ {S : Type 0} (answers : S → List ℕ → List ℕ → S → Type 0) w
     number = number;
   }
 
-  -- bytes, and then more
+  -- bytes, and then more of them
   pub read_more : (start between now : Place S) (xs ys : List ℕ) → IsRead answers start between xs → IsRead answers between now ys → IsRead answers start now (xs ++ ys)
   read_more start between now xs ys first later = record {
     lines = first.lines ++ later.lines;

@@ -18,7 +18,7 @@ use Rattle.role_wire.specs.declared.lines.Cause.TheVariants.{Read, Write, Line, 
 use Rattle.role_wire.proofs.FirstLines.{fitting-all, answers_to-length}
 use Rattle.role_wire.proofs.Performed.{stays}
 
--- one line more
+-- one more line
 pub after_lines-more : (S : RbacState) (done : List (List ℕ)) (line : List ℕ) → after_lines S (done ++ line ∷ []) ≡ after_line (after_lines S done) line
 unfolding after_lines
 after_lines-more S [] line = refl
@@ -38,7 +38,7 @@ module _ {S : Type 0} (shown : Held S → State) where
     stands = λ clean stands. later.stands clean (first.stands (later.clean clean) stands);
   }
 
-  -- one state, and then another
+  -- an office reaches a state, and then another
   pub reaches_then : (a b c : Opened S) (T U : RbacState) → Reaches shown a T b → Reaches shown b U c → Reaches shown a U c
   reaches_then a b c T U first later = record {
     state = later.state;
@@ -46,7 +46,7 @@ module _ {S : Type 0} (shown : Held S → State) where
     keeps = keeps_then a b c first.keeps later.keeps;
   }
 
-  -- a state, and then the store was refused
+  -- an office reaches a state, and then the store fails
   pub breaks_then : (a b c : Opened S) (T U : RbacState) → Reaches shown a T b → Breaks shown b T U c → Breaks shown a T U c
   breaks_then a b c T U first broke = record {
     is_closed = broke.is_closed;
@@ -72,7 +72,7 @@ module _ {S : Type 0} (shown : Held S → State) where
             (subst (λ s. Reaches shown between (after_lines s lines) new) to reaches),
       )
 
-  -- a replay that came to the end
+  -- a replay that reached the end of its input
   pub replayed : (old new : Opened S) (input : List ℕ) (written now_written : Option (List ℕ)) (count : ℕ) → IsReplayed (AnswersLine shown) old new input written now_written count
       → IsAnswered old.facts input written now_written count × Reaches shown old (after_lines old.facts (asking_lines input)) new
   unfolding answer_lines lines
@@ -90,7 +90,7 @@ module _ {S : Type 0} (shown : Held S → State) where
   -- ---- a replay that stopped
 
   module _ (old between new : Opened S) (done : List (List ℕ)) (first : Reaches shown old (after_lines old.facts done) between) (works : old.is_closed ≡ false) (line part : List ℕ) where
-    -- from the state after the lines that are done on
+    -- from the state after the lines that are done
     further : Reaches shown between (after_line between.facts line) new → Reaches shown old (after_lines old.facts (done ++ line ∷ [])) new
     further later = subst (λ T. Reaches shown old T new) (ap (λ s. after_line s line) first.state ∙ sym (after_lines-more old.facts done line))
         (reaches_then old between new (after_lines old.facts done) (after_line between.facts line) first later)

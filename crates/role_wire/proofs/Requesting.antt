@@ -28,9 +28,9 @@ use Rattle.role_wire.proofs.Calling.{with_left-end}
 use Rattle.role_wire.proofs.Performed.{stays}
 use Rattle.role_wire.proofs.Telling.{asks_nothing, has_no_memory}
 
--- ---- no byte past the request
+-- ---- no byte after the request
 
--- what a head is, it is in all of the bytes
+-- a whole head and at most its body were read
 further : (S : RbacState) (bytes rest taken : List ℕ) (head : RequestHead) → HasHead (bytes ++ rest) head rest → length bytes ≡ length (print_request head)
     → length taken ≤ (reply_to S head rest).taken → TakesNoFurther S (bytes ++ rest) (bytes ++ taken)
 further S bytes rest taken head has whole few = (
@@ -41,7 +41,7 @@ further S bytes rest taken head has whole few = (
   λ none. absurd (none head rest has),
 )
 
--- bytes that lie in the head
+-- bytes within the head were read
 pub within_head : (S : RbacState) (old new : Option (List ℕ)) (taken : List ℕ) → TakesHead old new taken → TakesNoFurther S (with_left taken new) taken
 within_head S old new taken takes = (
   λ head rest has.
@@ -58,7 +58,7 @@ with_left-append taken more (Some ys) = append_assoc taken more ys
 length-head : (bytes : List ℕ) (head : RequestHead) → HasHead bytes head [] → length bytes ≡ length (print_request head)
 length-head bytes head has = ap length (has.0.1 ∙ append-nil (print_request head))
 
--- bytes that are refused as no head are told 400 only where no head is at their front, not even one past the limits
+-- bytes that are refused as no head are answered 400 only if they don't begin with a head, not even with one beyond the limits
 which_refused : (bytes : List ℕ) (left : Option (List ℕ)) (status : ℕ) → RefusesBytes bytes left (Err status) → ((status ≡ 400) × HasNoRequest (with_left bytes left)) ⊎ (status ≡ 431)
 which_refused bytes left status (inl (bad, inl never)) =
     let (later, same) = with_left-later bytes left in
@@ -68,18 +68,18 @@ which_refused bytes left status (inr (large, why)) = inr large
 
 -- ---- what the bytes ask for
 
--- what a head was judged to be is read so
+-- the bytes after a head ask for this, from the result of judging the head
 abbrev ReadsBy : List ℕ → Requested → Result (Function × ℕ) ℕ → Type 0
 ReadsBy rest asked (Ok (called, count)) = called_for rest called count ≡ Ok asked
 ReadsBy rest asked (Err status) = ⊥
 
--- by the head at the front of the bytes
+-- for the head at the front of the bytes
 asked_by : (bytes rest : List ℕ) (head : RequestHead) (judged : Result (Function × ℕ) ℕ) → HasHead bytes head rest → judged_head head ≡ judged → (asked : Requested) → Asks bytes asked → ReadsBy rest asked judged
 asked_by bytes rest head judged has is asked (other, after, stands, (called, count, call, reads)) =
     let same = heads_are_unique bytes other head after rest stands has in
     subst (ReadsBy rest asked) (sym call ∙ ap judged_head same.0 ∙ is) (subst (λ r. called_for r called count ≡ Ok asked) same.1 reads)
 
--- a request with a head within the limits has one reply
+-- a request with a head within the limits has only one reply
 one_reply : (S : RbacState) (bytes : List ℕ) (head : RequestHead) (rest : List ℕ) → HasHead bytes head rest → (reply : Reply) → Replies S bytes reply → reply ≡ reply_to S head rest
 one_reply S bytes head rest has reply (inl (other, after, stands, is)) =
     let same = heads_are_unique bytes other head after rest stands has in
@@ -90,14 +90,14 @@ pub replies_once : RepliesOnce
 replies_once S bytes head rest has first second one two = one_reply S bytes head rest has first one ∙ sym (one_reply S bytes head rest has second two)
 
 module _ {S : Type 0} (shown : Held S → State) where
-  -- a reply that is in the making, of a request in these bytes
+  -- a reply to a request in these bytes, before it is written
   abbrev Replied : Opened S → Option (List ℕ) → Option (List ℕ) → ℕ → List ℕ → Opened S → Type 0
   Replied old source end status body new = (taken : List ℕ) × Consumes source end taken × TakesNoFurther old.facts (with_left taken end) taken × Tells shown old (with_left taken end) status body new
 
   abbrev Untold : Cause → Opened S → Option (List ℕ) → Option (List ℕ) → Opened S → Type 0
   Untold why old source end new = (taken : List ℕ) × Consumes source end taken × TakesNoFurther old.facts (with_left taken end) taken × LeavesUntold shown why old (Asks (with_left taken end)) new
 
-  -- ---- what is told
+  -- ---- answers
 
   in_place : (old new : Opened S) (status : ℕ) (body : List ℕ) (First Then : Requested → Type 0) → ((asked : Requested) → First asked → Then asked) → IsToldInPlace shown old First status body new
       → IsToldInPlace shown old Then status body new
@@ -236,7 +236,7 @@ module _ {S : Type 0} (shown : Held S → State) where
   stops cause.Store old new bytes written left = absurd left
   stops cause.Closed old new bytes written left = absurd left
 
-  -- no reply was made
+  -- there is no reply
   pub unsent : (why : Cause) (old new : Opened S) (source end written : Option (List ℕ)) → Untold why old source end new
       → (taken : List ℕ) × Consumes source end taken × TakesNoFurther old.facts (with_left taken end) taken × StopsAt shown why old (with_left taken end) new written written
   unsent why old new source end written (taken, first, few, left) = (taken, first, few, stops why old new (with_left taken end) written left)

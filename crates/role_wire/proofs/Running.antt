@@ -1,4 +1,4 @@
--- Lines run the commands for which they ask.
+-- Lines run the commands that they ask for.
 use Rattle.std.proofs.Common.{◌≡◌, ℕ, List, [], ◌∷◌, map, Option, Some, None, Result, Ok, Err, refl, sym, ap, subst, ◌∙◌}
 use Rattle.std.specs.List.{cons_option}
 use Rattle.rbac_sets.specs.Asked.{Asked, asked_of}
@@ -15,7 +15,7 @@ use Rattle.role_json.specs.Requested.{Requested, Change, Ask}
 use Rattle.role_wire.specs.Outcome.{accepted_text, unless, told_as, outcome_of, state_after, after_reading, answer_to, after_line, answers_to, after_lines}
 use Rattle.role_wire.specs.Running.{command_read, commands_in, command_answers, AskFor, TellsVerdict, TellVerdicts, LinesRunCommands, LinesTellVerdicts, LinesRunAsked, CommandsRunAsked, asked_next, asked_run}
 
--- a command that asks for this leads where the request leads
+-- a command that asks for the same as a request leads to the same state
 leads : (S : RbacState) (command : Command) (asked : Asked) → asked_of command ≡ asked → state_after S (Change asked) ≡ next S command
 unfolding state_after next
 leads S command asked same =
@@ -24,7 +24,7 @@ leads S command asked same =
 
 -- ---- the state
 
--- behind what was read of the first line
+-- after the result of reading the first line
 run_read : (S : RbacState) (read : Result Requested Refusal) (lines : List (List ℕ)) → ((T : RbacState) (commands : List Command) → AskFor lines commands → after_lines T lines ≡ run T commands)
     → (commands : List Command) → map asked_of commands ≡ cons_option (command_read read) (commands_in lines) → after_lines (after_reading S read) lines ≡ run S commands
 unfolding state_after run
@@ -48,13 +48,13 @@ tells_unless : (told : Option Refusal) (asked : Asked) (tally : Tally) → Tells
 tells_unless None asked tally = (tally, refl)
 tells_unless (Some refusal) asked tally = refl
 
--- what is answered to a command tells the verdict
+-- the answer to a command reports the verdict
 tells : (S : RbacState) (command : Command) (asked : Asked) → asked_of command ≡ asked → TellsVerdict asked (verdict S command) (told_as (outcome_of S (Change asked)))
 unfolding outcome_of
 tells S command asked same = subst (λ v. TellsVerdict asked v (told_as (outcome_of S (Change asked)))) (sym ((commands_go_by_asked S command).verdict_is ∙ ap (asked_verdict S) same))
     (tells_unless (asked_verdict S asked) asked (asked_tally S asked))
 
--- behind what was read of the first line
+-- after the result of reading the first line
 told_read : (S : RbacState) (line : List ℕ) (read : Result Requested Refusal) (lines : List (List ℕ)) → request line ≡ read
     → ((T : RbacState) (commands : List Command) → AskFor lines commands → TellVerdicts (commands_in lines) (verdicts T commands) (command_answers T lines))
     → (commands : List Command) → map asked_of commands ≡ cons_option (command_read read) (commands_in lines) → TellVerdicts (commands_in (line ∷ lines)) (verdicts S commands) (command_answers S (line ∷ lines))

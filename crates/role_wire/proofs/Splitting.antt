@@ -1,4 +1,4 @@
--- How an input falls into lines.
+-- How an input is split into lines.
 use Rattle.std.proofs.Common.{◌≡◌, ℕ, zero, suc, ◌+◌, ◌≤◌, ◌<◌, Bool, true, false, cond, nat_lt, ◌==◌, List, [], ◌∷◌, ◌++◌, length, take, drop, get_or, drop-cons, add-one, Some, None, refl, sym, ap, subst, ◌∙◌, arith}
 use Rattle.std.proofs.lemmas.List.{take-append-drop}
 use Rattle.std.proofs.lemmas.Bool.{ltb-false}
@@ -31,7 +31,7 @@ pub ended_lines-last : (line : List ℕ) → HasNoLineFeed line → ended_lines 
 ended_lines-last [] plain = refl
 ended_lines-last (x ∷ line) plain = rw (plain.0, ended_lines-last line plain.1) refl
 
--- what begins without LF stands at the front of the first line
+-- bytes without LF at the front of the input are at the front of the first line
 pub split_lines-first : (x : ℕ) (front rest : List ℕ) → HasNoLineFeed (x ∷ front)
     → (end : List ℕ) × ((after : List (List ℕ)) × (split_lines ((x ∷ front) ++ rest) ≡ ((x ∷ front) ++ end) ∷ after))
 split_lines-first x [] rest plain = first (split_lines rest) refl
@@ -56,7 +56,7 @@ plain_below (x ∷ xs) (suc i) within each = (each 0 (omega arith), plain_below 
 front : (xs : List ℕ) (i : ℕ) → i < length xs → drop i xs ≡ get_or xs i 0 ∷ drop (i + 1) xs
 front xs i within = rw (add-one i) (drop-cons xs i 0 within)
 
--- what stands before it, and it
+-- the bytes before it, and it
 pub first_line_feed : (xs : List ℕ) (i : ℕ) → position ends_line xs ≡ Some i → (i < length xs) × HasNoLineFeed (take i xs) × (xs ≡ take i xs ++ line_feed ∷ drop (i + 1) xs)
 first_line_feed xs i found =
     let facts = position-Some ends_line xs i 0 found in
@@ -69,7 +69,7 @@ first_line_feed xs i found =
 none_within : (n m : ℕ) → cond (nat_lt n m) (Some n) None ≡ None → m ≤ n
 none_within n m none = elim (nat_lt n m) as (λ b. nat_lt n m ≡ b → cond b (Some n) None ≡ None → m ≤ n) [ true ↦ λ e h. (cc) | false ↦ λ e h. ltb-false n m e ] refl none
 
--- there is none
+-- if there is none
 pub no_line_feed : (xs : List ℕ) → position ends_line xs ≡ None → HasNoLineFeed xs
 no_line_feed xs none =
     let beyond : length xs ≤ position_or_len ends_line xs = none_within (position_or_len ends_line xs) (length xs) none in
@@ -81,7 +81,7 @@ no_line_feed xs none =
 
 -- ---- pieces
 
--- an input in two pieces is the whole input
+-- an input in two pieces has the lines of the whole input
 pub splits_by_pieces : SplitsByPieces
 splits_by_pieces [] rest = refl
 splits_by_pieces (byte ∷ bytes) rest = step (byte == line_feed) refl (splits_by_pieces bytes rest) (ended_lines bytes) refl

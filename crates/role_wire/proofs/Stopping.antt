@@ -1,4 +1,4 @@
--- Where a replay ends or stops.
+-- How a replay ends or stops.
 use Rattle.std.proofs.Common.{◌≡◌, ◌⊎◌, inl, inr, ℕ, ◌+◌, ◌<◌, ◌≤◌, zero, suc, false, List, [], ◌∷◌, ◌++◌, length, length-append, Option, refl, sym, ap, subst, ◌∙◌, append_assoc, arith}
 use Rattle.std.proofs.lemmas.List.{append-nil}
 use Rattle.std.specs.List.{AllByRecursion, All}
@@ -20,18 +20,18 @@ all_at P [] all k d within = absurd (omega arith)
 all_at P (x ∷ xs) all zero d within = all.0
 all_at P (x ∷ xs) all (suc k) d within = all_at P xs all.1 k d (omega arith)
 
--- what begins without LF stands at the front of the first line, where there is some
+-- bytes without LF at the front of the input are at the front of the first line, if there are any
 split-front : (front rest : List ℕ) → HasNoLineFeed front → 1 ≤ length front → (end : List ℕ) × ((after : List (List ℕ)) × (split_lines (front ++ rest) ≡ (front ++ end) ∷ after))
 split-front [] rest plain some = absurd (omega arith)
 split-front (x ∷ front) rest plain some = split_lines-first x front rest plain
 
--- the last line of an input without LF at its end, and none where it is empty
+-- of an input without LF, the line that asks for an answer is the input itself, if it asks at all
 split-open : (line : List ℕ) → HasNoLineFeed line → asking (split_lines line) ≡ asking (line ∷ [])
 unfolding asking
 split-open [] plain = refl
 split-open (x ∷ line) plain = ap asking (split_lines-last x line plain)
 
--- it is the one line where it asks
+-- if it asks for an answer, it is the only line
 split-one : (line : List ℕ) → HasNoLineFeed line → is_blank line ≡ false → split_lines line ≡ line ∷ []
 split-one [] plain asks = absurd (let no : is_blank [] ≡ false = asks in cc)
 split-one (x ∷ line) plain asks = split_lines-last x line plain
@@ -91,7 +91,7 @@ module _ {S : Type 0} (answers : S → List ℕ → List ℕ → S → Type 0) (
     lines_fit : AllFit lines
     lines_fit = all_at (λ l. length l ≤ longest_line) lines halts.read.lines_fit
 
-    -- where all bytes were read
+    -- if all bytes were read
     splits_here : halts.rest ≡ [] → split_lines taken ≡ lines ++ split_lines line
     splits_here none = splits ∙ ap (λ l. lines ++ split_lines l) (ap (λ l. line ++ l) none ∙ append-nil line)
 
@@ -166,7 +166,7 @@ module _ {S : Type 0} (answers : S → List ℕ → List ℕ → S → Type 0) (
     ]
 
 module _ {S : Type 0} (answers : S → List ℕ → List ℕ → S → Type 0) (fails : S → List ℕ → Unanswered → S → Type 0) where
-  -- bytes without LF did not fit behind the open line
+  -- bytes without LF did not fit into the open line
   pub halts_open : (place : Place S) (bytes after : List ℕ) (at_end : Type 0) (cause : Cause) (answered : ℕ) → IsOpenLine place.line → HasNoLineFeed bytes → answered ≡ place.answered
       → (cause ≡ Memory) ⊎ ((cause ≡ Line (place.number + 1)) × (longest_line < length (place.line ++ bytes)))
       → Halts answers fails place (bytes ++ after) at_end cause place.state place.written answered
@@ -226,7 +226,7 @@ module _ {S : Type 0} (answers : S → List ℕ → List ℕ → S → Type 0) (
     left = inl (inr (end, refl), fails_line);
   }
 
-  -- what stops within the input stops, whatever its end is
+  -- a stop within the input doesn't depend on whether the input is at its end
   pub halts_within : (start : Place S) (taken : List ℕ) (at_end : Type 0) (cause : Cause) (new : S) (written : Option (List ℕ)) (answered : ℕ)
       → Halts answers fails start taken ⊥ cause new written answered → Halts answers fails start taken at_end cause new written answered
   halts_within start taken at_end cause new written answered halts = record {

@@ -1,4 +1,4 @@
--- What comes of requests over HTTP: what is told of them.
+-- How requests over HTTP are answered.
 use Rattle.std.proofs.Common.{◌≡◌, ◌⊎◌, inl, inr, ℕ, List, false, None, Some, Option, Result, Ok, Err, refl, sym, ap, subst, ◌∙◌}
 use Rattle.sqlite.specs.Held.{Held}
 use Rattle.sqlite.specs.State.{State}
@@ -25,7 +25,7 @@ was_accepted (Some refusal) value told is = absurd (cc)
 -- ---- a closed office
 
 module _ {S : Type 0} (old new : Opened S) (AsksFor : Requested → Type 0) (status : ℕ) (body : List ℕ) where
-  -- this one is open
+  -- an open office
   pub works_on : old.is_closed ≡ false → StaysClosed old AsksFor status body new
   works_on works shut = absurd (let no = sym shut ∙ works in cc)
 
@@ -33,11 +33,11 @@ module _ {S : Type 0} (old new : Opened S) (AsksFor : Requested → Type 0) (sta
   pub asks_nothing : new ≡ old → ((asked : Requested) → ¬ (AsksFor asked)) → StaysClosed old AsksFor status body new
   asks_nothing same none shut = (same, λ asked asks. absurd (none asked asks))
 
-  -- memory was refused
+  -- an allocation failed
   pub has_no_memory : new ≡ old → status ≡ 503 → body ≡ refusal_text Memory → StaysClosed old AsksFor status body new
   has_no_memory same is text shut = (same, λ asked asks. inr (is, text))
 
-  -- it says that it is closed
+  -- the answer is 42 Closed
   pub says_closed : new ≡ old → status ≡ 500 → body ≡ refusal_text Closed → StaysClosed old AsksFor status body new
   says_closed same is text shut = (same, λ asked asks. inl (is, text))
 
@@ -47,12 +47,12 @@ module _ {S : Type 0} (shown : Held S → State) where
   same_state : (old new : Opened S) → new ≡ old → Reaches shown old old.facts new
   same_state old new same = subst (Reaches shown old old.facts) (sym same) (stays shown old)
 
-  -- memory was refused before anything was done
+  -- an allocation failed before anything was done
   pub no_memory_told : (old new : Opened S) (AsksFor : Requested → Type 0) (made : Made) → IsRefusal Memory made → Reaches shown old old.facts new
       → IsToldInPlace shown old AsksFor made.status (bytes_in made.body) new
   no_memory_told old new AsksFor made is same = inl (is.0, is.1, same)
 
-  -- what was read of a body is told so
+  -- the same, as an answer to a body
   pub memory_refused : (old new : Opened S) (read : Result Requested Refusal) (made : Made) → new ≡ old → IsRefusal Memory made → ComesOf shown old read made new
   memory_refused old new read made same is = (
     inr (no_memory_told old new (IsRead read) made is (same_state old new same)),
@@ -64,7 +64,7 @@ module _ {S : Type 0} (shown : Held S → State) where
       → IsTold shown old (reply_of old.facts taken (Ok asked)) status body new
   performed_told old new asked text status body taken performs ok is = rw performs.outcome (ok, is, performs.reaches)
 
-  -- a question whose answer found no memory
+  -- a question whose answer text could not be allocated
   pub question_untold : (old new : Opened S) (asked : Requested) (text : List ℕ) (made : Made) → Performs shown old asked text new → IsQuestion asked → IsRefusal Memory made
       → ComesOf shown old (Ok asked) made new
   unfolding state_after
@@ -73,7 +73,7 @@ module _ {S : Type 0} (shown : Held S → State) where
     works_on old new (IsRead (Ok asked)) made.status (bytes_in made.body) performs.is_open,
   )
 
-  -- a command whose text found no memory
+  -- a command whose answer text could not be allocated
   pub command_untold : (old new : Opened S) (asked : Requested) (text : List ℕ) → Performs shown old asked text new → IsCommand asked → IsDone shown old (IsRead (Ok asked)) new
   unfolding outcome_of
   command_untold old new asked text performs (command, is) =
@@ -108,7 +108,7 @@ module _ {S : Type 0} (shown : Held S → State) where
       stays_told old new asked refusal is same = subst (λ T. Reaches shown old T new) (sym (stays_refused old.facts asked refusal is)) (same_state old new same)
   declined_told old new asked refusal made (inr (inr (inr (is, works, same)))) (inr (tells, plain)) = memory_refused old new (Ok asked) made same tells
 
-  -- a body that asks for nothing
+  -- a body that is no request
   pub unread_told : (office : Opened S) (read : Result Requested Refusal) (refusal : Refusal) (made : Made) → (refusal ≡ Memory) ⊎ (read ≡ Err refusal) → TellsRefusal refusal made
       → ComesOf shown office read made office
   unread_told office read refusal made (inl is) (inl tells) = memory_refused office office read made refl (rw is at tells)

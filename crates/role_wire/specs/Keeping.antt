@@ -1,4 +1,4 @@
--- What a call leaves of an office and its tables.
+-- An office and its tables after a call.
 --     shown conn      the state of the store behind a connection
 use Rattle.std.specs.Prelude.{◌≡◌, ◌++◌, true, IsTrue, List}
 use Rattle.sqlite.specs.Held.{Held}
@@ -11,30 +11,30 @@ use Rattle.role_tables.specs.Standing.{ForgetsNoFault, LeavesEither, Stands}
 use Rattle.role_tables.specs.StoredState.{HoldsState}
 
 module _ {S : Type 0} (shown : Held S → State) where
-  -- whatever run the first office was in, the second is in the same run, some events later
+  -- whatever run the office was in before, it is in the same run now, with zero or more events added
   abbrev pub StaysInRun : Opened S → Opened S → Type 0
   StaysInRun old new = (start : RbacState) (events : List Event) → IsInRun shown start events old → (more : List Event) × IsInRun shown start (events ++ more) new
 
-  -- no fault is forgotten, and the run goes on
+  -- no fault of the disk is forgotten, and the run continues
   pub record Continues (old new : Opened S) : Type 0 where
     pub clean : ForgetsNoFault (shown old.conn) (shown new.conn)
     pub runs : StaysInRun old new
 
-  -- if the state of the first office stood in its tables, that of the second stands there now; no fault is forgotten, and the run
-  -- goes on
+  -- if the state before was durable and the disk returns what was written, the state now is durable; no fault of the disk is
+  -- forgotten, and the run continues
   pub record Keeps (old new : Opened S) : Type 0 where
     pub clean : ForgetsNoFault (shown old.conn) (shown new.conn)
     pub runs : StaysInRun old new
     pub stands : HasCleanDisk (shown new.conn) → Stands (shown old.conn) old.facts → Stands (shown new.conn) new.facts
 
-  -- the office has this state now and keeps it in its tables; it is closed where it was closed before
+  -- the office has this state now, kept as `Keeps` says; it is closed exactly if it was closed before
   pub record Reaches (old : Opened S) (T : RbacState) (new : Opened S) : Type 0 where
     pub state : new.facts ≡ T
     pub is_closed : new.is_closed ≡ old.is_closed
     pub keeps : Keeps old new
 
-  -- The store was refused for a command that leads from `from` to `to`: the office is closed. Where its state stood in its
-  -- tables, the open connection holds `from`, and a stop leaves `from` or `to`.
+  -- The store failed in a command that leads from `from` to `to`, and the office is closed. If its state was durable and the disk
+  -- returns what was written, an open connection holds `from`, and a crash leaves `from` or `to`.
   pub record Breaks (old : Opened S) (from to : RbacState) (new : Opened S) : Type 0 where
     pub is_closed : new.is_closed ≡ true
     pub state : new.facts ≡ from

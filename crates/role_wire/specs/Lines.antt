@@ -2,7 +2,7 @@
 use Rattle.std.specs.Prelude.{◌≡◌, ◌≤◌, ℕ, Bool, not, ◌||◌, ◌==◌, nat_lt, List, [], ◌∷◌, ◌++◌, length, All, if◌then◌else◌}
 use Rattle.std.specs.List.{list_all, filter}
 
--- the most bytes of a line, its LF not counted
+-- the maximum length of a line in bytes, without its LF
 abbrev pub longest_line : ℕ
 longest_line = 65536
 
@@ -23,7 +23,7 @@ fitting (line ∷ rest) = if fits line then line ∷ fitting rest else []
 abbrev pub line_feed : ℕ
 line_feed = 10
 
--- the byte before the first line, which it makes where there is none
+-- the byte at the front of the first line, or as a line of its own if there is none
 abbrev before_lines : ℕ → List (List ℕ) → List (List ℕ)
 before_lines byte [] = (byte ∷ []) ∷ []
 before_lines byte (line ∷ lines) = (byte ∷ line) ∷ lines
@@ -33,7 +33,7 @@ abbrev pub split_lines : List ℕ → List (List ℕ)
 split_lines [] = []
 split_lines (byte ∷ bytes) = if byte == line_feed then [] ∷ split_lines bytes else before_lines byte (split_lines bytes)
 
--- the byte before the first line, where there is one
+-- the byte at the front of the first line, if there is one
 abbrev before_ended : ℕ → List (List ℕ) → List (List ℕ)
 before_ended byte [] = []
 before_ended byte (line ∷ lines) = (byte ∷ line) ∷ lines
@@ -43,17 +43,17 @@ abbrev pub ended_lines : List ℕ → List (List ℕ)
 ended_lines [] = []
 ended_lines (byte ∷ bytes) = if byte == line_feed then [] ∷ ended_lines bytes else before_ended byte (ended_lines bytes)
 
--- the byte before the open line, where no line ended before
+-- the byte at the front of the open line, if no line ends after the byte
 abbrev before_open : ℕ → List (List ℕ) → List ℕ → List ℕ
 before_open byte [] open_bytes = byte ∷ open_bytes
 before_open byte (line ∷ lines) open_bytes = open_bytes
 
--- the bytes behind the last LF, of a line that has not ended yet
+-- the bytes after the last LF, of a line that has not ended yet
 abbrev pub open_line : List ℕ → List ℕ
 open_line [] = []
 open_line (byte ∷ bytes) = if byte == line_feed then open_line bytes else before_open byte (ended_lines bytes) (open_line bytes)
 
--- an input in two pieces falls into the lines that the first piece ends, and those of its open line with the second piece
+-- an input in two pieces has the lines that end in the first piece, and then those of its open line followed by the second piece
 abbrev pub SplitsByPieces : Type 0
 SplitsByPieces = (front rest : List ℕ) → split_lines (front ++ rest) ≡ ended_lines front ++ split_lines (open_line front ++ rest)
 
@@ -65,7 +65,7 @@ is_blank line = list_all (λ byte. byte == 32 || (byte == 9 || byte == 13)) line
 unfoldable pub asking : List (List ℕ) → List (List ℕ)
 asking lines = filter (λ line. not (is_blank line)) lines
 
--- the texts, each with LF
+-- the texts, each followed by LF
 unfoldable pub with_line_feeds : List (List ℕ) → List ℕ
 with_line_feeds [] = []
 with_line_feeds (text ∷ texts) = (text ++ line_feed ∷ []) ++ with_line_feeds texts

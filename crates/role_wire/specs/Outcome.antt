@@ -1,4 +1,4 @@
--- What comes of requests: what the office answers to each, and its state after it.
+-- The outcome of requests: what the office answers to each, and its state after it.
 use Rattle.std.specs.Prelude.{ℕ, List, [], ◌∷◌, Option, Some, None, is_none, Result, Ok, Err, if◌then◌else◌}
 use Rattle.rbac_sets.specs.Asked.{Asked, Single, Import}
 use Rattle.rbac_sets.specs.declared.refusal.Refusal.{Refusal}
@@ -14,7 +14,7 @@ use Rattle.role_wire.specs.Lines.{split_lines, fitting, asking, with_line_feeds}
 
 -- ---- one request
 
--- the text for a command that is accepted: an import tells of its records
+-- the text for a command that is accepted: for an import it reports the records
 abbrev pub accepted_text : Asked → Tally → List ℕ
 accepted_text (Single command) tally = done_text
 accepted_text (Import pairs) tally = import_text tally
@@ -24,7 +24,7 @@ abbrev pub unless : {X : Type 0} → Option Refusal → X → Result X Refusal
 unless None value = Ok value
 unless (Some refusal) value = Err refusal
 
--- what comes of a request in this state: the text that accepts the command or answers the question, or a refusal
+-- the outcome of a request in this state: the text that accepts the command or answers the question, or a refusal
 unfoldable pub outcome_of : RbacState → Requested → Result (List ℕ) Refusal
 outcome_of S (Change asked) = unless (asked_verdict S asked) (accepted_text asked (asked_tally S asked))
 outcome_of S (Ask query) = unless (refused S query) (told_text (value S query))
@@ -34,9 +34,9 @@ unfoldable pub state_after : RbacState → Requested → RbacState
 state_after S (Change asked) = if is_none (asked_verdict S asked) then asked_after S asked else S
 state_after S (Ask query) = S
 
--- ---- what was read of a text: a request, or the refusal of a text that is none
+-- ---- the result of reading a text: a request, or the refusal of a text that is no request
 
--- what comes of it
+-- its outcome
 abbrev pub outcome : RbacState → Result Requested Refusal → Result (List ℕ) Refusal
 outcome S (Ok requested) = outcome_of S requested
 outcome S (Err refusal) = Err refusal
@@ -46,21 +46,21 @@ abbrev pub after_reading : RbacState → Result Requested Refusal → RbacState
 after_reading S (Ok requested) = state_after S requested
 after_reading S (Err refusal) = S
 
--- the text that tells an outcome
+-- the text that reports an outcome
 abbrev pub told_as : Result (List ℕ) Refusal → List ℕ
 told_as (Ok text) = text
 told_as (Err refusal) = refusal_text refusal
 
 -- ---- lines
 
--- what a line is answered in this state, and the state after it
+-- the answer to a line in this state, and the state after it
 unfoldable pub answer_to : RbacState → List ℕ → List ℕ
 answer_to S line = told_as (outcome S (request line))
 
 unfoldable pub after_line : RbacState → List ℕ → RbacState
 after_line S line = after_reading S (request line)
 
--- what lines are answered, each in the state after those before it, and the state after them all
+-- the answers to lines, each in the state after the lines before it, and the state after them all
 unfoldable pub answers_to : RbacState → List (List ℕ) → List (List ℕ)
 answers_to S [] = []
 answers_to S (line ∷ lines) = answer_to S line ∷ answers_to (after_line S line) lines
@@ -73,10 +73,10 @@ after_lines S (line ∷ lines) = after_lines (after_line S line) lines
 abbrev pub asking_lines : List ℕ → List (List ℕ)
 asking_lines input = asking (split_lines input)
 
--- what the lines of these bytes are answered: each that asks, in order, up to the first line that is too long
+-- the answers to the lines of these bytes: to each that asks, in order, up to the first line that is too long
 unfoldable pub lines : RbacState → List ℕ → List (List ℕ)
 lines S bytes = answers_to S (asking (fitting (split_lines bytes)))
 
--- and as it is written: each answer with LF
+-- the answers as they are written: each followed by LF
 unfoldable pub answer_lines : RbacState → List ℕ → List ℕ
 answer_lines S bytes = with_line_feeds (lines S bytes)

@@ -30,19 +30,19 @@ abbrev pub AsksAccepted : RbacState → List ℕ → Type 0
 AsksAccepted S line = (asked : Requested) × (request line ≡ Ok asked) × IsAccepted S asked
 
 module _ {S : Type 0} (shown : Held S → State) where
-  -- an open office did or answered it, which this text tells
+  -- an open office did the command or answered the question, and this is the answer text
   pub record Performs (old : Opened S) (requested : Requested) (text : List ℕ) (new : Opened S) : Type 0 where
     pub is_open : old.is_closed ≡ false
     pub outcome : outcome_of old.facts requested ≡ Ok text
     pub reaches : Reaches shown old (state_after old.facts requested) new
 
-  -- the office was open, and the store was refused for it
+  -- the office was open, and the store failed in the command, which is accepted
   pub record BreaksAt (old : Opened S) (requested : Requested) (new : Opened S) : Type 0 where
     pub is_open : old.is_closed ≡ false
     pub accepted : IsAccepted old.facts requested
     pub breaks : Breaks shown old old.facts (state_after old.facts requested) new
 
-  -- it was not done: memory was refused, or the store, or the office is closed, or an open one refuses the request
+  -- the request was declined: an allocation failed, the store failed, the office is closed, or an open office refuses the request
   abbrev pub Declines : Opened S → Requested → Refusal → Opened S → Type 0
   Declines old requested refusal new =
       ((refusal ≡ Memory) × (new ≡ old))

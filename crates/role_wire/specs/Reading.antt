@@ -1,4 +1,4 @@
--- Where the reading of an input stands, between two bytes. The words of this file are those of private contracts.
+-- How far an input was read, between two bytes. The definitions in this file are used only in private contracts.
 use Rattle.std.specs.Prelude.{◌≡◌, ◌⊎◌, ℕ, ◌+◌, ◌<◌, ◌≤◌, ◌==◌, false, List, [], ◌∷◌, ◌++◌, length, Option}
 use Rattle.std.specs.List.{AllByRecursion}
 use Rattle.std.specs.Io.KnownBytes.{Appends}
@@ -9,7 +9,8 @@ use Rattle.role_wire.specs.declared.lines.Unanswered.{Unanswered}
 use Rattle.role_wire.specs.Lines.{longest_line, line_feed, split_lines, ended_lines, is_blank, asking, with_line_feeds}
 use Rattle.role_wire.specs.Replay.{AreAnswered, LeavesLine}
 
--- what answers lines, the line that has not ended yet, how many lines ended, how many were answered, and what was written
+-- the state of what answers lines, the line that has not ended yet, how many lines ended, how many were answered, and what was
+-- written
 pub record Place (S : Type 0) : Type 0 where
   pub state : S
   pub line : List ℕ
@@ -30,7 +31,7 @@ pub record IsOpenLine (line : List ℕ) : Type 0 where
   pub plain : HasNoLineFeed line
 
 module _ {S : Type 0} (answers : S → List ℕ → List ℕ → S → Type 0) where
-  -- these bytes were read, which ended these lines, and those that ask were answered
+  -- these bytes were read, these lines ended in them, and those that ask were answered
   pub record IsRead (start now : Place S) (taken : List ℕ) : Type 0 where
     pub lines : List (List ℕ)
     pub texts : List (List ℕ)
@@ -43,21 +44,21 @@ module _ {S : Type 0} (answers : S → List ℕ → List ℕ → S → Type 0) w
     pub count : now.answered ≡ start.answered + length texts
     pub number : now.number ≡ start.number + length lines
 
-  -- the line that ended was answered, where it asks
+  -- the line that ended was answered, if it asks for an answer
   pub record EndsLine (old : S) (line : List ℕ) (new : S) (written now_written : Option (List ℕ)) (answered now_answered : ℕ) : Type 0 where
     pub texts : List (List ℕ)
     pub are_answered : AreAnswered answers old (asking (line ∷ [])) texts new
     pub text : Appends written now_written (with_line_feeds texts)
     pub count : now_answered ≡ answered + length texts
 
--- why the reading goes on no further behind a line that is open, before these bytes
+-- why reading stopped within an open line, before these bytes
 abbrev pub StopsReading : {S : Type 0} → Cause → Place S → List ℕ → Type 0
 StopsReading Read place rest = rest ≡ []
 StopsReading (Line number) place rest = (more after : List ℕ) × (rest ≡ more ++ after) × HasNoLineFeed more × (longest_line < length (place.line ++ more)) × (number ≡ place.number + 1)
 StopsReading Memory place rest = (rest ≡ rest)
 StopsReading _ place rest = ⊥
 
--- the bytes end the open line: by LF, or by being none at the end of the input
+-- the open line ends before these bytes: they begin with LF, or there are none and the input is at its end
 abbrev pub EndsHere : List ℕ → Type 0 → Type 0
 EndsHere rest at_end = ((after : List ℕ) × (rest ≡ line_feed ∷ after)) ⊎ (at_end × (rest ≡ []))
 
@@ -69,7 +70,7 @@ module _ {S : Type 0} (answers : S → List ℕ → List ℕ → S → Type 0) (
     pub text : Appends written now_written part
     pub leaves : LeavesLine answers fails cause old line new part
 
-  -- of these bytes the first were read, and then this stopped the reading
+  -- these bytes were read up to some place, and then this cause stopped the reading
   pub record Halts (start : Place S) (taken : List ℕ) (at_end : Type 0) (cause : Cause) (new : S) (now_written : Option (List ℕ)) (answered : ℕ) : Type 0 where
     pub front : List ℕ
     pub rest : List ℕ

@@ -19,7 +19,7 @@ pub record IsAnswered (S : RbacState) (input : List ℕ) (written now_written : 
   pub text : Appends written now_written (answer_lines S input)
   pub count : answered ≡ length (lines S input)
 
--- Of the answers to the lines of these bytes so many were written, the first, and then at most a part of the next.
+-- The first `answered` answers to the lines of these bytes were written, and then at most a part of the next.
 pub record WritesFirst (S : RbacState) (bytes : List ℕ) (answered : ℕ) (written now_written : Option (List ℕ)) : Type 0 where
   pub within : answered ≤ length (lines S bytes)
   pub part : List ℕ
@@ -27,8 +27,8 @@ pub record WritesFirst (S : RbacState) (bytes : List ℕ) (answered : ℕ) (writ
   pub next : (part ≡ []) ⊎ ((answer rest : List ℕ) × (slice_get (lines S bytes) answered ≡ Some answer) × (answer ++ line_feed ∷ [] ≡ part ++ rest) × (1 ≤ length rest))
 
 module _ {S : Type 0} (shown : Held S → State) where
-  -- What a stop leaves of the line at which it came, behind those that are done: this part of its answer was written. The store
-  -- is refused for a command alone that is accepted in the state after those lines.
+  -- A stop at the line after those that are done: this part of its answer was written. The store fails only for a command that
+  -- is accepted in the state after those lines.
   abbrev pub LeavesNext : Cause → Opened S → List (List ℕ) → List ℕ → List ℕ → Opened S → Type 0
   LeavesNext Write old done line part new = Reaches shown old (after_lines old.facts (done ++ line ∷ [])) new
       × ((rest : List ℕ) × (answer_to (after_lines old.facts done) line ++ line_feed ∷ [] ≡ part ++ rest) × (1 ≤ length rest))
@@ -38,8 +38,8 @@ module _ {S : Type 0} (shown : Held S → State) where
       (Reaches shown old (after_lines old.facts done) new ⊎ Reaches shown old (after_lines old.facts (done ++ line ∷ [])) new) × (part ≡ [])
   LeavesNext _ old done line part new = ⊥
 
-  -- Of the bytes that were read, the first lines that ask were done and their answers written. Then the next line stopped the replay,
-  -- or it came to no further line.
+  -- Of the bytes that were read, the first lines that ask were done and their answers written. Then the replay stopped at the
+  -- next line, or before it had another line to answer.
   pub record IsHalted (old new : Opened S) (taken : List ℕ) (at_end : Type 0) (written now_written : Option (List ℕ)) (cause : Cause) (answered : ℕ) : Type 0 where
     pub done : List (List ℕ)
     pub part : List ℕ

@@ -1,4 +1,4 @@
--- What a request over HTTP is replied, over its head and the bytes behind it.
+-- The reply to a request over HTTP, from its head and the bytes after it.
 use Rattle.std.specs.Prelude.{◌≡◌, ◌⊎◌, ℕ, ◌+◌, ◌≤◌, List, length, nat_lt, take, Result, Ok, Err, if◌then◌else◌}
 use Rattle.httparse.specs.Grammar.{RequestHead, HasNoRequest, print_request}
 use Rattle.rbac_sets.specs.declared.refusal.Refusal.{Refusal}
@@ -12,41 +12,41 @@ use Rattle.role_http.specs.Judging.{judged_head}
 use Rattle.role_http.specs.Status.{status_of, head_body}
 use Rattle.role_wire.specs.Outcome.{outcome, after_reading, told_as}
 
--- a reply: its status and its body, the state after it, and how many bytes behind its head the request has
+-- a reply: its status and its body, the state after it, and how many bytes after its head the request has
 pub record Reply : Type 0 where
   pub status : ℕ
   pub body : List ℕ
   pub after : RbacState
   pub taken : ℕ
 
--- the status that tells an outcome
+-- the status of an outcome
 abbrev pub status_in : Result (List ℕ) Refusal → ℕ
 status_in (Ok text) = 200
 status_in (Err refusal) = status_of refusal
 
--- the reply to what was read of a body of so many bytes
+-- the reply to a body of `taken` bytes, from the result of reading it
 abbrev pub reply_of : RbacState → ℕ → Result Requested Refusal → Reply
 reply_of S taken read = record { status = status_in (outcome S read); body = told_as (outcome S read); after = after_reading S read; taken = taken }
 
--- what a call asks for by the bytes behind its head: fewer than it tells are no request
+-- what a call asks for, by the bytes after its head: fewer than it announces are no request
 abbrev pub called_for : List ℕ → Function → ℕ → Result Requested Refusal
 called_for rest called count = if nat_lt (length rest) count then Err BadRequest else body_to called (take count rest)
 
--- the reply to a head that was judged so, and to the bytes behind it
+-- the reply to a head, from the result of judging it, and to the bytes after it
 abbrev pub behind_head : RbacState → List ℕ → Result (Function × ℕ) ℕ → Reply
 behind_head S rest (Err status) = record { status = status; body = head_body status; after = S; taken = 0 }
 behind_head S rest (Ok (called, count)) = reply_of S (length (take count rest)) (called_for rest called count)
 
--- the reply to a head and the bytes behind it
+-- the reply to a head and the bytes after it
 unfoldable pub reply_to : RbacState → RequestHead → List ℕ → Reply
 reply_to S head rest = behind_head S rest (judged_head head)
 
--- the bytes begin with no head within the limits
+-- the bytes don't begin with a head within the limits
 abbrev pub HasNoHead : List ℕ → Type 0
 HasNoHead bytes = (head : RequestHead) (rest : List ℕ) → ¬ (HasHead bytes head rest)
 
--- The reply to a request in these bytes. Where they begin with a head past the limits, the status is 431; where they begin with
--- no head, it is 400 or 431.
+-- The reply to a request in these bytes. If they begin with a head beyond the limits, the status is 431. If they begin with no
+-- head, it is 400 or 431.
 abbrev pub Replies : RbacState → List ℕ → Reply → Type 0
 Replies S bytes reply =
     ((head : RequestHead) × (rest : List ℕ) × HasHead bytes head rest × (reply ≡ reply_to S head rest))
@@ -57,13 +57,13 @@ abbrev pub Asks : List ℕ → Requested → Type 0
 Asks bytes asked = (head : RequestHead) × (rest : List ℕ) × HasHead bytes head rest
     × ((called : Function) × (count : ℕ) × (judged_head head ≡ Ok (called, count)) × (called_for rest called count ≡ Ok asked))
 
--- of a request in these bytes no byte was taken past its end and, where they begin with no head within the limits, no more
--- than a head may have
+-- no byte after the request in these bytes was read and, if they don't begin with a head within the limits, no more bytes than a
+-- head may have
 abbrev pub TakesNoFurther : RbacState → List ℕ → List ℕ → Type 0
 TakesNoFurther S bytes taken =
     ((head : RequestHead) (rest : List ℕ) → HasHead bytes head rest → length taken ≤ length (print_request head) + (reply_to S head rest).taken)
     × (HasNoHead bytes → length taken ≤ longest_head)
 
--- a request with a head within the limits has one reply
+-- a request with a head within the limits has only one reply
 abbrev pub RepliesOnce : Type 0
 RepliesOnce = (S : RbacState) (bytes : List ℕ) (head : RequestHead) (rest : List ℕ) → HasHead bytes head rest → (first second : Reply) → Replies S bytes first → Replies S bytes second → first ≡ second

@@ -1,4 +1,4 @@
--- The commands that lines ask for, one after the other.
+-- The commands that lines ask for, in order.
 use Rattle.std.specs.Prelude.{◌≡◌, ℕ, Bool, true, false, List, [], ◌∷◌, map, filter, filter_map, zip, Option, Some, None, is_some, is_none, if◌then◌else◌, Result, Ok, Err}
 use Rattle.std.specs.List.{list_any}
 use Rattle.rbac_sets.specs.Asked.{Asked, Single, Import, asked_of}
@@ -13,70 +13,69 @@ use Rattle.role_json.specs.Request.{request}
 use Rattle.role_json.specs.Requested.{Requested, Change, Ask}
 use Rattle.role_wire.specs.Outcome.{accepted_text, answers_to, after_lines}
 
--- the command that was read, where one was
+-- the command that was read, if one was
 abbrev pub command_read : Result Requested Refusal → Option Asked
 command_read (Ok (Change asked)) = Some asked
 command_read (Ok (Ask query)) = None
 command_read (Err refusal) = None
 
--- the command that the line asks for, where it asks for one
+-- the command that the line asks for, if it asks for one
 abbrev pub line_command : List ℕ → Option Asked
 line_command line = command_read (request line)
 
--- what those of the lines ask for that ask for a command, in their order
+-- the commands that the lines ask for, in the order of the lines
 abbrev pub commands_in : List (List ℕ) → List Asked
 commands_in lines = filter_map line_command lines
 
--- what those lines are answered
+-- the answers to the lines that ask for a command
 abbrev pub command_answers : RbacState → List (List ℕ) → List (List ℕ)
 command_answers S lines = map (λ (answer : List ℕ × List ℕ). answer.1) (filter (λ answer. is_some (line_command answer.0)) (zip lines (answers_to S lines)))
 
--- these are commands that ask for the same
+-- these commands are those that the lines ask for
 abbrev pub AskFor : List (List ℕ) → List Command → Type 0
 AskFor lines commands = map asked_of commands ≡ commands_in lines
 
--- the text tells the verdict on what was asked for: its refusal, or that it was accepted, with what became of the records of an
--- import
+-- the text reports the verdict on the command: its refusal, or that it was accepted, for an import with a tally of its records
 abbrev pub TellsVerdict : Asked → Option Refusal → List ℕ → Type 0
 TellsVerdict asked (Some refusal) text = text ≡ refusal_text refusal
 TellsVerdict asked None text = (tally : Tally) × (text ≡ accepted_text asked tally)
 
--- each text tells the verdict at its place, and there are as many
+-- each text reports the verdict at the same place, and there are as many texts as verdicts
 abbrev pub TellVerdicts : List Asked → List (Option Refusal) → List (List ℕ) → Type 0
 TellVerdicts [] [] [] = Unit {0}
 TellVerdicts (asked ∷ more) (told ∷ verdicts) (text ∷ texts) = TellsVerdict asked told text × TellVerdicts more verdicts texts
 TellVerdicts _ _ _ = ⊥
 
--- the state once what is asked for was judged: a refused command leaves it
+-- the state after a command was judged: a refused command doesn't change it
 unfoldable pub asked_next : RbacState → Asked → RbacState
 asked_next S asked = if is_none (asked_verdict S asked) then asked_after S asked else S
 
--- the state once each was judged, in this order
+-- the state after each was judged, in this order
 unfoldable pub asked_run : RbacState → List Asked → RbacState
 asked_run S [] = S
 asked_run S (asked ∷ more) = asked_run (asked_next S asked) more
 
--- the state after lines is that after what they ask for, imports among it
+-- the state after lines is the state after the commands that they ask for, imports included
 abbrev pub LinesRunAsked : Type 0
 LinesRunAsked = (S : RbacState) (lines : List (List ℕ)) → after_lines S lines ≡ asked_run S (commands_in lines)
 
--- and the state after commands is that after what these ask for
+-- and the state after commands is the state after what these ask for
 abbrev pub CommandsRunAsked : Type 0
 CommandsRunAsked = (S : RbacState) (commands : List Command) → run S commands ≡ asked_run S (map asked_of commands)
 
--- the state after lines is that after the commands for which they ask
+-- the state after lines is the state after the commands that they ask for
 abbrev pub LinesRunCommands : Type 0
 LinesRunCommands = (S : RbacState) (lines : List (List ℕ)) (commands : List Command) → AskFor lines commands → after_lines S lines ≡ run S commands
 
--- and those lines are answered by the verdicts on these commands
+-- and the lines that ask for a command are answered with the verdicts on these commands
 abbrev pub LinesTellVerdicts : Type 0
 LinesTellVerdicts = (S : RbacState) (lines : List (List ℕ)) (commands : List Command) → AskFor lines commands → TellVerdicts (commands_in lines) (verdicts S commands) (command_answers S lines)
 
--- it is asked for an import
+-- the command is an import
 abbrev pub is_import : Asked → Bool
 is_import (Single command) = false
 is_import (Import pairs) = true
 
--- there are such commands wherever the lines ask for no import
+-- such commands exist if the lines ask for no import
 abbrev pub LinesHaveCommands : Type 0
 LinesHaveCommands = (lines : List (List ℕ)) → list_any is_import (commands_in lines) ≡ false → (commands : List Command) × AskFor lines commands

@@ -1,4 +1,4 @@
--- What a request over HTTP is told, and what that leaves of the office.
+-- The answer to a request over HTTP, and the office after it.
 use Rattle.std.specs.Prelude.{◌≡◌, ◌⊎◌, ◌++◌, ℕ, ◌≤◌, true, false, List, [], length, Option, Result, Ok}
 use Rattle.std.specs.Io.KnownBytes.{Appends, Consumes}
 use Rattle.sqlite.specs.Held.{Held}
@@ -19,22 +19,22 @@ use Rattle.role_wire.specs.declared.lines.Cause.{Cause}
 use Rattle.role_wire.specs.declared.lines.Cause.TheVariants as cause
 use Rattle.role_wire.specs.declared.made.Made.{Made}
 
--- this was read
+-- this request was read
 abbrev pub IsRead : Result Requested Refusal → Requested → Type 0
 IsRead read asked = read ≡ Ok asked
 
--- an office that is closed stays as it is, and a request that asks for this is told that it is closed, or that memory was refused
+-- a closed office stays as it is, and a request that asks for this is answered by 500 with 42 Closed, or by 503 with 40 Memory
 abbrev pub StaysClosed : {S : Type 0} → Opened S → (Requested → Type 0) → ℕ → List ℕ → Opened S → Type 0
 StaysClosed old AsksFor status body new = old.is_closed ≡ true → (new ≡ old)
     × ((asked : Requested) → AsksFor asked → ((status ≡ 500) × (body ≡ refusal_text Closed)) ⊎ ((status ≡ 503) × (body ≡ refusal_text Memory)))
 
 module _ {S : Type 0} (shown : Held S → State) where
-  -- the reply is told
+  -- the answer is this reply
   abbrev pub IsTold : Opened S → Reply → ℕ → List ℕ → Opened S → Type 0
   IsTold old reply status body new = (status ≡ reply.status) × (body ≡ reply.body) × Reaches shown old reply.after new
 
-  -- told in place of the reply to a request that asks for this: that memory was refused before anything was done, that the store was
-  -- refused for its command, or that the office was closed
+  -- The answer instead of the reply to a request that asks for this: an allocation failed before anything was done, the store
+  -- failed in its command, or the office was closed.
   abbrev pub IsToldInPlace : Opened S → (Requested → Type 0) → ℕ → List ℕ → Opened S → Type 0
   IsToldInPlace old AsksFor status body new =
       ((status ≡ 503) × (body ≡ refusal_text Memory) × Reaches shown old old.facts new)
@@ -45,15 +45,15 @@ module _ {S : Type 0} (shown : Held S → State) where
   abbrev pub IsDone : Opened S → (Requested → Type 0) → Opened S → Type 0
   IsDone old AsksFor new = (asked : Requested) × AsksFor asked × (old.is_closed ≡ false) × IsAccepted old.facts asked × Reaches shown old (state_after old.facts asked) new
 
-  -- why no reply was made: nothing was done, or an accepted command whose text found no memory
+  -- There is no reply: a read failed and nothing was done, or an accepted command was done and its text could not be allocated.
   abbrev pub LeavesUntold : Cause → Opened S → (Requested → Type 0) → Opened S → Type 0
   LeavesUntold cause.Read old AsksFor new = new ≡ old
   LeavesUntold cause.Memory old AsksFor new = IsDone old AsksFor new
   LeavesUntold _ old AsksFor new = ⊥
 
-  -- ---- what was read of a body
+  -- ---- the result of reading a body
 
-  -- the reply to it is in the making, or what is told in its place. The reply tells nothing of how long the body is
+  -- This is the reply to it, or the answer instead of the reply. The reply doesn't depend on the length of the body.
   abbrev pub ComesOf : Opened S → Result Requested Refusal → Made → Opened S → Type 0
   ComesOf old read made new =
       (((taken : ℕ) → IsTold old (reply_of old.facts taken read) made.status (bytes_in made.body) new)
@@ -62,25 +62,25 @@ module _ {S : Type 0} (shown : Held S → State) where
 
   -- ---- whole requests
 
-  -- what a request in these bytes is told
+  -- the answer to a request in these bytes
   abbrev pub Tells : Opened S → List ℕ → ℕ → List ℕ → Opened S → Type 0
   Tells old bytes status body new =
       (((reply : Reply) × Replies old.facts bytes reply × IsTold old reply status body new)
       ⊎ IsToldInPlace old (Asks bytes) status body new)
       × StaysClosed old (Asks bytes) status body new
 
-  -- what a stop leaves of the office, and of what was written: nothing, or a part of the reply
+  -- the office after a stop, and what was written: nothing, or a part of the reply
   abbrev pub StopsAt : Cause → Opened S → List ℕ → Opened S → Option (List ℕ) → Option (List ℕ) → Type 0
   StopsAt cause.Write old bytes new written now_written = (status : ℕ) × (body : List ℕ) × Tells old bytes status body new
       × ((part rest : List ℕ) × (reply_bytes status body ≡ part ++ rest) × (1 ≤ length rest) × Appends written now_written part)
   StopsAt why old bytes new written now_written = LeavesUntold why old (Asks bytes) new × Appends written now_written []
 
-  -- a request was taken from what a source had left, no byte past it, and what it is told was written
+  -- a request was read from what a source had left, no byte after it, and the answer was written
   abbrev pub ServesRequest : Opened S → Opened S → (left now_left written now_written : Option (List ℕ)) → ℕ → Type 0
   ServesRequest old new left now_left written now_written status = (taken : List ℕ) × Consumes left now_left taken × TakesNoFurther old.facts (with_left taken now_left) taken
       × ((body : List ℕ) × Tells old (with_left taken now_left) status body new × Appends written now_written (reply_bytes status body))
 
-  -- bytes of a request were taken, none past it, and then this stopped it
+  -- bytes of a request were read, none after it, and then this cause stopped it
   abbrev pub StopsRequest : Cause → Opened S → Opened S → (left now_left written now_written : Option (List ℕ)) → Type 0
   StopsRequest why old new left now_left written now_written = (taken : List ℕ) × Consumes left now_left taken × TakesNoFurther old.facts (with_left taken now_left) taken
       × StopsAt why old (with_left taken now_left) new written now_written

@@ -1,4 +1,4 @@
--- The text that names a stop.
+-- The text of a stop.
 use Rattle.std.specs.Prelude.{ℕ, List, ◌++◌, codes}
 use Rattle.std.specs.Fmt.{decimal}
 use Rattle.role_wire.specs.declared.lines.Cause.{Cause}

@@ -8,23 +8,23 @@ ghost use Rattle.role_wire.specs.Running.{CommandsRunAsked, LinesHaveCommands, L
 
 use rbac_sets::Refusal;
 
-/// An input may come in pieces of any size: its lines are those that the first piece ends, and then
-/// the lines of what that piece leaves open with the rest.
+/// An input may arrive in pieces of any size. Its lines are those that end in the first piece, and then the
+/// lines of what follows: the bytes of the first piece after its last LF, and the rest of the input.
 pub fn splits_by_pieces()
     ensures { SplitsByPieces }
 {}
 
-/// A request whose head is within its limits has one reply in each state: its status, its body, the
-/// state after it, and how many bytes it has.
+/// In each state, a request whose head is within the limits has only one reply: the status, the body, the
+/// state after it, and how many bytes after the head belong to the request.
 pub fn replies_once()
     ensures { RepliesOnce }
 {}
 
-/// Lines do what the commands do for which they ask, one after the other: the state after the lines
-/// is that after the commands, and the lines that ask for one are answered by the verdicts on them.
-/// This holds of any commands that ask for the same, whatever memory their sets and lists have. There
-/// are some wherever the lines ask for no import. Imports included, the state after lines is that after what
-/// they ask for, one after the other, and so is the state after commands.
+/// Lines do what the commands do that they ask for, in order: the state after the lines is the state after
+/// the commands, and the lines that ask for a command are answered with the verdicts on these commands. This
+/// holds for any commands that ask for the same, whatever the capacity of their sets and lists. Such commands
+/// exist if the lines ask for no import. Imports included, the state after lines is the state after all that
+/// they ask for, in order, and the same holds for commands.
 pub fn lines_run_commands()
     ensures commands { LinesHaveCommands }
     ensures state { LinesRunCommands }
@@ -33,13 +33,13 @@ pub fn lines_run_commands()
     ensures same { CommandsRunAsked }
 {}
 
-/// Each answer is one line: what an input is answered falls into its answers again, at each line feed. So
-/// a client may read an answer up to the next line feed.
+/// Each answer is one line: the output for an input, split at each LF, gives the answers again. So a client
+/// may read an answer up to the next LF.
 pub fn answers_are_lines()
     ensures { AnswersAreLines }
 {}
 
-/// The texts of answers, in full: of a command that was done, of an import, of a refusal. In the text of a
+/// Answer texts in full, one each: of a command that was done, of an import, of a refusal. In the text of a
 /// name only `"` and `\` are escaped, each by one `\` before it.
 pub fn answer_texts()
     ensures done { done_text ≡ codes "{\"ok\":true}" }

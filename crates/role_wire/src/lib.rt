@@ -1,4 +1,4 @@
-//! What clients see: requests as lines and over HTTP, and assignments as CSV, over an office in its file.
+//! What clients of an office use: requests as lines of JSON and over HTTP, and assignments as CSV.
 //!
 //! # Example
 //!

@@ -1,4 +1,4 @@
-//! Reads an input line by line, and writes an answer line for each line that asks.
+//! Reads an input line by line, and writes an answer line for each line that isn't blank.
 ghost use Rattle.std.specs.Prelude.{◌≡◌, ◌≢◌, ◌⊎◌, ◌≤◌, ◌<◌, ◌+◌, ◌^◌, ◌==◌, ℕ, Bool, true, false, List, [], ◌∷◌, ◌++◌, length, IfOk, OnOk, OnErr, IfSome, IfErr, string_bytes};
 ghost use Rattle.std.specs.List.{position};
 ghost use Rattle.std.specs.Io.KnownBytes.{Appends, Consumes, IsAtEnd};
@@ -12,21 +12,21 @@ use std::alloc::Global;
 use std::fmt;
 use std::fmt::{Display, Formatter, Write};
 
-/// The most bytes of a line, its LF not counted.
+/// The maximum length of a line in bytes, without its LF.
 pub const LONGEST_LINE: usize = 65_536;
 
-/// The most bytes of one read.
+/// The maximum number of bytes of one read.
 const PIECE: usize = 8_192;
 
-/// The most reads of one replay.
+/// The maximum number of reads of one replay.
 const MOST_READS: u64 = 1_000_000_000;
 
 /// Why a line got no answer.
 #[derive(Clone, Copy, Debug, PartialEq, Eq)]
 pub enum Unanswered {
-    /// Memory was refused. What the line asks for may have been done.
+    /// An allocation failed. What the line asks for may have been done.
     Memory,
-    /// The store refused a call. What answers lines is closed from then on.
+    /// The store failed. What answers lines is closed from then on.
     Store,
 }
 
@@ -35,47 +35,48 @@ pub trait AnswerLines {
     ghost use Rattle.role_wire.specs.declared.lines.Unanswered.{Unanswered};
     ghost use Rattle.role_wire.specs.declared.lines.Unanswered.TheVariants.{Store};
 
-    // Whether it is closed, and answers no line any more.
+    // Whether it is closed, and answers no more lines.
     ghost closed: { Self → Bool };
 
-    // It answers the line by the text, and is the second value then.
+    // `answers old line text new`: `old` answers the line with the text, and is `new` afterwards.
     ghost answers: { Self → List ℕ → List ℕ → Self → Type 0 };
 
-    // It gives no answer to the line for this reason, and is the second value then.
+    // `fails old line unanswered new`: `old` doesn't answer the line, for this reason, and is `new` afterwards.
     ghost fails: { Self → List ℕ → Unanswered → Self → Type 0 };
 
-    /// Whether it is closed, and answers no line any more.
+    /// Whether it is closed, and answers no more lines.
     fn is_closed(&self) -> bool
         ensures { result ≡ closed self.now };
 
-    /// Answers `line`, which has no LF, at most 65,536 bytes and one at least that is no space, tab
-    /// or CR. The answer is one line of text without its LF.
+    /// Answers `line`, which has at most 65,536 bytes, no LF, and at least one byte that is not a space,
+    /// tab or CR. The answer is one line of text without its LF.
     ///
     /// # Errors
     ///
-    /// `Memory` where memory was refused, and `Store` where the store refused a call.
+    /// `Memory` if an allocation failed, and `Store` if the store failed.
     fn answer_line(&mut self, alloc: Global, line: &[u8]) -> Result<String, Unanswered>
         ensures ok { IfOk result (λ text. answers self.old line.now (string_bytes text) self.new) }
         ensures err { IfErr result (λ unanswered. fails self.old line.now unanswered self.new) };
 
-    // Where the store refused a call, it is closed.
+    // After a failure of the store it is closed.
     ghost store_closes: { (old new : Self) (line : List ℕ) → fails old line Store new → closed new ≡ true };
 }
 
-/// Why a replay stopped.
+/// Why a replay, or one request over HTTP, stopped.
 #[derive(Clone, Copy, Debug, PartialEq, Eq)]
 pub enum Cause {
-    /// The source failed, or 1,000,000,000 reads were made.
+    /// A read failed, or 1,000,000,000 reads were made.
     Read,
-    /// The sink failed, or took no byte of a piece that has some.
+    /// A write failed, or accepted no byte of a piece that has some.
     Write,
-    /// The line of this number is the first that is longer than 65,536 bytes. Lines count from 1.
+    /// The line of this number is the first that is longer than 65,536 bytes. Lines are counted from 1,
+    /// with those that are skipped.
     Line(u64),
-    /// The store refused a call.
+    /// The store failed.
     Store,
-    /// What answers lines was closed before anything was read.
+    /// What answers lines was already closed. Nothing was read.
     Closed,
-    /// Memory was refused.
+    /// An allocation failed.
     Memory,
 }
 
@@ -97,7 +98,7 @@ impl Display for Cause {
     }
 }
 
-/// A replay that stopped before the end of its input.
+/// A replay that stopped before the end of its input, or a request over HTTP without a whole reply.
 #[derive(Clone, Copy, Debug, PartialEq, Eq)]
 pub struct Stop {
     /// Why it stopped.
@@ -117,25 +118,26 @@ impl Display for Stop {
     }
 }
 
-/// A replay that came to the end of its input.
+/// A replay that reached the end of its input.
 #[derive(Clone, Copy, Debug, PartialEq, Eq)]
 pub struct Count {
     /// How many answer lines were written.
     pub answered: u64,
 }
 
-/// Answers the lines of `source` in `sink`, one after the other, until the source ends.
+/// Reads the lines of `source` until it ends, and writes the answer of `office` to each of them to `sink`, in
+/// order.
 ///
-/// A line ends before LF or at the end of the input. A line of spaces, tabs and CR alone is passed
-/// over; each other line gets one answer line with LF, which is written, in one write where the
-/// sink takes it whole, before the next line is judged. Reads take at most 8,192 bytes each.
+/// A line ends before LF or at the end of the input. A line of spaces, tabs and CR alone is skipped. Each
+/// other line gets one answer line with LF, which is written before the next line is judged, in a single
+/// write if the sink accepts it whole. Each read is of at most 8,192 bytes.
 ///
 /// # Errors
 ///
-/// A stop names its cause and how many answer lines were written. These are the answers to the
-/// first lines that ask; for `Write` a part of the next answer may follow them, and what the next
-/// line asks for is done. For `Memory` and `Store` it may be done. For `Read`, `Line` and `Closed`
-/// nothing more was done, and before `Closed` nothing was read.
+/// A stop has its cause and the number of answer lines that were written whole. These are the answers to
+/// the first lines that aren't skipped. For `Write` a part of the next answer may follow them, and what the
+/// next line asks for is done. For `Memory` and `Store` it may have been done. For `Read`, `Line` and `Closed`
+/// nothing more was done, and for `Closed` nothing was read.
 pub fn answer_lines<A: AnswerLines, R: Source, W: Sink>(
     alloc: Global,
     office: &mut A,
@@ -151,7 +153,8 @@ pub fn answer_lines<A: AnswerLines, R: Source, W: Sink>(
     ensures closed { A.closed office.old ≡ true → (result ≡ Err (record { cause = Cause.Closed; answered = 0 }))
         × (office.new ≡ office.old) × (source.new ≡ source.old) × (sink.new ≡ sink.old) }
 
-    // A fault is told only where a call failed, where a write took no byte of a piece that has some, or at the bound on reads.
+    // The cause is `Write` only if a write failed, or accepted no byte of a piece that has some; and `Read` only if a read
+    // failed, or at the maximum number of reads.
     ensures write_cause { IfErr result (λ stop. stop.cause ≡ Cause.Write → HasRisen (W.failed sink.old) (W.failed sink.new) ⊎ HasRisen (W.idle sink.old) (W.idle sink.new)) }
     ensures read_cause { IfErr result (λ stop. stop.cause ≡ Cause.Read → HasRisen (R.failed source.old) (R.failed source.new) ⊎ IsAtBound (R.reads source.old) (R.reads source.new)) }
     ensures reads { R.reads source.new ≤ R.reads source.old + most_reads }
@@ -187,7 +190,7 @@ struct Progress {
 }
 
 impl Progress {
-    // Puts bytes without LF behind the line.
+    // Appends bytes without LF to the line.
     fn extend_line(&mut self, bytes: &[u8]) -> Result<(), Cause>
         requires fits { length self.old.line.items ≤ longest_line }
         requires number { self.old.number + 1 < 2 ^ 64 }
@@ -214,7 +217,7 @@ fn is_blank(line: &[u8]) -> bool
         .all(|byte| matches!(*byte, b' ' | b'\t' | b'\r'))
 }
 
-// Where the first line of the bytes ends, if it does.
+// The position of the first LF, if there is one.
 fn line_end(bytes: &[u8]) -> Option<usize>
     ensures { result ≡ position (λ byte. byte == line_feed) bytes.now }
 {
@@ -238,7 +241,7 @@ fn answer_with_line_feed<A: AnswerLines>(
     }
 }
 
-// Answers the line that ended, where it asks, and begins the next.
+// Answers the line that ended, unless it is blank, and begins the next.
 fn end_line<A: AnswerLines, W: Sink>(
     alloc: Global,
     office: &mut A,
@@ -272,7 +275,7 @@ fn end_line<A: AnswerLines, W: Sink>(
     Ok(())
 }
 
-// Ends the open line behind these bytes, as LF does.
+// Appends these bytes to the open line, and ends it as LF does.
 fn read_line<A: AnswerLines, W: Sink>(
     alloc: Global,
     office: &mut A,
@@ -300,7 +303,7 @@ fn read_line<A: AnswerLines, W: Sink>(
     Ok(())
 }
 
-// Goes on with a piece of the input.
+// Reads a piece of the input: answers the lines that end in it, and keeps what follows as the open line.
 fn read_piece<A: AnswerLines, W: Sink>(
     alloc: Global,
     office: &mut A,

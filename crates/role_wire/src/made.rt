@@ -1,4 +1,4 @@
-//! Replies in the making: a status and a body.
+//! Replies before they are written: a status and a body.
 ghost use Rattle.std.specs.Prelude.{◌≡◌, None, false, IfSome};
 ghost use Rattle.role_json.specs.Answer.{refusal_text};
 ghost use Rattle.role_http.specs.Status.{head_body};
@@ -13,14 +13,13 @@ use std::alloc::Global;
 // The body of a reply.
 #[derive(Drop)]
 pub(crate) enum Body {
-    // A constant text, which takes no memory.
+    // A constant text, which isn't allocated.
     Fixed(&'static str),
-    // A text that was made.
+    // An allocated text.
     Text(String),
 }
 
 impl Body {
-    // Its bytes.
     pub(crate) fn as_bytes(&self) -> &[u8]
         ensures { result.now ≡ bytes_in self.now }
     {
@@ -31,14 +30,14 @@ impl Body {
     }
 }
 
-// A reply.
+// A reply that is to be written.
 #[derive(Drop)]
 pub(crate) struct Made {
     pub(crate) status: StatusCode,
     pub(crate) body: Body,
 }
 
-// The reply where memory was refused. It takes none.
+// The reply after a failed allocation. It doesn't allocate.
 pub(crate) fn no_memory() -> Made
     ensures status { result.status ≡ 503 }
     ensures body { bytes_in result.body ≡ refusal_text Refusal.Memory }
@@ -49,7 +48,7 @@ pub(crate) fn no_memory() -> Made
     }
 }
 
-// The reply that refuses a head by this status. It takes no memory.
+// The reply that refuses a head with this status. It doesn't allocate.
 pub(crate) fn refused_head(status: StatusCode) -> Made
     ensures status { result.status ≡ status }
     ensures body { bytes_in result.body ≡ head_body status }
@@ -60,7 +59,7 @@ pub(crate) fn refused_head(status: StatusCode) -> Made
     }
 }
 
-// The reply that tells a refusal, or that memory for its text was refused.
+// The reply that reports a refusal, or `Memory` if its text could not be allocated.
 #[tactic(auto, unfolding(role_json::specs::Answer::text_of))]
 pub(crate) fn refused(alloc: Global, refusal: Refusal) -> Made
     ensures { TellsRefusal refusal result }
@@ -81,7 +80,7 @@ pub(crate) fn refused(alloc: Global, refusal: Refusal) -> Made
     }
 }
 
-// The text of a refusal that is told without memory.
+// The constant text of a refusal, if it has one.
 fn fixed_text(refusal: &Refusal) -> Option<&'static str>
     ensures text { IfSome result (λ text. text.now ≡ refusal_text refusal.now) }
     ensures none { result ≡ None → is_fixed refusal.now ≡ false }

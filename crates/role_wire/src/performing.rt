@@ -1,4 +1,4 @@
-//! One request, done or answered by an office.
+//! One request to an office: a command is done, or a question answered.
 ghost use Rattle.std.specs.Prelude.{◌≡◌, IfOk, IfErr};
 ghost use Rattle.sqlite.specs.Held.{state};
 ghost use Rattle.rbac_sets.specs.Asked.{asked_of};
@@ -16,7 +16,7 @@ use role_tables::Office;
 use sqlite::Alter;
 use std::alloc::Global;
 
-// Does what the request asks for.
+// Does the command of a request, or answers its question.
 pub(crate) fn perform<S: Alter>(
     alloc: Global,
     office: &mut Office<S>,
@@ -44,7 +44,7 @@ fn change<S: Alter>(
     Ok(verdict_on(command, report))
 }
 
-// The verdict on a command that was done, which tells of an import what was done with its records.
+// The verdict on a command that was done. For an import it has the import report.
 #[tactic(auto, unfolding(rbac_sets::specs::Asked::asked_of, role_json::specs::Answer::text_of))]
 fn verdict_on(command: &Command, report: Report) -> Verdict
     ensures { text_of result ≡ accepted_text (asked_of command.now) (tally_of_report report) }

@@ -19,29 +19,29 @@ use role_tables::Office;
 use sqlite::Alter;
 use std::alloc::Global;
 
-/// Answers the lines of `source` in `sink`, one after the other, until the source ends.
+/// Replays an input: reads the lines of `source` until it ends, and writes the answer of `office` to each
+/// of them to `sink`, in order.
 ///
-/// A line ends before LF or at the end of the input. A line of spaces, tabs and CR alone is passed
-/// over. Each other line is read as `read_request` reads it; a command is done and a question
-/// answered, in the state that the lines before left. Its answer, as `answer_text` writes it, and LF
-/// are written, in one write where the sink takes it whole, before the next line is judged. Reads
-/// take at most 8,192 bytes each.
+/// A line ends before LF or at the end of the input. A line of spaces, tabs and CR alone is skipped. Each
+/// other line is read as `read_request` reads it; its command is done, or its question answered, in the
+/// state after the lines before it. The answer, as `answer_text` returns it, and LF are written before the
+/// next line is judged, in a single write if the sink accepts it whole. Each read is of at most 8,192 bytes.
 ///
 /// # Errors
 ///
-/// A stop names its cause and how many answer lines were written whole: those of the first lines
-/// that ask.
+/// A stop has its cause and the number of answer lines that were written whole. These are the answers to
+/// the first lines that aren't skipped.
 ///
-/// - `Closed`: the office was closed before; nothing was read.
-/// - `Read`: a read failed, or 1,000,000,000 reads were made. What was read of a line that had not
-///   ended was not judged.
-/// - `Line`: the line of this number is the first of more than 65,536 bytes. It was not judged.
-/// - `Write`: a write failed, or took no byte. A part of the next answer may be written, and what
+/// - `Closed`: the office was already closed. Nothing was read or written.
+/// - `Read`: a read failed, or 1,000,000,000 reads were made. A line that had not ended was not judged.
+/// - `Line`: the line of this number, counted from 1 with skipped lines, is the first of more than 65,536
+///   bytes. It was not judged.
+/// - `Write`: a write failed, or accepted no byte. A part of the next answer may have been written, and what
 ///   its line asks for is done.
-/// - `Memory`: memory was refused. What the next line asks for may be done.
-/// - `Store`: the store was refused for the command of the next line, which is accepted in the state
-///   after the lines before. The office is closed; the tables hold what they held before, and a stop
-///   leaves the state before the command or after it.
+/// - `Memory`: an allocation failed. What the next line asks for may have been done.
+/// - `Store`: the store failed in the command of the next line, which is accepted in the state after the
+///   lines before it. The office is closed. While the disk returns what was written, the open tables hold
+///   the state before the command, and a crash leaves that state or the state after the command.
 pub fn replay<S: Alter, R: Source, W: Sink>(
     alloc: Global,
     office: &mut Office<S>,
@@ -90,7 +90,7 @@ impl<S: Alter> AnswerLines for Office<S> {
     ghost store_closes = { λ old new line fails. fails.0 };
 }
 
-// The verdict on a line, which is done where it is accepted.
+// Does or answers what a line asks for, and returns the verdict.
 fn judge_line<S: Alter>(
     alloc: Global,
     office: &mut Office<S>,
@@ -105,7 +105,7 @@ fn judge_line<S: Alter>(
     }
 }
 
-// The verdict on a request, which is done where it is accepted.
+// Does or answers a request, and returns the verdict.
 fn judge<S: Alter>(
     alloc: Global,
     office: &mut Office<S>,
@@ -120,7 +120,7 @@ fn judge<S: Alter>(
     }
 }
 
-// The verdict on a line that asks for nothing, unless memory was refused.
+// The verdict on a line that is no request, unless an allocation failed.
 fn unread(refusal: Refusal) -> Result<Verdict, Unanswered>
     ensures { result ≡ told_unread refusal }
 {
@@ -131,7 +131,7 @@ fn unread(refusal: Refusal) -> Result<Verdict, Unanswered>
     }
 }
 
-// The verdict on a request that was refused, unless nothing was judged.
+// The verdict on a request that was refused, unless an allocation failed, or the store did, now or earlier.
 fn told(refusal: Refusal) -> Result<Verdict, Unanswered>
     ensures { result ≡ told_of refusal }
 {

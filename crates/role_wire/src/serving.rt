@@ -25,34 +25,46 @@ use role_tables::Office;
 use sqlite::Alter;
 use std::alloc::Global;
 
-/// A request that was replied.
+/// A request whose reply was written.
 #[derive(Clone, Copy, Debug, PartialEq, Eq)]
 pub struct Served {
     /// The status of the reply.
     pub status: u16,
 }
 
-/// Reads one request from `source`, does what it asks for, and writes the reply to `sink`. No byte
-/// past the request is read.
+/// Reads one request from `source`, does what it asks for, and writes the reply to `sink`. No byte after
+/// the request is read.
 ///
-/// A request is `POST /v1/FUNCTION` with a Content-Length, and its body is what `read_body` reads.
-/// Its reply has the status 200 and the answer text where the command was done or the question
-/// answered. Else the body tells a refusal: with 409 one of the request's own (numbers 2 to 33, 37
-/// and 51), with 400 a request, a name or a CSV that is badly made, with 404 another function, 405
-/// another method, 411 no length, 413 a body above its limit, 431 a head above its limits, 501 a
-/// Transfer-Encoding. Where memory was refused before anything was done, it is 503; where the store
-/// was refused or the office is closed, 500. A closed office stays as it is, and is asked only where a
-/// request was read: a head or a body that is refused keeps its reply. Of a head that is above its
-/// limits at most 8,192 bytes are read.
+/// A request is `POST /v1/FUNCTION` with a Content-Length, and its body is what `read_body` reads. The
+/// limits of a head and of a body are those of `answer_head` in `role_http`. The body of the reply is the
+/// answer text if the status is 200, and the text of a refusal otherwise:
+///
+/// | Status | If |
+/// |---|---|
+/// | 200 | the command was done, or the question answered |
+/// | 400 | the request, a name or a CSV text is malformed |
+/// | 404 | the target isn't that of a function |
+/// | 405 | the method isn't POST |
+/// | 409 | the request was refused by a code of its own: 2 to 33, 37 or 51 |
+/// | 411 | there is no Content-Length |
+/// | 413 | the body is above its limit |
+/// | 431 | the head is above its limits |
+/// | 500 | the store failed, or the office is closed |
+/// | 501 | there is a Transfer-Encoding |
+/// | 503 | an allocation failed before anything was done |
+///
+/// A closed office stays as it is. It is asked only after a request was read, so a head or a body that is
+/// refused keeps its reply. Of a head that is above its limits at most 8,192 bytes are read.
 ///
 /// # Errors
 ///
-/// A stop leaves no whole reply; its `answered` is 0.
+/// After a stop there is no whole reply; its `answered` is 0.
 ///
 /// - `Read`: a read failed. Nothing was done and nothing written.
-/// - `Memory`: memory for the text of an accepted command was refused. The command is done, and
+/// - `Memory`: the answer text of an accepted command could not be allocated. The command is done, and
 ///   nothing was written.
-/// - `Write`: a write failed, or took no byte. A part of the reply was written; what it tells holds.
+/// - `Write`: a write failed, or accepted no byte. A part of the reply may have been written; what the whole
+///   reply reports holds.
 pub fn serve_one<S: Alter, R: Source, W: Sink>(
     alloc: Global,
     office: &mut Office<S>,
@@ -72,7 +84,8 @@ pub fn serve_one<S: Alter, R: Source, W: Sink>(
     }
 }
 
-/// `serve_one`, with a router that was made before by `one_route` of `role_http`.
+/// Serves one request as `serve_one` does, with a router that `one_route` of `role_http` returned before. One
+/// router serves any number of requests.
 ///
 /// # Errors
 ///
@@ -116,7 +129,7 @@ fn send<W: Sink>(sink: &mut W, made: &Made) -> Result<Served, Stop>
     }
 }
 
-// Reads a request, does what it asks for, and makes the reply.
+// Reads a request, does what it asks for, and returns the reply.
 fn do_request<S: Alter, R: Source>(
     alloc: Global,
     router: &Router<()>,
@@ -140,7 +153,7 @@ fn do_request<S: Alter, R: Source>(
     }
 }
 
-// Reads the body of a call, does what it asks for, and makes the reply.
+// Reads the body of a call, does what it asks for, and returns the reply.
 fn do_call<S: Alter, R: Source>(
     alloc: Global,
     office: &mut Office<S>,
@@ -167,7 +180,7 @@ fn do_call<S: Alter, R: Source>(
     do_body(alloc, office, called, &body)
 }
 
-// Does what a body asks for, and makes the reply.
+// Does what a body asks for, and returns the reply.
 fn do_body<S: Alter>(
     alloc: Global,
     office: &mut Office<S>,
@@ -183,7 +196,7 @@ fn do_body<S: Alter>(
     }
 }
 
-// Does what a request asks for, and makes the reply.
+// Does what a request asks for, and returns the reply.
 fn do_asked<S: Alter>(
     alloc: Global,
     office: &mut Office<S>,
@@ -212,7 +225,8 @@ fn tell(alloc: Global, request: &Request, verdict: &Verdict) -> Result<Made, Cau
     }
 }
 
-// What comes of a request that was done or answered, where memory for its text was refused.
+// The result for a request that was done or answered, but whose answer text could not be allocated: a question
+// is answered by 503, and a command stops without a reply.
 fn untold(request: &Request) -> Result<Made, Cause>
     ensures made { IfOk result (λ made. IsRefusal Refusal.Memory made × IsQuestion (requested request.now)) }
     ensures left { IfErr result (λ cause. (cause ≡ Cause.Memory) × IsCommand (requested request.now)) }

@@ -1,5 +1,5 @@
 //! Short texts of assignments, and the export of a small office, byte for byte. Long texts, and exports that are
-//! read again, stand in tests/office of the repository.
+//! imported again, are tested in tests/office of the repository.
 use admin_mgr::State;
 use rbac_sets::{Command, MemorySink, Name, Refusal};
 use role_csv::{read_assignments, write_assignments};
@@ -21,7 +21,7 @@ fn lists(alloc: Global, text: &[u8], want: &[(&str, &str)]) -> Result<bool, Refu
     Ok(are_listed)
 }
 
-// The record of a refusal, if there is one.
+// The number of the record in a refusal, if there is one.
 fn record_of(read: &Result<Vec<(Name, Name)>, Refusal>) -> Option<u32> {
     match read {
         Err(Refusal::BadCsv(number)) => Some(*number),
@@ -29,7 +29,7 @@ fn record_of(read: &Result<Vec<(Name, Name)>, Refusal>) -> Option<u32> {
     }
 }
 
-// The record for which the text is refused, if it is.
+// The number of the record for which the text is refused, if it is.
 fn bad_record(alloc: Global, text: &[u8]) -> Option<u32> {
     let read = read_assignments(alloc, text);
     let record = record_of(&read);
@@ -74,12 +74,12 @@ ann,\"clerk, \"\"junior\"\"\"
 bob,boss
 ";
 
-// A function, so that a proof needs not look at the text.
+// A function, so that proofs needn't unfold the text.
 fn export() -> &'static str {
     EXPORT
 }
 
-// Plans a command, makes room for the plan, and makes its changes.
+// Plans a command, makes room for the plan, and commits it.
 fn apply(alloc: Global, state: &mut State, command: &Command) -> Result<(), Refusal> {
     let plan = state.plan(alloc, command)?;
     state.make_room(&plan)?;
@@ -87,7 +87,7 @@ fn apply(alloc: Global, state: &mut State, command: &Command) -> Result<(), Refu
     Ok(())
 }
 
-// Has a command done, and lets it go.
+// Applies a command, and drops it.
 fn obey(alloc: Global, state: &mut State, command: Command) -> Result<(), Refusal> {
     let done = apply(alloc, state, &command);
     drop(command);
@@ -104,7 +104,7 @@ fn add_role(alloc: Global, state: &mut State, role: &str) -> Result<(), Refusal>
     obey(alloc, state, Command::AddRole { role })
 }
 
-// Makes a user and a role, and assigns the user to it.
+// Adds a user and a role, and assigns the user to the role.
 fn assign(alloc: Global, state: &mut State, user: &str, role: &str) -> Result<(), Refusal> {
     add_user(alloc, state, user)?;
     add_role(alloc, state, role)?;
@@ -120,7 +120,7 @@ fn is_exported(alloc: Global, state: &State) -> Result<bool, Refusal> {
     Ok(sink.as_slice() == export().as_bytes())
 }
 
-// Makes two users with a role each, and tells whether they are exported.
+// Adds two users with one role each, and returns whether they are exported.
 fn are_exported(alloc: Global, state: &mut State) -> Result<bool, Refusal> {
     assign(alloc, state, "bob", "boss")?;
     assign(alloc, state, "ann", "clerk, \"junior\"")?;

@@ -1,4 +1,4 @@
-//! Requests as bytes: what heads are answered, what is read of bodies, and replies byte for byte.
+//! Requests as bytes: how request heads are judged, what is read of bodies, and replies byte for byte.
 use http::StatusCode;
 use rbac_sets::{MemorySink, MemorySource, Refusal};
 use role_http::{answer_head, one_route, read_bytes, refused_body, status_of, write_reply};
@@ -6,7 +6,7 @@ use role_json::Function;
 use std::alloc::Global;
 use std::test::Fail;
 
-// What a head is answered: the function that it calls and how many bytes its body has, or its status.
+// The function that a request head calls and the length of its body in bytes, or the status that refuses it.
 fn answer(alloc: Global, bytes: &[u8]) -> Result<Result<(Function, u32), u16>, Fail> {
     let router = one_route(alloc).ok().ok_or("route")?;
     let mut source = MemorySource::new(bytes);
@@ -15,7 +15,7 @@ fn answer(alloc: Global, bytes: &[u8]) -> Result<Result<(Function, u32), u16>, F
     Ok(answer.ok().ok_or("head")?.map_err(|status| status.as_u16()))
 }
 
-// A head that calls `addUser`, with a field besides whose value makes it `length` bytes long.
+// A request head that calls `addUser`, made `length` bytes long by one more header field.
 fn long_head(alloc: Global, length: usize) -> Result<String, Fail> {
     let front = "POST /v1/addUser HTTP/1.1\r\nContent-Length: 2\r\nX: ";
     let mut head = String::from_str(alloc, front)?;
@@ -26,7 +26,7 @@ fn long_head(alloc: Global, length: usize) -> Result<String, Fail> {
     Ok(head)
 }
 
-// A head that calls `addUser`, with so many fields.
+// A request head that calls `addUser` and has `count` header fields.
 fn head_of_fields(alloc: Global, count: usize) -> Result<String, Fail> {
     let mut head = String::from_str(alloc, "POST /v1/addUser HTTP/1.1\r\nContent-Length: 2\r\n")?;
     for _field in 1..count {
@@ -36,7 +36,7 @@ fn head_of_fields(alloc: Global, count: usize) -> Result<String, Fail> {
     Ok(head)
 }
 
-// Whether a reply with this status and body is written so.
+// Whether a reply with this status and body is written as this text.
 fn writes(alloc: Global, status: StatusCode, body: &str, text: &str) -> bool {
     let mut sink = MemorySink::new(alloc);
     write_reply(&mut sink, status, body.as_bytes()).is_ok() && sink.as_slice() == text.as_bytes()
@@ -129,7 +129,7 @@ fn heads_have_limits(rt: HostRuntime) -> Result<(), Fail> {
     Ok(())
 }
 
-// Whether the head that stands first is answered.
+// Whether the request head at the front of the source is judged.
 fn is_answered(alloc: Global, source: &mut MemorySource<'_>) -> Result<bool, Fail> {
     let router = one_route(alloc).ok().ok_or("route")?;
     let is_answered = answer_head(alloc, &router, source).is_ok();
@@ -137,7 +137,7 @@ fn is_answered(alloc: Global, source: &mut MemorySource<'_>) -> Result<bool, Fai
     Ok(is_answered)
 }
 
-// Whether this text is read, where so many bytes are asked for.
+// Whether reading `count` bytes gives this text.
 fn reads(
     alloc: Global,
     source: &mut MemorySource<'_>,

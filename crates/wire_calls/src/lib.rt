@@ -1,6 +1,6 @@
-//! Calls the public functions of what clients send and see that take memory, once each with ample memory, and
-//! compares what they answer: assignments as CSV, requests and answers as JSON, heads and replies. A body that
-//! gives up for want of memory is proved. These tests stand in a crate of their own, since a crate with tests is
+//! Calls the public functions of the wire formats that allocate, with enough memory, and checks their results:
+//! assignments as CSV, requests and answers as JSON, request heads and replies. A body that reports a failed
+//! allocation instead would be proved as well. The tests are in a crate of their own, since a crate with tests is
 //! proved twice.
 #![tactic(auto)]
 

@@ -1,5 +1,5 @@
-//! What lines and bodies ask for, and the texts that answer. Each of the 51 functions is read in
-//! tests/office of the repository.
+//! The requests in lines and bodies, and the texts of answers. In tests/office of the repository, each of the 51
+//! functions is read.
 use admin_mgr::Report;
 use rbac_sets::{Command, Kind, Name, Refusal};
 use review_mgr::{Answer, Query};
@@ -7,7 +7,7 @@ use role_json::{Function, Request, Verdict, answer_text, body_to, read_body, rea
 use std::alloc::{AllocError, Global};
 use std::test::Fail;
 
-// What was read, in words: the arguments with the name of their shape, or the number of the refusal.
+// What was read, as text: the arguments with the name of their shape, or the code of the refusal.
 fn outcome(alloc: Global, read: Result<Request, Refusal>) -> Result<String, AllocError> {
     let text = show(alloc, &read);
     drop(read);
@@ -188,7 +188,7 @@ fn name(alloc: Global, text: &str) -> Result<Name, Fail> {
     Ok(Name::new(alloc, text)?)
 }
 
-// Whether this text answers with the verdict, which is let go.
+// Whether this is the text of the verdict, which is dropped.
 fn tells(alloc: Global, verdict: Verdict, want: &str) -> Result<bool, Refusal> {
     let text = answer_text(alloc, &verdict);
     drop(verdict);

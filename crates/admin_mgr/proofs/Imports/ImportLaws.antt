@@ -1,4 +1,4 @@
--- An import leads from a good state to a good one: the pairs that it assigns are put to the assignments, and no session ends.
+-- An import leads from a good state to a good one: the assigned pairs are added to the assignments, and no session ends.
 use Rattle.std.proofs.Common.{◌≡◌, ℕ, ◌+◌, ◌≤◌, Bool, false, cond, List, [], ◌∷◌, length, refl, sym, ◌∙◌, ap, subst, inl, inr}
 use Rattle.std.specs.Prelude.{IsTrue, Option, Some, None, is_none, count_by}
 use Rattle.std.specs.List.{list_any, IsDistinct, AllByRecursion}
@@ -30,11 +30,11 @@ use Rattle.admin_mgr.proofs.Imports.UnionLaws.{union-empty, insert-union, insert
 
 -- ---- counting
 
--- 1 where a test holds
+-- 1 if the test holds, otherwise 0
 abbrev pub one_if : Bool → ℕ
 one_if b = cond b 1 0
 
--- the first counts, and then the others
+-- a count, as that of the first entry and that of the others
 pub counted : {X : Type 0} (p : X → Bool) (x : X) (xs : List X) → count_by p (x ∷ xs) ≡ one_if (p x) + count_by p xs
 counted {X} p x xs = sum_by-cons (λ (y : X). one_if (p y)) x xs
 
@@ -45,12 +45,12 @@ pub record_put : (S : RbacState) → IsGood S → (pair : Pair) → assignment_v
 unfolding after_record with_assignment
 record_put S good pair put = ap (λ v. cond (is_none v) (after_assignment S pair) S) put ∙ after_assignment_is S good pair put
 
--- a refused one leaves the state
+-- a refused record leaves the state unchanged
 pub record_kept : (S : RbacState) (pair : Pair) (refusal : Refusal) → assignment_verdict S pair ≡ Some refusal → after_record S pair ≡ S
 unfolding after_record
 record_kept S pair refusal told = ap (λ v. cond (is_none v) (after_assignment S pair) S) told
 
--- either way the state is good
+-- in both cases the state is good
 pub good_record : (S : RbacState) → IsGood S → (pair : Pair) → IsGood (after_record S pair)
 good_record S good pair = by (assignment_verdict S pair) refl
   where
@@ -58,9 +58,9 @@ good_record S good pair = by (assignment_verdict S pair) refl
     by None put = subst IsGood (sym (record_put S good pair put)) (good_with_assignment S good pair put)
     by (Some refusal) told = subst IsGood (sym (record_kept S pair refusal told)) good
 
--- ---- the pairs that are assigned
+-- ---- the assigned pairs
 
--- the first record is one of them where it is accepted
+-- the first record is one of them if it is accepted
 pub accepted_put : (S : RbacState) → IsGood S → (pair : Pair) (pairs : List Pair) → assignment_verdict S pair ≡ None →
     accepted S (pair ∷ pairs) ≡ pair ∷ accepted (with_assignment S pair) pairs
 unfolding accepted
@@ -68,7 +68,7 @@ accepted_put S good pair pairs put =
     ap (λ v. cond (is_none v) (pair ∷ accepted (after_record S pair) pairs) (accepted (after_record S pair) pairs)) put
     ∙ ap (λ X. pair ∷ accepted X pairs) (record_put S good pair put)
 
--- and none where it is refused
+-- and isn't if it is refused
 pub accepted_kept : (S : RbacState) (pair : Pair) (pairs : List Pair) (refusal : Refusal) → assignment_verdict S pair ≡ Some refusal →
     accepted S (pair ∷ pairs) ≡ accepted S pairs
 unfolding accepted
@@ -76,20 +76,20 @@ accepted_kept S pair pairs refusal told =
     ap (λ v. cond (is_none v) (pair ∷ accepted (after_record S pair) pairs) (accepted (after_record S pair) pairs)) told
     ∙ ap (λ X. accepted X pairs) (record_kept S pair refusal told)
 
--- the verdicts from an accepted record on
+-- the verdicts on records of which the first is accepted
 pub verdicts_put : (S : RbacState) → IsGood S → (pair : Pair) (pairs : List Pair) → assignment_verdict S pair ≡ None →
     import_verdicts S (pair ∷ pairs) ≡ None ∷ import_verdicts (with_assignment S pair) pairs
 unfolding import_verdicts
 verdicts_put S good pair pairs put = (λ i. put i ∷ import_verdicts (after_record S pair) pairs) ∙ ap (λ X. None ∷ import_verdicts X pairs) (record_put S good pair put)
 
--- the verdicts from a refused record on
+-- the verdicts on records of which the first is refused
 pub verdicts_kept : (S : RbacState) (pair : Pair) (pairs : List Pair) (refusal : Refusal) → assignment_verdict S pair ≡ Some refusal →
     import_verdicts S (pair ∷ pairs) ≡ Some refusal ∷ import_verdicts S pairs
 unfolding import_verdicts
 verdicts_kept S pair pairs refusal told =
     (λ i. told i ∷ import_verdicts (after_record S pair) pairs) ∙ ap (λ X. Some refusal ∷ import_verdicts X pairs) (record_kept S pair refusal told)
 
--- a fact of the pairs that are assigned, by the verdict on each record
+-- induction on the records of an import, by the verdict on each
 module _ (P : RbacState → List Pair → List Pair → Type 0)
     (none : (S : RbacState) → P S [] [])
     (put : (S : RbacState) (good : IsGood S) (pair : Pair) (pairs assigned : List Pair) → assignment_verdict S pair ≡ None →
@@ -115,7 +115,7 @@ unfolding after_import
 good_import S good [] = good
 good_import S good (pair ∷ pairs) = good_import (after_record S pair) (good_record S good pair) pairs
 
--- the pairs that are assigned are put to the assignments
+-- the assigned pairs are added to the assignments
 pub import_is : (S : RbacState) → IsGood S → (pairs : List Pair) → after_import S pairs ≡ with_assignments S (from_list (accepted S pairs))
 unfolding after_import with_assignments from_list with_assignment
 import_is = by_records (λ S pairs assigned. after_import S pairs ≡ with_assignments S (from_list assigned)) none put kept
@@ -134,19 +134,19 @@ import_is = by_records (λ S pairs assigned. after_import S pairs ≡ with_assig
         after_import S pairs ≡ with_assignments S (from_list assigned) → after_import S (pair ∷ pairs) ≡ with_assignments S (from_list assigned)
     kept S good pair pairs assigned refusal is rest = ap (λ X. after_import X pairs) (record_kept S pair refusal is) ∙ rest
 
--- ---- which they are
+-- ---- the assigned pairs are new and distinct
 
--- none of these is assigned before
+-- none of these pairs was assigned before
 abbrev AreNew : RbacState → List Pair → Type 0
 AreNew S assigned = (p : Pair) → IsTrue (list_any (eq_by_cmp pair_cmp p) assigned) → contains S.assignments p ≡ false
 
--- what is new after one more assignment is another one, and was new before
+-- a pair that is new after one more assignment differs from it, and was new before
 new_before : (S : RbacState) (pair : Pair) (assigned : List Pair) → AreNew (with_assignment S pair) assigned →
     (p : Pair) → IsTrue (list_any (eq_by_cmp pair_cmp p) assigned) → (eq_by_cmp pair_cmp p pair ≡ false) × (contains S.assignments p ≡ false)
 unfolding with_assignment
 new_before S pair assigned rest p h = or_parts (eq_by_cmp pair_cmp p pair) (contains S.assignments p) (sym (contains-insert pair_total S.assignments pair p) ∙ rest p h)
 
--- none that is assigned was before
+-- no assigned pair was assigned before
 pub accepted_new : (S : RbacState) → IsGood S → (pairs : List Pair) (p : Pair) → IsTrue (list_any (eq_by_cmp pair_cmp p) (accepted S pairs)) → contains S.assignments p ≡ false
 accepted_new = by_records (λ S pairs assigned. AreNew S assigned) (λ S p h. absurd (true≢false (sym h)))
     (λ S good pair pairs assigned is better rest p h. elim (or_cases (eq_by_cmp pair_cmp p pair) (list_any (eq_by_cmp pair_cmp p) assigned) h) [
@@ -155,7 +155,7 @@ accepted_new = by_records (λ S pairs assigned. AreNew S assigned) (λ S p h. ab
     ])
     (λ S good pair pairs assigned refusal is rest. rest)
 
--- a pair that is none of a list differs from each
+-- a pair that isn't in a list differs from each of its entries
 each_other : (pair : Pair) (xs : List Pair) → ((p : Pair) → IsTrue (list_any (eq_by_cmp pair_cmp p) xs) → eq_by_cmp pair_cmp p pair ≡ false) → AllByRecursion (λ y. eq_by_cmp pair_cmp pair y ≡ false) xs
 each_other pair [] others = tt
 each_other pair (x ∷ xs) others = (
@@ -165,7 +165,7 @@ each_other pair (x ∷ xs) others = (
   each_other pair xs (λ p h. others p (or_right (eq_by_cmp pair_cmp p x) _ h)),
 )
 
--- none is assigned twice
+-- no pair is assigned twice
 pub accepted_distinct : (S : RbacState) → IsGood S → (pairs : List Pair) → IsDistinct (eq_by_cmp pair_cmp) (accepted S pairs)
 unfolding IsDistinct
 accepted_distinct S good pairs = (by_records (λ S pairs assigned. AreNew S assigned × IsDistinct (eq_by_cmp pair_cmp) assigned) none put (λ S good pair pairs assigned refusal is rest. rest) S good pairs).1
@@ -183,9 +183,9 @@ accepted_distinct S good pairs = (by_records (λ S pairs assigned. AreNew S assi
       (each_other pair assigned (λ p h. (new_before S pair assigned rest.0 p h).0), rest.1),
     )
 
--- ---- the state after it
+-- ---- the state after an import, as insertions into the assignments
 
--- as a list that is put in its order
+-- the assigned pairs are inserted one by one
 pub import_puts : (S : RbacState) → IsGood S → (pairs : List Pair) → after_import S pairs ≡ record S { assignments = insert_all S.assignments (accepted S pairs) }
 unfolding with_assignments
 import_puts S good pairs = import_is S good pairs ∙ (λ i. record S { assignments = sym (insert_all-union pair_total pair_exact S.assignments (accepted S pairs)) i })
@@ -202,11 +202,11 @@ module _ (S : RbacState) (good : IsGood S) (pairs : Vec Pair Global) where
   pub good_after_import : IsGood (after S (ImportAssignments pairs))
   good_after_import = subst IsGood (sym after_import_assignments) (good_import S good pairs.items)
 
-  -- likewise, as a list that is put in its order
+  -- the state after the command, with the assigned pairs inserted one by one
   pub after_import_puts : after S (ImportAssignments pairs) ≡ record S { assignments = insert_all S.assignments (accepted S pairs.items) }
   after_import_puts = after_import_assignments ∙ import_puts S good pairs.items
 
--- an import that is accepted has no more records than it may
+-- an accepted import has at most 10,000 records
 pub import_records : (S : RbacState) (pairs : Vec Pair Global) → verdict S (ImportAssignments pairs) ≡ None → length pairs.items ≤ 10000
 unfolding verdict refusals
 import_records S pairs accepted_one = ltb-false 10000 (length pairs.items)

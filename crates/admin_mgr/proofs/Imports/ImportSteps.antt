@@ -1,4 +1,4 @@
--- Where an import stands between two of its records: with what is left, it comes to what the whole import does.
+-- The loop of an import: what it has done so far, and what the records that are left add, make up the whole import.
 use Rattle.std.proofs.Common.{◌≡◌, ℕ, suc, ◌+◌, ◌<◌, ◌≤◌, drop, get_or, Bool, true, false, ◌||◌, List, [], ◌∷◌, ◌++◌, map, length, refl, sym, ◌∙◌, ap, subst, arith}
 use Rattle.std.specs.Prelude.{Option, Some, None, is_none, count_by}
 use Rattle.std.specs.List.{cons_option, enumerate_from, filter_map}
@@ -23,15 +23,16 @@ use Rattle.admin_mgr.proofs.Imports.ImportLaws.{one_if, counted, accepted_put, a
 use Rattle.admin_mgr.proofs.Imports.RecordLaws.{new_to_added}
 use Rattle.admin_mgr.proofs.Imports.UnionLaws.{union-empty, union-insert}
 
--- the state with what was assigned so far
+-- the state with the pairs assigned so far
 abbrev pub state_now : RbacState → Imported → RbacState
 state_now S now = with_assignments S (set_of pair_cmp now.added)
 
--- what is told of the records that are left, of which the first has this number
+-- the refused records in the report, for the verdicts that are left, of which the first has this number
 abbrev pub left_over : ℕ → List (Option Refusal) → List (ℕ × ℕ)
 left_over number verdicts = filter_map refused_record (enumerate_from number verdicts)
 
--- so many records were judged, and the rest is left: with it all comes to what the import of all does
+-- The invariant of the loop: `number` records are judged, and `rest` is left. What is done and what `rest` adds make up the
+-- import of `all`.
 pub record Stands (S : RbacState) (all rest : List Pair) (number : ℕ) (now : Imported) : Type 0 where
   pub good : IsGood (state_now S now)
   pub apart : IsDisjoint S.assignments (set_of pair_cmp now.added)
@@ -42,7 +43,7 @@ pub record Stands (S : RbacState) (all rest : List Pair) (number : ℕ) (now : I
   pub few_assigned : now.report.assigned ≤ number
   pub few_already : now.report.already ≤ number
 
--- at the start all are left
+-- at the start all records are left
 pub begins : (S : RbacState) → IsGood S → (all : List Pair) (now : Imported) → IsBegun now → Stands S all all 0 now
 unfolding with_assignments
 begins S good all now begun =
@@ -62,13 +63,13 @@ begins S good all now begun =
       few_already = omega (arith, none_already);
     }
 
--- what is told of one record stands between what was told and what will be
+-- an optional entry at the end of the first list may be moved to the front of the second
 told_before : {X : Type 0} (xs : List X) (o : Option X) (ys : List X) → (xs ++ cons_option o []) ++ ys ≡ xs ++ cons_option o ys
 told_before xs None ys = ap (λ l. l ++ ys) (append-nil xs)
 told_before xs (Some x) ys = append_assoc xs (x ∷ []) ys
 
 module _ (S : RbacState) (all rest : List Pair) (pair : Pair) (number : ℕ) (before later : Imported) (stands : Stands S all (pair ∷ rest) number before) where
-  -- where the next record is assigned
+  -- if the next record is assigned
   assigned_step : assignment_verdict (state_now S before) pair ≡ None → IsAssigned pair before later → Stands S all rest (number + 1) later
   unfolding with_assignments with_assignment
   assigned_step put assigned =
@@ -105,7 +106,7 @@ module _ (S : RbacState) (all rest : List Pair) (pair : Pair) (number : ℕ) (be
         few_already = omega (arith, as_many, few_already);
       }
 
-  -- where the next record is refused
+  -- if the next record is refused
   told_step : (refusal : Refusal) → assignment_verdict (state_now S before) pair ≡ Some refusal → IsTold (number + 1) refusal before later → Stands S all rest (number + 1) later
   told_step refusal is told =
       let X : RbacState = state_now S before in
@@ -143,7 +144,7 @@ module _ (S : RbacState) (all rest : List Pair) (pair : Pair) (number : ℕ) (be
       one_if_le true = omega arith
       one_if_le false = omega arith
 
-  -- one record further
+  -- the invariant holds after the next record
   pub goes_on : Follows (assignment_verdict (state_now S before) pair) (number + 1) pair before later → Stands S all rest (number + 1) later
   goes_on follows = by (assignment_verdict (state_now S before) pair) refl follows
     where
@@ -151,12 +152,12 @@ module _ (S : RbacState) (all rest : List Pair) (pair : Pair) (number : ℕ) (be
       by None is assigned = assigned_step is assigned
       by (Some refusal) is told = told_step refusal is told
 
--- at the end the import was made
+-- at the end, the changes are those of the whole import
 pub ends_with_changes : (S : RbacState) (all : List Pair) (number : ℕ) (now : Imported) → Stands S all [] number now → now.changes.items ≡ map put_assignment (accepted S all)
 unfolding accepted
 ends_with_changes S all number now stands = sym (append-nil now.changes.items) ∙ stands.changes
 
--- and told
+-- at the end, the report is that of the whole import
 pub ends_with_report : (S : RbacState) (all : List Pair) (number : ℕ) (now : Imported) → Stands S all [] number now → tally_of_report now.report ≡ tally_of (import_verdicts S all)
 unfolding import_verdicts tally_of
 ends_with_report S all number now stands =
@@ -167,19 +168,19 @@ ends_with_report S all number now stands =
     let refused = sym (append-nil now.report.refused.items) ∙ stands.refused in
     λ i. record { assigned = assigned i; already = already i; refused = refused i }
 
--- the next record and those after it
+-- the records from index i on are the record there and those after it
 pub next_record : (all : List Pair) (i : ℕ) (pair : Pair) → i < length all → pair ≡ get_or all i pair → drop i all ≡ pair ∷ drop (i + 1) all
 next_record all i pair within is = drop-cons all i pair within ∙ (λ k. sym is k ∷ drop (one_more k) all)
   where
     one_more : suc i ≡ i + 1
     one_more = omega arith
 
--- one record further, by its place
+-- the invariant holds after the record at index i
 pub goes_on_at : (S : RbacState) (all : List Pair) (i : ℕ) (pair : Pair) (before later : Imported) → i < length all → pair ≡ get_or all i pair → Stands S all (drop i all) i before →
     Follows (assignment_verdict (state_now S before) pair) (i + 1) pair before later → Stands S all (drop (i + 1) all) (i + 1) later
 goes_on_at S all i pair before later within is stands follows =
     goes_on S all (drop (i + 1) all) pair i before later (subst (λ rest. Stands S all rest i before) (next_record all i pair within is) stands) follows
 
--- past the last record none is left
+-- after the last record none is left
 pub none_left : (S : RbacState) (all : List Pair) (i : ℕ) (now : Imported) → length all ≤ i → Stands S all (drop i all) i now → Stands S all [] i now
 none_left S all i now past stands = subst (λ rest. Stands S all rest i now) (drop_all i all past) stands

@@ -1,4 +1,4 @@
--- The rows that an import puts.
+-- The rows that an import inserts.
 use Rattle.std.proofs.Common.{◌≡◌, false, map, sym}
 use Rattle.std.specs.declared.vec.Vec.{Vec}
 use Rattle.std.specs.declared.alloc.Global.{Global}
@@ -16,7 +16,7 @@ use Rattle.admin_mgr.proofs.PlanRows.SetRows.{assignment_rows}
 use Rattle.admin_mgr.proofs.PlanRows.StepLaws.{steps_to}
 use Rattle.admin_mgr.proofs.PlanRows.TurnLaws.{turns_putting}
 
--- the rows of the assigned pairs come, and nothing else changes
+-- the rows of the assigned pairs are inserted, and nothing else changes
 pub turns_import : (S : RbacState) → IsGood S → (pairs : Vec Pair Global) → Turns S (map put_assignment (accepted S pairs.items)) (after S (ImportAssignments pairs))
 turns_import S good pairs = turns_putting (steps_to
     (steps_put_list assignment_rows pair_total pair_exact S (accepted S pairs.items) (accepted_distinct S good pairs.items)

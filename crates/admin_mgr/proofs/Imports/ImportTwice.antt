@@ -1,4 +1,4 @@
--- An import that is made again changes nothing, whatever the state.
+-- An import that is repeated changes nothing, whatever the state.
 use Rattle.std.proofs.Common.{◌≡◌, ℕ, ◌+◌, ◌≤◌, Bool, true, false, cond, List, [], ◌∷◌, map, refl, sym, ◌∙◌, ap, subst, arith, inl, inr}
 use Rattle.std.specs.Prelude.{IsTrue, ◌&&◌, Option, Some, None, is_none, nat_lt, nat_eq, count_by}
 use Rattle.std.specs.Option.{option_map}
@@ -30,26 +30,26 @@ use Rattle.admin_mgr.proofs.Verdicts.SeparationLaws.{least_violated-None, kept_s
 use Rattle.admin_mgr.proofs.StateAfter.SessionLaws.{none_ends_where}
 use Rattle.admin_mgr.proofs.Verdicts.VerdictLaws.{passed}
 
--- ---- what an import keeps of a state, and what it adds to
+-- ---- what an import keeps of a state, and what it adds
 
 -- the state with these assignments, and without its sessions
 abbrev holding : RbacState → Pairs → RbacState
 holding S assignments = record S { assignments = assignments; sessions = empty; active = empty }
 
--- a verdict on a record asks for no session
+-- the verdict on a record doesn't depend on sessions
 verdict_holding : (S : RbacState) (p : Pair) → assignment_verdict S p ≡ assignment_verdict (holding S S.assignments) p
 unfolding assignment_verdict assignment_refusals after_assignment end_sessions is_kept_statically authorized_users
 verdict_holding S p = refl
 
--- the states differ in their assignments and their sessions alone
+-- the states differ only in their assignments and their sessions
 abbrev IsAlike : RbacState → RbacState → Type 0
 IsAlike S T = holding S empty ≡ holding T empty
 
--- so the verdict is by the assignments
+-- so the verdict depends only on the assignments
 verdict_alike : (S T : RbacState) → IsAlike S T → (p : Pair) → assignment_verdict T p ≡ assignment_verdict (holding S T.assignments) p
 verdict_alike S T alike p = verdict_holding T p ∙ ap (λ X. assignment_verdict (record X { assignments = T.assignments }) p) (sym alike)
 
--- an import keeps all but these
+-- an import changes only assignments and sessions
 alike_import : (S : RbacState) (pairs : List Pair) → IsAlike S (after_import S pairs)
 unfolding after_assignment end_sessions
 alike_import S pairs = sym (import_keeps (λ X. holding X empty) kept S pairs)
@@ -57,12 +57,12 @@ alike_import S pairs = sym (import_keeps (λ X. holding X empty) kept S pairs)
     kept : (S : RbacState) (pair : Pair) → holding (after_assignment S pair) empty ≡ holding S empty
     kept S pair = refl
 
--- the assignments after a record
+-- the assignments after an accepted record
 after_put : (S : RbacState) (pair : Pair) → assignment_verdict S pair ≡ None → (after_record S pair).assignments ≡ insert S.assignments pair
 unfolding after_record after_assignment end_sessions
 after_put S pair put = ap (λ v. (cond (is_none v) (after_assignment S pair) S).assignments) put
 
--- a record adds to them
+-- a record removes no assignment
 record_grows : (S : RbacState) (pair : Pair) → IsSubset S.assignments (after_record S pair).assignments
 record_grows S pair p there = by (assignment_verdict S pair) refl
   where
@@ -76,14 +76,14 @@ unfolding after_import
 import_grows S [] p there = there
 import_grows S (pair ∷ pairs) p there = import_grows (after_record S pair) pairs p (record_grows S pair p there)
 
--- ---- more assignments never mend a violation
+-- ---- more assignments never repair a violation
 
 module _ (S : RbacState) (few many : Pairs) (within : IsSubset few many) where
   -- with more assignments nobody is authorized for less
   authorized_more : (user role : Bytes) → IsTrue (is_authorized (holding S few) user role) → IsTrue (is_authorized (holding S many) user role)
   authorized_more = authorized-fewer (holding S many) (record (whole (holding S many)) { assignments = few; assignments_within = within })
 
-  -- so where none is named with more of them, none is with fewer
+  -- so if no static set is violated with more assignments, none is with fewer
   none_before : breaks_static (holding S many) ≡ None → breaks_static (holding S few) ≡ None
   none_before none = ap (option_map StaticSeparation)
       ((least_violated-None (is_kept_statically (holding S few)) S.ssd).1 (λ name n there.
@@ -96,24 +96,24 @@ module _ (S : RbacState) (few many : Pairs) (within : IsSubset few many) where
       unmapped None h = refl
       unmapped (Some name) h = cc
 
--- the static set that is named once the pair is assigned
+-- the static set that is named if the pair is assigned
 abbrev named_with : RbacState → Pairs → Pair → Option Bytes
 named_with S assignments p = static_violation (holding S (insert assignments p))
 
--- more may be within more with one pair each
+-- a subset stays one if the same pair is inserted into both sets
 one_more : (few many : Pairs) (p : Pair) → IsSubset few many → IsSubset (insert few p) (insert many p)
 one_more few many p within x h = (contains-insert-Decides pair_total pair_exact many p x).1 (elim ((contains-insert-Decides pair_total pair_exact few p x).0 h) [
   | inl same ↦ inl same
   | inr old ↦ inr (within x old)
 ])
 
--- ---- a record that is refused is assigned by no later one
+-- ---- a refused record is assigned by no later one
 
--- whatever is assigned besides, the record is refused
+-- the record is refused whatever else is assigned
 abbrev IsBlocked : RbacState → Pairs → Pair → Type 0
 IsBlocked S assignments p = (more : Pairs) → IsSubset assignments more → assignment_verdict (holding S more) p ≡ None → ⊥
 
--- where there are as many assignments as there may be
+-- if the limit of assignments is reached
 blocked_full : (S : RbacState) (assignments : Pairs) (p : Pair) → is_too_many S Assignment (len assignments + 1) ≡ true → IsBlocked S assignments p
 blocked_full S assignments p full more within put =
     let room = room_for_assignment (holding S more) p put in
@@ -121,13 +121,13 @@ blocked_full S assignments p full more within put =
     let fewer = len-subset pair_total pair_exact assignments more within in
     absurd (omega (arith, room, over, fewer))
 
--- where static separation refuses it
+-- if static separation refuses it
 blocked_static : (S : RbacState) (assignments : Pairs) (p : Pair) → (option_map StaticSeparation (named_with S assignments p) ≡ None → ⊥) → IsBlocked S assignments p
 unfolding assignment_verdict assignment_refusals after_assignment end_sessions is_kept_statically authorized_users
 blocked_static S assignments p broken more within put =
     broken (none_before S (insert assignments p) (insert more p) (one_more assignments more p within) (passed (assignment_refusals (holding S more) p) put).1.1.1.1.0)
 
--- a pair that is blocked stays out
+-- a blocked pair stays unassigned
 stays_out : (p : Pair) (S X : RbacState) → IsAlike S X → IsBlocked S X.assignments p → contains X.assignments p ≡ false → (pairs : List Pair) → contains (after_import X pairs).assignments p ≡ false
 unfolding after_import
 stays_out p S X alike blocked out [] = out
@@ -144,19 +144,19 @@ stays_out p S X alike blocked out (pair ∷ pairs) =
       | inr old ↦ true≢false (sym old ∙ out)
     ])
 
--- ---- the verdict on a record, and on the same record the second time
+-- ---- the verdict on a record, and on the same record in the second import
 
--- it is refused the second time: as assigned before where it was assigned, and else with the same number
+-- the second import refuses it: with 10 AlreadyAssigned if it was assigned, otherwise with the same code
 abbrev Again : Option Refusal → Option Refusal → Type 0
 Again None second = second ≡ Some AlreadyAssigned
 Again (Some refusal) second = (other : Refusal) × (second ≡ Some other) × IsSameCode (code_of refusal) (code_of other)
 
--- the verdict by its tests
+-- the verdict on a record, from the results of its tests
 abbrev judged : Bool → Bool → Bool → Bool → Option Refusal → Option Refusal
 judged is_user is_role is_assigned is_full last =
     first (refuse_unless is_user NoUser ∷ refuse_unless is_role NoRole ∷ refuse_if is_assigned AlreadyAssigned ∷ refuse_if is_full (TooMany Assignment) ∷ last ∷ [])
 
--- the number of a refusal, if there is one
+-- the code of a refusal, if there is one
 abbrev code : Option Refusal → ℕ
 code None = 0
 code (Some refusal) = code_of refusal
@@ -171,17 +171,18 @@ told_last None o' refusal is some = cc
 told_last (Some name) None refusal is some = absurd (some refl)
 told_last (Some name) (Some other) refusal is some = (StaticSeparation other, refl, inl (sym (ap code is)))
 
--- too many assignments where static separation refused
+-- too many assignments, if static separation refused before
 told_full : (o : Option Bytes) (refusal : Refusal) → option_map StaticSeparation o ≡ Some refusal → Again (Some refusal) (Some (TooMany Assignment))
 told_full None refusal is = cc
 told_full (Some name) refusal is = (TooMany Assignment, refl, inr (sym (ap code is), refl))
 
--- the first of one
+-- the first of a list of one
 first_alone : (l : Option Refusal) → first (l ∷ []) ≡ l
 first_alone None = refl
 first_alone (Some refusal) = refl
 
--- by the tests: those of the user and the role are the same, the pair may be assigned by then, and there may be too many
+-- A refused record is refused again. The tests of the user and the role have the same results; by then the pair may be
+-- assigned, and the limit may be reached.
 refused_again : (is_user is_role is_assigned is_full later_assigned later_full : Bool) (o o' : Option Bytes) (refusal : Refusal) →
     judged is_user is_role is_assigned is_full (option_map StaticSeparation o) ≡ Some refusal →
     (is_assigned ≡ true → later_assigned ≡ true) →
@@ -202,14 +203,14 @@ refused_again true true false false false false o o' refusal is stays full last 
     let named = sym (first_alone (option_map StaticSeparation o)) ∙ is in
     told_last o o' refusal named (some named)
 
--- a verdict by its tests
+-- the verdict on a record is that from the results of its tests
 as_judged : (S : RbacState) (assignments : Pairs) (p : Pair) →
     assignment_verdict (holding S assignments) p
     ≡ judged (contains S.users p.0) (contains S.roles p.1) (contains assignments p) (is_too_many S Assignment (len assignments + 1)) (option_map StaticSeparation (named_with S assignments p))
 unfolding assignment_verdict assignment_refusals after_assignment end_sessions is_kept_statically authorized_users
 as_judged S assignments p = refl
 
--- the verdict on the record in a state in which it is assigned
+-- an accepted record is refused with 10 AlreadyAssigned in a state in which it is assigned
 put_again : (S T : RbacState) → IsAlike S T → (pair : Pair) → assignment_verdict S pair ≡ None → IsTrue (contains T.assignments pair) → assignment_verdict T pair ≡ Some AlreadyAssigned
 put_again S T alike pair put there =
     let is_user = assigned_user S pair put in
@@ -217,7 +218,7 @@ put_again S T alike pair put there =
     verdict_alike S T alike pair ∙ as_judged S T.assignments pair
     ∙ (λ i. judged (is_user i) (is_role i) (there i) (is_too_many S Assignment (len T.assignments + 1)) (option_map StaticSeparation (named_with S T.assignments pair)))
 
--- where the record was refused, once the others were judged too
+-- a refused record is refused again after the others were judged
 kept_again : (S : RbacState) (pair : Pair) (rest : List Pair) (refusal : Refusal) → assignment_verdict S pair ≡ Some refusal → Again (Some refusal) (assignment_verdict (after_import S rest) pair)
 kept_again S pair rest refusal is =
     let later : Pairs = (after_import S rest).assignments in
@@ -239,7 +240,7 @@ kept_again S pair rest refusal is =
     still_full : {m n : ℕ} → nat_lt 20000 (m + 1) ≡ true → m ≤ n → nat_lt 20000 (n + 1) ≡ true
     still_full {m} {n} full more = let over = ltb-true 20000 (m + 1) full in lt-ltb 20000 (n + 1) (omega (arith, over, more))
 
--- the verdict on a record, and on the same record once all were judged
+-- the verdict on a record, and on the same record after all were judged
 record_again : (S : RbacState) (pair : Pair) (rest : List Pair) → Again (assignment_verdict S pair) (assignment_verdict (after_import (after_record S pair) rest) pair)
 unfolding after_import
 record_again S pair rest = by (assignment_verdict S pair) refl
@@ -251,13 +252,13 @@ record_again S pair rest = by (assignment_verdict S pair) refl
 
 -- ---- all records
 
--- the verdicts on records, and those of the second time
+-- the verdicts of the first import, and those of the second
 abbrev AllAgain : List (Option Refusal) → List (Option Refusal) → Type 0
 AllAgain [] [] = Unit {0}
 AllAgain (v ∷ vs) (w ∷ ws) = Again v w × AllAgain vs ws
 AllAgain _ _ = ⊥
 
--- each record is refused the second time, in the state once all were judged
+-- in the state after all were judged, each record is refused
 all_again : (S : RbacState) (pairs : List Pair) (T : RbacState) → after_import S pairs ≡ T → AllAgain (import_verdicts S pairs) (map (assignment_verdict T) pairs)
 unfolding after_import import_verdicts
 all_again S [] T is = tt
@@ -266,12 +267,12 @@ all_again S (pair ∷ pairs) T is = (
   all_again (after_record S pair) pairs T is,
 )
 
--- there is a refusal the second time
+-- the second verdict is a refusal
 refused_again_by : (v w : Option Refusal) → Again v w → (refusal : Refusal) × (w ≡ Some refusal)
 refused_again_by None w again = (AlreadyAssigned, again)
 refused_again_by (Some refusal) w again = (again.0, again.1)
 
--- so nothing is assigned
+-- so nothing is assigned, and each record is judged in the same state
 idle_verdicts : (T : RbacState) (pairs : List Pair) (vs : List (Option Refusal)) → AllAgain vs (map (assignment_verdict T) pairs) → import_verdicts T pairs ≡ map (assignment_verdict T) pairs
 unfolding import_verdicts
 idle_verdicts T [] vs again = refl
@@ -281,7 +282,7 @@ idle_verdicts T (pair ∷ pairs) (v ∷ vs) again =
     ap (λ X. assignment_verdict T pair ∷ import_verdicts X pairs) (record_kept T pair refused.0 refused.1)
     ∙ ap (λ ws. assignment_verdict T pair ∷ ws) (idle_verdicts T pairs vs again.1)
 
--- and the state stays
+-- and the state doesn't change
 idle_state : (T : RbacState) (pairs : List Pair) (vs : List (Option Refusal)) → AllAgain vs (map (assignment_verdict T) pairs) → after_import T pairs ≡ T
 unfolding after_import
 idle_state T [] vs again = refl
@@ -290,13 +291,13 @@ idle_state T (pair ∷ pairs) (v ∷ vs) again =
     let refused = refused_again_by v (assignment_verdict T pair) again.0 in
     ap (λ X. after_import X pairs) (record_kept T pair refused.0 refused.1) ∙ idle_state T pairs vs again.1
 
--- ---- what is told
+-- ---- the report
 
--- the second time the record is not counted as assigned
+-- the second import doesn't count the record as assigned
 again_none : (v w : Option Refusal) → Again v w → one_if (is_none w) ≡ 0
 again_none v w again = let refused = refused_again_by v w again in ap (λ x. one_if (is_none x)) refused.1
 
--- it is counted as assigned before where it was assigned or counted so the first time
+-- it counts it as assigned before exactly if the first import assigned it or counted it so
 again_already : (v w : Option Refusal) → Again v w → one_if (is_already w) ≡ one_if (is_none v) + one_if (is_already v)
 again_already None w again = ap (λ x. one_if (is_already x)) again
 again_already (Some refusal) w (other, is, codes) = ap (λ x. one_if (is_already x)) is ∙ by codes
@@ -308,7 +309,7 @@ again_already (Some refusal) w (other, is, codes) = ap (λ x. one_if (is_already
         let f : one_if (nat_eq (code_of refusal) 10) ≡ 0 = ap (λ n. one_if (nat_eq n 10)) changed.0 in
         omega (arith, e, f)
 
--- none is counted as assigned
+-- the second import counts no record as assigned
 none_assigned : (vs ws : List (Option Refusal)) → AllAgain vs ws → count_by is_none ws ≡ 0
 none_assigned [] [] again = refl
 none_assigned [] (w ∷ ws) again = absurd again
@@ -319,7 +320,7 @@ none_assigned (v ∷ vs) (w ∷ ws) again =
     let rest = none_assigned vs ws again.1 in
     omega (arith, more, one, rest)
 
--- those are counted as assigned before that were assigned or counted so the first time
+-- it counts as assigned before the records that the first import assigned or counted so
 assigned_before : (vs ws : List (Option Refusal)) → AllAgain vs ws → count_by is_already ws ≡ count_by is_none vs + count_by is_already vs
 assigned_before [] [] again = refl
 assigned_before [] (w ∷ ws) again = absurd again
@@ -332,7 +333,7 @@ assigned_before (v ∷ vs) (w ∷ ws) again =
     let rest = assigned_before vs ws again.1 in
     omega (arith, more, put, already, one, rest)
 
--- what is told of one record, before the others
+-- the entry of one record in both reports, before those of the others
 told_again : (n : ℕ) (v w : Option Refusal) (xs ys : List (ℕ × ℕ)) → Again v w → RefuseTheSame xs ys → RefuseTheSame (cons_option (refused_record (n, v)) xs) (cons_option (refused_record (n, w)) ys)
 told_again n None w xs ys again rest = subst (λ x. RefuseTheSame xs (cons_option (refused_record (n, x)) ys)) (sym again) rest
 told_again n (Some refusal) w xs ys (other, is, codes) rest =
@@ -349,7 +350,7 @@ told_again n (Some refusal) w xs ys (other, is, codes) rest =
     by k l (inl e) = subst (λ m. RefuseTheSame (told k xs) (told m ys)) e (same (nat_eq k 10) k)
     by k l (inr e) = subst (λ m. RefuseTheSame (told m xs) (told l ys)) (sym e.0) (subst (λ m. RefuseTheSame (told 24 xs) (told m ys)) (sym e.1) (refl, inr (refl, refl), rest))
 
--- the same records are told as refused
+-- both reports list the same records as refused
 refused_the_same : (n : ℕ) (vs ws : List (Option Refusal)) → AllAgain vs ws → RefuseTheSame (filter_map refused_record (enumerate_from n vs)) (filter_map refused_record (enumerate_from n ws))
 refused_the_same n [] [] again = tt
 refused_the_same n [] (w ∷ ws) again = absurd again
@@ -358,7 +359,7 @@ refused_the_same n (v ∷ vs) (w ∷ ws) again = told_again n v w _ _ again.0 (r
 
 -- ---- sessions end once
 
--- what a session that is left may do
+-- a session that is left may go on afterwards too
 kept_session : (S : RbacState) (p : Pair) → IsTrue (contains (end_sessions S).sessions p) → IsTrue (may_go_on (end_sessions S) p)
 unfolding end_sessions may_go_on authorized_users
 kept_session S p h =
@@ -368,7 +369,7 @@ kept_session S p h =
     (and_parts _ _ (sym (contains-retain pair_total pair_exact S.active (λ active. any (λ session. same_name session.0 active.0 && may_go_on S session) S.sessions) (p.0, role))
     ∙ (seconds-Decides (end_sessions S).active p.0 role).0 active)).0)))
 
--- a role that is left active is one of a session that is left
+-- a role that is left active belongs to a session that is left
 kept_owner : (S : RbacState) (session role : Bytes) → IsTrue (contains (end_sessions S).active (session, role)) → (user : Bytes) × IsTrue (contains (end_sessions S).sessions (session, user))
 unfolding end_sessions
 kept_owner S session role h =
@@ -378,11 +379,11 @@ kept_owner S session role h =
     let same : owner.0 ≡ (session, owner.0.1) = λ i. ((tie_Decides name_total name_exact owner.0.0 session).0 tests.0 i, owner.0.1) in
     (owner.0.1, subst (λ p. IsTrue (contains (end_sessions S).sessions p)) same (contains-retain pair_total pair_exact S.sessions (may_go_on S) owner.0 ∙ and_from _ _ owner.1 tests.1))
 
--- those that are left go on
+-- so no further session ends
 ended_once : (S : RbacState) → end_sessions (end_sessions S) ≡ end_sessions S
 ended_once S = none_ends_where (end_sessions S) (kept_session S) (kept_owner S)
 
--- and a verdict on a record is the same
+-- the verdict on a record is the same after sessions have ended
 verdict_ended : (S : RbacState) (p : Pair) → assignment_verdict (end_sessions S) p ≡ assignment_verdict S p
 unfolding assignment_verdict assignment_refusals after_assignment end_sessions is_kept_statically authorized_users
 verdict_ended S p = refl

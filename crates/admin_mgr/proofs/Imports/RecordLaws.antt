@@ -1,4 +1,4 @@
--- One record of an import, judged on the state before and the pairs that were added since.
+-- One record of an import, judged by the state before the import and the pairs that were added since.
 use Rattle.std.proofs.Common.{◌≡◌, ◌+◌, ◌≤◌, arith, Bool, false, ◌||◌, ◌&&◌, not, List, [], ◌∷◌, ◌++◌, refl, sym, ◌∙◌, ap, inl, inr}
 use Rattle.std.specs.Prelude.{IsTrue, Option, Some, None, nat_lt, count_by, find}
 use Rattle.std.specs.Option.{option_map}
@@ -24,9 +24,9 @@ use Rattle.admin_mgr.proofs.StateAfter.GoodAssignment.{not_assigned}
 use Rattle.admin_mgr.proofs.Imports.UnionLaws.{len-union}
 use Rattle.admin_mgr.proofs.Verdicts.VerdictLaws.{passed, refuse_unless-None, stopped}
 
--- ---- what a user holds of either set
+-- ---- the pairs of a name in the union of two sets
 
--- what stands behind a name in either set passes a test where it does in one of them
+-- a test holds of some second part in the union exactly if it does in one of the sets
 any_union : (p : Bytes → Bool) (s t : Pairs) (x : Bytes) → any p (seconds (union s t) x) ≡ (any p (seconds s x) || any p (seconds t x))
 any_union p s t x =
     let either = any-Decides name_total name_exact p (seconds (union s t) x) in
@@ -53,7 +53,7 @@ any_union p s t x =
       ))
     ])
 
--- both runs, one after the other, reach what the run of both reaches
+-- the pairs of both sets, one after the other, reach the roles that those of the union reach
 pub reached_union : (edges s t : Pairs) (x q : Bytes) → is_reached edges (run_of (union s t) x) q ≡ is_reached edges (run_of s x ++ run_of t x) q
 reached_union edges s t x q =
     let above : Bytes → Bool = λ r. geq edges r q in
@@ -61,7 +61,7 @@ reached_union edges s t x q =
     ∙ (λ i. any_seconds above s x i || any_seconds above t x i)
     ∙ sym (list_any-append (λ (pair : Pair). geq edges pair.1 q) (run_of s x) (run_of t x))
 
--- so the same set is found
+-- so the same separation of duty set is found
 pub found_union : (edges s t : Pairs) (x role : Bytes) (pairs : Pairs) (sets : List Cardinality) →
     find_in edges (run_of (union s t) x) role pairs sets ≡ find_in edges (run_of s x ++ run_of t x) role pairs sets
 found_union edges s t x role pairs sets = λ i. find (λ (entry : Cardinality). is_touched edges role (run_of pairs entry.0)
@@ -69,12 +69,12 @@ found_union edges s t x role pairs sets = λ i. find (λ (entry : Cardinality). 
 
 -- ---- the verdict on a record
 
--- the static set that would be violated, which is named last
+-- the refusal that names the static set that would be violated; it comes last
 abbrev pub named_last : RbacState → Pairs → Bytes → Bytes → Option Refusal
 named_last S added user role = naming_first StaticSeparation (has_with S.edges (run_of S.assignments user ++ run_of added user) role) S.ssd
 
 module _ (S : RbacState) (added : Pairs) (good : IsGood (with_assignments S added)) (apart : IsDisjoint S.assignments added) (user role : Bytes) where
-  -- but for static separation the record is judged so
+  -- the refusals other than static separation
   same_refusals : assign_user_refusals (with_assignments S added) (user, role) ≡ record_refusals S added (user, role)
   unfolding with_assignments
   same_refusals = λ i.
@@ -84,14 +84,14 @@ module _ (S : RbacState) (added : Pairs) (good : IsGood (with_assignments S adde
       ∷ too_many S Assignment (len-union pair_total pair_exact S.assignments added apart i + 1)
       ∷ []
 
-  -- and then by the same static set
+  -- the refusal by static separation
   same_last : IsTrue (contains S.users user) → breaks_static (after_assignment (with_assignments S added) (user, role)) ≡ named_last S added user role
   unfolding with_assignments
   same_last is_user =
       assignment_breaks (with_assignments S added) good user role is_user
       ∙ ap (λ o. option_map StaticSeparation (option_map (λ (x : Cardinality). x.0) o)) (found_union S.edges S.assignments added user role S.ssd.members (members S.ssd.cardinalities))
 
-  -- the record is refused for the first of these, and else for the static set that would be violated
+  -- the record is refused with the first of these refusals, otherwise for the static set that would be violated
   pub record_verdict : assignment_verdict (with_assignments S added) (user, role) ≡ first (record_refusals S added (user, role) ++ named_last S added user role ∷ [])
   unfolding assignment_verdict assignment_refusals
   record_verdict =
@@ -106,7 +106,7 @@ module _ (S : RbacState) (added : Pairs) (good : IsGood (with_assignments S adde
           let is_user = refuse_unless-None (contains S.users user) NoUser (passed (record_refusals S added (user, role)) is).0 in
           ap (λ last. first (record_refusals S added (user, role) ++ last ∷ [])) (same_last is_user)
 
--- the assignments and those that were added are no more than there may be
+-- the assignments and the added pairs are at most 20,000 together
 pub added_len : (S : RbacState) (added : Pairs) → IsGood (with_assignments S added) → IsDisjoint S.assignments added → len S.assignments + len added ≤ 20000
 unfolding with_assignments
 added_len S added good apart =
@@ -114,7 +114,7 @@ added_len S added good apart =
     let few : len (union S.assignments added) ≤ 20000 = good.limits.assignments in
     omega (arith, both, few)
 
--- a pair that is put was not added before
+-- an accepted pair is neither assigned before nor among the added ones
 pub new_to_added : (S : RbacState) (added : Pairs) (pair : Pair) → assignment_verdict (with_assignments S added) pair ≡ None → (contains S.assignments pair ≡ false) × (contains added pair ≡ false)
 unfolding with_assignments
 new_to_added S added pair put = or_parts (contains S.assignments pair) (contains added pair)

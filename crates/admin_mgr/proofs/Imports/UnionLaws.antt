@@ -1,4 +1,4 @@
--- Sets to which entries are put: unions, and how many entries there are.
+-- Sets with entries added: unions, and how many members they have.
 use Rattle.std.proofs.Common.{◌≡◌, ◌+◌, false, cond, ◌||◌, List, [], ◌∷◌, length, refl, sym, ◌∙◌, ap, arith}
 use Rattle.std.specs.Prelude.{IsTrue}
 use Rattle.std.specs.List.{list_any, IsDistinct}
@@ -16,12 +16,12 @@ use Rattle.rbac_sets.proofs.InOrder.{none_passes}
 use Rattle.rbac_sets.proofs.Members.{len-members, members-distinct}
 
 module _ {K : Type 0} {R : K → K → Ordering} (total : IsTotalOrder R) (exact : IsAntisymmetric R) where
-  -- nothing more
+  -- the union with the empty set
   pub union-empty : (s : FinSet R) → union s empty ≡ s
   union-empty s = same_set total exact (union s empty) s (λ y.
       contains-union total exact s empty y ∙ ap (λ b. contains s y || b) (contains-empty R y) ∙ or-false (contains s y))
 
-  -- one more of those that are put
+  -- the union with one more entry in the second set
   pub union-insert : (s t : FinSet R) (x : K) → union s (insert t x) ≡ insert (union s t) x
   union-insert s t x = same_set total exact (union s (insert t x)) (insert (union s t) x) (λ y.
       contains-union total exact s (insert t x) y
@@ -30,7 +30,7 @@ module _ {K : Type 0} {R : K → K → Ordering} (total : IsTotalOrder R) (exact
       ∙ ap (λ b. eq_by_cmp R y x || b) (sym (contains-union total exact s t y))
       ∙ sym (contains-insert total (union s t) x y))
 
-  -- one more before the others, or after them
+  -- an entry that is inserted before the union may be inserted into the second set instead
   pub insert-union : (s t : FinSet R) (x : K) → union (insert s x) t ≡ union s (insert t x)
   insert-union s t x = same_set total exact (union (insert s x) t) (union s (insert t x)) (λ y.
       contains-union total exact (insert s x) t y
@@ -40,23 +40,23 @@ module _ {K : Type 0} {R : K → K → Ordering} (total : IsTotalOrder R) (exact
       ∙ ap (λ b. contains s y || b) (sym (contains-insert total t x y))
       ∙ sym (contains-union total exact s (insert t x) y))
 
-  -- to put each of a list is to put the list's set
+  -- inserting each entry of a list is the union with the set of the list
   pub insert_all-union : (s : FinSet R) (xs : List K) → insert_all s xs ≡ union s (from_list xs)
   unfolding insert_all from_list
   insert_all-union s [] = sym (union-empty s)
   insert_all-union s (x ∷ xs) = ap (λ t. insert t x) (insert_all-union s xs) ∙ sym (union-insert s (from_list xs) x)
 
-  -- an entry that is not there counts
+  -- an absent entry adds one to the number of members
   pub len-insert-new : (s : FinSet R) (x : K) → contains s x ≡ false → len (insert s x) ≡ len s + 1
   unfolding len insert contains
   len-insert-new s x absent = finmap.len-insert total s x tt ∙ ap (λ b. cond b (finmap.len s) (finmap.len s + 1)) absent
 
-  -- what was there and what is of the list is there
+  -- the members after the entries of a list are inserted
   contains-insert_all : (s : FinSet R) (xs : List K) (y : K) → contains (insert_all s xs) y ≡ (contains s y || list_any (eq_by_cmp R y) xs)
   contains-insert_all s xs y = ap (λ t. contains t y) (insert_all-union s xs) ∙ contains-union total exact s (from_list xs) y
       ∙ ap (λ b. contains s y || b) (contains-from_list total xs y)
 
-  -- each of a list of different ones that are not there counts
+  -- distinct absent entries add their number to the number of members
   pub len-insert_all : (s : FinSet R) (xs : List K) → IsDistinct (eq_by_cmp R) xs → ((x : K) → IsTrue (list_any (eq_by_cmp R x) xs) → contains s x ≡ false) →
       len (insert_all s xs) ≡ len s + length xs
   unfolding insert_all IsDistinct
@@ -69,7 +69,7 @@ module _ {K : Type 0} {R : K → K → Ordering} (total : IsTotalOrder R) (exact
       let more : len (insert (insert_all s xs) x) ≡ len (insert_all s xs) + 1 = len-insert-new (insert_all s xs) x new in
       omega (arith, rest, more)
 
-  -- sets that have none in common have as many members as both
+  -- the union of disjoint sets has as many members as both together
   pub len-union : (s t : FinSet R) → IsDisjoint s t → len (union s t) ≡ len s + len t
   unfolding union
   len-union s t apart =
@@ -78,7 +78,7 @@ module _ {K : Type 0} {R : K → K → Ordering} (total : IsTotalOrder R) (exact
       let counted : len t ≡ length (members t) = len-members t in
       omega (arith, all, counted)
 
-  -- a set of different ones has as many members as there are
+  -- the set of distinct entries has as many members as the list
   pub len-distinct : (xs : List K) → IsDistinct (eq_by_cmp R) xs → len (from_list {R = R} xs) ≡ length xs
   unfolding from_list IsDistinct len empty
   len-distinct [] distinct = finmap.len-empty R (Unit {0})

@@ -1,4 +1,4 @@
--- The plans of a new user, role, object, permission and grant, and of a role that is activated: one row is put.
+-- The plans that add a user, role, object, permission or grant, or activate a role: each inserts one row.
 use Rattle.std.proofs.Common.{◌≡◌, refl}
 use Rattle.std.specs.Prelude.{None}
 use Rattle.rbac_sets.specs.Sets.{Bytes}
@@ -17,25 +17,21 @@ use Rattle.admin_mgr.proofs.StateAfter.AdditionLaws.{add_user_absent, after_add_
 use Rattle.admin_mgr.proofs.StateAfter.NewSessionLaws.{add_active_role_absent, after_add_active_role, good_after_add_active_role}
 use Rattle.admin_mgr.proofs.PlanRows.PlainPlans.{IsDoneByOne, done_by_one}
 
--- the row of the user is put
 pub done_add_user : (S : RbacState) → IsGood S → (user : Bytes) → verdict S (AddUser user) ≡ None → IsDoneByOne S (AddUser user) Put (NameRow USER user)
 unfolding tally changed
 done_add_user S good user accepted = done_by_one S (AddUser user) refl (after_add_user S good user accepted) (good_after_add_user S good user accepted) refl
     Put (NameRow USER user) (steps_put_one user_rows S user (add_user_absent S user accepted))
 
--- the row of the role is put
 pub done_add_role : (S : RbacState) → IsGood S → (role : Bytes) → verdict S (AddRole role) ≡ None → IsDoneByOne S (AddRole role) Put (NameRow ROLE role)
 unfolding tally changed
 done_add_role S good role accepted = done_by_one S (AddRole role) refl (after_add_role S good role accepted) (good_after_add_role S good role accepted) refl
     Put (NameRow ROLE role) (steps_put_one role_rows S role (add_role_absent S role accepted))
 
--- the row of the object is put
 pub done_add_perm_obj : (S : RbacState) → IsGood S → (object : Bytes) → verdict S (AddPermObj object) ≡ None → IsDoneByOne S (AddPermObj object) Put (NameRow OBJECT object)
 unfolding tally changed
 done_add_perm_obj S good object accepted = done_by_one S (AddPermObj object) refl (after_add_perm_obj S good object accepted) (good_after_add_perm_obj S good object accepted) refl
     Put (NameRow OBJECT object) (steps_put_one object_rows S object (add_perm_obj_absent S object accepted))
 
--- the row of the permission is put
 pub done_add_permission : (S : RbacState) → IsGood S → (object operation : Bytes) → verdict S (AddPermission object operation) ≡ None →
     IsDoneByOne S (AddPermission object operation) Put (PairRow PERMISSION object operation)
 unfolding tally changed
@@ -43,7 +39,6 @@ done_add_permission S good object operation accepted = done_by_one S (AddPermiss
     (after_add_permission S good object operation accepted) (good_after_add_permission S good object operation accepted) refl
     Put (PairRow PERMISSION object operation) (steps_put_one permission_rows S (object, operation) (add_permission_absent S object operation accepted))
 
--- the row of the grant is put
 pub done_grant_permission : (S : RbacState) → IsGood S → (object operation role : Bytes) → verdict S (GrantPermission object operation role) ≡ None →
     IsDoneByOne S (GrantPermission object operation role) Put (GrantRow object operation role)
 unfolding tally changed
@@ -51,7 +46,6 @@ done_grant_permission S good object operation role accepted = done_by_one S (Gra
     (after_grant_permission S good object operation role accepted) (good_after_grant_permission S good object operation role accepted) refl
     Put (GrantRow object operation role) (steps_put_one grant_rows S (object, operation, role) (grant_permission_absent S object operation role accepted))
 
--- the row of the role with its session is put
 pub done_add_active_role : (S : RbacState) → IsGood S → (user session role : Bytes) → verdict S (AddActiveRole user session role) ≡ None →
     IsDoneByOne S (AddActiveRole user session role) Put (PairRow ACTIVATED_ROLE session role)
 unfolding tally changed

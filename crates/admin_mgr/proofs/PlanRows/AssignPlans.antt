@@ -1,4 +1,4 @@
--- The plan of an assignment: its row is put.
+-- The plan of an assignment: it inserts one row.
 use Rattle.std.proofs.Common.{◌≡◌, refl}
 use Rattle.std.specs.Prelude.{None}
 use Rattle.rbac_sets.specs.Sets.{Bytes}
@@ -16,7 +16,6 @@ use Rattle.admin_mgr.proofs.PlanRows.SetRows.{assignment_rows}
 use Rattle.admin_mgr.proofs.StateAfter.GoodAssignment.{after_assign_user, good_after_assign_user, new_assignment}
 use Rattle.admin_mgr.proofs.PlanRows.PlainPlans.{IsDoneByOne, done_by_one}
 
--- the row of the user with the role is put
 pub done_assign_user : (S : RbacState) → IsGood S → (user role : Bytes) → verdict S (AssignUser user role) ≡ None → IsDoneByOne S (AssignUser user role) Put (PairRow ASSIGNMENT user role)
 unfolding tally changed
 done_assign_user S good user role accepted = done_by_one S (AssignUser user role) refl (after_assign_user S good user role accepted) (good_after_assign_user S good user role accepted) refl

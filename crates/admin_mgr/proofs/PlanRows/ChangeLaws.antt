@@ -1,4 +1,4 @@
--- What one change makes of the rows, and what a whole list of them makes.
+-- The effect of one change on the rows of a state, and of a list of changes.
 use Rattle.std.proofs.Common.{◌≡◌, ℕ, Bool, true, false, not, ◌&&◌, ◌||◌, List, [], ◌∷◌, refl, sym, ◌∙◌, ap, subst, inl, inr}
 use Rattle.std.specs.Prelude.{nat_eq, if◌then◌else◌}
 use Rattle.std.specs.declared.cmp.Ordering.{Ordering}
@@ -22,11 +22,11 @@ use Rattle.admin_mgr.specs.Stepping.{is_plain, with_row, without_row, after_chan
 
 -- ---- the kinds of the rows that change one by one
 
--- a kind that passes the test for a kind is that kind
+-- what holds of a number holds of each that equals it
 one_of : (P : ℕ → Type 0) (k n : ℕ) → P k → nat_eq n k ≡ true → P n
 one_of P k n at is = subst P (sym (eqb-true n k is)) at
 
--- what holds at the three kinds of names holds at each kind that passes the test
+-- what holds of the three kinds of names holds of each kind that passes the test
 pub plain_names : (P : ℕ → Type 0) → P USER → P ROLE → P OBJECT → (kind : ℕ) → (nat_eq kind USER || nat_eq kind ROLE || nat_eq kind OBJECT) ≡ true → P kind
 plain_names P at_user at_role at_object kind test = elim (or_cases (nat_eq kind USER || nat_eq kind ROLE) (nat_eq kind OBJECT) test) [
   | inl before ↦ elim (or_cases (nat_eq kind USER) (nat_eq kind ROLE) before) [
@@ -36,7 +36,7 @@ plain_names P at_user at_role at_object kind test = elim (or_cases (nat_eq kind 
   | inr is ↦ one_of P OBJECT kind at_object is
 ]
 
--- what holds at the six kinds of pairs holds at each kind that passes the test
+-- what holds of the six kinds of pairs holds of each kind that passes the test
 pub plain_pairs : (P : ℕ → Type 0) → P PERMISSION → P ASSIGNMENT → P STATIC_MEMBER → P DYNAMIC_MEMBER → P SESSION → P ACTIVATED_ROLE → (kind : ℕ) →
     (nat_eq kind PERMISSION || nat_eq kind ASSIGNMENT || nat_eq kind STATIC_MEMBER || nat_eq kind DYNAMIC_MEMBER || nat_eq kind SESSION || nat_eq kind ACTIVATED_ROLE) ≡ true → P kind
 plain_pairs P at_permission at_assignment at_static at_dynamic at_session at_active kind test = elim (or_cases (nat_eq kind PERMISSION || nat_eq kind ASSIGNMENT || nat_eq kind STATIC_MEMBER || nat_eq kind DYNAMIC_MEMBER || nat_eq kind SESSION) (nat_eq kind ACTIVATED_ROLE) test) [
@@ -56,7 +56,7 @@ plain_pairs P at_permission at_assignment at_static at_dynamic at_session at_act
   | inr is ↦ one_of P ACTIVATED_ROLE kind at_active is
 ]
 
--- what holds at both kinds of cardinalities holds at each kind that passes the test
+-- what holds of both kinds of cardinalities holds of each kind that passes the test
 pub plain_sets : (P : ℕ → Type 0) → P STATIC_CARDINALITY → P DYNAMIC_CARDINALITY → (kind : ℕ) → (nat_eq kind STATIC_CARDINALITY || nat_eq kind DYNAMIC_CARDINALITY) ≡ true → P kind
 plain_sets P at_static at_dynamic kind test = elim (or_cases (nat_eq kind STATIC_CARDINALITY) (nat_eq kind DYNAMIC_CARDINALITY) test) [
   | inl is ↦ one_of P STATIC_CARDINALITY kind at_static is
@@ -65,15 +65,13 @@ plain_sets P at_static at_dynamic kind test = elim (or_cases (nat_eq kind STATIC
 
 -- ---- one change
 
--- no other row is added
 or_false : (b : Bool) → b ≡ (b || false)
 or_false b = sym (or-false b)
 
--- no other row is lost
 and_true : (b : Bool) → b ≡ (b && true)
 and_true b = sym (and-true b)
 
--- a set that gains or loses a member on one condition alone
+-- a set that gains or loses one member on a condition
 module _ {K : Type 0} {R : K → K → Ordering} (total : IsTotalOrder R) where
   insert_if : (b : Bool) (s : FinSet R) (a x : K) → contains (if b then insert s a else s) x ≡ (contains s x || (b && eq_by_cmp R x a))
   insert_if true s a x = contains-insert total s a x ∙ or_comm (eq_by_cmp R x a) (contains s x)
@@ -83,7 +81,7 @@ module _ {K : Type 0} {R : K → K → Ordering} (total : IsTotalOrder R) where
   remove_if true s a x = contains-remove total s a x ∙ and_comm (not (eq_by_cmp R x a)) (contains s x)
   remove_if false s a x = and_true (contains s x)
 
--- after one row is put, the rows are those before and this one
+-- after a row is inserted, the rows are those before and this one
 pub has_row-with : (S : RbacState) (row other : Row) → is_plain other ≡ true → has_row (with_row S row) other ≡ (has_row S other || same_row row other)
 unfolding has_row with_row
 has_row-with S (NameRow k a) (NameRow l x) plain =
@@ -123,7 +121,7 @@ has_row-with S (LockedRow a) (GrantRow x y z) plain = or_false (has_row S (Grant
 has_row-with S (LockedRow a) (SetRow l x n) plain = or_false (has_row S (SetRow l x n))
 has_row-with S (LockedRow a) (LockedRow x) plain = insert_if name_total true S.locked a x
 
--- after one row is taken, the rows are those before but for this one
+-- after a row is removed, the rows are those before without this one
 pub has_row-without : (S : RbacState) (row other : Row) → is_plain other ≡ true → has_row (without_row S row) other ≡ (has_row S other && not (same_row row other))
 unfolding has_row without_row
 has_row-without S (NameRow k a) (NameRow l x) plain =
@@ -163,9 +161,9 @@ has_row-without S (LockedRow a) (GrantRow x y z) plain = and_true (has_row S (Gr
 has_row-without S (LockedRow a) (SetRow l x n) plain = and_true (has_row S (SetRow l x n))
 has_row-without S (LockedRow a) (LockedRow x) plain = remove_if name_total true S.locked a x
 
--- ---- a whole list of changes
+-- ---- a list of changes
 
--- The first change before the others: a row that is put first counts as put, one that is taken first as taken.
+-- The first change and the others: a row that the first inserts counts as inserted, one that it removes as removed.
 put_first : (has same taken put : Bool) → (taken && (same || put)) ≡ false → ((has || same) && not taken || put) ≡ (has && not taken || (same || put))
 put_first has true true put h = cc
 put_first true true false put h = refl
@@ -180,7 +178,7 @@ take_first true true taken put = refl
 take_first true false taken put = refl
 take_first false same taken put = refl
 
--- what is not both taken and put by all of the changes is not so by the rest of them
+-- a row that isn't both removed and inserted by all changes isn't so by the rest of them
 rest_put : (same taken put : Bool) → (taken && (same || put)) ≡ false → (taken && put) ≡ false
 rest_put same false put h = refl
 rest_put true true put h = cc
@@ -191,7 +189,7 @@ rest_taken true false put h = refl
 rest_taken true true put h = h
 rest_taken false taken put h = h
 
--- a row that isn't both put and taken is there where it was and isn't taken, or where it is put
+-- a row that isn't both removed and inserted is there afterwards exactly if it was there and isn't removed, or is inserted
 pub has_row-changes : (S : RbacState) (changes : List Change) (row : Row) → is_plain row ≡ true → (is_taken changes row && is_put changes row) ≡ false →
     has_row (after_changes S changes) row ≡ (has_row S row && not (is_taken changes row) || is_put changes row)
 unfolding after_changes is_put is_taken

@@ -1,4 +1,4 @@
--- The changes of a plan, made one by one, lead to the state that it names.
+-- The changes of a plan, made one by one, give the state that the plan leads to.
 use Rattle.std.proofs.Common.{◌≡◌, Bool, true, false, not, ◌&&◌, ◌||◌, List, [], ◌∷◌, refl, sym, ◌∙◌, ap, subst}
 use Rattle.std.specs.Prelude.{nat_eq, Some, None}
 use Rattle.std.proofs.lemmas.Bool.{eqb-true, eq-eqb, and_parts, and_from, or_left, or_right, true≢false, false_from_ne_true}
@@ -31,7 +31,7 @@ same_row-self (GrantRow a b c) = (tie_Decides triple_total triple_exact (a, b, c
 same_row-self (SetRow k a n) = and_from _ _ (eq-eqb k k refl) ((tie_Decides cardinality_total cardinality_exact (a, n) (a, n)).1 refl)
 same_row-self (LockedRow a) = (tie_Decides name_total name_exact a a).1 refl
 
--- only equal rows are the same
+-- rows that the test calls the same are equal
 pub same_row-is : (row other : Row) → same_row row other ≡ true → other ≡ row
 same_row-is (NameRow k a) (NameRow l x) h =
     let parts = and_parts (nat_eq k l) _ h in
@@ -69,9 +69,9 @@ same_row-is (LockedRow a) (PairRow l x y) h = cc
 same_row-is (LockedRow a) (GrantRow x y z) h = cc
 same_row-is (LockedRow a) (SetRow l x n) h = cc
 
--- ---- what no change of rows touches
+-- ---- what changes of rows leave unchanged
 
--- a change of a row leaves the edges
+-- a change of a row leaves the edges unchanged
 pub edges_stay : (S : RbacState) (change : Change) → (after_change S change).edges ≡ S.edges
 unfolding with_row without_row
 edges_stay S (Put (NameRow k a)) = refl
@@ -99,7 +99,7 @@ version_stays S (Take (GrantRow a b c)) = refl
 version_stays S (Take (SetRow k a n)) = refl
 version_stays S (Take (LockedRow a)) = refl
 
--- a list of changes leaves the edges
+-- a list of changes leaves the edges unchanged
 pub edges-changes : (S : RbacState) (changes : List Change) → (after_changes S changes).edges ≡ S.edges
 unfolding after_changes
 edges-changes S [] = refl
@@ -111,19 +111,19 @@ unfolding after_changes
 version-changes S [] = refl
 version-changes S (change ∷ changes) = version-changes (after_change S change) changes ∙ version_stays S change
 
--- ---- rows that aren't there when they are put
+-- ---- rows that are absent when they are inserted
 
--- a test is not passed where another one rules it out
+-- two tests don't both hold if the first excludes the second
 by_test : (b c : Bool) → (b ≡ true → c ≡ false) → (b && c) ≡ false
 by_test true c h = h refl
 by_test false c h = refl
 
--- a row that was absent, and is another one than the row that is put, is still absent
+-- an absent row is still absent after another row is inserted
 still_absent : (S : RbacState) (row other : Row) → is_plain other ≡ true → has_row S other ≡ false → (other ≡ row → ⊥) → has_row (with_row S row) other ≡ false
 still_absent S row other plain absent differ =
     has_row-with S row other plain ∙ (λ i. absent i || false_from_ne_true (same_row row other) (λ same. differ (same_row-is row other same)) i)
 
--- rows that are put once, and are absent at first, are absent when their turns come
+-- rows that are absent at first, and inserted once, are absent when their turn comes
 free_put : (S : RbacState) (changes : List Change) → ((row : Row) → is_plain row ≡ true → is_put changes row ≡ true → has_row S row ≡ false) → IsOnce changes → AreFree S changes
 unfolding is_put
 free_put S [] absent once = tt
@@ -137,26 +137,26 @@ free_put S (Put row ∷ changes) absent once = (
       (λ is. true≢false (sym (subst (λ r. is_put changes r ≡ true) is put) ∙ once.0))) once.1,
 )
 
--- ---- where they lead
+-- ---- the state that they lead to
 
 module _ (S T : RbacState) (changes : List Change) (turns : Turns S changes T) where
-  -- each row that is put is absent when its turn comes
+  -- each inserted row is absent when its turn comes
   pub free : AreFree S changes
   free = free_put S changes (λ row plain put. turns.absent row put) turns.once
 
-  -- no row is both taken and put
+  -- no row is both removed and inserted
   apart : (row : Row) → (is_taken changes row && is_put changes row) ≡ false
   apart row = false_from_ne_true _ (λ both. let parts = and_parts (is_taken changes row) _ both in true≢false (sym (turns.there row parts.0) ∙ turns.absent row parts.1))
 
-  -- the changes make each row what it is in the state that they lead to
+  -- after the changes, each row is there exactly if it is in the state that they lead to
   rows : (row : Row) → is_plain row ≡ true → has_row (after_changes S changes) row ≡ has_row T row
   rows row plain = has_row-changes S changes row plain (apart row) ∙ sym (turns.rows row)
 
-  -- where the edges stay, the changes one after the other lead to the state
+  -- if the edges stay the same, the changes give that state
   pub led_to : S.edges ≡ T.edges → after_changes S changes ≡ T
   led_to edges = plain_determine (after_changes S changes) T (version-changes S changes ∙ turns.version) (edges-changes S changes ∙ edges) rows
 
-  -- and else together with its edges
+  -- otherwise they give it together with its edges
   pub led_to_edges : (edges : Pairs) → edges ≡ T.edges → with_edges (after_changes S changes) edges ≡ T
   led_to_edges edges is =
       plain_determine (with_edges (after_changes S changes) edges) T (version-changes S changes ∙ turns.version) is
@@ -164,11 +164,11 @@ module _ (S T : RbacState) (changes : List Change) (turns : Turns S changes T) w
 
 -- ---- a whole plan
 
--- a plan without one of the hierarchy leads by its changes alone
+-- a plan without a plan of the hierarchy gives its state by its changes alone
 pub leads : (S T : RbacState) (plan : Plan) → LeadsTo S plan T → plan.order ≡ None → (X : RbacState) → X ≡ after_changes S plan.changes.items → X ≡ T
 leads S T plan to none X made = made ∙ led_to S T plan.changes.items to.rows (subst (λ o. TurnsEdges S o T) none to.edges)
 
--- and else by its changes and then the hierarchy's
+-- otherwise it gives it by its changes and then those of the hierarchy
 pub leads_edges : (S T : RbacState) (plan : Plan) (order : OrderPlan) → LeadsTo S plan T → plan.order ≡ Some order →
     (X : RbacState) → X ≡ after_changes S plan.changes.items → with_edges X (changed X.edges order) ≡ T
 leads_edges S T plan order to some X made =

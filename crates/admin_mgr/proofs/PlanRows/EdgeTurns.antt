@@ -36,15 +36,15 @@ use Rattle.admin_mgr.proofs.PlanRows.OrderTurns.{turns_adding_edge, turns_taking
 
 -- ---- the edge of a plan for this ascendant and descendant
 
--- the edges after a plan to put the edge
+-- the edges after a plan that adds the edge
 pub edges_with : (edges : Pairs) (asc desc : Bytes) (plan : Plan) → IsPlanOf edges true asc desc plan → changed_edges edges plan ≡ insert edges (asc, desc)
 edges_with edges asc desc plan planned = changed-adds edges plan asc desc planned.same_kind planned.same_asc planned.same_desc
 
--- the edges after a plan to take the edge
+-- the edges after a plan that removes the edge
 pub edges_without : (edges : Pairs) (asc desc : Bytes) (plan : Plan) → IsPlanOf edges false asc desc plan → changed_edges edges plan ≡ remove edges (asc, desc)
 edges_without edges asc desc plan planned = changed-takes edges plan asc desc planned.same_kind planned.same_asc planned.same_desc
 
--- rows come, and then those of the edge with the pairs that the order gains
+-- rows are inserted, and then those of the edge and of the pairs that the order gains
 pub turns_with_edge :
     {S T : RbacState} {changes : List Change} (asc desc : Bytes) (plan : Plan)
     → IsPlanOf S.edges true asc desc plan → Steps putting S changes T
@@ -54,7 +54,7 @@ turns_with_edge {S} {T} {changes} asc desc plan planned steps =
     (subst (λ (edges : Pairs). Turns S (changes ++ order_puts plan.asc plan.desc plan.puts) (with_edges T edges)) (edges_with S.edges asc desc plan planned)
     (turns_adding_edge plan steps planned.fits planned.same_kind))
 
--- the rows go of the edge with the pairs that the order loses, and then other rows
+-- the rows of the edge and of the pairs that the order loses are removed, and then other rows
 pub turns_without_edge :
     {S T : RbacState} {changes : List Change} (asc desc : Bytes) (plan : Plan)
     → IsPlanOf S.edges false asc desc plan → contains S.edges (asc, desc) ≡ true → Steps taking S changes T
@@ -64,14 +64,14 @@ turns_without_edge {S} {T} {changes} asc desc plan planned there steps =
     (subst (λ (edges : Pairs). Turns S (order_takes plan.asc plan.desc plan.takes ++ changes) (with_edges T edges)) (edges_without S.edges asc desc plan planned)
     (turns_taking_edge plan steps planned.fits planned.same_kind (ap (contains S.edges) (λ i. (planned.same_asc i, planned.same_desc i)) ∙ there)))
 
--- ---- a plan of the hierarchy that isn't refused
+-- ---- how a plan of the hierarchy may be refused
 
--- the refusal that is told, if one is
+-- the refusal of a result, if it has one
 abbrev refusal_of : {X : Type 0} → Result X Refusal → Refusal
 refusal_of (Ok x) = Memory
 refusal_of (Err refusal) = refusal
 
--- where an edge isn't there and makes no cycle, a plan to put it is refused for want of memory alone
+-- a plan to add an edge that is absent and closes no cycle is only refused with `Memory`
 pub put_refused :
     {X Present Back : Type 0} (result : Result X Refusal) → (result ≡ Err EdgeExists) ↔ Present → (result ≡ Err Cycle) ↔ ((Present → ⊥) × Back)
     → OnErr result ((result ≡ Err EdgeExists) ⊎ ((result ≡ Err Cycle) ⊎ (result ≡ Err Memory)))
@@ -85,7 +85,7 @@ put_refused (Err refusal) exists cycle only absent no_back = elim only [
   ]
 ]
 
--- where an edge is there, a plan to take it is refused for want of memory alone
+-- a plan to remove an edge that is there is only refused with `Memory`
 pub take_refused :
     {X Present : Type 0} (result : Result X Refusal) → (result ≡ Err NoEdge) ↔ (Present → ⊥)
     → OnErr result ((result ≡ Err NoEdge) ⊎ (result ≡ Err Memory)) → Present → IfErr result (λ refusal. refusal ≡ Memory)
@@ -95,35 +95,35 @@ take_refused (Err refusal) absent only there = elim only [
   | inr is ↦ ap refusal_of is
 ]
 
--- an edge that goes is there
+-- an edge that is deleted is there
 pub edge_there : (S : RbacState) (asc desc : Bytes) → verdict S (DeleteInheritance asc desc) ≡ None → contains S.edges (asc, desc) ≡ true
 unfolding verdict refusals
 edge_there S asc desc accepted = refuse_unless-None (contains S.edges (asc, desc)) NoEdge (passed (refusals S (DeleteInheritance asc desc)) accepted).1.1.0
 
--- the test that one is above the other fails where it isn't so
+-- the test fails if the first role doesn't dominate the second
 not_above : (edges : Pairs) (a b : Bytes) → (Geq edges a b → ⊥) → geq edges a b ≡ false
 not_above edges a b apart = false_from_ne_true (geq edges a b) (λ h. apart ((geq-Decides edges a b).0 h))
 
--- a new role has no way to what it is put above
+-- the descendant doesn't dominate its new ascendant
 pub ascendant_makes_no_cycle : (S : RbacState) → IsGood S → (asc desc : Bytes) → verdict S (AddAscendant asc desc) ≡ None → geq S.edges desc asc ≡ false
 ascendant_makes_no_cycle S good asc desc accepted = not_above S.edges desc asc (add_ascendant_no_cycle S asc desc accepted good)
 
--- nor what it is put below one to it
+-- a new descendant doesn't dominate its ascendant
 pub descendant_makes_no_cycle : (S : RbacState) → IsGood S → (asc desc : Bytes) → verdict S (AddDescendant asc desc) ≡ None → geq S.edges desc asc ≡ false
 descendant_makes_no_cycle S good asc desc accepted = not_above S.edges desc asc (add_descendant_no_cycle S asc desc accepted good)
 
 module _ (S : RbacState) (good : IsGood S) (asc desc : Bytes) (plan : Plan) where
-  -- an immediate inheritance goes, with the pairs that the order loses and the sessions that stood on them
+  -- an immediate inheritance is deleted, with the pairs that the order loses and the sessions that depended on them
   module _ (accepted : verdict S (DeleteInheritance asc desc) ≡ None) (planned : IsPlanOf S.edges false asc desc plan) where
-    -- the state without the edge, whose sessions have yet to end
+    -- the state without the edge, before sessions end
     without : RbacState
     without = changed S (DeleteInheritance asc desc)
 
-    -- the state in which they have ended, with the edge
+    -- the state after sessions have ended, with the edge
     ended : RbacState
     ended = record (after S (DeleteInheritance asc desc)) { edges = S.edges }
 
-    -- the rows of the sessions that end lead there
+    -- removing the rows of the sessions that end leads there
     steps_sessions : Steps taking S (ended_rows S (goes_on_without_pairs S plan.takes)) ended
     unfolding after end_sessions changed without ended
     steps_sessions =
@@ -132,46 +132,46 @@ module _ (S : RbacState) (good : IsGood S) (asc desc : Bytes) (plan : Plan) wher
         (ended_rows-same S (may_go_on without) (goes_on_without_pairs S plan.takes) (λ session there. goes_on_delete_inheritance S good session there asc desc plan.takes lost))
         (steps_ended S good.well_formed.owned good.well_formed.one_owner (may_go_on without))
 
-    -- the rows of the edge, of the pairs that the order loses, and of these sessions
+    -- the rows of the edge, of the pairs that the order loses, and of these sessions are removed
     pub turns_delete_inheritance : Turns S (order_takes asc desc plan.takes ++ ended_rows S (goes_on_without_pairs S plan.takes)) (after S (DeleteInheritance asc desc))
     unfolding after end_sessions changed ended
     turns_delete_inheritance = turns_without_edge asc desc plan planned (edge_there S asc desc accepted) steps_sessions
 
-    -- its edges are those after the plan
+    -- the edges of that state are those after the plan
     pub edges_delete_inheritance : changed_edges S.edges plan ≡ (after S (DeleteInheritance asc desc)).edges
     unfolding after end_sessions changed
     edges_delete_inheritance = edges_without S.edges asc desc plan planned
 
   module _ (planned : IsPlanOf S.edges true asc desc plan) where
-    -- an immediate inheritance comes with the pairs that the order gains
+    -- an immediate inheritance is added, with the pairs that the order gains
     pub turns_add_inheritance : verdict S (AddInheritance asc desc) ≡ None → Turns S (order_puts asc desc plan.puts) (after S (AddInheritance asc desc))
     unfolding changed
     turns_add_inheritance accepted = subst (λ (T : RbacState). Turns S (order_puts asc desc plan.puts) T) (sym (after_add_inheritance S good asc desc accepted))
         (turns_with_edge asc desc plan planned (steps_nothing S))
 
-    -- its edges are those after the plan
+    -- the edges of that state are those after the plan
     pub edges_add_inheritance : changed_edges S.edges plan ≡ (after S (AddInheritance asc desc)).edges
     unfolding after end_sessions changed
     edges_add_inheritance = edges_with S.edges asc desc plan planned
 
-    -- a new role comes with its edge to a role below it
+    -- a new ascendant is added with its edge
     pub turns_add_ascendant : verdict S (AddAscendant asc desc) ≡ None → Turns S ((Put (NameRow ROLE asc) ∷ []) ++ order_puts asc desc plan.puts) (after S (AddAscendant asc desc))
     unfolding changed
     turns_add_ascendant accepted = subst (λ (T : RbacState). Turns S ((Put (NameRow ROLE asc) ∷ []) ++ order_puts asc desc plan.puts) T) (sym (after_add_ascendant S good asc desc accepted))
         (turns_with_edge asc desc plan planned (steps_put_one role_rows S asc (add_ascendant_absent S asc desc accepted)))
 
-    -- its edges are those after the plan
+    -- the edges of that state are those after the plan
     pub edges_add_ascendant : changed_edges S.edges plan ≡ (after S (AddAscendant asc desc)).edges
     unfolding after end_sessions changed
     edges_add_ascendant = edges_with S.edges asc desc plan planned
 
-    -- a new role comes with its edge from a role above it
+    -- a new descendant is added with its edge
     pub turns_add_descendant : verdict S (AddDescendant asc desc) ≡ None → Turns S ((Put (NameRow ROLE desc) ∷ []) ++ order_puts asc desc plan.puts) (after S (AddDescendant asc desc))
     unfolding changed
     turns_add_descendant accepted = subst (λ (T : RbacState). Turns S ((Put (NameRow ROLE desc) ∷ []) ++ order_puts asc desc plan.puts) T) (sym (after_add_descendant S good asc desc accepted))
         (turns_with_edge asc desc plan planned (steps_put_one role_rows S desc (add_descendant_absent S asc desc accepted)))
 
-    -- its edges are those after the plan
+    -- the edges of that state are those after the plan
     pub edges_add_descendant : changed_edges S.edges plan ≡ (after S (AddDescendant asc desc)).edges
     unfolding after end_sessions changed
     edges_add_descendant = edges_with S.edges asc desc plan planned

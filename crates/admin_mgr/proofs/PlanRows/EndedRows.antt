@@ -1,4 +1,4 @@
--- The rows of the sessions that end, and where they lead.
+-- The rows of the sessions that end, and the state that removing them leads to.
 use Rattle.std.proofs.Common.{◌≡◌, Bool, true, false, not, ◌&&◌, ◌||◌, List, [], ◌∷◌, refl, sym, ◌∙◌, ap, subst}
 use Rattle.std.specs.Prelude.{IsTrue, filter}
 use Rattle.std.specs.List.{list_any, flat_map, AllByRecursion, IsDistinct}
@@ -26,15 +26,15 @@ use Rattle.admin_mgr.proofs.PlanRows.StepLaws.{Steps, steps_nothing, steps_appen
 use Rattle.admin_mgr.proofs.PlanRows.RunLaws.{remove_all, remove_all-retain, any-retain, all_two, all_of, distinct-filter, steps_take_one, steps_take_some}
 use Rattle.admin_mgr.proofs.PlanRows.SetRows.{session_pair_rows, active_rows}
 
--- ---- what is kept of a set
+-- ---- retaining the members that pass a test
 
 module _ {K : Type 0} {R : K → K → Ordering} (total : IsTotalOrder R) (exact : IsAntisymmetric R) where
-  -- to keep by two tests, one after the other, is to keep by both
+  -- retaining by two tests, one after the other, is retaining by both
   pub retain-twice : (s : FinSet R) (p q : K → Bool) → retain (retain s p) q ≡ retain s (λ x. p x && q x)
   retain-twice s p q = same_set total exact _ _ (λ x. contains-retain total exact (retain s p) q x ∙ ap (λ b. b && q x) (contains-retain total exact s p x)
       ∙ and_assoc (contains s x) (p x) (q x) ∙ sym (contains-retain total exact s (λ y. p y && q y) x))
 
-  -- tests that agree on the members keep the same
+  -- tests that agree on the members retain the same
   pub retain-same : (s : FinSet R) (p q : K → Bool) → ((x : K) → IsTrue (contains s x) → p x ≡ q x) → retain s p ≡ retain s q
   retain-same s p q same = same_set total exact _ _ (λ x. contains-retain total exact s p x ∙ by (contains s x) (same x) ∙ sym (contains-retain total exact s q x))
     where
@@ -48,7 +48,7 @@ module _ {K : Type 0} {R : K → K → Ordering} (total : IsTotalOrder R) (exact
 abbrev pub without_session : RbacState → Pair → RbacState
 without_session S session = record S { sessions = remove S.sessions session; active = retain S.active (λ active. not (same_name active.0 session.0)) }
 
--- its rows lead there
+-- removing its rows leads there
 pub steps_end_one : (S : RbacState) (session : Pair) → contains S.sessions session ≡ true → Steps taking S (session_rows S session) (without_session S session)
 steps_end_one S session there =
     let rest : RbacState = record S { sessions = remove S.sessions session } in
@@ -61,11 +61,11 @@ unfoldable without_sessions : RbacState → List Pair → RbacState
 without_sessions S [] = S
 without_sessions S (session ∷ sessions) = without_sessions (without_session S session) sessions
 
--- no two sessions of the list have one name
+-- no two sessions of the list have the same name
 abbrev HaveOwnNames : List Pair → Type 0
 HaveOwnNames sessions = IsDistinct (λ (p : Pair) (q : Pair). same_name p.0 q.0) sessions
 
--- the roles of another session stay
+-- the activated roles of another session stay
 other_run : (pairs : Pairs) (first other : Bytes) → same_name first other ≡ false → run_of (retain pairs (λ pair. not (same_name pair.0 first))) other ≡ run_of pairs other
 other_run pairs first other apart =
     sym (members-retain pair_total pair_exact (retain pairs keeps) (λ pair. same_name pair.0 other))
@@ -93,7 +93,7 @@ still_there S session other apart there = contains-remove pair_total S.sessions 
         let same : other ≡ session = (tie_Decides pair_total pair_exact other session).0 tie in
         true≢false (sym ((tie_Decides name_total name_exact session.0 other.0).1 (λ i. (sym same i).0)) ∙ apart)
 
--- the rows of the sessions of a list, as they are in S, lead from where the sessions are and their roles are as in S
+-- removing the rows that a list of sessions has in S, from a state M with these sessions and the same roles in each
 steps_end_each : (S : RbacState) (sessions : List Pair) (M : RbacState) → HaveOwnNames sessions → AllByRecursion (λ session. contains M.sessions session ≡ true) sessions →
     AllByRecursion (λ (session : Pair). run_of S.active session.0 ≡ run_of M.active session.0) sessions → Steps taking M (flat_map (session_rows S) sessions) (without_sessions M sessions)
 unfolding without_sessions IsDistinct
@@ -105,7 +105,7 @@ steps_end_each S (session ∷ sessions) M apart there alike =
     (all_two (λ other own h. still_there M session other own h) sessions apart.0 there.1)
     (all_two (λ (other : Pair) own same. same ∙ sym (other_run M.active session.0 other.0 own)) sessions apart.0 alike.1))
 
--- all at once, it is the state without these sessions and without the roles of their names
+-- removed all at once: the state without these sessions and without the roles of their names
 without_all : (sessions : List Pair) (S : RbacState) → without_sessions S sessions ≡ record S {
   sessions = remove_all S.sessions sessions;
   active = retain S.active (λ active. not (list_any (λ (session : Pair). same_name session.0 active.0) sessions));
@@ -127,9 +127,9 @@ without_all (session ∷ sessions) S = without_all sessions (without_session S s
     roles = retain-twice pair_total pair_exact S.active (λ active. not (same_name active.0 session.0)) (λ active. not (rest active))
         ∙ retain-same pair_total pair_exact S.active _ _ (λ active there. ap (λ b. not b && not (rest active)) (same_name-flips active.0 session.0) ∙ both (same_name session.0 active.0) (rest active))
 
--- ---- the sessions that don't go on
+-- ---- the sessions that end
 
--- entries that are apart stay so by another test, which tells them apart too
+-- entries that one test tells apart are told apart by another, if that fails wherever the first does
 distinct_by : {P : Pair → Type 0} (e f : Pair → Pair → Bool) → ((p q : Pair) → P p → P q → e p q ≡ false → f p q ≡ false) → (xs : List Pair) → AllByRecursion P xs → IsDistinct e xs → IsDistinct f xs
 unfolding IsDistinct
 distinct_by e f apart [] all distinct = tt
@@ -147,13 +147,13 @@ module _
     abbrev ended : List Pair
     ended = filter ends (members S.sessions)
 
-    -- sessions of one name are one
+    -- sessions with the same name are equal
     one_session : (p q : Pair) → IsTrue (contains S.sessions p) → IsTrue (contains S.sessions q) → p.0 ≡ q.0 → p ≡ q
     one_session p q here there same =
         let user : p.1 ≡ q.1 = one_owner q.0 p.1 q.1 (subst (λ (name : Bytes). IsTrue (contains S.sessions (name, p.1))) same here) there in
         λ i. (same i, user i)
 
-    -- they are sessions, and they end
+    -- each of them is a session and ends
     ended_are : (p : Pair) → list_any (eq_by_cmp pair_cmp p) ended ≡ true → IsTrue (contains S.sessions p) × IsTrue (ends p)
     ended_are p h = and_parts _ _ (sym (any-retain pair_total pair_exact S.sessions ends p) ∙ h)
 
@@ -167,7 +167,7 @@ module _
         (λ p q here there apart. false_from_ne_true (same_name p.0 q.0) (λ same. true≢false (sym ((tie_Decides pair_total pair_exact p q).1 (one_session p q here there ((tie_Decides name_total name_exact p.0 q.0).0 same))) ∙ apart)))
         ended there_all (distinct-filter pair_total pair_exact S.sessions ends)
 
-    -- a role stays where no session of its name ends, and that is where its session goes on
+    -- no session of the role's name ends exactly if the role's session goes on
     stays : (active : Pair) → IsTrue (contains S.active active) →
         not (list_any (λ (session : Pair). same_name session.0 active.0) ended) ≡ any (λ (session : Pair). same_name session.0 active.0 && goes_on session) S.sessions
     unfolding any
@@ -204,7 +204,7 @@ module _
             let parts = and_parts _ _ found.2 in
             true≢false (sym parts.1 ∙ ap goes_on (is_owner found.0 found.1 parts.0) ∙ is)))
 
-    -- The rows of the sessions that don't go on lead to the state without these sessions and without the roles that were
+    -- Removing the rows of the sessions that end leads to the state without these sessions and without the roles that were
     -- activated in them.
     pub steps_ended : Steps taking S (ended_rows S goes_on) (record S {
       sessions = retain S.sessions goes_on;
@@ -222,7 +222,7 @@ module _
         active : retain S.active (λ active. not (list_any (λ (session : Pair). same_name session.0 active.0) ended)) ≡ retain S.active (λ active. any (λ session. same_name session.0 active.0 && goes_on session) S.sessions)
         active = retain-same pair_total pair_exact S.active _ _ stays
 
--- the rows of the sessions that may not go on lead to the state in which they have ended
+-- removing the rows of the sessions that may not go on leads to the state in which they have ended
 pub steps_end_sessions :
     (S : RbacState)
     → ((session role : Bytes) → IsTrue (contains S.active (session, role)) → (user : Bytes) × IsTrue (contains S.sessions (session, user)))

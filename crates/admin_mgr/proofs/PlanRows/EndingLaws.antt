@@ -1,4 +1,4 @@
--- Which sessions of a good state may go on after a command, told without the state after it.
+-- Which sessions of a good state may go on after a command, stated without the state after it.
 use Rattle.std.proofs.Common.{◌≡◌, Bool, true, false, not, ◌&&◌, ◌||◌, refl, sym, ◌∙◌, ap, inl, inr}
 use Rattle.std.specs.Prelude.{IsTrue}
 use Rattle.std.specs.List.{list_any, list_all}
@@ -24,9 +24,9 @@ use Rattle.admin_mgr.proofs.Verdicts.HeldLaws.{authorized_reached}
 use Rattle.admin_mgr.proofs.StateAfter.PartLaws.{geq-fewer, remove-subset}
 use Rattle.admin_mgr.proofs.StateAfter.SessionLaws.{goes_on}
 
--- ---- tests along a run
+-- ---- tests on the pairs of one first name
 
--- two runs have one that passes alike, where the tests agree on what is in either
+-- a test holds of some pair of one set exactly if another does in another set, if the tests agree on what is in either
 same_runs : (pairs others : Pairs) (first : Bytes) (p q : Bytes → Bool) → ((x : Bytes) → (contains pairs (first, x) && p x) ≡ (contains others (first, x) && q x)) →
     list_any (λ (pair : Pair). p pair.1) (run_of pairs first) ≡ list_any (λ (pair : Pair). q pair.1) (run_of others first)
 same_runs pairs others first p q same =
@@ -47,7 +47,7 @@ and_turned true b c = refl
 and_turned false true c = refl
 and_turned false false c = refl
 
--- two pairs are one where both parts are
+-- two pairs are equal exactly if both parts are
 same_pair : (a b x y : Bytes) → eq_by_cmp pair_cmp (a, b) (x, y) ≡ (same_name a x && same_name b y)
 same_pair a b x y =
     let tie = tie_Decides pair_total pair_exact (a, b) (x, y) in
@@ -59,7 +59,7 @@ same_pair a b x y =
 
 -- ---- a session
 
--- the session of a user who is there and not locked may go on where the user's assignments reach each role that was activated
+-- the session of a user who is there and not locked may go on exactly if the user's assignments authorize all its active roles
 goes_on_reached : (T : RbacState) (p : Pair) → IsTrue (contains T.users p.1) → contains T.locked p.1 ≡ false →
     may_go_on T p ≡ list_all (λ (active : Pair). is_reached T.edges (run_of T.assignments p.1) active.1) (run_of T.active p.0)
 unfolding may_go_on
@@ -76,11 +76,11 @@ module _ (S : RbacState) (good : IsGood S) (p : Pair) (there : IsTrue (contains 
   unlocked : contains S.locked p.1 ≡ false
   unlocked = good.unlocked p.0 p.1 there
 
-  -- each role that was activated is reached before the command
+  -- before the command, the user's assignments authorize all roles that are active in it
   all_reached : list_all (λ (active : Pair). is_reached S.edges (run_of S.assignments p.1) active.1) (run_of S.active p.0) ≡ true
   all_reached = sym (goes_on_reached S p is_user unlocked) ∙ goes_on S good p there
 
-  -- the sessions of a user who goes end, and no others
+  -- DeleteUser: the sessions of the user end, and no others
   pub goes_on_delete_user : (user : Bytes) → may_go_on (changed S (DeleteUser user)) p ≡ not (same_name p.1 user)
   unfolding changed may_go_on
   goes_on_delete_user user = by (same_name p.1 user) refl
@@ -98,7 +98,7 @@ module _ (S : RbacState) (good : IsGood S) (p : Pair) (there : IsTrue (contains 
           ∙ ap (λ b. contains S.assignments (p.1, x) && not b) other ∙ and-true (contains S.assignments (p.1, x)))) i) (run_of S.active p.0))
           ∙ all_reached
 
-  -- the sessions of a user who is locked end, and no others
+  -- LockUserAccount: the sessions of the user end, and no others
   pub goes_on_lock_user_account : (user : Bytes) → may_go_on (changed S (LockUserAccount user)) p ≡ not (same_name p.1 user)
   unfolding changed may_go_on
   goes_on_lock_user_account user = by (same_name p.1 user) refl
@@ -111,7 +111,7 @@ module _ (S : RbacState) (good : IsGood S) (p : Pair) (there : IsTrue (contains 
           (contains-insert name_total S.locked user p.1 ∙ ap (λ b. b || contains S.locked p.1) other ∙ unlocked)
           ∙ all_reached
 
-  -- of the user's sessions those may go on of which another assignment reaches each role that was activated
+  -- DeassignUser: a session of the user may go on exactly if other assignments authorize all roles that are active in it
   pub goes_on_deassign_user : (user role : Bytes) → may_go_on (changed S (DeassignUser user role)) p ≡
       (not (same_name p.1 user) || list_all (λ (active : Pair). is_held_without_role S.edges (run_of S.assignments p.1) role active.1) (run_of S.active p.0))
   unfolding changed
@@ -131,7 +131,7 @@ module _ (S : RbacState) (good : IsGood S) (p : Pair) (there : IsTrue (contains 
           (λ x. geq S.edges x active.1) (λ x. geq S.edges x active.1) (λ x. ap (λ b. b && geq S.edges x active.1) (left false other x)) i) (run_of S.active p.0))
           ∙ all_reached
 
-  -- those sessions may go on of which an assignment of another role reaches each role that was activated
+  -- DeleteRole: a session may go on exactly if assignments of other roles authorize all roles that are active in it
   pub goes_on_delete_role : (role : Bytes) → may_go_on (changed S (DeleteRole role)) p ≡
       list_all (λ (active : Pair). is_held_without_role S.edges (run_of S.assignments p.1) role active.1) (run_of S.active p.0)
   unfolding changed
@@ -142,8 +142,8 @@ module _ (S : RbacState) (good : IsGood S) (p : Pair) (there : IsTrue (contains 
       ap (λ b. b && geq S.edges x active.1) (contains-retain pair_total pair_exact S.assignments (λ (pair : Pair). not (same_name pair.1 role)) (p.1, x))
       ∙ and_assoc (contains S.assignments (p.1, x)) (not (same_name x role)) (geq S.edges x active.1)) i) (run_of S.active p.0))
 
-  -- with the pairs that the order loses: those sessions may go on of which an assignment reaches each role that was
-  -- activated over another pair
+  -- DeleteInheritance, by the pairs that the order loses: a session may go on exactly if for each role that is active in it
+  -- some assigned role dominates it by a pair that isn't lost
   pub goes_on_delete_inheritance : (asc desc : Bytes) (takes : Pairs) → IsGained (remove S.edges (asc, desc)) S.edges takes → may_go_on (changed S (DeleteInheritance asc desc)) p ≡
       list_all (λ (active : Pair). is_held_without_pairs S.edges (run_of S.assignments p.1) takes active.1) (run_of S.active p.0)
   unfolding changed

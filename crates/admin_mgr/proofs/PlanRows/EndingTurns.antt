@@ -1,4 +1,4 @@
--- The changes of the commands of core RBAC after which sessions end turn the rows of a good state into those of the state after.
+-- The changes of the core RBAC commands that may end sessions turn the rows of a good state into those of the state after.
 use Rattle.std.proofs.Common.{◌≡◌, Bool, true, false, not, ◌||◌, List, [], ◌∷◌, ◌++◌, refl, sym, ◌∙◌, ap, subst, inl, inr}
 use Rattle.std.specs.Prelude.{IsTrue, None, filter, if◌then◌else◌}
 use Rattle.std.specs.Ordering.{eq_by_cmp}
@@ -32,9 +32,9 @@ use Rattle.admin_mgr.proofs.PlanRows.StepLaws.Way.{taking}
 use Rattle.admin_mgr.proofs.PlanRows.StepLaws.{Steps, steps_nothing, steps_append, steps_to}
 use Rattle.admin_mgr.proofs.PlanRows.TurnLaws.{turns_taking, turns_both, AreApart}
 
--- ---- a set that has a name already, or not
+-- ---- names that are in a set already, and names that may be
 
--- what is there may be put
+-- inserting a name that is there changes nothing
 keeps-insert : (s : Names) (x : Bytes) → contains s x ≡ true → insert s x ≡ s
 keeps-insert s x there = same_set name_total name_exact _ _ (λ y. contains-insert name_total s x y ∙ by y (eq_by_cmp name_cmp y x) refl)
   where
@@ -42,14 +42,14 @@ keeps-insert s x there = same_set name_total name_exact _ _ (λ y. contains-inse
     by y true same = sym (ap (contains s) ((tie_Decides name_total name_exact y x).0 same) ∙ there)
     by y false other = refl
 
--- the lock of a user goes, where there is one
+-- the lock of a user is removed, if there is one
 pub steps_take_lock : (S : RbacState) (user : Bytes) → Steps taking S (lock_rows S user) (record S { locked = remove S.locked user })
 steps_take_lock S user = steps_take_any locked_rows name_total name_exact S user
 
--- ---- the sessions end that lose what their roles stand on
+-- ---- sessions end whose active roles are no longer authorized
 
--- Rows go, and then those of the sessions that don't go on: that leads to where the sessions have ended that may not go on,
--- if just those go on that may.
+-- Rows are removed, and then those of the sessions that fail the test: if the test holds exactly of the sessions that may go
+-- on, this leads to the state in which the others have ended.
 pub steps_losing :
     {S M : RbacState} {changes : List Change} (stays : Pair → Bool)
     → ((session role : Bytes) → IsTrue (contains M.active (session, role)) → (user : Bytes) × IsTrue (contains M.sessions (session, user)))
@@ -60,7 +60,7 @@ steps_losing {S} {M} {changes} stays owned one_owner same steps = steps_append s
     (subst (λ (rows : List Change). Steps taking M rows (end_sessions M)) (ended_rows-same M (may_go_on M) stays same) (steps_end_sessions M owned one_owner))
 
 module _ (S : RbacState) (good : IsGood S) where
-  -- a user goes with its lock, its assignments and its sessions
+  -- a user is deleted with its lock, its assignments and its sessions
   pub turns_delete_user : (user : Bytes) → verdict S (DeleteUser user) ≡ None →
       Turns S ((((Take (NameRow USER user) ∷ []) ++ lock_rows S user) ++ take_all (pair_row ASSIGNMENT) (run_of S.assignments user)) ++ ended_rows S (λ session. not (same_name session.1 user))) (after S (DeleteUser user))
   unfolding after changed verdict refusals
@@ -73,7 +73,7 @@ module _ (S : RbacState) (good : IsGood S) where
       (steps_append (steps_append (steps_take_one user_rows S user is_user) (steps_take_lock without_name user))
       (steps_take_some assignment_rows pair_total pair_exact without_lock (λ (pair : Pair). same_name pair.0 user))))
 
-  -- a role goes with its assignments, its grants, and the sessions that stood on it
+  -- a role is deleted with its assignments, its grants, and the sessions that depended on it
   pub turns_delete_role : (role : Bytes) → verdict S (DeleteRole role) ≡ None →
       Turns S ((((Take (NameRow ROLE role) ∷ []) ++ take_all (pair_row ASSIGNMENT) (filter (λ (pair : Pair). same_name pair.1 role) (members S.assignments)))
       ++ take_all grant_row (filter (λ (grant : Triple). same_name grant.2 role) (members S.grants))) ++ ended_rows S (goes_on_without_role S role)) (after S (DeleteRole role))
@@ -86,7 +86,7 @@ module _ (S : RbacState) (good : IsGood S) where
       (steps_append (steps_append (steps_take_one role_rows S role is_role) (steps_take_some assignment_rows pair_total pair_exact without_name (λ (pair : Pair). same_name pair.1 role)))
       (steps_take_some grant_rows triple_total triple_exact _ (λ (grant : Triple). same_name grant.2 role))))
 
-  -- an assignment goes, and the sessions of its user that stood on it
+  -- an assignment is removed, with the sessions of its user that depended on it
   pub turns_deassign_user : (user role : Bytes) → verdict S (DeassignUser user role) ≡ None →
       Turns S ((Take (PairRow ASSIGNMENT user role) ∷ []) ++ ended_rows S (λ session. not (same_name session.1 user) || goes_on_without_role S role session)) (after S (DeassignUser user role))
   unfolding after changed verdict refusals
@@ -97,16 +97,16 @@ module _ (S : RbacState) (good : IsGood S) where
       (λ session there. goes_on_deassign_user S good session there user role)
       (steps_take_one assignment_rows S (user, role) is_assigned))
 
-  -- the sessions of a user go, and it is locked
+  -- the sessions of a user end, and the user is locked
   pub turns_lock_user_account : (user : Bytes) → Turns S (ended_rows S (λ session. not (same_name session.1 user)) ++ new_lock_rows S user) (after S (LockUserAccount user))
   unfolding after changed end_sessions has_row is_put
   turns_lock_user_account user = by (contains S.locked user) refl
     where
-      -- the state with the lock, whose sessions have yet to end
+      -- the state with the lock, before sessions end
       locked : RbacState
       locked = changed S (LockUserAccount user)
 
-      -- the state in which they have ended, without the lock
+      -- the state after sessions have ended, without the lock
       ended : RbacState
       ended = record (after S (LockUserAccount user)) { locked = S.locked }
 
@@ -114,13 +114,13 @@ module _ (S : RbacState) (good : IsGood S) where
       stays : Pair → Bool
       stays session = not (same_name session.1 user)
 
-      -- the rows of the user's sessions lead there
+      -- removing the rows of the user's sessions leads there
       steps : Steps taking S (ended_rows S stays) ended
       steps = subst (λ (rows : List Change). Steps taking S rows ended)
           (ended_rows-same S (may_go_on locked) stays (λ session there. goes_on_lock_user_account S good session there user))
           (steps_ended S good.well_formed.owned good.well_formed.one_owner (may_go_on locked))
 
-      -- no row that goes is a lock that comes
+      -- no removed row is the lock that is inserted
       apart : contains S.locked user ≡ false → AreApart (ended_rows S stays) (Put (LockedRow user) ∷ [])
       apart absent row = false_from_ne_true _ (λ h.
           let parts = and_parts (is_taken (ended_rows S stays) row) (is_put (Put (LockedRow user) ∷ []) row) h in
@@ -129,7 +129,7 @@ module _ (S : RbacState) (good : IsGood S) where
             | inr none ↦ true≢false (sym none)
           ])
 
-      -- where the user is locked no row comes
+      -- if the user is locked already, no row is inserted
       by : (b : Bool) → contains S.locked user ≡ b → Turns S (ended_rows S stays ++ (if b then [] else Put (LockedRow user) ∷ [])) (after S (LockUserAccount user))
       by true there = turns_taking (steps_append steps (steps_to (steps_nothing ended) (λ i. record ended { locked = sym (keeps-insert S.locked user there) i })))
       by false absent = turns_both steps (steps_put_one locked_rows ended user absent) (apart absent)

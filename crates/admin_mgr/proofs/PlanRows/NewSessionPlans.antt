@@ -1,4 +1,4 @@
--- The plan of a new session: its row is put, and those of the roles that are activated in it.
+-- The plan of a new session: its row is inserted, and those of the roles that are activated in it.
 use Rattle.std.proofs.Common.{◌≡◌, ◌∷◌, refl, ◌∙◌, ap, subst}
 use Rattle.std.specs.Prelude.{None}
 use Rattle.rbac_sets.specs.Sets.{Bytes, name_cmp, insert, members}
@@ -22,7 +22,6 @@ use Rattle.admin_mgr.proofs.StateAfter.SetRowLaws.{members_paired}
 use Rattle.admin_mgr.proofs.StateAfter.NewSessionLaws.{create_session_absent, create_session_apart, after_create_session, good_after_create_session}
 use Rattle.admin_mgr.proofs.PlanRows.PlainPlans.{IsDoneBy, done_by}
 
--- the row of the session is put, and those of the roles that are activated in it
 pub done_create_session : (S : RbacState) → IsGood S → (user : Bytes) (roles : Stored Bytes) (session : Bytes) → verdict S (CreateSession user roles session) ≡ None →
     IsDoneBy S (CreateSession user roles session) (Put (PairRow SESSION session user) ∷ put_all (λ role. PairRow ACTIVATED_ROLE session role) (members (set_of name_cmp roles)))
 unfolding tally changed

@@ -39,54 +39,54 @@ use Rattle.admin_mgr.proofs.PlanRows.TurnLaws.{taking_puts, putting_takes, turns
 abbrev is_listed : Bytes → Bytes → Pairs → Row → Bool
 is_listed asc desc pairs row = same_row (PairRow INHERITANCE asc desc) row || list_any (λ pair. same_row (pair_row CLOSURE_PAIR pair) row) (members pairs)
 
--- the changes put these rows
+-- exactly these rows are inserted
 puts_are : (asc desc : Bytes) (pairs : Pairs) (row : Row) → is_put (order_puts asc desc pairs) row ≡ is_listed asc desc pairs row
 unfolding is_put
 puts_are asc desc pairs row = ap (λ b. same_row (PairRow INHERITANCE asc desc) row || b) (any_map (λ pair. Put (pair_row CLOSURE_PAIR pair)) (λ change. puts change row) (members pairs))
 
--- the changes take these rows
+-- exactly these rows are removed
 takes_are : (asc desc : Bytes) (pairs : Pairs) (row : Row) → is_taken (order_takes asc desc pairs) row ≡ is_listed asc desc pairs row
 unfolding is_taken
 takes_are asc desc pairs row = ap (λ b. same_row (PairRow INHERITANCE asc desc) row || b) (any_map (λ pair. Take (pair_row CLOSURE_PAIR pair)) (λ change. takes change row) (members pairs))
 
--- none passes a test that nothing passes
+-- no entry passes a test that nothing passes
 none_listed : {X : Type 0} (test : X → Bool) (xs : List X) → ((x : X) → test x ≡ false) → list_any test xs ≡ false
 none_listed test [] none = refl
 none_listed test (x ∷ xs) none = λ i. none x i || none_listed test xs none i
 
--- the rows of pairs that come take nothing
+-- inserting the rows of pairs removes nothing
 nothing_taken : (row : Pair → Row) (pairs : List Pair) (other : Row) → is_taken (put_all row pairs) other ≡ false
 unfolding is_taken
 nothing_taken row [] other = refl
 nothing_taken row (pair ∷ pairs) other = nothing_taken row pairs other
 
--- the rows of pairs that go put nothing
+-- removing the rows of pairs inserts nothing
 nothing_put : (row : Pair → Row) (pairs : List Pair) (other : Row) → is_put (take_all row pairs) other ≡ false
 unfolding is_put
 nothing_put row [] other = refl
 nothing_put row (pair ∷ pairs) other = nothing_put row pairs other
 
--- an edge that comes takes nothing
+-- adding an edge removes nothing
 order_takes_nothing : (asc desc : Bytes) (pairs : Pairs) (row : Row) → is_taken (order_puts asc desc pairs) row ≡ false
 unfolding is_taken
 order_takes_nothing asc desc pairs row = nothing_taken (pair_row CLOSURE_PAIR) (members pairs) row
 
--- an edge that goes puts nothing
+-- removing an edge inserts nothing
 order_puts_nothing : (asc desc : Bytes) (pairs : Pairs) (row : Row) → is_put (order_takes asc desc pairs) row ≡ false
 unfolding is_put
 order_puts_nothing asc desc pairs row = nothing_put (pair_row CLOSURE_PAIR) (members pairs) row
 
--- rows that come have no row behind them that goes
+-- in a list of insertions, no removal follows an insertion
 puts_last : (row : Pair → Row) (pairs : List Pair) → TakesFirst (put_all row pairs)
 puts_last row [] = tt
 puts_last row (pair ∷ pairs) = (nothing_taken row pairs, puts_last row pairs)
 
--- nor have rows that go a row before them that comes
+-- nor does one in a list of removals
 takes_alone : (row : Pair → Row) (pairs : List Pair) → TakesFirst (take_all row pairs)
 takes_alone row [] = tt
 takes_alone row (pair ∷ pairs) = takes_alone row pairs
 
--- each pair once where they come
+-- each of distinct pairs is inserted once
 puts_once : (pairs : List Pair) → IsDistinct (eq_by_cmp pair_cmp) pairs → IsOnce (put_all (pair_row CLOSURE_PAIR) pairs)
 unfolding IsDistinct is_put
 puts_once [] distinct = tt
@@ -95,7 +95,7 @@ puts_once (pair ∷ pairs) distinct = (
   puts_once pairs distinct.1,
 )
 
--- each pair once where they go
+-- each of distinct pairs is removed once
 takes_once : (pairs : List Pair) → IsDistinct (eq_by_cmp pair_cmp) pairs → IsOnce (take_all (pair_row CLOSURE_PAIR) pairs)
 unfolding IsDistinct is_taken
 takes_once [] distinct = tt
@@ -104,13 +104,13 @@ takes_once (pair ∷ pairs) distinct = (
   takes_once pairs distinct.1,
 )
 
--- the edge is none of them
+-- the row of the edge is none of these rows
 edge_apart : (asc desc : Bytes) (pairs : List Pair) → list_any (λ pair. same_row (pair_row CLOSURE_PAIR pair) (PairRow INHERITANCE asc desc)) pairs ≡ false
 edge_apart asc desc pairs = none_listed (λ pair. same_row (pair_row CLOSURE_PAIR pair) (PairRow INHERITANCE asc desc)) pairs (λ pair. refl)
 
 -- ---- the kinds of rows
 
--- two numbers differ both ways round
+-- two numbers differ in either order
 flipped : (k l : ℕ) → nat_eq l k ≡ false → nat_eq k l ≡ false
 flipped k l other = false_from_ne_true (nat_eq k l) (λ same. true≢false (sym (eq-eqb l k (sym (eqb-true k l same))) ∙ other))
 
@@ -129,32 +129,31 @@ listed_other asc desc pairs k x y no_edge no_pair = λ i.
     (flipped 3 k no_edge i && eq_by_cmp pair_cmp (x, y) (asc, desc))
     || none_listed (λ pair. nat_eq CLOSURE_PAIR k && eq_by_cmp pair_cmp (x, y) pair) (members pairs) (λ pair. ap (λ b. b && eq_by_cmp pair_cmp (x, y) pair) (flipped CLOSURE_PAIR k no_pair)) i
 
--- of the edges one is listed
+-- the edge that is listed
 listed_edge : (asc desc : Bytes) (pairs : Pairs) (x y : Bytes) → is_listed asc desc pairs (PairRow INHERITANCE x y) ≡ eq_by_cmp pair_cmp (x, y) (asc, desc)
 listed_edge asc desc pairs x y = ap (λ b. eq_by_cmp pair_cmp (x, y) (asc, desc) || b) (edge_apart x y (members pairs)) ∙ or-false (eq_by_cmp pair_cmp (x, y) (asc, desc))
 
--- of the pairs of the order these are
+-- the pairs of the order that are listed
 listed_pair : (asc desc : Bytes) (pairs : Pairs) (x y : Bytes) → is_listed asc desc pairs (PairRow CLOSURE_PAIR x y) ≡ contains pairs (x, y)
 listed_pair asc desc pairs x y = sym (contains-members pairs (x, y))
 
--- where only the edges are others, so is no row but those of the edges and of the order
+-- a choice doesn't depend on the results of the third and the fourth test if both fail
 two_skipped : (a b c d p q r s r' s' t : Bool) → c ≡ false → d ≡ false →
     (if a then p else if b then q else if c then r else if d then s else t) ≡ (if a then p else if b then q else if c then r' else if d then s' else t)
 two_skipped a b true d p q r s r' s' t h k = absurd (true≢false h)
 two_skipped a b false true p q r s r' s' t h k = absurd (true≢false k)
 two_skipped a b false false p q r s r' s' t h k = refl
 
--- the rows of pairs that are of no edge and no pair of the order stay
+-- the rows of pairs that are neither edges nor pairs of the order stay if the edges change
 others_stay : (S : RbacState) (edges : Pairs) (k : ℕ) (x y : Bytes) → nat_eq k INHERITANCE ≡ false → nat_eq k CLOSURE_PAIR ≡ false → has_row (with_edges S edges) (PairRow k x y) ≡ has_row S (PairRow k x y)
 unfolding has_row
 others_stay S edges k x y no_edge no_pair = two_skipped (nat_eq k PERMISSION) (nat_eq k ASSIGNMENT) (nat_eq k INHERITANCE) (nat_eq k CLOSURE_PAIR) _ _ _ _ _ _ _ no_edge no_pair
 
--- b, and not what never holds
 and_not_none : (b : Bool) → b ≡ (b && not false)
 and_not_none true = refl
 and_not_none false = refl
 
--- two names that a relation tells apart aren't one
+-- names of which the first doesn't dominate the second differ
 other_names : (edges : Pairs) (a b : Bytes) → (Geq edges a b → ⊥) → not (same_name a b) ≡ true
 other_names edges a b apart = ap not (false_from_ne_true (same_name a b) (λ same. apart (Leads-from_eq ((tie_Decides name_total name_exact a b).0 same))))
 
@@ -163,14 +162,14 @@ module _ (S : RbacState) (asc desc : Bytes) (pairs : Pairs) where
   no_row : list_any (λ (pair : Pair). false) (members pairs) ≡ false
   no_row = none_listed (λ pair. false) (members pairs) (λ pair. refl)
 
-  -- ---- an edge comes
+  -- ---- an edge is added
 
   module _ (absent : contains S.edges (asc, desc) ≡ false) (gained : IsGained S.edges (insert S.edges (asc, desc)) pairs) where
     -- the edges with the new one
     abbrev more : Pairs
     more = insert S.edges (asc, desc)
 
-    -- more edges lead as far
+    -- a role that dominates another still does with more edges
     mono : (a b : Bytes) → Geq S.edges a b → Geq more a b
     mono a b = Leads-mono (HasPair S.edges) (HasPair more) (λ x y h. (AddsPair-insert S.edges asc desc x y).1 (inl h))
 
@@ -200,7 +199,7 @@ module _ (S : RbacState) (asc desc : Bytes) (pairs : Pairs) where
     rows_put (SetRow k x n) = sym (or-false _) ∙ ap (λ b. has_row S (SetRow k x n) || b) (sym (no_row))
     rows_put (LockedRow x) = sym (or-false _) ∙ ap (λ b. has_row S (LockedRow x) || b) (sym (no_row))
 
-    -- none of those that are listed was there
+    -- no listed row was there
     listed_absent : (row : Row) → is_listed asc desc pairs row ≡ true → has_row S row ≡ false
     unfolding has_row
     listed_absent (NameRow k x) = λ h. absurd (true≢false (sym h ∙ no_row))
@@ -213,7 +212,7 @@ module _ (S : RbacState) (asc desc : Bytes) (pairs : Pairs) where
     listed_absent (SetRow k x n) = λ h. absurd (true≢false (sym h ∙ no_row))
     listed_absent (LockedRow x) = λ h. absurd (true≢false (sym h ∙ no_row))
 
-    -- the rows of a new edge and of the pairs that the order gains lead to the state with this edge
+    -- inserting the rows of a new edge and of the pairs that the order gains leads to the state with this edge
     pub turns_order_puts : Turns S (order_puts asc desc pairs) (with_edges S (insert S.edges (asc, desc)))
     unfolding is_put
     turns_order_puts = record {
@@ -229,14 +228,14 @@ module _ (S : RbacState) (asc desc : Bytes) (pairs : Pairs) where
       takes_first = (nothing_taken (pair_row CLOSURE_PAIR) (members pairs), puts_last (pair_row CLOSURE_PAIR) (members pairs));
     }
 
-  -- ---- an edge goes
+  -- ---- an edge is removed
 
   module _ (there : contains S.edges (asc, desc) ≡ true) (lost : IsGained (remove S.edges (asc, desc)) S.edges pairs) where
     -- the edges without this one
     abbrev left : Pairs
     left = remove S.edges (asc, desc)
 
-    -- fewer edges lead no further
+    -- a role that dominates another without the edge did so with it
     was_so : (a b : Bytes) → Geq left a b → Geq S.edges a b
     was_so a b = Leads-mono (HasPair left) (HasPair S.edges) (λ x y h. ((TakesPair-remove S.edges asc desc x y).0 h).0)
 
@@ -267,7 +266,7 @@ module _ (S : RbacState) (asc desc : Bytes) (pairs : Pairs) where
     rows_take (SetRow k x n) = and_not_none _ ∙ ap (λ b. has_row S (SetRow k x n) && not b) (sym (no_row))
     rows_take (LockedRow x) = and_not_none _ ∙ ap (λ b. has_row S (LockedRow x) && not b) (sym (no_row))
 
-    -- all that are listed were there
+    -- each listed row was there
     listed_there : (row : Row) → is_listed asc desc pairs row ≡ true → has_row S row ≡ true
     unfolding has_row
     listed_there (NameRow k x) = λ h. absurd (true≢false (sym h ∙ no_row))
@@ -280,7 +279,7 @@ module _ (S : RbacState) (asc desc : Bytes) (pairs : Pairs) where
     listed_there (SetRow k x n) = λ h. absurd (true≢false (sym h ∙ no_row))
     listed_there (LockedRow x) = λ h. absurd (true≢false (sym h ∙ no_row))
 
-    -- the rows of an edge and of the pairs that the order loses with it lead to the state without this edge
+    -- removing the rows of an edge and of the pairs that the order loses with it leads to the state without this edge
     pub turns_order_takes : Turns S (order_takes asc desc pairs) (with_edges S (remove S.edges (asc, desc)))
     unfolding is_taken
     turns_order_takes = record {
@@ -297,11 +296,11 @@ module _ (S : RbacState) (asc desc : Bytes) (pairs : Pairs) where
 
 -- ---- with other rows
 
--- changes that put rows of other sets leave the edges
+-- insertions into other sets leave the edges unchanged
 edges_of : {S T : RbacState} {changes : List Change} → Steps putting S changes T → S.edges ≡ T.edges
 edges_of {S} {T} {changes} steps = sym (edges-changes S changes) ∙ ap (λ X. X.edges) steps.leads
 
--- Rows come, and then those of an edge that a plan of the hierarchy puts, with the pairs that the order gains.
+-- Rows are inserted, and then those of an edge that a plan of the hierarchy adds, with the pairs that the order gains.
 pub turns_adding_edge :
     {S T : RbacState} {changes : List Change} (plan : Plan)
     → Steps putting S changes T → Fits S.edges plan → plan.adds ≡ true
@@ -318,7 +317,8 @@ turns_adding_edge {S} {T} {changes} plan steps fits adds =
     turns_putting_more (putting_takes S changes steps.fits) (order_takes_nothing plan.asc plan.desc plan.puts) (turns_putting steps)
     (subst (λ (edges : Pairs). Turns T (order_puts plan.asc plan.desc plan.puts) (with_edges T edges)) to order)
 
--- The rows go of an edge that a plan of the hierarchy takes, with the pairs that the order loses, and then other rows.
+-- The rows of an edge that a plan of the hierarchy removes are removed, with the pairs that the order loses, and then other
+-- rows.
 pub turns_taking_edge :
     {S T : RbacState} {changes : List Change} (plan : Plan)
     → Steps taking S changes T → Fits S.edges plan → plan.adds ≡ false → contains S.edges (plan.asc, plan.desc) ≡ true

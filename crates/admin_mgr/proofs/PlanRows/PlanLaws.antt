@@ -17,7 +17,7 @@ use Rattle.admin_mgr.specs.Good.{IsGood}
 module _ (S : RbacState) (command : Command) (plan : Plan) (changes : List Change)
     (told : tally S command ≡ no_tally) (lists : plan.changes.items ≡ changes) (report : tally_of_report plan.report ≡ no_tally)
     (turns : Turns S changes (after S command)) (good : IsGood (after S command)) where
-  -- where the hierarchy stays
+  -- if the hierarchy stays the same
   pub plan_of : plan.order ≡ None → S.edges ≡ (after S command).edges → IsPlanOf S command plan
   plan_of none edges = record {
     leads = record {
@@ -28,7 +28,7 @@ module _ (S : RbacState) (command : Command) (plan : Plan) (changes : List Chang
     report = report ∙ sym told;
   }
 
-  -- where the hierarchy changes by a plan of its own
+  -- if the hierarchy changes by a plan of its own
   pub plan_with : (order : OrderPlan) → plan.order ≡ Some order → Fits S.edges order → changed S.edges order ≡ (after S command).edges → IsPlanOf S command plan
   plan_with order some fits edges = record {
     leads = record {

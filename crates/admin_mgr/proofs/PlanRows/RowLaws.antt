@@ -1,4 +1,4 @@
--- The rows tell the state.
+-- The rows determine the state.
 use Rattle.std.proofs.Common.{◌≡◌, true, refl}
 use Rattle.rbac_sets.specs.declared.row.Row.{Row}
 use Rattle.rbac_sets.specs.declared.row.Row.TheVariants.{NameRow, PairRow, GrantRow, SetRow, LockedRow}

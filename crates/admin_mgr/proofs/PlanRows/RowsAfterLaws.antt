@@ -1,4 +1,4 @@
--- What changes make of a list of a state's rows.
+-- The effect of changes on a list of a state's rows.
 use Rattle.std.proofs.Common.{◌≡◌, Bool, true, false, not, ◌&&◌, ◌||◌, List, [], ◌∷◌, refl, sym, ap, subst, ◌∙◌}
 use Rattle.std.specs.Prelude.{IsTrue}
 use Rattle.std.specs.List.{list_any}
@@ -13,20 +13,20 @@ use Rattle.admin_mgr.specs.Gathered.{is_among}
 use Rattle.admin_mgr.specs.RowsAfter.{rows_by, rows_after, RowsFollow}
 use Rattle.admin_mgr.proofs.PlanRows.CommitLaws.{same_row-self, same_row-is}
 
--- ---- which rows are among them
+-- ---- which rows are in the list afterwards
 
--- what is among the rows but one
+-- the rows after one is removed
 among_less : (row other : Row) (rows : List Row) → is_among (rows_by rows (Take row)) other ≡ (not (same_row row other) && is_among rows other)
 among_less row other rows =
     any-filter_same (λ r. same_row r other) (λ r. not (same_row row r)) (not (same_row row other)) (λ r same. ap (λ s. not (same_row row s)) (sym (same_row-is r other same))) rows
 
--- a row is taken, before others are
+-- a row is removed, and then others are
 take_first : (among same taken put : Bool) → (((not same && among) && not taken) || put) ≡ ((among && not (same || taken)) || put)
 take_first true true taken put = refl
 take_first false true taken put = refl
 take_first among false taken put = refl
 
--- a row is put, and none is taken later
+-- a row is inserted, and none is removed later
 put_first : (among same taken put : Bool) → taken ≡ false → (((same || among) && not taken) || put) ≡ ((among && not taken) || (same || put))
 put_first among same true put none = absurd (true≢false none)
 put_first true true false put none = refl
@@ -34,7 +34,7 @@ put_first false true false put none = refl
 put_first true false false put none = refl
 put_first false false false put none = refl
 
--- a row is among the rows after the changes as it is in the state that they lead to
+-- a row is in the list after the changes exactly if it was and isn't removed, or is inserted
 among_after : (changes : List Change) (rows : List Row) (row : Row) → TakesFirst changes → is_among (rows_after rows changes) row ≡ ((is_among rows row && not (is_taken changes row)) || is_put changes row)
 unfolding is_taken is_put
 among_after [] rows row takes = by (is_among rows row)
@@ -50,9 +50,8 @@ among_after (Put first ∷ changes) rows row takes =
     among_after changes (first ∷ rows) row takes.1
     ∙ put_first (is_among rows row) (same_row first row) (is_taken changes row) (is_put changes row) (takes.0 row)
 
--- ---- each is among them once
+-- ---- each row is in the list once
 
--- nothing holds where nothing holds
 neither : (b : Bool) → (b && false) ≡ false
 neither true = refl
 neither false = refl
@@ -72,7 +71,7 @@ once_less row (first ∷ rows) once = by (same_row row first) refl (once_less ro
     by true is less = rw is less
     by false is less = rw is (fewer, less)
 
--- a row that is not among the rows is the same as none of them
+-- a row that isn't in the list is the same as none of its rows
 same_as_none : (row : Row) (rows : List Row) → is_among rows row ≡ false → list_any (λ other. same_row row other) rows ≡ false
 same_as_none row [] none = refl
 same_as_none row (first ∷ rows) none =
@@ -80,7 +79,7 @@ same_as_none row (first ∷ rows) none =
     λ i. false_from_ne_true (same_row row first) (λ same. true≢false (sym (same_row-self row) ∙ ap (λ r. same_row r row) (sym (same_row-is row first same)) ∙ both.0)) i
     || same_as_none row rows both.1 i
 
--- after changes that put rows that aren't there, each once, each occurs once
+-- changes that insert absent rows, each once, leave each row occurring once
 once_after : (changes : List Change) (rows : List Row) → IsOnce changes → ((row : Row) → IsTrue (is_put changes row) → is_among rows row ≡ false) → OccurOnce rows → OccurOnce (rows_after rows changes)
 unfolding is_put
 once_after [] rows singly absent once = once

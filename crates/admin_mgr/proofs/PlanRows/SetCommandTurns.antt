@@ -1,4 +1,4 @@
--- What the commands on separation of duty sets put and take leads to the state after them.
+-- The rows that the commands on separation of duty sets insert and remove lead to the state after them.
 use Rattle.std.proofs.Common.{◌≡◌, ◌≢◌, ℕ, [], ◌∷◌, refl, sym, subst, ap, ◌∙◌}
 use Rattle.std.specs.Prelude.{List, Some, None}
 use Rattle.rbac_sets.specs.Sets.{Bytes, name_cmp, members}
@@ -44,13 +44,13 @@ kind_of_sets Dynamic = record {
   again = λ S s t. refl;
 }
 
--- the hierarchy stays
+-- the hierarchy stays the same
 same_edges : (duty : SeparationOfDuty) (S : RbacState) (other : Separation) → S.edges ≡ (with_sets duty S other).edges
 same_edges Static S other = refl
 same_edges Dynamic S other = refl
 
 module _ (duty : SeparationOfDuty) (S : RbacState) (good : IsGood S) (plan : Plan) (report : tally_of_report plan.report ≡ no_tally) (none : plan.order ≡ None) where
-  -- a plan whose changes lead to other sets is that of a command after which these are there
+  -- a plan whose changes lead to other sets is a plan of the command after which the state has these sets
   plan_of_sets : (command : Command) (changes : List Change) (other : Separation) → tally S command ≡ no_tally → plan.changes.items ≡ changes → after S command ≡ with_sets duty S other → IsGood (after S command) →
       Turns (with_sets duty S (sets_of duty S)) changes (with_sets duty S other) → IsPlanOf S command plan
   plan_of_sets command changes other untold items is well turns =
@@ -64,7 +64,7 @@ module _ (duty : SeparationOfDuty) (S : RbacState) (good : IsGood S) (plan : Pla
     abbrev formed : IsSeparation S.roles sets
     formed = formed_sets duty S good
 
-    -- a set is created: its cardinality comes, and its members
+    -- a set is created: its cardinality and its members are inserted
     pub plan_of_create_set : (roles : Stored Bytes) (n : ℕ) → verdict S (create_set duty name roles n) ≡ None →
         plan.changes.items ≡ Put (SetRow (cardinality_rows duty) name n) ∷ put_all (λ role. PairRow (member_rows duty) name role) (members (set_of name_cmp roles)) → IsPlanOf S (create_set duty name roles n) plan
     unfolding tally
@@ -75,7 +75,7 @@ module _ (duty : SeparationOfDuty) (S : RbacState) (good : IsGood S) (plan : Pla
         untold Static = refl
         untold Dynamic = refl
 
-    -- a member is added: its row comes
+    -- a member is added: its row is inserted
     pub plan_of_add_member : (role : Bytes) → verdict S (add_member duty name role) ≡ None → plan.changes.items ≡ Put (PairRow (member_rows duty) name role) ∷ [] → IsPlanOf S (add_member duty name role) plan
     unfolding tally
     plan_of_add_member role accepted items = plan_of_sets (add_member duty name role) _ _ (untold duty) items (after_add_member duty S good name role) (good_after_add_member duty S name good role accepted)
@@ -85,7 +85,7 @@ module _ (duty : SeparationOfDuty) (S : RbacState) (good : IsGood S) (plan : Pla
         untold Static = refl
         untold Dynamic = refl
 
-    -- a member is deleted: its row goes
+    -- a member is deleted: its row is removed
     pub plan_of_delete_member : (role : Bytes) → verdict S (delete_member duty name role) ≡ None → plan.changes.items ≡ Take (PairRow (member_rows duty) name role) ∷ [] → IsPlanOf S (delete_member duty name role) plan
     unfolding tally
     plan_of_delete_member role accepted items = plan_of_sets (delete_member duty name role) _ _ (untold duty) items (after_delete_member duty S good name role) (good_after_delete_member duty S name good role accepted)
@@ -100,7 +100,7 @@ module _ (duty : SeparationOfDuty) (S : RbacState) (good : IsGood S) (plan : Pla
     untold_cardinality Static n = refl
     untold_cardinality Dynamic n = refl
 
-    -- another cardinality is set: the old one goes, and the new one comes
+    -- another cardinality is set: the old one is removed, and the new one inserted
     pub plan_of_set_cardinality : (before n : ℕ) → verdict S (set_cardinality duty name n) ≡ None → cardinality_of sets name ≡ Some before → before ≢ n →
         plan.changes.items ≡ Take (SetRow (cardinality_rows duty) name before) ∷ Put (SetRow (cardinality_rows duty) name n) ∷ [] → IsPlanOf S (set_cardinality duty name n) plan
     plan_of_set_cardinality before n accepted told other items =
@@ -114,7 +114,7 @@ module _ (duty : SeparationOfDuty) (S : RbacState) (good : IsGood S) (plan : Pla
         plan_of S (set_cardinality duty name n) plan [] (untold_cardinality duty n) items report (subst (Turns S []) (sym same) (turns_taking (steps_nothing S))) (good_after_set_cardinality duty S name good n accepted) none
         (ap (λ T. T.edges) (sym same))
 
-    -- a set is deleted: its cardinality goes, and its members
+    -- a set is deleted: its cardinality and its members are removed
     pub plan_of_delete_set : (n : ℕ) → cardinality_of sets name ≡ Some n →
         plan.changes.items ≡ Take (SetRow (cardinality_rows duty) name n) ∷ take_all (pair_row (member_rows duty)) (run_of sets.members name) → IsPlanOf S (delete_set duty name) plan
     unfolding tally
@@ -128,10 +128,10 @@ module _ (duty : SeparationOfDuty) (S : RbacState) (good : IsGood S) (plan : Pla
 -- ---- a set that has no cardinality
 
 module _ (duty : SeparationOfDuty) (S : RbacState) (name : Bytes) (untold : cardinality_of (sets_of duty S) name ≡ None) where
-  -- gets no other one by an accepted command
+  -- no accepted command sets another one
   pub none_set : (n : ℕ) → verdict S (set_cardinality duty name n) ≡ None → ⊥
   none_set n accepted = untold_set (sets_of duty S) name untold (can_number duty S name n accepted).there
 
-  -- and is deleted by none
+  -- no accepted command deletes it
   pub none_deleted : verdict S (delete_set duty name) ≡ None → ⊥
   none_deleted accepted = untold_set (sets_of duty S) name untold (can_delete_set duty S name accepted)

@@ -13,7 +13,6 @@ use Rattle.admin_mgr.proofs.PlanRows.RunLaws.{IsSetOf}
 abbrev pub set_row : ℕ → Cardinality → Row
 set_row kind entry = SetRow kind entry.0 entry.1
 
--- the users
 pub user_rows : IsSetOf (λ (name : Bytes). NameRow USER name) (λ S. S.users) (λ S (s : Names). record S { users = s })
 unfolding has_row with_row without_row
 user_rows = record {
@@ -26,7 +25,6 @@ user_rows = record {
   same = λ S. refl;
 }
 
--- the roles
 pub role_rows : IsSetOf (λ (name : Bytes). NameRow ROLE name) (λ S. S.roles) (λ S (s : Names). record S { roles = s })
 unfolding has_row with_row without_row
 role_rows = record {
@@ -39,7 +37,6 @@ role_rows = record {
   same = λ S. refl;
 }
 
--- the objects
 pub object_rows : IsSetOf (λ (name : Bytes). NameRow OBJECT name) (λ S. S.objects) (λ S (s : Names). record S { objects = s })
 unfolding has_row with_row without_row
 object_rows = record {
@@ -52,7 +49,6 @@ object_rows = record {
   same = λ S. refl;
 }
 
--- the locked users
 pub locked_rows : IsSetOf LockedRow (λ S. S.locked) (λ S (s : Names). record S { locked = s })
 unfolding has_row with_row without_row
 locked_rows = record {
@@ -65,7 +61,6 @@ locked_rows = record {
   same = λ S. refl;
 }
 
--- the permissions
 pub permission_rows : IsSetOf (pair_row PERMISSION) (λ S. S.permissions) (λ S (s : Pairs). record S { permissions = s })
 unfolding has_row with_row without_row
 permission_rows = record {
@@ -78,7 +73,6 @@ permission_rows = record {
   same = λ S. refl;
 }
 
--- the assignments
 pub assignment_rows : IsSetOf (pair_row ASSIGNMENT) (λ S. S.assignments) (λ S (s : Pairs). record S { assignments = s })
 unfolding has_row with_row without_row
 assignment_rows = record {
@@ -130,7 +124,6 @@ session_pair_rows = record {
   same = λ S. refl;
 }
 
--- the activated roles
 pub active_rows : IsSetOf (pair_row ACTIVATED_ROLE) (λ S. S.active) (λ S (s : Pairs). record S { active = s })
 unfolding has_row with_row without_row
 active_rows = record {
@@ -143,7 +136,6 @@ active_rows = record {
   same = λ S. refl;
 }
 
--- the grants
 pub grant_rows : IsSetOf grant_row (λ S. S.grants) (λ S (s : Triples). record S { grants = s })
 unfolding has_row with_row without_row
 grant_rows = record {

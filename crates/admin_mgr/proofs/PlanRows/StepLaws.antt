@@ -1,4 +1,4 @@
--- Changes of rows one after the other, and where they lead: changes that all take, or all put.
+-- Changes of rows one after the other, and the state that they lead to: changes that only remove, or only insert.
 use Rattle.std.proofs.Common.{◌≡◌, true, false, List, [], ◌∷◌, ◌++◌, refl, sym, ◌∙◌, ap, subst}
 use Rattle.rbac_sets.specs.Sets.{Pairs}
 use Rattle.rbac_sets.specs.declared.row.Row.{Row}
@@ -10,12 +10,12 @@ use Rattle.admin_mgr.specs.Rows.{has_row}
 use Rattle.admin_mgr.specs.Stepping.{is_plain, with_row, without_row, with_edges, after_change, after_changes}
 use Rattle.admin_mgr.proofs.PlanRows.ChangeLaws.{plain_pairs}
 
--- whether changes take rows or put them
+-- whether changes remove rows or insert them
 pub data Way : Type 0 where
   taking : Way
   putting : Way
 
--- a change goes this way, and is of a row of a set that changes row by row; what it puts isn't there, and what it takes is
+-- a change of this way, of a row of a set that changes row by row: it inserts an absent row, or removes one that is there
 abbrev pub IsFitting : Way → RbacState → Change → Type 0
 IsFitting taking S (Take row) = (is_plain row ≡ true) × (has_row S row ≡ true)
 IsFitting taking S (Put row) = ⊥
@@ -32,47 +32,47 @@ pub record Steps (way : Way) (S : RbacState) (changes : List Change) (T : RbacSt
   pub fits : AreFitting way S changes
   pub leads : after_changes S changes ≡ T
 
--- no change leads nowhere
+-- no changes lead from a state to itself
 pub steps_nothing : {way : Way} (S : RbacState) → Steps way S [] S
 unfolding after_changes
 steps_nothing S = record { fits = tt; leads = refl }
 
--- where one list leads after another
+-- the state after one list of changes and then another
 pub after_append : (S : RbacState) (xs ys : List Change) → after_changes S (xs ++ ys) ≡ after_changes (after_changes S xs) ys
 unfolding after_changes
 after_append S [] ys = refl
 after_append S (x ∷ xs) ys = after_append (after_change S x) xs ys
 
--- a list is fitting behind another, where it is fitting at the state that the first leads to
+-- a list is fitting after another if it is fitting in the state that the first leads to
 fitting_append : (way : Way) (S : RbacState) (xs ys : List Change) → AreFitting way S xs → AreFitting way (after_changes S xs) ys → AreFitting way S (xs ++ ys)
 unfolding after_changes
 fitting_append way S [] ys first second = second
 fitting_append way S (x ∷ xs) ys first second = (first.0, fitting_append way (after_change S x) xs ys first.1 second)
 
--- what leads on from where the first changes lead is appended
+-- steps that continue where others end may be appended
 pub steps_append : {way : Way} {S M T : RbacState} {xs ys : List Change} → Steps way S xs M → Steps way M ys T → Steps way S (xs ++ ys) T
 steps_append {way} {S} {M} {T} {xs} {ys} first second = record {
   fits = fitting_append way S xs ys first.fits (subst (λ X. AreFitting way X ys) (sym first.leads) second.fits);
   leads = after_append S xs ys ∙ ap (λ X. after_changes X ys) first.leads ∙ second.leads;
 }
 
--- the same changes lead to what is the same state
+-- the same changes lead to an equal state
 pub steps_to : {way : Way} {S M T : RbacState} {changes : List Change} → Steps way S changes M → M ≡ T → Steps way S changes T
 steps_to steps same = record { fits = steps.fits; leads = steps.leads ∙ same }
 
--- one row goes
+-- one row is removed
 pub steps_take : (S : RbacState) (row : Row) → is_plain row ≡ true → has_row S row ≡ true → Steps taking S (Take row ∷ []) (without_row S row)
 unfolding after_changes
 steps_take S row plain there = record { fits = ((plain, there), tt); leads = refl }
 
--- one row comes
+-- one row is inserted
 pub steps_put : (S : RbacState) (row : Row) → is_plain row ≡ true → has_row S row ≡ false → Steps putting S (Put row ∷ []) (with_row S row)
 unfolding after_changes
 steps_put S row plain absent = record { fits = ((plain, absent), tt); leads = refl }
 
 -- ---- other edges
 
--- what has other edges has the same rows of the sets that change row by row
+-- a state with other edges has the same rows of the sets that change row by row
 pub has_row-with_edges : (S : RbacState) (edges : Pairs) (row : Row) → is_plain row ≡ true → has_row (with_edges S edges) row ≡ has_row S row
 unfolding has_row
 has_row-with_edges S edges (NameRow k x) plain = refl
@@ -81,7 +81,7 @@ has_row-with_edges S edges (GrantRow x y z) plain = refl
 has_row-with_edges S edges (SetRow k x n) plain = refl
 has_row-with_edges S edges (LockedRow x) plain = refl
 
--- a change of one row makes the same of the other sets, whatever the edges are
+-- a change of one row has the same effect on the other sets, whatever the edges are
 edges_apart : (S : RbacState) (edges : Pairs) (change : Change) → after_change (with_edges S edges) change ≡ with_edges (after_change S change) edges
 unfolding with_row without_row
 edges_apart S edges (Put (NameRow k a)) = refl
@@ -102,7 +102,7 @@ fitting_edges taking S edges (Put row) fits = fits
 fitting_edges putting S edges (Take row) fits = fits
 fitting_edges putting S edges (Put row) fits = (fits.0, has_row-with_edges S edges row fits.0 ∙ fits.1)
 
--- and so are changes
+-- and so is a list of changes
 all_fitting_edges : (way : Way) (S : RbacState) (edges : Pairs) (changes : List Change) → AreFitting way S changes → AreFitting way (with_edges S edges) changes
 all_fitting_edges way S edges [] fits = tt
 all_fitting_edges way S edges (change ∷ changes) fits = (
@@ -110,13 +110,13 @@ all_fitting_edges way S edges (change ∷ changes) fits = (
   subst (λ X. AreFitting way X changes) (sym (edges_apart S edges change)) (all_fitting_edges way (after_change S change) edges changes fits.1),
 )
 
--- changes make the same of the other sets, whatever the edges are
+-- a list of changes has the same effect on the other sets, whatever the edges are
 all_edges_apart : (S : RbacState) (edges : Pairs) (changes : List Change) → after_changes (with_edges S edges) changes ≡ with_edges (after_changes S changes) edges
 unfolding after_changes
 all_edges_apart S edges [] = refl
 all_edges_apart S edges (change ∷ changes) = ap (λ X. after_changes X changes) (edges_apart S edges change) ∙ all_edges_apart (after_change S change) edges changes
 
--- the changes lead likewise where the edges are others
+-- the changes lead to the same state with other edges if they begin with these
 pub steps_with_edges : {way : Way} {S T : RbacState} {changes : List Change} (edges : Pairs) → Steps way S changes T → Steps way (with_edges S edges) changes (with_edges T edges)
 steps_with_edges {way} {S} {T} {changes} edges steps = record {
   fits = all_fitting_edges way S edges changes steps.fits;

@@ -1,4 +1,4 @@
--- The plans for an object, a permission, a grant, a lock, a session or an activated role less: rows are taken.
+-- The plans that remove an object, a permission, a grant, a lock, a session or an activated role: they remove rows.
 use Rattle.std.proofs.Common.{◌≡◌, Bool, not, ◌&&◌, ◌∷◌, refl}
 use Rattle.std.specs.Prelude.{IsTrue, None, filter}
 use Rattle.std.specs.declared.cmp.Ordering.{Ordering}
@@ -32,7 +32,6 @@ delete_perm_obj_there : (S : RbacState) (object : Bytes) → verdict S (DeletePe
 unfolding verdict refusals
 delete_perm_obj_there S object accepted = refuse_unless-None (contains S.objects object) NoObject (passed (refusals S (DeletePermObj object)) accepted).0
 
--- its row is taken
 pub done_delete_perm_obj : (S : RbacState) → IsGood S → (object : Bytes) → verdict S (DeletePermObj object) ≡ None → IsDoneByOne S (DeletePermObj object) Take (NameRow OBJECT object)
 unfolding tally changed
 done_delete_perm_obj S good object accepted = done_by_one S (DeletePermObj object) refl (after_delete_perm_obj S good object) (good_after_delete_perm_obj S good object accepted) refl
@@ -49,17 +48,17 @@ delete_permission_there S object operation accepted = refuse_unless-None (contai
 abbrev pub is_grant_of : Bytes → Bytes → Triple → Bool
 is_grant_of object operation grant = eq_by_cmp pair_cmp (grant.0, grant.1) (object, operation)
 
--- one order and then another tie where both do
+-- one ordering and then another is a tie exactly if both are
 both_tie : (o p : Ordering) → is_eq (ordering_then o p) ≡ (is_eq o && is_eq p)
 both_tie Less p = refl
 both_tie Equal p = refl
 both_tie Greater p = refl
 
--- it is where it is of the object and of the operation
+-- a grant is of the permission exactly if it is of the object and of the operation
 grant_of_both : (object operation : Bytes) (grant : Triple) → is_grant_of object operation grant ≡ (same_name grant.0 object && same_name grant.1 operation)
 grant_of_both object operation grant = both_tie (name_cmp grant.0 object) (name_cmp grant.1 operation)
 
--- its row is taken, and those of its grants
+-- its row is removed, and those of its grants
 pub done_delete_permission : (S : RbacState) → IsGood S → (object operation : Bytes) → verdict S (DeletePermission object operation) ≡ None →
     IsDoneBy S (DeletePermission object operation) (Take (PairRow PERMISSION object operation) ∷ take_all grant_row (filter (is_grant_of object operation) (members S.grants)))
 unfolding tally changed
@@ -77,7 +76,6 @@ unfolding verdict refusals
 revoke_permission_there S object operation role accepted =
     refuse_unless-None (contains S.grants (object, operation, role)) NotGranted (passed (refusals S (RevokePermission object operation role)) accepted).1.1.1.0
 
--- its row is taken
 pub done_revoke_permission : (S : RbacState) → IsGood S → (object operation role : Bytes) → verdict S (RevokePermission object operation role) ≡ None →
     IsDoneByOne S (RevokePermission object operation role) Take (GrantRow object operation role)
 unfolding tally changed
@@ -92,7 +90,7 @@ delete_session_there : (S : RbacState) (user session : Bytes) → verdict S (Del
 unfolding verdict refusals
 delete_session_there S user session accepted = refuse_unless-None (contains S.sessions (session, user)) NotOwner (passed (refusals S (DeleteSession user session)) accepted).1.1.0
 
--- its row is taken, and those of the roles that were activated in it
+-- its row is removed, and those of the roles that were activated in it
 pub done_delete_session : (S : RbacState) → IsGood S → (user session : Bytes) → verdict S (DeleteSession user session) ≡ None → IsDoneBy S (DeleteSession user session) (session_rows S (session, user))
 unfolding tally changed
 done_delete_session S good user session accepted = done_by S (DeleteSession user session) refl (after_delete_session S good user session) (good_after_delete_session S good user session accepted) refl
@@ -106,7 +104,6 @@ unfolding verdict refusals
 drop_active_role_there S user session role accepted =
     refuse_unless-None (contains S.active (session, role)) NotActive (passed (refusals S (DropActiveRole user session role)) accepted).1.1.1.1.0
 
--- its row is taken
 pub done_drop_active_role : (S : RbacState) → IsGood S → (user session role : Bytes) → verdict S (DropActiveRole user session role) ≡ None →
     IsDoneByOne S (DropActiveRole user session role) Take (PairRow ACTIVATED_ROLE session role)
 unfolding tally changed
@@ -116,7 +113,7 @@ done_drop_active_role S good user session role accepted = done_by_one S (DropAct
 
 -- ---- a lock
 
--- its row is taken, where there is one
+-- its row is removed, if there is one
 pub done_unlock_user_account : (S : RbacState) → IsGood S → (user : Bytes) → verdict S (UnlockUserAccount user) ≡ None → IsDoneBy S (UnlockUserAccount user) (lock_rows S user)
 unfolding tally changed
 done_unlock_user_account S good user accepted = done_by S (UnlockUserAccount user) refl (after_unlock_user_account S good user) (good_after_unlock_user_account S good user accepted) refl

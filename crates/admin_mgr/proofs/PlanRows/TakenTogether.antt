@@ -1,4 +1,4 @@
--- Rows that go one after the other are taken together.
+-- Removing rows one after the other has the effect of removing them together.
 use Rattle.std.proofs.Common.{◌≡◌, ℕ, zero, suc, ◌+◌, ◌<◌, ◌≤◌, List, [], ◌∷◌, ◌++◌, length, get_or, take, drop, refl, sym, ◌∙◌, ap, subst, arith}
 use Rattle.std.proofs.lemmas.List.{take_more, take-append-le}
 use Rattle.rbac_sets.specs.declared.row.Row.{Row}
@@ -9,30 +9,31 @@ use Rattle.admin_mgr.specs.Stepping.{without_row, after_change, after_changes, A
 use Rattle.admin_mgr.proofs.PlanRows.RoomLaws.{room_left, spends_none}
 use Rattle.admin_mgr.proofs.PlanRows.StepLaws.{after_append}
 
--- one more row goes
+-- one more row is removed
 pub taken_more : (S : RbacState) (changes : List Change) (n : ℕ) (change : Change) (row : Row) → n < length changes → change ≡ get_or changes n change → change ≡ Take row
     → after_changes S (take (n + 1) changes) ≡ without_row (after_changes S (take n changes)) row
 unfolding after_changes
 taken_more S changes n change row within at takes =
     ap (after_changes S) (take_more changes n change within ∙ ap (λ (last : Change). take n changes ++ last ∷ []) (sym at ∙ takes)) ∙ after_append S (take n changes) (Take row ∷ [])
 
--- ---- the changes behind the first n
+-- ---- the changes after the first n
 
--- they lead on to where all lead
+-- they lead to the state that all of them lead to
 pub leads_on : (n : ℕ) (S : RbacState) (changes : List Change) → after_changes (after_changes S (take n changes)) (drop n changes) ≡ after_changes S changes
 unfolding after_changes
 leads_on zero S changes = refl
 leads_on (suc n) S [] = refl
 leads_on (suc n) S (change ∷ changes) = leads_on n (after_change S change) changes
 
--- what they put isn't there when its turn comes
+-- what they insert is absent when its turn comes
 pub free_behind : (n : ℕ) (S : RbacState) (changes : List Change) → AreFree S changes → AreFree (after_changes S (take n changes)) (drop n changes)
 unfolding after_changes
 free_behind zero S changes free = free
 free_behind (suc n) S [] free = tt
 free_behind (suc n) S (change ∷ changes) free = free_behind n (after_change S change) changes free.1
 
--- where the first n are made, which stand in a front part, the rest isn't there either and leads on
+-- After the first n changes, all in a front part, what the others insert is absent when its turn comes, and they lead to the
+-- state after all changes.
 pub made_first : (S M : RbacState) (front back changes : List Change) (n : ℕ) → front ++ back ≡ changes → n ≤ length front → M ≡ after_changes S (take n front)
     → AreFree S changes → AreFree M (drop n changes) × (after_changes M (drop n changes) ≡ after_changes S changes)
 made_first S M front back changes n whole within made free =
@@ -48,7 +49,7 @@ room_behind zero changes rooms fits = fits
 room_behind (suc n) [] rooms fits = fits
 room_behind (suc n) (change ∷ changes) rooms fits = room_behind n changes rooms (room_left change changes rooms rooms fits (spends_none change rooms))
 
--- taking a row leaves the room that there was
+-- removing a row leaves the room that there was
 pub room_kept : (row : Row) (changes : List Change) (olds news : List (ℕ × ℕ)) → HasRoom olds changes → Spends (Take row) olds news → HasRoom news changes
 room_kept row changes [] [] fits spends = tt
 room_kept row changes [] (new ∷ news) fits spends = absurd spends

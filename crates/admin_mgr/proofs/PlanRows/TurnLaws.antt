@@ -25,20 +25,20 @@ use Rattle.admin_mgr.proofs.PlanRows.StepLaws.{AreFitting, Steps, steps_put}
 
 -- ---- rows that don't change one by one
 
--- an answer by the first of three tests that holds is the same whatever it would be, where none holds
+-- a choice by three tests doesn't depend on their results if none holds
 three : (a b c p q r s t u : Bool) → (a || b || c) ≡ false → (if a then p else if b then q else if c then r else false) ≡ (if a then s else if b then t else if c then u else false)
 three true b c p q r s t u h = cc
 three false true c p q r s t u h = cc
 three false false true p q r s t u h = cc
 three false false false p q r s t u h = refl
 
--- the same of two tests
+-- the same for two tests
 two : (a b p q s t : Bool) → (a || b) ≡ false → (if a then p else if b then q else false) ≡ (if a then s else if b then t else false)
 two true b p q s t h = cc
 two false true p q s t h = cc
 two false false p q s t h = refl
 
--- the same of eight tests, of which the third and the fourth answer alike
+-- the same for eight tests, of which the third and the fourth have equal results
 eight :
     (a b c d e f g k p q r s t u v w p' q' t' u' v' w' : Bool)
     → (a || b || e || f || g || k) ≡ false
@@ -54,7 +54,7 @@ eight false false false false false false true k p q r s t u v w p' q' t' u' v' 
 eight false false false false false false false true p q r s t u v w p' q' t' u' v' w' h = cc
 eight false false false false false false false false p q r s t u v w p' q' t' u' v' w' h = refl
 
--- they are those of the edges
+-- they depend only on the edges
 pub has_row-edges : (S T : RbacState) (row : Row) → is_plain row ≡ false → S.edges ≡ T.edges → has_row S row ≡ has_row T row
 unfolding has_row
 has_row-edges S T (NameRow k x) other edges = three (nat_eq k USER) (nat_eq k ROLE) (nat_eq k OBJECT) _ _ _ _ _ _ other
@@ -66,23 +66,23 @@ has_row-edges S T (GrantRow x y z) other edges = cc
 has_row-edges S T (SetRow k x n) other edges = two (nat_eq k STATIC_CARDINALITY) (nat_eq k DYNAMIC_CARDINALITY) _ _ _ _ other
 has_row-edges S T (LockedRow x) other edges = cc
 
--- ---- changes that all take, and changes that all put
+-- ---- changes that only remove, and changes that only insert
 
--- changes that take put nothing
+-- removals insert nothing
 pub taking_puts : (S : RbacState) (changes : List Change) → AreFitting taking S changes → (row : Row) → is_put changes row ≡ false
 unfolding is_put
 taking_puts S [] fits row = refl
 taking_puts S (Put first ∷ changes) fits row = absurd fits.0
 taking_puts S (Take first ∷ changes) fits row = taking_puts (without_row S first) changes fits.1 row
 
--- changes that put take nothing
+-- insertions remove nothing
 pub putting_takes : (S : RbacState) (changes : List Change) → AreFitting putting S changes → (row : Row) → is_taken changes row ≡ false
 unfolding is_taken
 putting_takes S [] fits row = refl
 putting_takes S (Take first ∷ changes) fits row = absurd fits.0
 putting_takes S (Put first ∷ changes) fits row = putting_takes (with_row S first) changes fits.1 row
 
--- what they take is of a set that changes row by row, and is there
+-- what removals remove is of a set that changes row by row, and is there
 taken_there : (S : RbacState) (changes : List Change) → AreFitting taking S changes → (row : Row) → is_taken changes row ≡ true → (is_plain row ≡ true) × (has_row S row ≡ true)
 unfolding is_taken
 taken_there S [] fits row h = absurd (true≢false (sym h))
@@ -94,7 +94,7 @@ taken_there S (Take first ∷ changes) fits row h = elim (or_cases (same_row fir
       (rest.0, (and_parts _ _ (sym (has_row-without S first row rest.0) ∙ rest.1)).0)
 ]
 
--- what they put is of a set that changes row by row, and isn't there
+-- what insertions insert is of a set that changes row by row, and isn't there
 put_absent : (S : RbacState) (changes : List Change) → AreFitting putting S changes → (row : Row) → is_put changes row ≡ true → (is_plain row ≡ true) × (has_row S row ≡ false)
 unfolding is_put
 put_absent S [] fits row h = absurd (true≢false (sym h))
@@ -106,7 +106,7 @@ put_absent S (Put first ∷ changes) fits row h = elim (or_cases (same_row first
       (rest.0, false_from_ne_true (has_row S row) (λ there. true≢false (sym (or_left _ _ there) ∙ sym (has_row-with S first row rest.0) ∙ rest.1)))
 ]
 
--- they take each row once
+-- removals remove each row once
 taken_once : (S : RbacState) (changes : List Change) → AreFitting taking S changes → IsOnce changes
 taken_once S [] fits = tt
 taken_once S (Put first ∷ changes) fits = absurd fits.0
@@ -117,7 +117,7 @@ taken_once S (Take first ∷ changes) fits = (
   taken_once (without_row S first) changes fits.1,
 )
 
--- they put each row once
+-- insertions insert each row once
 put_once : (S : RbacState) (changes : List Change) → AreFitting putting S changes → IsOnce changes
 put_once S [] fits = tt
 put_once S (Take first ∷ changes) fits = absurd fits.0
@@ -128,29 +128,29 @@ put_once S (Put first ∷ changes) fits = (
   put_once (with_row S first) changes fits.1,
 )
 
--- changes that take put nothing before they take
+-- among removals, none follows an insertion
 taking_first : (S : RbacState) (changes : List Change) → AreFitting taking S changes → TakesFirst changes
 taking_first S [] fits = tt
 taking_first S (Put first ∷ changes) fits = absurd fits.0
 taking_first S (Take first ∷ changes) fits = taking_first (without_row S first) changes fits.1
 
--- changes that put take nothing behind what they put
+-- nor does one among insertions
 putting_last : (S : RbacState) (changes : List Change) → AreFitting putting S changes → TakesFirst changes
 putting_last S [] fits = tt
 putting_last S (Take first ∷ changes) fits = absurd fits.0
 putting_last S (Put first ∷ changes) fits = (putting_takes (with_row S first) changes fits.1, putting_last (with_row S first) changes fits.1)
 
--- not both, where one does not hold
+-- two tests don't both hold if the second fails
 not_both : (a b : Bool) → b ≡ false → (a && b) ≡ false
 not_both true b h = h
 not_both false b h = refl
 
--- what is neither taken nor put is there as before
+-- a row that is neither removed nor inserted is there as before
 unchanged : (has : Bool) → has ≡ (has && not false || false)
 unchanged true = refl
 unchanged false = refl
 
--- the rows of where changes lead that each touch one row of a set that changes row by row
+-- the rows of the state that changes lead to, each a change of a row of a set that changes row by row
 led_rows :
     (S T : RbacState) (changes : List Change)
     → after_changes S changes ≡ T
@@ -164,7 +164,7 @@ led_rows S T changes leads apart others row = by (is_plain row) refl
     by false other = has_row-edges T S row other (ap (λ X. X.edges) (sym leads) ∙ edges-changes S changes) ∙ unchanged (has_row S row)
         ∙ (λ i. has_row S row && not (sym (others row other).0 i) || sym (others row other).1 i)
 
--- changes that all take turn the rows of S into those of where they lead
+-- removals turn the rows of S into those of the state that they lead to
 pub turns_taking : {S T : RbacState} {changes : List Change} → Steps taking S changes T → Turns S changes T
 turns_taking {S} {T} {changes} steps = record {
   version = sym (ap (λ X. X.version) (sym steps.leads) ∙ version-changes S changes);
@@ -176,7 +176,7 @@ turns_taking {S} {T} {changes} steps = record {
   takes_first = taking_first S changes steps.fits;
 }
 
--- so do changes that all put
+-- so do insertions
 pub turns_putting : {S T : RbacState} {changes : List Change} → Steps putting S changes T → Turns S changes T
 turns_putting {S} {T} {changes} steps = record {
   version = sym (ap (λ X. X.version) (sym steps.leads) ∙ version-changes S changes);
@@ -188,23 +188,23 @@ turns_putting {S} {T} {changes} steps = record {
   takes_first = putting_last S changes steps.fits;
 }
 
--- ---- changes one list after the other
+-- ---- one list of changes after another
 
--- what two lists take
+-- what two lists remove
 taken_in : (xs ys : List Change) (row : Row) → is_taken (xs ++ ys) row ≡ (is_taken xs row || is_taken ys row)
 unfolding is_taken
 taken_in xs ys row = list_any-append (λ change. takes change row) xs ys
 
--- what two lists put
+-- what two lists insert
 put_in : (xs ys : List Change) (row : Row) → is_put (xs ++ ys) row ≡ (is_put xs row || is_put ys row)
 unfolding is_put
 put_in xs ys row = list_any-append (λ change. puts change row) xs ys
 
--- no row is taken by the one list and put by the other
+-- no row is removed by the first list and inserted by the second
 abbrev pub AreApart : List Change → List Change → Type 0
 AreApart takes puts = (row : Row) → (is_taken takes row && is_put puts row) ≡ false
 
--- whether a row is there that was, was taken or put, and was taken or put again
+-- whether a row is there after two lists of changes
 both_rows : (has t p u q : Bool) → (u && p) ≡ false → (t && q) ≡ false → ((has && not t || p) && not u || q) ≡ (has && not (t || u) || (p || q))
 both_rows has t true true q h k = cc
 both_rows has true p u true h k = cc
@@ -217,7 +217,7 @@ both_rows true false false false q h k = refl
 both_rows false t true false q h k = refl
 both_rows false t false u q h k = refl
 
--- each row once in two lists, where none is put by both or taken by both
+-- two lists together insert and remove each row once, if no row is inserted by both or removed by both
 once_append :
     (xs ys : List Change)
     → ((row : Row) → is_put xs row ≡ true → is_put ys row ≡ false) → ((row : Row) → is_taken xs row ≡ true → is_taken ys row ≡ false)
@@ -233,7 +233,7 @@ once_append (Take row ∷ xs) ys puts takes first second = (
   once_append xs ys puts (λ other h. takes other (or_right (same_row row other) _ h)) first.1 second,
 )
 
--- what turns the rows on from M is appended to what turns them to M, if no row is taken by the one and put by the other
+-- lists that turn the rows by way of M may be joined, if no row is removed by one and inserted by the other
 pub turns_append :
     {S M T : RbacState} {xs ys : List Change}
     → Turns S xs M → Turns M ys T → AreApart ys xs → AreApart xs ys → TakesFirst (xs ++ ys) → Turns S (xs ++ ys) T
@@ -268,37 +268,37 @@ turns_append {S} {M} {T} {xs} {ys} first second back forth takes_first = record 
       | inr put ↦ true≢false (sym (first.there row early) ∙ first.absent row put)
     ])
 
--- where the first list puts nothing, or the second takes nothing, no row is taken behind one that is put
+-- if the first list inserts nothing, no removal follows an insertion
 pub takes_first_nothing_put : (xs ys : List Change) → ((row : Row) → is_put xs row ≡ false) → TakesFirst ys → TakesFirst (xs ++ ys)
 unfolding is_put
 takes_first_nothing_put [] ys none rest = rest
 takes_first_nothing_put (Put row ∷ xs) ys none rest = absurd (true≢false (sym (or_left _ _ (same_row-self row)) ∙ none row))
 takes_first_nothing_put (Take row ∷ xs) ys none rest = takes_first_nothing_put xs ys none rest
 
--- the same where the second list takes nothing
+-- the same if the second list removes nothing
 pub takes_first_nothing_taken : (xs ys : List Change) → ((row : Row) → is_taken ys row ≡ false) → TakesFirst xs → TakesFirst ys → TakesFirst (xs ++ ys)
 takes_first_nothing_taken [] ys none first rest = rest
 takes_first_nothing_taken (Put row ∷ xs) ys none first rest = ((λ other. taken_in xs ys other ∙ (λ i. first.0 other i || none other i)), takes_first_nothing_taken xs ys none first.1 rest)
 takes_first_nothing_taken (Take row ∷ xs) ys none first rest = takes_first_nothing_taken xs ys none first rest
 
--- not both, where the other does not hold
+-- two tests don't both hold if the first fails
 nothing_and : (a b : Bool) → a ≡ false → (a && b) ≡ false
 nothing_and true b h = absurd (true≢false h)
 nothing_and false b h = refl
 
--- one list after another that puts nothing, where the first puts nothing
+-- one list after another, if neither inserts a row
 pub turns_taking_more : {S M T : RbacState} {xs ys : List Change} → ((row : Row) → is_put xs row ≡ false) → ((row : Row) → is_put ys row ≡ false) → Turns S xs M → Turns M ys T → Turns S (xs ++ ys) T
 turns_taking_more {S} {M} {T} {xs} {ys} none none_more first second = turns_append first second
     (λ row. not_both (is_taken ys row) (is_put xs row) (none row)) (λ row. not_both (is_taken xs row) (is_put ys row) (none_more row))
     (takes_first_nothing_put xs ys none second.takes_first)
 
--- one list after another that takes nothing, where the first takes nothing
+-- one list after another, if neither removes a row
 pub turns_putting_more : {S M T : RbacState} {xs ys : List Change} → ((row : Row) → is_taken xs row ≡ false) → ((row : Row) → is_taken ys row ≡ false) → Turns S xs M → Turns M ys T → Turns S (xs ++ ys) T
 turns_putting_more {S} {M} {T} {xs} {ys} none none_more first second = turns_append first second
     (λ row. nothing_and (is_taken ys row) (is_put xs row) (none_more row)) (λ row. nothing_and (is_taken xs row) (is_put ys row) (none row))
     (takes_first_nothing_taken xs ys none_more first.takes_first second.takes_first)
 
--- changes that all take, and then changes that all put none of the rows that were taken
+-- removals, and then insertions of none of the removed rows
 pub turns_both : {S M T : RbacState} {xs ys : List Change} → Steps taking S xs M → Steps putting M ys T → AreApart xs ys → Turns S (xs ++ ys) T
 turns_both {S} {M} {T} {xs} {ys} first second apart =
     let none_put = taking_puts S xs first.fits in
@@ -306,20 +306,20 @@ turns_both {S} {M} {T} {xs} {ys} first second apart =
     turns_append (turns_taking first) (turns_putting second) (λ row. not_both (is_taken ys row) (is_put xs row) (none_put row)) apart
     (takes_first_nothing_put xs ys none_put (putting_last M ys second.fits))
 
--- ---- rows that are taken and one that is put
+-- ---- removals and one insertion
 
--- rows that weren't there when the first were taken aren't among these
+-- rows that were absent before the removals aren't among the removed ones
 pub apart_where_absent : {S M : RbacState} {xs : List Change} (ys : List Change) → Steps taking S xs M → ((row : Row) → is_put ys row ≡ true → has_row S row ≡ false) → AreApart xs ys
 apart_where_absent {S} {M} {xs} ys first absent row = false_from_ne_true _ (λ both.
     let parts = and_parts (is_taken xs row) _ both in
     true≢false (sym (taken_there S xs first.fits row parts.0).1 ∙ absent row parts.1))
 
--- a row that wasn't there isn't where rows were taken
+-- an absent row is still absent after removals
 still_absent : {S M : RbacState} {xs : List Change} → Steps taking S xs M → (row : Row) → has_row S row ≡ false → has_row M row ≡ false
 still_absent {S} {M} {xs} first row absent =
     (turns_taking first).rows row ∙ (λ i. absent i && not (is_taken xs row) || taking_puts S xs first.fits row i)
 
--- rows are taken, and then one is put that wasn't there
+-- removals, and then the insertion of a row that was absent before them
 pub turns_taking_then_put : {S M : RbacState} {xs : List Change} → Steps taking S xs M → (row : Row) → is_plain row ≡ true → has_row S row ≡ false → Turns S (xs ++ Put row ∷ []) (with_row M row)
 unfolding is_put
 turns_taking_then_put {S} {M} {xs} first row plain absent = turns_both first (steps_put M row plain (still_absent first row absent))

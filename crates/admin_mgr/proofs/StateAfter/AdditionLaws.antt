@@ -29,7 +29,7 @@ module _ (S : RbacState) (user : Bytes) (accepted : verdict S (AddUser user) ≡
   unfolding verdict refusals
   add_user_room = too_many-None S User (len S.users + 1) (passed (refusals S (AddUser user)) accepted).1.0
 
-  -- what the command makes of the state is good
+  -- the changed state is good
   good_changed_user : IsGood S → IsGood (changed S (AddUser user))
   unfolding changed
   good_changed_user good = good_with_users S good (insert S.users user)
@@ -56,7 +56,7 @@ module _ (S : RbacState) (role : Bytes) (accepted : verdict S (AddRole role) ≡
   unfolding verdict refusals
   add_role_room = too_many-None S Role (len S.roles + 1) (passed (refusals S (AddRole role)) accepted).1.0
 
-  -- what the command makes of the state is good
+  -- the changed state is good
   good_changed_role : IsGood S → IsGood (changed S (AddRole role))
   unfolding changed
   good_changed_role good =
@@ -91,7 +91,7 @@ module _ (S : RbacState) (object : Bytes) (accepted : verdict S (AddPermObj obje
   unfolding verdict refusals
   add_perm_obj_room = too_many-None S Object (len S.objects + 1) (passed (refusals S (AddPermObj object)) accepted).1.0
 
-  -- what the command makes of the state is good
+  -- the changed state is good
   good_changed_object : IsGood S → IsGood (changed S (AddPermObj object))
   unfolding changed
   good_changed_object good = good_with_permissions S good (insert S.objects object) S.permissions S.grants (record {
@@ -128,7 +128,7 @@ module _ (S : RbacState) (object operation : Bytes) (accepted : verdict S (AddPe
   unfolding verdict refusals
   add_permission_room = too_many-None S Permission (len S.permissions + 1) (passed (refusals S (AddPermission object operation)) accepted).1.1.0
 
-  -- what the command makes of the state is good
+  -- the changed state is good
   good_changed_permission : IsGood S → IsGood (changed S (AddPermission object operation))
   unfolding changed
   good_changed_permission good =
@@ -177,7 +177,7 @@ module _ (S : RbacState) (object operation role : Bytes) (accepted : verdict S (
   unfolding verdict refusals
   grant_permission_room = too_many-None S Grant (len S.grants + 1) (passed (refusals S (GrantPermission object operation role)) accepted).1.1.1.1.0
 
-  -- what the command makes of the state is good
+  -- the changed state is good
   good_changed_grant : IsGood S → IsGood (changed S (GrantPermission object operation role))
   unfolding changed
   good_changed_grant good = good_with_permissions S good S.objects S.permissions (insert S.grants (object, operation, role)) (record {

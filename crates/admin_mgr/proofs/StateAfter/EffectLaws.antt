@@ -12,14 +12,14 @@ use Rattle.admin_mgr.specs.Assignment.{after_assignment, after_record, after_imp
 use Rattle.admin_mgr.specs.After.{changed, after}
 use Rattle.admin_mgr.specs.CommandLaws.{AssignedByCommand, GrantedByCommand, VersionStays}
 
--- equal names are one
+-- the test holds of equal names
 same : (a b : Bytes) → a ≡ b → IsTrue (same_name a b)
 same a b = (tie_Decides name_total name_exact a b).1
 
 -- ---- the assignments
 
 module _ (user role : Bytes) where
-  -- a record adds its own pair alone
+  -- a record adds only its own pair
   record_adds : (S : RbacState) (pair : Pair) → IsTrue (contains (after_record S pair).assignments (user, role)) →
       IsTrue (contains S.assignments (user, role)) ⊎ IsTrue (same_name pair.0 user && same_name pair.1 role)
   unfolding after_record after_assignment end_sessions
@@ -33,7 +33,7 @@ module _ (user role : Bytes) where
       ]
       by false h = inl h
 
-  -- an import adds the pairs of its records alone
+  -- an import adds only the pairs of its records
   import_adds : (S : RbacState) (pairs : List Pair) → IsTrue (contains (after_import S pairs).assignments (user, role)) →
       IsTrue (contains S.assignments (user, role)) ⊎ IsTrue (list_any (λ (pair : Pair). same_name pair.0 user && same_name pair.1 role) pairs)
   unfolding after_import
@@ -43,7 +43,7 @@ module _ (user role : Bytes) where
     | inr later ↦ inr (or_right _ _ later)
   ]
 
--- nothing but assignUser and an import adds an assignment
+-- only assignUser and an import add an assignment
 pub assigned_by_command : AssignedByCommand
 unfolding after changed end_sessions
 assigned_by_command S (DeleteUser gone) user role h = inl (and_parts _ _ (sym (contains-retain pair_total pair_exact S.assignments _ (user, role)) ∙ h)).0
@@ -81,7 +81,7 @@ version_kept S pair = refl
 
 -- ---- the grants
 
--- nothing but grantPermission adds a grant
+-- only grantPermission adds a grant
 pub granted_by_command : GrantedByCommand
 unfolding after changed end_sessions
 granted_by_command S (DeleteRole gone) object operation role h = inl (and_parts _ _ (sym (contains-retain triple_total triple_exact S.grants _ (object, operation, role)) ∙ h)).0

@@ -1,4 +1,4 @@
--- The state in which nothing was done yet is good, and has no row.
+-- The empty state of either version is good, and has no row.
 use Rattle.std.proofs.Common.{◌≡◌, ℕ, ◌≤◌, List, [], length, map, refl, sym, ◌∙◌, ap, arith}
 use Rattle.std.specs.Prelude.{IsTrue}
 use Rattle.std.specs.declared.cmp.Ordering.{Ordering}
@@ -16,7 +16,7 @@ use Rattle.admin_mgr.specs.Good.{IsSeparation}
 use Rattle.admin_mgr.specs.StateLaws.{EmptyIsGood, EmptyHasNoRow}
 use Rattle.admin_mgr.proofs.StoredRows.StoredLaws.{rows_are_among}
 
--- an empty set has nothing, and nothing behind a name
+-- an empty set has no member
 not_there : {K : Type 0} (R : K → K → Ordering) (x : K) {A : Type 0} → IsTrue (contains (empty {R = R}) x) → A
 not_there R x h = absurd (true≢false (sym h ∙ contains-empty R x))
 

@@ -13,7 +13,7 @@ use Rattle.admin_mgr.specs.Authorization.{authorized_users, is_authorized, is_se
 use Rattle.admin_mgr.specs.Assignment.{may_go_on, end_sessions}
 use Rattle.admin_mgr.specs.Good.{IsGood, IsSeparation, IsStaticallySeparated, IsDynamicallySeparated, IsWithinLimits}
 
--- The state is good but for its sessions: their users may be gone or locked, or no longer authorized for what was activated.
+-- The state is good except for its sessions: their users may be missing, locked, or no longer authorized for the active roles.
 pub record IsGoodApart (S : RbacState) : Type 0 where
   pub permissions : (object operation : Bytes) → IsTrue (contains S.permissions (object, operation)) → IsTrue (contains S.objects object)
   pub assignments : (user role : Bytes) → IsTrue (contains S.assignments (user, role)) → IsTrue (contains S.users user) × IsTrue (contains S.roles role)
@@ -30,7 +30,7 @@ pub record IsGoodApart (S : RbacState) : Type 0 where
   pub version : (S.version ≡ 1) ⊎ (S.version ≡ 2)
   pub no_locks : S.version ≡ 1 → S.locked ≡ empty
 
--- of fewer names, no more pass a test that is no easier
+-- fewer names and a stricter test don't give a larger count
 pub count-fewer : (p q : Bytes → Bool) (part whole : Names) → ((x : Bytes) → IsTrue (contains part x) → IsTrue (contains whole x)) →
     ((x : Bytes) → IsTrue (p x) → IsTrue (q x)) → count p part ≤ count q whole
 count-fewer p q part whole within harder =
@@ -41,14 +41,14 @@ count-fewer p q part whole within harder =
     let counted_more = count-len name_total name_exact q whole in
     omega (arith, fewer, counted, counted_more)
 
--- where edges run between roles, what is below a role is one
+-- if the edges connect roles, what a role dominates is a role
 below_role : (S : RbacState) → ((asc desc : Bytes) → IsTrue (contains S.edges (asc, desc)) → IsTrue (contains S.roles asc) × IsTrue (contains S.roles desc)) →
     {above role : Bytes} → Geq S.edges above role → IsTrue (contains S.roles above) → IsTrue (contains S.roles role)
 below_role S ends here is = is
 below_role S ends {above} (step {b = m} edge rest) is = below_role S ends rest (ends above m edge).1
 
 module _ (S : RbacState) (good : IsGoodApart S) where
-  -- who is authorized for a role is so for one that is there
+  -- users are only authorized for roles that are there
   authorized-role : (user role : Bytes) → IsTrue (is_authorized S user role) → IsTrue (contains S.roles role)
   unfolding authorized_users
   authorized-role user role h =
@@ -71,7 +71,7 @@ module _ (S : RbacState) (good : IsGoodApart S) where
       let same : owner.0 ≡ (p.0, owner.0.1) = λ i. ((tie_Decides name_total name_exact owner.0.0 p.0).0 tests.0 i, owner.0.1) in
       (parts.0, (owner.0.1, subst (λ s. IsTrue (contains S.sessions s)) same owner.1, subst (λ s. IsTrue (may_go_on S s)) same tests.1))
 
-  -- what it is that a session may go on
+  -- the conditions that a session which may go on meets
   goes_on_parts : (p : Pair) → IsTrue (may_go_on S p) → IsTrue (contains S.users p.1) × (contains S.locked p.1 ≡ false) × ((role : Bytes) → IsTrue (contains S.active (p.0, role)) → IsTrue (is_authorized S p.1 role))
   unfolding may_go_on
   goes_on_parts p h =
@@ -97,7 +97,7 @@ module _ (S : RbacState) (good : IsGoodApart S) where
       let fewer = count-fewer (is_session_role (end_sessions S) session) (is_session_role S session) (members_of S.dsd name) (members_of S.dsd name) (λ x member. member) (fewer_roles session) in
       omega (arith, before, fewer)
 
-  -- what is good but for its sessions is good once those have ended that may not go on
+  -- a state that is good except for its sessions is good once those that may not go on have ended
   pub good_ended : IsGood (end_sessions S)
   unfolding end_sessions authorized_users
   good_ended =

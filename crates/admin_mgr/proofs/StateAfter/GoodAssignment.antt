@@ -23,9 +23,9 @@ use Rattle.admin_mgr.proofs.StateAfter.SessionLaws.{none_ends_where}
 use Rattle.admin_mgr.proofs.Verdicts.TouchLaws.{with_assignment, authorized-assigned}
 use Rattle.admin_mgr.proofs.Verdicts.VerdictLaws.{AllPassed, passed, refuse_if-None, refuse_unless-None}
 
--- what an assignment had to pass
+-- the conditions that an accepted assignment meets
 module _ (S : RbacState) (pair : Pair) (accepted : assignment_verdict S pair ≡ None) where
-  -- none of the refusals of an assignment holds
+  -- no refusal applies
   all_passed : AllPassed (assignment_refusals S pair)
   unfolding assignment_verdict
   all_passed = passed (assignment_refusals S pair) accepted
@@ -45,7 +45,7 @@ module _ (S : RbacState) (pair : Pair) (accepted : assignment_verdict S pair ≡
   unfolding assignment_refusals
   not_assigned = refuse_if-None (contains S.assignments pair) AlreadyAssigned all_passed.1.1.0
 
-  -- there are not too many assignments with it
+  -- the assignments stay within their limit
   pub room_for_assignment : len S.assignments + 1 ≤ limit_of Assignment S.version
   unfolding assignment_refusals
   room_for_assignment = ltb-false (limit_of Assignment S.version) (len S.assignments + 1)
@@ -57,7 +57,7 @@ module _ (S : RbacState) (pair : Pair) (accepted : assignment_verdict S pair ≡
   none_violated = (unmapped StaticSeparation (static_violation (with_assignment S pair))).0 all_passed.1.1.1.1.0
 
 module _ (S : RbacState) (good : IsGood S) (pair : Pair) (accepted : assignment_verdict S pair ≡ None) where
-  -- more assignments authorize for more
+  -- with one more assignment, nobody is authorized for less
   still_authorized : (user role : Bytes) → IsTrue (is_authorized S user role) → IsTrue (is_authorized (with_assignment S pair) user role)
   still_authorized user role h = (authorized-assigned S pair.0 pair.1 user role).1 (inl h)
 
@@ -73,7 +73,7 @@ module _ (S : RbacState) (good : IsGood S) (pair : Pair) (accepted : assignment_
   unfolding after_assignment with_assignment
   after_assignment_is = none_ends_where (with_assignment S pair) assigned_goes_on good.well_formed.owned
 
-  -- what the relations speak of is there
+  -- what the relations refer to is there
   well_formed_with : IsWellFormed (with_assignment S pair)
   unfolding with_assignment
   well_formed_with =

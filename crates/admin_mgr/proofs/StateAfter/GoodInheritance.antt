@@ -26,9 +26,9 @@ use Rattle.admin_mgr.proofs.Verdicts.SeparationLaws.{unmapped, static_test, dyna
 use Rattle.admin_mgr.proofs.StateAfter.SessionLaws.{none_ends_where}
 use Rattle.admin_mgr.proofs.Verdicts.VerdictLaws.{AllPassed, passed, refuse_if-None, refuse_unless-None}
 
--- what the command had to pass
+-- the conditions that the accepted command meets
 module _ (S : RbacState) (asc desc : Bytes) (accepted : verdict S (AddInheritance asc desc) ≡ None) where
-  -- none of the refusals of the command holds
+  -- no refusal applies
   all_passed : AllPassed (refusals S (AddInheritance asc desc))
   unfolding verdict
   all_passed = passed (refusals S (AddInheritance asc desc)) accepted
@@ -43,12 +43,12 @@ module _ (S : RbacState) (asc desc : Bytes) (accepted : verdict S (AddInheritanc
   unfolding refusals
   no_edge = refuse_if-None (contains S.edges (asc, desc)) EdgeExists all_passed.1.1.0
 
-  -- nothing leads back
+  -- the descendant doesn't dominate the ascendant
   pub no_way_back : geq S.edges desc asc ≡ false
   unfolding refusals
   no_way_back = refuse_if-None (geq S.edges desc asc) Cycle all_passed.1.1.1.0
 
-  -- there are not too many immediate inheritances with it
+  -- the edges stay within their limit
   room_for_edge : len S.edges + 1 ≤ limit_of Edge S.version
   unfolding refusals
   room_for_edge = ltb-false (limit_of Edge S.version) (len S.edges + 1)
@@ -71,7 +71,7 @@ module _ (S : RbacState) (good : IsGood S) (asc desc : Bytes) (accepted : verdic
   after_add_inheritance =
       none_ends_where (with_edge S asc desc) (goes_on_below S good asc desc (no_way_back S asc desc accepted)) good.well_formed.owned
 
-  -- what the relations speak of is there
+  -- what the relations refer to is there
   well_formed_with : IsWellFormed (with_edge S asc desc)
   unfolding with_edge
   well_formed_with =

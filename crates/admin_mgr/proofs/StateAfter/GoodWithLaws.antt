@@ -1,4 +1,4 @@
--- Goodness of a state of which one group of relations is another: what has to hold of that group alone.
+-- A good state with one group of relations replaced: what has to hold of that group for the state to be good.
 use Rattle.std.proofs.Common.{◌≡◌, ◌<◌, ◌≤◌, Bool, false, sym, ◌∙◌, ap, subst}
 use Rattle.std.specs.Prelude.{IsTrue}
 use Rattle.std.specs.declared.cmp.Ordering.{Ordering}
@@ -157,7 +157,7 @@ good_with_permissions S good objects permissions grants are =
 
 -- ---- more roles, and other edges
 
--- what has to hold of them: the old roles stand to each other as before
+-- what has to hold of them: the order of the old roles is as before
 pub record AreMoreRoles (S : RbacState) (roles : Names) (edges : Pairs) : Type 0 where
   pub more : (x : Bytes) → IsTrue (contains S.roles x) → IsTrue (contains roles x)
   pub edges_formed : (asc desc : Bytes) → IsTrue (contains edges (asc, desc)) → IsTrue (contains roles asc) × IsTrue (contains roles desc)
@@ -171,20 +171,20 @@ module _ (S : RbacState) (good : IsGood S) (roles : Names) (edges : Pairs) (are 
   abbrev with_roles : RbacState
   with_roles = record S { roles = roles; edges = edges }
 
-  -- users are authorized for the old roles for which they were
+  -- users are authorized for the same old roles as before
   same_authorized : (user q : Bytes) → IsTrue (contains S.roles q) → is_authorized with_roles user q ≡ is_authorized S user q
   unfolding authorized_users
   same_authorized user q is_role = ap (λ (s : Pairs). contains (image {Q = name_cmp} (λ (a : Pair). a.0) s) user)
       (retain_same pair_total pair_exact (λ (a : Pair). geq edges a.1 q) (λ (a : Pair). geq S.edges a.1 q) S.assignments
       (λ a there. are.as_before a.1 q (good.well_formed.assignments a.0 a.1 there).1 is_role))
 
-  -- and sessions have the old roles that they had
+  -- and sessions have the same old roles as before
   same_session_role : (session q : Bytes) → IsTrue (contains S.roles q) → is_session_role with_roles session q ≡ is_session_role S session q
   same_session_role session q is_role =
       any_same name_total name_exact (λ a. geq edges a q) (λ a. geq S.edges a q) (active_roles S session)
       (λ a there. are.as_before a q (good.well_formed.active session a ((seconds-Decides S.active session a).0 there)) is_role)
 
-  -- sets of old roles are sets of these
+  -- separation of duty sets of the old roles are sets of the new ones
   separation_with : (separation : Separation) → IsSeparation S.roles separation → IsSeparation roles separation
   separation_with separation formed = record {
     members = λ name role h. ((formed.members name role h).0, are.more role (formed.members name role h).1);

@@ -1,4 +1,4 @@
--- What the limits give: an accepted command stays within them, and so does a set with one more entry.
+-- An accepted command stays within the limits, and a set with room for one more entry does so with one more.
 use Rattle.std.proofs.Common.{◌≡◌, ℕ, ◌+◌, ◌≤◌, arith}
 use Rattle.std.specs.Prelude.{None}
 use Rattle.std.specs.declared.cmp.Ordering.{Ordering}
@@ -13,10 +13,10 @@ use Rattle.admin_mgr.specs.RbacState.{RbacState}
 use Rattle.admin_mgr.specs.Refusing.{is_too_many, too_many}
 use Rattle.admin_mgr.proofs.Verdicts.VerdictLaws.{refuse_if-None}
 
--- where so many are not too many, they are within the limit
+-- a number that is not too many is within the limit
 pub too_many-None : (S : RbacState) (kind : Kind) (number : ℕ) → too_many S kind number ≡ None → number ≤ limit_of kind S.version
 too_many-None S kind number h = ltb-false (limit_of kind S.version) number (refuse_if-None (is_too_many S kind number) _ h)
 
--- where there is room for one more, a set with one more entry is within the limit
+-- if there is room for one more entry, a set with one more is within the limit
 pub one_more_within : {K : Type 0} {R : K → K → Ordering} (total : IsTotalOrder R) (s : FinSet R) (x : K) (limit : ℕ) → len s + 1 ≤ limit → len (insert s x) ≤ limit
 one_more_within total s x limit room = let more = len-insert-le total s x in omega (arith, more, room)

@@ -1,4 +1,4 @@
--- A good state of version 1 that is taken into version 2 is good, and its names stay names.
+-- A good state of version 1 that is migrated to version 2 is good, and its names stay valid.
 use Rattle.std.proofs.Common.{◌≤◌, ℕ, refl, sym, ◌∙◌, subst, inr, arith}
 use Rattle.rbac_sets.specs.Sets.{name_cmp, len}
 use Rattle.rbac_sets.specs.Kind.{limit_of}
@@ -57,7 +57,7 @@ migrated_good S good first =
       no_locks = λ h. cc;
     }
 
--- its rows are those of the state but for the locks
+-- its rows are those of the state, without the locks
 pub migrated_named : (S : RbacState) → AreNamed S → AreNamed (taken_into_version_2 S)
 unfolding has_row
 migrated_named S named (NameRow k a) there = named (NameRow k a) there

@@ -1,4 +1,4 @@
--- Names stay names.
+-- Valid names stay valid.
 use Rattle.std.proofs.Common.{List, [], ◌∷◌, sym, ◌∙◌, inl, inr, subst}
 use Rattle.std.specs.Prelude.{IsTrue}
 use Rattle.std.specs.List.{list_all}
@@ -15,7 +15,7 @@ use Rattle.admin_mgr.specs.Named.{AreNamed, NamedTurns}
 use Rattle.admin_mgr.proofs.PlanRows.CommitLaws.{same_row-is}
 use Rattle.admin_mgr.proofs.StateAfter.EmptyLaws.{empty_has_no_row}
 
--- a row that is put by changes of names is one of names
+-- a row that changes with valid names insert has valid names
 put_named : (changes : List Change) → IsTrue (are_named changes) → (row : Row) → IsTrue (is_put changes row) → IsTrue (is_named row)
 unfolding is_put
 put_named [] named row put = absurd (true≢false (sym put))
@@ -27,14 +27,14 @@ put_named (Put first ∷ changes) named row put =
       | inr later ↦ put_named changes parts.1 row later
     ]
 
--- the state that changes lead to is one of names
+-- changes with valid names lead to a state with valid names
 pub named_turns : NamedTurns
 named_turns S T changes turns named changes_named row there = elim (or_cases _ _ (sym (turns.rows row) ∙ there)) [
   | inl old ↦ named row (and_parts _ _ old).0
   | inr new ↦ put_named changes changes_named row new
 ]
 
--- a row that is among rows of names is one of names
+-- a row among rows with valid names has valid names
 among_named : (rows : List Row) → IsTrue (list_all is_named rows) → (row : Row) → IsTrue (is_among rows row) → IsTrue (is_named row)
 among_named [] named row among = absurd (true≢false (sym among))
 among_named (first ∷ rows) named row among =
@@ -44,7 +44,7 @@ among_named (first ∷ rows) named row among =
       | inr later ↦ among_named rows parts.1 row later
     ]
 
--- the state of rows of names is one of names
+-- the state of rows with valid names has valid names
 pub named_rows : (S : RbacState) (rows : List Row) → AreRowsOf S rows → IsTrue (list_all is_named rows) → AreNamed S
 named_rows S rows are named row there = among_named rows named row (sym (are.rows_are row) ∙ there)
 

@@ -1,5 +1,5 @@
--- A new role directly above or below one that is there: it is in no relation yet, so the old roles stand to each other as
--- before, no session ends, and the state is good.
+-- A new ascendant or descendant of a role: the new role is in no relation yet, so the order of the old roles is as before, no
+-- session ends, and the state is good.
 use Rattle.std.proofs.Common.{◌≡◌, ◌+◌, ◌≤◌, false, refl, sym, ◌∙◌, ap, inl, inr}
 use Rattle.std.specs.Prelude.{IsTrue, ◌⊎◌, None}
 use Rattle.std.proofs.lemmas.Bool.{true≢false, false_from_ne_true}
@@ -26,14 +26,14 @@ use Rattle.admin_mgr.proofs.StateAfter.GoodWithLaws.{after_is_changed, good_afte
 -- ---- edges lead from roles to roles
 
 module _ (S : RbacState) (good : IsGood S) where
-  -- what a role is below is a role
+  -- what dominates a role is a role
   role_above : (r q : Bytes) → Geq S.edges r q → IsTrue (contains S.roles q) → IsTrue (contains S.roles r)
   role_above r q leads is_role = elim (first_step (HasPair S.edges) leads) [
     | inl same ↦ ap (contains S.roles) same ∙ is_role
     | inr one ↦ (good.well_formed.edges r one.0 one.1).0
   ]
 
-  -- what a role is above is a role
+  -- what a role dominates is a role
   role_below : (r q : Bytes) → Geq S.edges r q → IsTrue (contains S.roles r) → IsTrue (contains S.roles q)
   role_below r q leads is_role = elim (last_step (HasPair S.edges) leads) [
     | inl same ↦ ap (contains S.roles) (sym same) ∙ is_role
@@ -47,14 +47,14 @@ abbrev IsEdgeAt : RbacState → Bytes → Bytes → Bytes → Type 0
 IsEdgeAt S role asc desc = ((asc ≡ role) × IsTrue (contains S.roles desc)) ⊎ (IsTrue (contains S.roles asc) × (desc ≡ role))
 
 module _ (S : RbacState) (good : IsGood S) (role asc desc : Bytes) (new : contains S.roles role ≡ false) (at : IsEdgeAt S role asc desc) where
-  -- no way between two roles that were there goes over the edge
+  -- no path between two roles that were there uses the edge
   not_crossed : (r q : Bytes) → IsTrue (contains S.roles r) → IsTrue (contains S.roles q) → Geq S.edges r asc → Geq S.edges desc q → ⊥
   not_crossed r q is_first is_second up down = elim at [
     | inl above ↦ true≢false (sym (role_below S good r asc up is_first) ∙ ap (contains S.roles) above.0 ∙ new)
     | inr below ↦ true≢false (sym (role_above S good desc q down is_second) ∙ ap (contains S.roles) below.1 ∙ new)
   ]
 
-  -- desc is not above asc
+  -- desc doesn't dominate asc
   pub no_cycle_at : Geq S.edges desc asc → ⊥
   no_cycle_at back = elim at [
     | inl above ↦ true≢false (sym (role_below S good desc asc back above.1) ∙ ap (contains S.roles) above.0 ∙ new)
@@ -68,7 +68,7 @@ module _ (S : RbacState) (good : IsGood S) (role asc desc : Bytes) (new : contai
     | inr below ↦ true≢false (sym ends.1 ∙ ap (contains S.roles) below.1 ∙ new)
   ]))
 
-  -- the old roles stand to each other as before
+  -- the order of the old roles is as before
   as_before_at : (r q : Bytes) → IsTrue (contains S.roles r) → IsTrue (contains S.roles q) → geq (insert S.edges (asc, desc)) r q ≡ geq S.edges r q
   as_before_at r q is_first is_second =
       let ways = (added_edge S.edges asc desc good.acyclic no_cycle_at).0 r q in
@@ -103,7 +103,7 @@ module _ (S : RbacState) (good : IsGood S) (role asc desc : Bytes) (new : contai
 -- ---- a new ascendant
 
 module _ (S : RbacState) (asc desc : Bytes) (accepted : verdict S (AddAscendant asc desc) ≡ None) where
-  -- the role below is there
+  -- the descendant is there
   pub add_ascendant_below : IsTrue (contains S.roles desc)
   unfolding verdict refusals
   add_ascendant_below = refuse_unless-None (contains S.roles desc) NoRole (passed (refusals S (AddAscendant asc desc)) accepted).0
@@ -123,7 +123,7 @@ module _ (S : RbacState) (asc desc : Bytes) (accepted : verdict S (AddAscendant 
   unfolding verdict refusals
   add_ascendant_edge_room = too_many-None S Edge (len S.edges + 1) (passed (refusals S (AddAscendant asc desc)) accepted).1.1.1.0
 
-  -- what the command makes of the state is good
+  -- the changed state is good
   good_changed_ascendant : IsGood S → IsGood (changed S (AddAscendant asc desc))
   unfolding changed
   good_changed_ascendant good = good_with_role_at S good asc asc desc add_ascendant_absent (inl (refl, add_ascendant_below)) add_ascendant_role_room add_ascendant_edge_room
@@ -132,7 +132,7 @@ module _ (S : RbacState) (asc desc : Bytes) (accepted : verdict S (AddAscendant 
   pub add_ascendant_no_edge : IsGood S → contains S.edges (asc, desc) ≡ false
   add_ascendant_no_edge good = no_edge_at S good asc asc desc add_ascendant_absent (inl (refl, add_ascendant_below))
 
-  -- the role below is not above the new one
+  -- the descendant doesn't dominate the new role
   pub add_ascendant_no_cycle : IsGood S → Geq S.edges desc asc → ⊥
   add_ascendant_no_cycle good = no_cycle_at S good asc asc desc add_ascendant_absent (inl (refl, add_ascendant_below))
 
@@ -148,7 +148,7 @@ good_after_add_ascendant S good asc desc accepted = good_after S (AddAscendant a
 -- ---- a new descendant
 
 module _ (S : RbacState) (asc desc : Bytes) (accepted : verdict S (AddDescendant asc desc) ≡ None) where
-  -- the role above is there
+  -- the ascendant is there
   pub add_descendant_above : IsTrue (contains S.roles asc)
   unfolding verdict refusals
   add_descendant_above = refuse_unless-None (contains S.roles asc) NoRole (passed (refusals S (AddDescendant asc desc)) accepted).0
@@ -168,7 +168,7 @@ module _ (S : RbacState) (asc desc : Bytes) (accepted : verdict S (AddDescendant
   unfolding verdict refusals
   add_descendant_edge_room = too_many-None S Edge (len S.edges + 1) (passed (refusals S (AddDescendant asc desc)) accepted).1.1.1.0
 
-  -- what the command makes of the state is good
+  -- the changed state is good
   good_changed_descendant : IsGood S → IsGood (changed S (AddDescendant asc desc))
   unfolding changed
   good_changed_descendant good = good_with_role_at S good desc asc desc add_descendant_absent (inr (add_descendant_above, refl)) add_descendant_role_room add_descendant_edge_room
@@ -177,7 +177,7 @@ module _ (S : RbacState) (asc desc : Bytes) (accepted : verdict S (AddDescendant
   pub add_descendant_no_edge : IsGood S → contains S.edges (asc, desc) ≡ false
   add_descendant_no_edge good = no_edge_at S good desc asc desc add_descendant_absent (inr (add_descendant_above, refl))
 
-  -- the new role is not above the other
+  -- the new role doesn't dominate the ascendant
   pub add_descendant_no_cycle : IsGood S → Geq S.edges desc asc → ⊥
   add_descendant_no_cycle good = no_cycle_at S good desc asc desc add_descendant_absent (inr (add_descendant_above, refl))
 

@@ -29,7 +29,7 @@ use Rattle.admin_mgr.proofs.Verdicts.TouchLaws.{with_sessions}
 use Rattle.admin_mgr.proofs.Verdicts.ViolationLaws.{paired-Decides, with_paired-others, with_paired-own, with_one-others, with_one-own}
 use Rattle.admin_mgr.proofs.StateAfter.GoodWithLaws.{good_with_sessions, after_is_changed, good_after}
 
--- where no session ends and no dynamic set is named, the state is dynamically separated
+-- if no session ends and no dynamic set is named, the state is dynamically separated
 separated_where : (T : RbacState) → end_sessions T ≡ T → breaks_dynamic (end_sessions T) ≡ None → IsDynamicallySeparated T
 separated_where T same none = (dynamic_test T).0 (unnamed (dynamic_violation T) (ap breaks_dynamic (sym same) ∙ none))
   where
@@ -90,7 +90,7 @@ module _ (S : RbacState) (user : Bytes) (roles : Stored Bytes) (session : Bytes)
     pub create_session_inactive : (role : Bytes) → contains S.active (session, role) ≡ false
     create_session_inactive role = false_from_ne_true (contains S.active (session, role)) (none_active S good user (set_of name_cmp roles) session create_session_new role)
 
-    -- none of the pairs that are put there was there
+    -- none of the inserted pairs was there
     pub create_session_apart : IsDisjoint (paired session (set_of name_cmp roles)) S.active
     create_session_apart pair new =
         let at : pair.0 ≡ session = ((paired-Decides session (set_of name_cmp roles) pair.0 pair.1).0 new).0 in
@@ -109,7 +109,7 @@ module _ (S : RbacState) (user : Bytes) (roles : Stored Bytes) (session : Bytes)
     unfolding new_sessions new_active created_sessions created_active
     new_sessions_go_on = created_goes_on S good user (set_of name_cmp roles) session create_session_new create_session_user create_session_unlocked create_session_authorized
 
-    -- and what is activated is so in one of them
+    -- and each activated role belongs to one of them
     new_sessions_owned : (other role : Bytes) → IsTrue (contains new_active (other, role)) → (owner : Bytes) × IsTrue (contains new_sessions (other, owner))
     unfolding new_sessions new_active created_sessions created_active
     new_sessions_owned = created_owned S good user (set_of name_cmp roles) session create_session_new
@@ -150,7 +150,7 @@ module _ (S : RbacState) (user : Bytes) (roles : Stored Bytes) (session : Bytes)
       | inr apart ↦ subst (λ (s : Names). len s ≤ limit_of ActiveRole S.version) (sym (with_paired-others S.active session (set_of name_cmp roles) other apart)) (good.limits.active_roles other)
     ]
 
-    -- what the command makes of the state is good
+    -- the changed state is good
     good_changed_create : IsGood (changed S (CreateSession user roles session))
     unfolding changed after new_sessions new_active with_sessions
     good_changed_create = good_with_sessions S good new_sessions new_active (record {
@@ -216,7 +216,7 @@ module _ (S : RbacState) (user session role : Bytes) (accepted : verdict S (AddA
     unfolding one_more_active more_active
     activated_go_on = activated_goes_on S good user session role add_active_role_owner add_active_role_authorized
 
-    -- and what is activated is so in one of them
+    -- and each activated role belongs to one of them
     activated_are_owned : (other q : Bytes) → IsTrue (contains one_more_active (other, q)) → (owner : Bytes) × IsTrue (contains S.sessions (other, owner))
     unfolding one_more_active more_active
     activated_are_owned = activated_owned S good user session role add_active_role_owner add_active_role_authorized
@@ -239,7 +239,7 @@ module _ (S : RbacState) (user session role : Bytes) (accepted : verdict S (AddA
       | inr apart ↦ subst (λ (s : Names). len s ≤ limit_of ActiveRole S.version) (sym (with_one-others S.active session role other apart)) (good.limits.active_roles other)
     ]
 
-    -- what the command makes of the state is good
+    -- the changed state is good
     good_changed_activate : IsGood (changed S (AddActiveRole user session role))
     unfolding changed after one_more_active with_sessions
     good_changed_activate = good_with_sessions S good S.sessions one_more_active (record {

@@ -1,4 +1,4 @@
--- A state with less in it: what a good state keeps where some of it goes.
+-- A state with some of its entries removed: what it keeps of a good state.
 use Rattle.std.proofs.Common.{◌≡◌, ◌≤◌, Bool, false, not, sym, ◌∙◌, ap, subst, arith}
 use Rattle.std.specs.Prelude.{IsTrue}
 use Rattle.std.specs.declared.cmp.Ordering.{Ordering}
@@ -24,7 +24,7 @@ use Rattle.admin_mgr.specs.Good.{IsGood, IsSeparation}
 use Rattle.admin_mgr.proofs.StateAfter.SessionLaws.{none_ends_where}
 use Rattle.admin_mgr.proofs.StateAfter.EndLaws.{IsGoodApart, count-fewer}
 
--- each member of the one set is in the other
+-- each member of the first set is in the second
 abbrev pub IsSubset : {K : Type 0} {R : K → K → Ordering} → FinSet R → FinSet R → Type 0
 IsSubset {K} part whole = (x : K) → IsTrue (contains part x) → IsTrue (contains whole x)
 
@@ -32,15 +32,15 @@ IsSubset {K} part whole = (x : K) → IsTrue (contains part x) → IsTrue (conta
 pub remove-subset : {K : Type 0} {R : K → K → Ordering} (total : IsTotalOrder R) (s : FinSet R) (y : K) → IsSubset (remove s y) s
 remove-subset total s y x h = (and_parts _ _ (sym (contains-remove total s y x) ∙ h)).1
 
--- what passes a test was there
+-- what is retained was there
 pub retain-subset : {K : Type 0} {R : K → K → Ordering} (total : IsTotalOrder R) (exact : IsAntisymmetric R) (s : FinSet R) (p : K → Bool) → IsSubset (retain s p) s
 retain-subset total exact s p x h = (and_parts _ _ (sym (contains-retain total exact s p x) ∙ h)).0
 
--- behind a name there is no more in fewer pairs
+-- a name has no more second parts in fewer pairs
 pub seconds-subset : (part whole : Pairs) (first : Bytes) → IsSubset part whole → IsSubset (seconds part first) (seconds whole first)
 seconds-subset part whole first within x h = (seconds-Decides whole first x).1 (within (first, x) ((seconds-Decides part first x).0 h))
 
--- A part of a state: sets that are each within one of it.
+-- A part of a state: sets that are subsets of those of the state.
 pub record Part (S : RbacState) : Type 0 where
   pub users : Names
   pub users_within : IsSubset users S.users
@@ -71,7 +71,7 @@ pub record Part (S : RbacState) : Type 0 where
   pub dsd_cardinalities : Cardinalities
   pub dsd_cardinalities_within : IsSubset dsd_cardinalities S.dsd.cardinalities
 
--- all of it
+-- the whole state
 abbrev pub whole : (S : RbacState) → Part S
 whole S = record {
   users = S.users;
@@ -122,7 +122,7 @@ state_of {S} part = record {
   dsd = record { members = part.dsd_members; cardinalities = part.dsd_cardinalities };
 }
 
--- What the relations speak of is there, sessions and what was activated in them apart.
+-- What the relations refer to is there, except for sessions and the roles that were activated in them.
 pub record IsComplete (T : RbacState) : Type 0 where
   pub permissions : (object operation : Bytes) → IsTrue (contains T.permissions (object, operation)) → IsTrue (contains T.objects object)
   pub assignments : (user role : Bytes) → IsTrue (contains T.assignments (user, role)) → IsTrue (contains T.users user) × IsTrue (contains T.roles role)
@@ -132,13 +132,13 @@ pub record IsComplete (T : RbacState) : Type 0 where
   pub ssd : IsSeparation T.roles T.ssd
   pub dsd : IsSeparation T.roles T.dsd
 
--- fewer edges lead no further
+-- a role that dominates another with fewer edges does so with more
 pub geq-fewer : (part whole : Pairs) → IsSubset part whole → (a b : Bytes) → IsTrue (geq part a b) → IsTrue (geq whole a b)
 geq-fewer part whole within a b h =
     (geq-Decides whole a b).1 (Leads-mono (λ x y. IsTrue (contains part (x, y))) (λ x y. IsTrue (contains whole (x, y))) (λ x y. within (x, y)) ((geq-Decides part a b).0 h))
 
 module _ (S : RbacState) (part : Part S) where
-  -- the part
+  -- the part as a state
   abbrev T : RbacState
   T = state_of part
 
@@ -156,7 +156,7 @@ module _ (S : RbacState) (part : Part S) where
         found.2,
       )
 
-  -- with fewer activated roles and edges no session has more
+  -- with fewer activated roles and edges no session has more roles
   pub session_role-fewer : (session role : Bytes) → IsTrue (is_session_role T session role) → IsTrue (is_session_role S session role)
   session_role-fewer session role h =
       let above = (any-Decides name_total name_exact (λ active. geq T.edges active role) (active_roles T session)).0 h in
@@ -168,7 +168,7 @@ module _ (S : RbacState) (part : Part S) where
   unfolding authorized_users
   authorized-same assignments edges user role = λ i. contains {R = name_cmp} (image (λ (a : Pair). a.0) (retain (assignments i) (λ (a : Pair). geq (edges i) a.1 role))) user
 
-  -- no session ends where the users, the assignments and the edges are as before and each activated role is one of a session
+  -- no session ends if the users, the assignments and the edges are as before and each activated role belongs to a session
   pub part_ends_none : IsGood S → T.users ≡ S.users → T.assignments ≡ S.assignments → T.edges ≡ S.edges
       → ((session role : Bytes) → IsTrue (contains T.active (session, role)) → (user : Bytes) × IsTrue (contains T.sessions (session, user))) → end_sessions T ≡ T
   unfolding may_go_on
@@ -179,7 +179,7 @@ module _ (S : RbacState) (part : Part S) where
       ((all-Decides name_total name_exact (is_authorized T p.1) (active_roles T p.0)).1 (λ role active.
       authorized-same assignments edges p.1 role ∙ good.authorized p.0 p.1 role was (part.active_within (p.0, role) ((seconds-Decides T.active p.0 role).0 active))))) owned
 
-  -- a part of a good state, where what its relations speak of is there, is good but for its sessions
+  -- a part of a good state is good except for its sessions, if what its relations refer to is there
   pub good_part : IsGood S → IsComplete T → IsGoodApart T
   good_part good there =
       let limits = good.limits in

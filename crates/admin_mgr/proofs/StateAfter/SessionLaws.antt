@@ -17,7 +17,7 @@ goes_on S good p there = and_from _ _ (and_from _ _ (good.well_formed.sessions p
     ((all-Decides name_total name_exact (is_authorized S p.1) (active_roles S p.0)).1 (λ role active.
     good.authorized p.0 p.1 role there ((seconds-Decides S.active p.0 role).0 active)))
 
--- where each session may go on, and each activated role is one of a session, none ends
+-- if each session may go on, and each activated role belongs to a session, none ends
 pub none_ends_where : (S : RbacState) → ((p : Pair) → IsTrue (contains S.sessions p) → IsTrue (may_go_on S p)) →
     ((session role : Bytes) → IsTrue (contains S.active (session, role)) → (user : Bytes) × IsTrue (contains S.sessions (session, user))) → end_sessions S ≡ S
 unfolding end_sessions

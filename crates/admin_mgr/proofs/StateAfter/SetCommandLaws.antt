@@ -28,7 +28,7 @@ sound_sets : (duty : SeparationOfDuty) (S : RbacState) → IsGood S → IsSound 
 sound_sets Static S good = record { formed = good.well_formed.ssd; sets = good.limits.ssd_sets; members = good.limits.ssd_members }
 sound_sets Dynamic S good = record { formed = good.well_formed.dsd; sets = good.limits.dsd_sets; members = good.limits.dsd_members }
 
--- nothing changes where the sets stay
+-- nothing changes if the sets stay the same
 pub same_sets : (duty : SeparationOfDuty) (S : RbacState) → with_sets duty S (sets_of duty S) ≡ S
 same_sets Static S = refl
 same_sets Dynamic S = refl
@@ -54,7 +54,7 @@ module _ (S : RbacState) (good : IsGood S) (ssd dsd : Separation) (sound_ssd : I
         dsd = sound_dsd.formed;
       }
 
-  -- the state with sound sets that are kept is good
+  -- the state with sound sets that nobody violates is good
   good_both : IsStaticallySeparated both → IsDynamicallySeparated both → IsGood both
   unfolding authorized_users
   good_both statically dynamically =
@@ -85,7 +85,7 @@ module _ (S : RbacState) (good : IsGood S) (ssd dsd : Separation) (sound_ssd : I
         no_locks = good.no_locks;
       }
 
--- sound sets of which none is violated, as the verdict asks, are those of a good state
+-- the state with sound sets is good if the verdict finds none of them violated
 good_unbroken : (duty : SeparationOfDuty) (S : RbacState) → IsGood S → (other : Separation) → IsSound S (kind_of duty) other → breaks duty (with_sets duty S other) ≡ None → IsGood (with_sets duty S other)
 unfolding authorized_users
 good_unbroken Static S good other sound unbroken =
@@ -98,7 +98,7 @@ good_unbroken Dynamic S good other sound unbroken =
     let none : dynamic_violation T ≡ None = (unmapped DynamicSeparation (dynamic_violation T)).0 unbroken in
     good_both S good S.ssd other (sound_sets Static S good) sound good.static_separation ((dynamic_test T).0 none)
 
--- and so are a part of the sets of a good state
+-- the state with a sound part of the sets of a good state is good
 good_part : (duty : SeparationOfDuty) (S : RbacState) → IsGood S → (other : Separation) → IsSound S (kind_of duty) other → IsPartOf other (sets_of duty S) → IsGood (with_sets duty S other)
 unfolding authorized_users
 good_part Static S good other sound part = good_both S good other S.dsd sound (sound_sets Dynamic S good)
@@ -144,10 +144,10 @@ unfolding refusals
 refusals_delete_set Static S name = refl
 refusals_delete_set Dynamic S name = refl
 
--- ---- what an accepted command found, and the state after it
+-- ---- the conditions that an accepted command meets, and the state after it
 
 module _ (duty : SeparationOfDuty) (S : RbacState) (name : Bytes) where
-  -- a set is created: it was not there, and it breaks none
+  -- a set is created: it was not there, and no set is violated afterwards
   create_parts : (roles : Stored Bytes) (n : ℕ) → verdict S (create_set duty name roles n) ≡ None →
       CanCreate S (sets_of duty S) (kind_of duty) name (set_of name_cmp roles) n × (breaks duty (after S (create_set duty name roles n)) ≡ None)
   unfolding verdict
@@ -158,7 +158,7 @@ module _ (duty : SeparationOfDuty) (S : RbacState) (name : Bytes) where
   pub can_create_set : (roles : Stored Bytes) (n : ℕ) → verdict S (create_set duty name roles n) ≡ None → CanCreate S (sets_of duty S) (kind_of duty) name (set_of name_cmp roles) n
   can_create_set roles n accepted = (create_parts roles n accepted).0
 
-  -- a member is added: it was none, and it breaks no set
+  -- a member is added: it was none, and no set is violated afterwards
   add_parts : (role : Bytes) → verdict S (add_member duty name role) ≡ None → CanAddMember S (sets_of duty S) name role × (breaks duty (after S (add_member duty name role)) ≡ None)
   unfolding verdict
   add_parts role accepted =
@@ -173,7 +173,7 @@ module _ (duty : SeparationOfDuty) (S : RbacState) (name : Bytes) where
   unfolding verdict
   can_delete role accepted = can_delete_member S (sets_of duty S) name role (sym (ap first (refusals_delete_member duty S name role)) ∙ accepted)
 
-  -- a cardinality is set: the set is there, it fits, and it breaks none
+  -- a cardinality is set: the set is there, the cardinality fits, and no set is violated afterwards
   number_parts : (n : ℕ) → verdict S (set_cardinality duty name n) ≡ None → CanSetCardinality (sets_of duty S) name n × (breaks duty (after S (set_cardinality duty name n)) ≡ None)
   unfolding verdict
   number_parts n accepted =
@@ -215,7 +215,7 @@ module _ (duty : SeparationOfDuty) (S : RbacState) (name : Bytes) where
         subst IsGood (sym is) (good_unbroken duty S good (with_cardinality (sets_of duty S) name n)
         (sound_with_cardinality S (kind_of duty) (sets_of duty S) (sound_sets duty S good) name n parts.0) (sym (ap (breaks duty) is) ∙ parts.1))
 
-    -- nothing changes where the set has this cardinality
+    -- nothing changes if the set has this cardinality already
     pub after_same_cardinality : (n : ℕ) → cardinality_of (sets_of duty S) name ≡ Some n → after S (set_cardinality duty name n) ≡ S
     after_same_cardinality n told =
         after_set_cardinality duty S good name n

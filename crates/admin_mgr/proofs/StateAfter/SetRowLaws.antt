@@ -1,4 +1,4 @@
--- Which rows of a separation of duty set are there, before a command on it puts or takes some.
+-- Which rows of a separation of duty set are there before a command on it inserts or removes some.
 use Rattle.std.proofs.Common.{◌≡◌, ◌≢◌, ℕ, Bool, true, false, not, ◌&&◌, List, [], ◌∷◌, map, refl, sym, ◌∙◌, ap, subst, inl, inr}
 use Rattle.std.specs.Prelude.{IsTrue, Option, Some, None, is_some}
 use Rattle.std.specs.List.{list_any, AllByRecursion}
@@ -52,12 +52,12 @@ module _ (separation : Separation) (name : Bytes) (absent : has_set separation n
     paired_apart roles pair new =
         subst (λ first. contains separation.members (first, pair.1) ≡ false) (sym ((paired-Decides name roles pair.0 pair.1).0 new).0) (no_members pair.1)
 
--- what is above a name is above it behind one first name too
+-- a name that precedes others still precedes them with the same first name in front of each
 paired_above : (name x : Bytes) (ys : List Bytes) → AllByRecursion (λ y. name_cmp x y ≡ Less) ys → AllByRecursion (λ p. pair_cmp (name, x) p ≡ Less) (map (λ y. (name, y)) ys)
 paired_above name x [] above = tt
 paired_above name x (y ∷ ys) above = (ap (λ first. ordering_then first (name_cmp x y)) (tied_itself name_total name) ∙ above.0, paired_above name x ys above.1)
 
--- names in order are in order behind one first name
+-- names in order stay in order with the same first name in front of each
 paired_rise : (name : Bytes) (xs : List Bytes) → IsStrictlySortedBy name_cmp xs → IsStrictlySortedBy pair_cmp (map (λ x. (name, x)) xs)
 unfolding IsStrictlySortedBy
 paired_rise name [] rise = tt
@@ -79,19 +79,19 @@ pub other_cardinalities : (name : Bytes) (cardinalities : Cardinalities) (x : Ca
     contains (without_cardinality name cardinalities) x ≡ (contains cardinalities x && not (same_name x.0 name))
 other_cardinalities name cardinalities x = contains-retain cardinality_total cardinality_exact cardinalities (λ (entry : Cardinality). not (same_name entry.0 name)) x
 
--- so one of them is there, and of another name
+-- so each of them is there and has another name
 pub other_cardinality : (name : Bytes) (cardinalities : Cardinalities) (x : Cardinality) → IsTrue (contains (without_cardinality name cardinalities) x) → IsTrue (contains cardinalities x) × (x.0 ≢ name)
 other_cardinality name cardinalities x h =
     let parts = and_parts _ _ (sym (other_cardinalities name cardinalities x) ∙ h) in
     (parts.0, λ same. true≢false (sym ((tie_Decides name_total name_exact x.0 name).1 same) ∙ not-true _ parts.1))
 
--- and one that is there, of another name, is one of them
+-- and each that is there and has another name is one of them
 pub other_cardinality-from : (name : Bytes) (cardinalities : Cardinalities) (x : Cardinality) → IsTrue (contains cardinalities x) → x.0 ≢ name → IsTrue (contains (without_cardinality name cardinalities) x)
 other_cardinality-from name cardinalities x there apart =
     other_cardinalities name cardinalities x ∙ and_from _ _ there (ap not (false_from_ne_true _ (λ same. apart ((tie_Decides name_total name_exact x.0 name).0 same))))
 
 module _ (separation : Separation) (all_roles : Names) (formed : IsSeparation all_roles separation) (name : Bytes) (before : ℕ) (there : IsTrue (contains separation.cardinalities (name, before))) where
-  -- a set has no second cardinality
+  -- a set has no other cardinality
   pub no_second_cardinality : (n : ℕ) → before ≢ n → contains separation.cardinalities (name, n) ≡ false
   no_second_cardinality n other = false_from_ne_true _ (λ h. other (formed.one_cardinality name before n there h))
 
@@ -101,7 +101,7 @@ module _ (separation : Separation) (all_roles : Names) (formed : IsSeparation al
       let number = formed.one_cardinality name x.1 before (subst (λ first. IsTrue (contains separation.cardinalities (first, x.1))) same has) there in
       λ i. (same i, number i)
 
-  -- to drop the cardinalities of a set is to drop the one that it has
+  -- removing the cardinalities of a set removes the one that it has
   pub without_cardinality-remove : without_cardinality name separation.cardinalities ≡ remove separation.cardinalities (name, before)
   without_cardinality-remove = same_members cardinality_total cardinality_exact (without_cardinality name separation.cardinalities) (remove separation.cardinalities (name, before)) (λ x. (
     λ h. (let other = other_cardinality name separation.cardinalities x h in
@@ -112,7 +112,7 @@ module _ (separation : Separation) (all_roles : Names) (formed : IsSeparation al
         true≢false (sym ((tie_Decides cardinality_total cardinality_exact x (name, before)).1 (of_this_set x parts.1 same)) ∙ not-true _ parts.0))),
   ))
 
-  -- to set the cardinality that a set has changes nothing
+  -- setting the cardinality that a set has changes nothing
   pub with_same_cardinality : with_cardinality separation name before ≡ separation
   with_same_cardinality =
       let others = without_cardinality name separation.cardinalities in
@@ -128,26 +128,26 @@ module _ (separation : Separation) (all_roles : Names) (formed : IsSeparation al
       )) in
       λ i. record separation { cardinalities = same i }
 
--- ---- the same, of the cardinality that is told
+-- ---- the same, for the cardinality that `cardinality_of` gives
 
 module _ (separation : Separation) (all_roles : Names) (formed : IsSeparation all_roles separation) (name : Bytes) (before : ℕ) (told : cardinality_of separation name ≡ Some before) where
-  -- the cardinality that is told is taken
+  -- removing the cardinalities of a set removes this one
   pub told_cardinality-remove : without_cardinality name separation.cardinalities ≡ remove separation.cardinalities (name, before)
   told_cardinality-remove = without_cardinality-remove separation all_roles formed name before (cardinality_there separation name before told)
 
-  -- nor once the old one is taken
+  -- nor has the set one after this one is removed
   pub no_cardinality_left : (n : ℕ) → contains (remove separation.cardinalities (name, before)) (name, n) ≡ false
   no_cardinality_left n = false_from_ne_true _ (λ h. (other_cardinality name separation.cardinalities (name, n) (subst (λ s. IsTrue (contains s (name, n))) (sym told_cardinality-remove) h)).1 refl)
 
-  -- to set another cardinality is to take the old one and put the new one
+  -- setting another cardinality removes the old one and inserts the new one
   pub with_other_cardinality : (n : ℕ) → with_cardinality separation name n ≡ record separation { cardinalities = insert (remove separation.cardinalities (name, before)) (name, n) }
   with_other_cardinality n = ap (λ s. record separation { cardinalities = insert s (name, n) }) told_cardinality-remove
 
-  -- the same one is there already
+  -- setting the same one changes nothing
   pub same_cardinality : (n : ℕ) → before ≡ n → with_cardinality separation name n ≡ separation
   same_cardinality n same = subst (λ k. with_cardinality separation name k ≡ separation) same (with_same_cardinality separation all_roles formed name before (cardinality_there separation name before told))
 
--- the cardinality of a set is the one that is told
+-- `cardinality_of` gives the cardinality of a set
 pub told_cardinality : (separation : Separation) (all_roles : Names) → IsSeparation all_roles separation → (name : Bytes) (n : ℕ) → IsTrue (contains separation.cardinalities (name, n)) → cardinality_of separation name ≡ Some n
 told_cardinality separation all_roles formed name n there =
     by (cardinality_of separation name) refl (is_some_cardinality separation name ∙ has_set-from separation name n there)
@@ -169,7 +169,7 @@ contains-run pairs name pair =
 pub contains-without_first : (pairs : Pairs) (name : Bytes) (pair : Pair) → contains (without_first name pairs) pair ≡ (contains pairs pair && not (same_name pair.0 name))
 contains-without_first pairs name pair = contains-retain pair_total pair_exact pairs (λ (p : Pair). not (same_name p.0 name)) pair
 
--- to be another name's is not to be this name's
+-- a pair of another name is one that is not in the run of this name
 not_in_run : (has same : Bool) → (has && not same) ≡ (has && not (has && same))
 not_in_run true same = refl
 not_in_run false same = refl

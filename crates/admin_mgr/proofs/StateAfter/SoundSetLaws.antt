@@ -23,7 +23,7 @@ use Rattle.admin_mgr.proofs.Verdicts.ViolationLaws.{paired-Decides, with_paired-
 use Rattle.admin_mgr.proofs.StateAfter.SetRowLaws.{IsNumberedOnce, has_set-from, numbered_set, no_cardinality, no_members, told_cardinality, other_cardinality, other_cardinality-from, with_same_cardinality, contains-without_first}
 use Rattle.admin_mgr.proofs.StateAfter.LimitLaws.{too_many-None}
 
--- ---- what an accepted command finds
+-- ---- the conditions that an accepted command meets
 
 -- CreateSsdSet, CreateDsdSet: the roles are there and the set is not, the cardinality fits, and so do the limits
 pub record CanCreate (S : RbacState) (separation : Separation) (kind : Kind) (name : Bytes) (roles : Names) (n : ℕ) : Type 0 where
@@ -34,7 +34,7 @@ pub record CanCreate (S : RbacState) (separation : Separation) (kind : Kind) (na
   pub room_for_set : len separation.cardinalities + 1 ≤ limit_of kind S.version
   pub room_for_members : len roles ≤ limit_of Member S.version
 
--- AddSsdRoleMember, AddDsdRoleMember: the set and the role are there, the member is not, and the limit fits
+-- AddSsdRoleMember, AddDsdRoleMember: the set and the role are there, the member is not, and there is room for it
 pub record CanAddMember (S : RbacState) (separation : Separation) (name role : Bytes) : Type 0 where
   pub there : has_set separation name ≡ true
   pub is_role : IsTrue (contains S.roles role)
@@ -53,7 +53,7 @@ pub record CanSetCardinality (separation : Separation) (name : Bytes) (n : ℕ) 
   pub two : 2 ≤ n
   pub fits : n ≤ len (members_of separation name)
 
--- where no refusal holds, the set can be created
+-- if no refusal applies, the set can be created
 pub can_create : (S : RbacState) (separation : Separation) (kind : Kind) (name : Bytes) (roles : Names) (n : ℕ) →
     first (create_set_refusals S separation kind name roles n) ≡ None → CanCreate S separation kind name roles n
 can_create S separation kind name roles n accepted =
@@ -68,7 +68,7 @@ can_create S separation kind name roles n accepted =
       room_for_members = too_many-None S Member _ all_passed.1.1.1.1.0;
     }
 
--- where no refusal holds, the member can be added
+-- if no refusal applies, the member can be added
 pub can_add_member : (S : RbacState) (separation : Separation) (name role : Bytes) → first (add_member_refusals S separation name role) ≡ None → CanAddMember S separation name role
 can_add_member S separation name role accepted =
     let all_passed = passed (add_member_refusals S separation name role) accepted in
@@ -79,7 +79,7 @@ can_add_member S separation name role accepted =
       room = too_many-None S Member _ all_passed.1.1.1.0;
     }
 
--- where no refusal holds, the member can be deleted
+-- if no refusal applies, the member can be deleted
 pub can_delete_member : (S : RbacState) (separation : Separation) (name role : Bytes) → first (delete_member_refusals S separation name role) ≡ None → CanDeleteMember separation name role
 can_delete_member S separation name role accepted =
     let all_passed = passed (delete_member_refusals S separation name role) accepted in
@@ -89,7 +89,7 @@ can_delete_member S separation name role accepted =
       below = refuse_unless-None _ BadCardinality all_passed.1.1.1.0;
     }
 
--- where no refusal holds, the cardinality can be set
+-- if no refusal applies, the cardinality can be set
 pub can_set_cardinality : (separation : Separation) (name : Bytes) (n : ℕ) → first (set_cardinality_refusals separation name n) ≡ None → CanSetCardinality separation name n
 can_set_cardinality separation name n accepted =
     let all_passed = passed (set_cardinality_refusals separation name n) accepted in
@@ -102,13 +102,13 @@ can_set_cardinality separation name n accepted =
 
 -- ---- sets that are sound
 
--- the sets of one kind are well formed, and no more than their limit, as are the members of each
+-- the sets of one kind are well formed, and their number and that of the members of each are within the limits
 pub record IsSound (S : RbacState) (kind : Kind) (separation : Separation) : Type 0 where
   pub formed : IsSeparation S.roles separation
   pub sets : len separation.cardinalities ≤ limit_of kind S.version
   pub members : (name : Bytes) → len (members_of separation name) ≤ limit_of Member S.version
 
--- one more entry, of a name that has none
+-- one more cardinality, of a name that has none
 numbered_with : (cardinalities : Cardinalities) → IsNumberedOnce cardinalities → (name : Bytes) (n : ℕ) → ((m : ℕ) → IsTrue (contains cardinalities (name, m)) → ⊥) → IsNumberedOnce (insert cardinalities (name, n))
 numbered_with cardinalities once name n none x m other one two =
     let put = λ (k : ℕ). contains-insert-Decides cardinality_total cardinality_exact cardinalities (name, n) (x, k) in
@@ -123,17 +123,17 @@ numbered_with cardinalities once name n none x m other one two =
       ]
     ]
 
--- a set that is new has one entry more
+-- a new cardinality adds one to their number
 len-with : (cardinalities : Cardinalities) (x : Cardinality) → contains cardinalities x ≡ false → len (insert cardinalities x) ≡ len cardinalities + 1
 unfolding len insert contains
 len-with cardinalities x new = finmap.len-insert cardinality_total cardinalities x tt ∙ ap (λ b. cond b (finmap.len cardinalities) (finmap.len cardinalities + 1)) new
 
--- the number that is told is below the count
+-- the cardinality is below the count
 below_number : (o : Option ℕ) (count n : ℕ) → o ≡ Some n → is_below o count ≡ true → n < count
 below_number o count n is h = ltb-true n count (sym (ap (λ x. is_below x count) is) ∙ h)
 
 module _ (S : RbacState) (kind : Kind) (separation : Separation) (sound : IsSound S kind separation) where
-  -- another separation that has the members and the entries of one name
+  -- a separation of duty set has no more members than in another separation that has all of them
   as_before : (other : Separation) (x : Bytes) → ((q : Bytes) → IsTrue (contains separation.members (x, q)) → IsTrue (contains other.members (x, q))) →
       len (members_of separation x) ≤ len (members_of other x)
   as_before other x stay = len-subset name_total name_exact (members_of separation x) (members_of other x) (λ q h.
@@ -204,7 +204,7 @@ module _ (S : RbacState) (kind : Kind) (separation : Separation) (sound : IsSoun
         ];
       }
 
-  -- sound with one member of a set less
+  -- sound with one member of a set fewer
   pub sound_without_member : (name role : Bytes) → CanDeleteMember separation name role → IsSound S kind (without_member separation name role)
   sound_without_member name role can =
       let T : Separation = without_member separation name role in
@@ -332,7 +332,7 @@ part_without_set separation name = record {
   cardinalities = λ x h. (other_cardinality name separation.cardinalities x h).0;
 }
 
--- of a part no more members of a set pass a test
+-- in a part, no more members of a set pass a test
 pub count_in_part : (p : Bytes → Bool) (part whole : Separation) → IsPartOf part whole → (name : Bytes) → count p (members_of part name) ≤ count p (members_of whole name)
 count_in_part p part whole within name =
     let test = λ (s : Names) (x : Bytes). contains-retain name_total name_exact s p x in

@@ -1,4 +1,4 @@
--- The commands that take keep the state good.
+-- The commands that remove something keep the state good.
 use Rattle.std.proofs.Common.{◌≡◌, ◌≢◌, Bool, false, not, ◌&&◌, ◌||◌, refl, sym, ◌∙◌, ap, subst, inl, inr}
 use Rattle.std.specs.Prelude.{IsTrue, None, nat_eq, pos}
 use Rattle.std.specs.declared.cmp.Ordering.{Ordering}
@@ -23,26 +23,25 @@ use Rattle.admin_mgr.proofs.StateAfter.PartLaws.{Part, whole, state_of, good_par
 
 -- ---- what is left
 
--- where the test that two names are one fails, they are two
+-- names of which the test of equality fails differ
 other_name : (a b : Bytes) → IsTrue (not (same_name a b)) → a ≢ b
 other_name a b h same = true≢false (sym h ∙ ap not ((tie_Decides name_total name_exact a b).1 same))
 
--- another member stays where one goes
+-- another member stays if one is removed
 remove-keeps : {K : Type 0} {R : K → K → Ordering} (total : IsTotalOrder R) (exact : IsAntisymmetric R) (s : FinSet R) (y x : K) → IsTrue (contains s x) → (x ≢ y) → IsTrue (contains (remove s y) x)
 remove-keeps {R = R} total exact s y x h other =
     contains-remove total s y x ∙ and_from _ _ (ap not (false_from_ne_true (eq_by_cmp R x y) (λ tie. other ((tie_Decides total exact x y).0 tie)))) h
 
--- what is left passes the test
+-- what is retained passes the test
 retain-passes : {K : Type 0} {R : K → K → Ordering} (total : IsTotalOrder R) (exact : IsAntisymmetric R) (s : FinSet R) (p : K → Bool) (x : K) → IsTrue (contains (retain s p) x) → IsTrue (p x)
 retain-passes total exact s p x h = (and_parts _ _ (sym (contains-retain total exact s p x) ∙ h)).1
 
--- where no member passes the test, what passes it is no member
+-- if no member passes the test, what passes it is no member
 none_such : {K : Type 0} {R : K → K → Ordering} (total : IsTotalOrder R) (exact : IsAntisymmetric R) (p : K → Bool) (s : FinSet R) → any p s ≡ false → (x : K) → IsTrue (contains s x) → IsTrue (p x) → ⊥
 none_such total exact p s none x h passes = true≢false (sym ((any-Decides total exact p s).1 (x, h, passes)) ∙ none)
 
--- where it fails that one of two tests holds, both fail
 module _ (S : RbacState) (good : IsGood S) where
-  -- ---- a user goes, with its assignments and its lock
+  -- ---- a user is deleted, with its assignments and its lock
 
   module _ (user : Bytes) where
     -- the state without it
@@ -78,7 +77,7 @@ module _ (S : RbacState) (good : IsGood S) where
           dsd = formed.dsd;
         }))
 
-  -- ---- a role goes that stands in no edge and no separation set, with its assignments and its grants
+  -- ---- a role in no edge and no separation of duty set is deleted, with its assignments and its grants
 
   module _ (role : Bytes) where
     -- the state without it
@@ -96,7 +95,7 @@ module _ (S : RbacState) (good : IsGood S) where
     other_role : (x : Bytes) → IsTrue (contains S.roles x) → (x ≢ role) → IsTrue (contains (remove S.roles role) x)
     other_role = remove-keeps name_total name_exact S.roles role
 
-    -- the test that a name is the role
+    -- the test holds of the name of the role
     is_role : (x : Bytes) → x ≡ role → IsTrue (same_name x role)
     is_role x same = (tie_Decides name_total name_exact x role).1 same
 
@@ -134,7 +133,7 @@ module _ (S : RbacState) (good : IsGood S) where
           };
         }))
 
-  -- ---- an object goes that no permission speaks of
+  -- ---- an object without permissions is deleted
 
   module _ (object : Bytes) where
     -- the state without it
@@ -162,7 +161,7 @@ module _ (S : RbacState) (good : IsGood S) where
     unfolding after changed
     after_delete_perm_obj = part_ends_none S without_object good refl refl refl good.well_formed.owned
 
-  -- ---- a permission goes, with its grants
+  -- ---- a permission is deleted, with its grants
 
   module _ (object operation : Bytes) where
     -- the state without it
@@ -246,7 +245,7 @@ module _ (S : RbacState) (good : IsGood S) where
           dsd = formed.dsd;
         }))
 
-  -- ---- an immediate inheritance goes
+  -- ---- an immediate inheritance is deleted
 
   module _ (asc desc : Bytes) where
     -- the state without it
@@ -353,7 +352,7 @@ module _ (S : RbacState) (good : IsGood S) where
     unfolding after changed
     after_unlock_user_account = part_ends_none S without_lock good refl refl refl good.well_formed.owned
 
-  -- ---- a user is locked: nothing goes but sessions
+  -- ---- a user is locked: only sessions end
 
   module _ (user : Bytes) where
     pub good_after_lock_user_account : verdict S (LockUserAccount user) ≡ None → IsGood (after S (LockUserAccount user))

@@ -28,7 +28,7 @@ use Rattle.admin_mgr.proofs.StoredRows.StoredLaws.{apart_and_above, unknown_name
 use Rattle.admin_mgr.proofs.StoredRows.CheckLaws.{PassBefore, before_two, before_next}
 use Rattle.admin_mgr.proofs.PlanRows.CommitLaws.{same_row-self}
 
--- each of the rows passes
+-- all rows pass if each one does
 all_from : (p : Row → Bool) (rows : List Row) → ((row : Row) → is_among rows row ≡ true → p row ≡ true) → list_all p rows ≡ true
 all_from p [] each = refl
 all_from p (first ∷ rows) each = and_from _ _ (each first (or_left _ _ (same_row-self first))) (all_from p rows (λ row h. each row (or_right _ _ h)))
@@ -112,7 +112,7 @@ module _ (S : RbacState) (rows : List Row) (are : AreRowsOf S rows) where
   unfolding gathered has_row
   same_edges = same_set pair_total pair_exact _ _ (λ pair. pairs_among INHERITANCE rows pair.0 pair.1 ∙ sym (are.rows_are (PairRow INHERITANCE pair.0 pair.1)))
 
-  -- they have the pair of each role with one below it
+  -- they have the pair of each role with each of its juniors
   stored_pair : (a b : Bytes) → contains (gathered S.version rows).pairs (a, b) ≡ (geq S.edges a b && not (same_name a b))
   unfolding gathered has_row
   stored_pair a b = pairs_among CLOSURE_PAIR rows a b ∙ sym (are.rows_are (PairRow CLOSURE_PAIR a b))
@@ -129,7 +129,7 @@ module _ (S : RbacState) (rows : List Row) (are : AreRowsOf S rows) where
 
 -- ---- they pass the checks
 
--- what a good state speaks of is there
+-- what a good state refers to is there
 complete_of_good : (g : Gathered) → IsGood g.facts → IsClosure g.facts.edges g.pairs → IsComplete g
 complete_of_good g good closed =
     let formed = good.well_formed in
@@ -177,12 +177,12 @@ passes_of_good g good closed =
 
 -- ---- so they are not refused
 
--- where the test fails the second statement is left
+-- if the test fails the second statement is left
 skipped : (b : Bool) (Then Else : Type 0) → b ≡ false → Else → Choose b Then Else
 skipped true Then Else h e = absurd (true≢false h)
 skipped false Then Else h e = e
 
--- a larger number is another one
+-- numbers of which one is less differ
 other_number : (n k : ℕ) → k < n → nat_eq n k ≡ false
 other_number n k less = false_from_ne_true _ (λ h. (let same = eqb-true n k h in absurd (omega (arith, less, same))))
 
@@ -200,11 +200,11 @@ no_later_check g n late =
     (skipped (nat_eq n 10) _ _ (other_number n 10 (omega (arith, late)))
     (skipped (nat_eq n 11) _ _ (other_number n 11 (omega (arith, late))) tt)))))))))
 
--- so it passes any
+-- so every check passes
 passes_all : (g : Gathered) → PassBefore g 12 → (n : ℕ) → Passes g n
 passes_all g before n = elim (cases_lt n 12) [ inl less ↦ before n less | inr late ↦ no_later_check g n late ]
 
--- the rows of a good state are refused for want of memory alone
+-- the rows of a good state are only refused with `Memory`
 pub good_rows_are_read : GoodRowsAreRead
 good_rows_are_read S rows refusal good are told = by refusal told
   where

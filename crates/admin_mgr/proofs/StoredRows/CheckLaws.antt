@@ -21,20 +21,20 @@ use Rattle.admin_mgr.proofs.StoredRows.StoredLaws.{occur_once, rows_are_among, o
 abbrev pub PassBefore : Gathered → ℕ → Type 0
 PassBefore g number = (earlier : ℕ) → earlier < number → Passes g earlier
 
--- there is no check before the second but the one that the rows can be read
+-- the only check before the second is that the rows are readable
 pub before_two : (g : Gathered) → PassBefore g 2
 before_two g zero less = tt
 before_two g (suc zero) less = tt
 before_two g (suc (suc k)) less = absurd (omega (arith, less))
 
--- one check more
+-- one more check
 pub before_next : (g : Gathered) (number : ℕ) → PassBefore g number → Passes g number → PassBefore g (number + 1)
 before_next g number before passes earlier less = elim (cases_lt earlier number) [
   | inl sooner ↦ before earlier sooner
   | inr no_sooner ↦ let same : number ≡ earlier = omega (arith, less, no_sooner) in subst (Passes g) same passes
 ]
 
--- equal answers are of equal refusals
+-- values are equal if `Some` of both are
 some_is : {X : Type 0} (x y : X) → ◌≡◌ {A = Option X} (Some x) (Some y) → x ≡ y
 some_is {X} x y h = ap at h
   where
@@ -42,34 +42,34 @@ some_is {X} x y h = ap at h
     at (Some z) = z
     at None = x
 
--- a refusal by the test of one check, or else by the checks behind it
+-- a refusal by one check, or otherwise by those after it
 by_test : (g : Gathered) (number : ℕ) (b : Bool) (rest : Option Refusal) (refusal : Refusal) → 3 ≤ number → PassBefore g number → IsTrue b ↔ Passes g number →
     (PassBefore g (number + 1) → rest ≡ Some refusal → RefusesSets g refusal) → cond b rest (Some (Damaged number)) ≡ Some refusal → RefusesSets g refusal
 by_test g number true rest refusal three before tells later h = later (before_next g number before (tells.0 refl)) h
 by_test g number false rest refusal three before tells later h =
     subst (RefusesSets g) (some_is (Damaged number) refusal h) (three, record { passed = before; failed = λ passes. true≢false (sym (tells.1 passes)) })
 
--- no refusal only where the test holds and nothing behind it refuses
+-- there is no refusal only if the test holds and nothing after it refuses
 by_tests : (b : Bool) (rest : Option Refusal) (refusal : Refusal) → cond b rest (Some refusal) ≡ None → IsTrue b × (rest ≡ None)
 by_tests true rest refusal h = (refl, h)
 by_tests false rest refusal h = cc
 
--- ---- before the hierarchy is asked
+-- ---- the checks before those of the hierarchy
 
--- the refusal by the first limit that is passed, or else by the checks behind it
+-- the refusal by the first limit that is exceeded, otherwise by the checks after it
 abbrev early : Gathered → Option Kind → Option Refusal
 early g (Some kind) = Some (TooMany kind)
 early g None = cond (is_complete g) (cond (have_one_user g.facts) None (Some (Damaged 4))) (Some (Damaged 3))
 
--- the limits are asked first
+-- the limits are checked first
 early_is : (g : Gathered) (found : Option Kind) → first_passed g.facts ≡ found → early_refusal g ≡ early g found
 early_is g found is = ap (early g) is
 
--- no refusal is none
+-- there is no refusal in `None`
 none_refused : {X : Type 0} (x : X) {A : Type 0} → ◌≡◌ {A = Option X} None (Some x) → A
 none_refused x h = cc
 
--- what is refused early is the first failure
+-- an early refusal is that of the first check that fails
 pub early_told : (g : Gathered) (refusal : Refusal) → early_refusal g ≡ Some refusal → RefusesSets g refusal
 early_told g refusal h = by (first_passed g.facts) refl
   where
@@ -79,7 +79,7 @@ early_told g refusal h = by (first_passed g.facts) refl
         (λ before. by_test g 4 (have_one_user g.facts) None refusal (omega arith) before (one_user g.facts) (λ _ none. none_refused refusal none))
         (sym (early_is g None is) ∙ h)
 
--- where nothing is refused early, four checks pass
+-- if nothing is refused early, the checks before the fifth pass
 pub early_passed : (g : Gathered) → early_refusal g ≡ None → PassBefore g 5
 early_passed g h = by (first_passed g.facts) refl
   where
@@ -92,15 +92,15 @@ early_passed g h = by (first_passed g.facts) refl
 
 -- ---- the hierarchy
 
--- what the hierarchy refuses is the first failure
+-- a refusal by the hierarchy is that of the first check that fails
 pub order_told : (g : Gathered) (refusal : Refusal) → PassBefore g 5 → RefusesOrder g refusal → RefusesSets g refusal
 order_told g refusal before (inl memory) = subst (RefusesSets g) (sym memory) tt
 order_told g refusal before (inr (inl five)) = subst (RefusesSets g) (sym five.0) (omega arith, record { passed = before; failed = five.1 })
 order_told g refusal before (inr (inr six)) = subst (RefusesSets g) (sym six.0) (omega arith, record { passed = before_next g 5 before six.1; failed = six.2 })
 
--- ---- once the hierarchy is made
+-- ---- the checks after those of the hierarchy
 
--- what was complete, with one user and a fitting cardinality for each, is well formed
+-- rows that pass the checks before the eighth make a well-formed state
 well_formed : (version : ℕ) (rows : List Row) → AreReadable version rows → PassBefore (gathered version rows) 8 → IsWellFormed (gathered version rows).facts
 unfolding gathered
 well_formed version rows readable before =
@@ -128,7 +128,7 @@ both : (A B : Bool) {P Q : Type 0} → IsTrue A ↔ P → IsTrue B ↔ Q → IsT
 both A B p q = (λ h. (let parts = and_parts A B h in (p.0 parts.0, q.0 parts.1)), λ h. and_from _ _ (p.1 h.0) (q.1 h.1))
 
 module _ (version : ℕ) (rows : List Row) (readable : AreReadable version rows) where
-  -- what is refused late is the first failure
+  -- a late refusal is that of the first check that fails
   pub late_told : (refusal : Refusal) → PassBefore (gathered version rows) 7 → late_refusal (gathered version rows).facts ≡ Some refusal → RefusesSets (gathered version rows) refusal
   late_told refusal before h =
       let g = gathered version rows in
@@ -141,7 +141,7 @@ module _ (version : ℕ) (rows : List Row) (readable : AreReadable version rows)
       (λ _ none. none_refused refusal none)))))
       h
 
-  -- where nothing is refused late, all checks pass
+  -- if nothing is refused late, all checks pass
   pub late_passed : PassBefore (gathered version rows) 7 → late_refusal (gathered version rows).facts ≡ None → PassBefore (gathered version rows) 12
   late_passed before h =
       let g = gathered version rows in
@@ -158,7 +158,7 @@ module _ (version : ℕ) (rows : List Row) (readable : AreReadable version rows)
       ((dynamic_sets_are S).0 ten.0))
       ((unlocked_users_are S).0 eleven.0)
 
-  -- where every check passes, the state is good and has these rows
+  -- if every check passes, the state is good and has these rows
   pub is_state_of : (version ≡ 1) ⊎ (version ≡ 2) → PassBefore (gathered version rows) 12 → IsStateOf version rows (gathered version rows).facts
   unfolding gathered
   is_state_of known all = record {
@@ -177,7 +177,7 @@ module _ (version : ℕ) (rows : List Row) (readable : AreReadable version rows)
     };
   }
 
--- ---- what is refused of rows
+-- ---- the refusals of rows
 
 -- a refusal of the sets is one of the rows
 pub refuses_rows : (version : ℕ) (rows : List Row) (refusal : Refusal) → AreReadable version rows → RefusesSets (gathered version rows) refusal → RefusesRows version rows refusal
@@ -190,7 +190,7 @@ refuses_rows version rows (Damaged number) readable told = by (nat_eq number 1) 
 refuses_rows version rows (TooMany kind) readable told = (readable, told)
 refuses_rows version rows _ readable told = absurd told
 
--- rows that can't be read, and want of memory
+-- unreadable rows, and a failed allocation
 pub unreadable_told : (version : ℕ) (rows : List Row) (refusal : Refusal) → ((refusal ≡ Memory) ⊎ ((refusal ≡ Damaged 1) × (AreReadable version rows → ⊥))) → RefusesRows version rows refusal
 unreadable_told version rows refusal (inl memory) = subst (RefusesRows version rows) (sym memory) tt
 unreadable_told version rows refusal (inr damaged) = subst (RefusesRows version rows) (sym damaged.0) damaged.1

@@ -1,4 +1,4 @@
--- What one row more makes of the gathered sets, and when it may come.
+-- The effect of one more row on the gathered sets, and when it may be added.
 use Rattle.std.proofs.Common.{◌≡◌, ℕ, Bool, true, false, cond, List, [], ◌∷◌, ◌++◌, refl, sym, ◌∙◌, ap}
 use Rattle.std.specs.Prelude.{IsTrue, nat_eq, if◌then◌else◌}
 use Rattle.std.specs.List.{list_any, list_all}
@@ -18,14 +18,14 @@ use Rattle.admin_mgr.specs.Stepping.{with_row}
 use Rattle.admin_mgr.specs.Gathered.{Gathered, gathered, names_of, pairs_of, grants_of, cardinalities_of, locks_of, with_pair_of, with_stored, is_known, same_key, HaveKeysOnce}
 use Rattle.admin_mgr.specs.Checked.{AreReadable}
 
--- ---- one row more
+-- ---- one more row
 
--- a list that an item is put behind where a test holds, begun by an item where another holds
+-- a list that begins with an optional item, and has others appended
 longer : {K : Type 0} (b : Bool) (x : K) (all xs last : List K) → all ≡ xs ++ last → cond b (x ∷ all) all ≡ cond b (x ∷ xs) xs ++ last
 longer true x all xs last is = ap (λ l. x ∷ l) is
 longer false x all xs last is = is
 
--- the names of a kind, one row later
+-- the names of a kind, with one more row
 names_more : (kind : ℕ) (rows : List Row) (row : Row) → names_of kind (rows ++ row ∷ []) ≡ names_of kind rows ++ names_of kind (row ∷ [])
 names_more kind [] row = refl
 names_more kind (NameRow k a ∷ rows) row = longer (nat_eq k kind) a _ _ _ (names_more kind rows row)
@@ -34,7 +34,7 @@ names_more kind (GrantRow a b c ∷ rows) row = names_more kind rows row
 names_more kind (SetRow k a n ∷ rows) row = names_more kind rows row
 names_more kind (LockedRow a ∷ rows) row = names_more kind rows row
 
--- the pairs of a kind, one row later
+-- the pairs of a kind, with one more row
 pairs_more : (kind : ℕ) (rows : List Row) (row : Row) → pairs_of kind (rows ++ row ∷ []) ≡ pairs_of kind rows ++ pairs_of kind (row ∷ [])
 pairs_more kind [] row = refl
 pairs_more kind (NameRow k a ∷ rows) row = pairs_more kind rows row
@@ -43,7 +43,7 @@ pairs_more kind (GrantRow a b c ∷ rows) row = pairs_more kind rows row
 pairs_more kind (SetRow k a n ∷ rows) row = pairs_more kind rows row
 pairs_more kind (LockedRow a ∷ rows) row = pairs_more kind rows row
 
--- the grants, one row later
+-- the grants, with one more row
 grants_more : (rows : List Row) (row : Row) → grants_of (rows ++ row ∷ []) ≡ grants_of rows ++ grants_of (row ∷ [])
 grants_more [] row = refl
 grants_more (NameRow k a ∷ rows) row = grants_more rows row
@@ -52,7 +52,7 @@ grants_more (GrantRow a b c ∷ rows) row = ap (λ l. (a, b, c) ∷ l) (grants_m
 grants_more (SetRow k a n ∷ rows) row = grants_more rows row
 grants_more (LockedRow a ∷ rows) row = grants_more rows row
 
--- the cardinalities of a kind of sets, one row later
+-- the cardinalities of a kind of sets, with one more row
 cardinalities_more : (kind : ℕ) (rows : List Row) (row : Row) → cardinalities_of kind (rows ++ row ∷ []) ≡ cardinalities_of kind rows ++ cardinalities_of kind (row ∷ [])
 cardinalities_more kind [] row = refl
 cardinalities_more kind (NameRow k a ∷ rows) row = cardinalities_more kind rows row
@@ -61,7 +61,7 @@ cardinalities_more kind (GrantRow a b c ∷ rows) row = cardinalities_more kind 
 cardinalities_more kind (SetRow k a n ∷ rows) row = longer (nat_eq k kind) (a, n) _ _ _ (cardinalities_more kind rows row)
 cardinalities_more kind (LockedRow a ∷ rows) row = cardinalities_more kind rows row
 
--- the locks, one row later
+-- the locks, with one more row
 locks_more : (rows : List Row) (row : Row) → locks_of (rows ++ row ∷ []) ≡ locks_of rows ++ locks_of (row ∷ [])
 locks_more [] row = refl
 locks_more (NameRow k a ∷ rows) row = locks_more rows row
@@ -70,38 +70,38 @@ locks_more (GrantRow a b c ∷ rows) row = locks_more rows row
 locks_more (SetRow k a n ∷ rows) row = locks_more rows row
 locks_more (LockedRow a ∷ rows) row = ap (λ l. a ∷ l) (locks_more rows row)
 
--- the set of a list that is as long, or longer by one
+-- the set of a list to which an item may be appended
 module _ {K : Type 0} {R : K → K → Ordering} (total : IsTotalOrder R) (exact : IsAntisymmetric R) where
-  -- an item behind a list is one more in its set
+  -- an appended item is one more in the set
   put_if : (b : Bool) (xs : List K) (x : K) → from_list {R = R} (xs ++ cond b (x ∷ []) []) ≡ cond b (insert (from_list xs) x) (from_list xs)
   put_if true xs x = from_list_push total exact xs x
   put_if false xs x = ap (from_list {R = R}) (append-nil xs)
 
-  -- and nothing behind it changes nothing
+  -- and appending nothing changes nothing
   put_none : (xs : List K) → from_list {R = R} (xs ++ []) ≡ from_list xs
   put_none xs = ap (from_list {R = R}) (append-nil xs)
 
--- what the row puts among the names of a kind, the grants and so on
+-- the names of a kind, with what the row adds to them
 abbrev with_name_of : ℕ → Names → Row → Names
 with_name_of kind s (NameRow k a) = if nat_eq k kind then insert s a else s
 with_name_of kind s _ = s
 
--- what the row puts among the grants
+-- the grants, with what the row adds to them
 abbrev with_grant : Triples → Row → Triples
 with_grant s (GrantRow a b c) = insert s (a, b, c)
 with_grant s _ = s
 
--- what the row puts among the cardinalities of a kind of sets
+-- the cardinalities of a kind of sets, with what the row adds to them
 abbrev with_cardinality_of : ℕ → Cardinalities → Row → Cardinalities
 with_cardinality_of kind s (SetRow k a n) = if nat_eq k kind then insert s (a, n) else s
 with_cardinality_of kind s _ = s
 
--- what the row puts among the locks
+-- the locks, with what the row adds to them
 abbrev with_lock : Names → Row → Names
 with_lock s (LockedRow a) = insert s a
 with_lock s _ = s
 
--- the set of the names of a kind, one row later
+-- the set of the names of a kind, with one more row
 names_put : (kind : ℕ) (rows : List Row) (row : Row) → from_list (names_of kind (rows ++ row ∷ [])) ≡ with_name_of kind (from_list (names_of kind rows)) row
 names_put kind rows row = ap from_list (names_more kind rows row) ∙ by row
   where
@@ -112,7 +112,7 @@ names_put kind rows row = ap from_list (names_more kind rows row) ∙ by row
     by (SetRow k a n) = put_none name_total name_exact (names_of kind rows)
     by (LockedRow a) = put_none name_total name_exact (names_of kind rows)
 
--- the set of the pairs of a kind, one row later
+-- the set of the pairs of a kind, with one more row
 pairs_put : (kind : ℕ) (rows : List Row) (row : Row) → from_list (pairs_of kind (rows ++ row ∷ [])) ≡ with_pair_of kind (from_list (pairs_of kind rows)) row
 pairs_put kind rows row = ap from_list (pairs_more kind rows row) ∙ by row
   where
@@ -123,7 +123,7 @@ pairs_put kind rows row = ap from_list (pairs_more kind rows row) ∙ by row
     by (SetRow k a n) = put_none pair_total pair_exact (pairs_of kind rows)
     by (LockedRow a) = put_none pair_total pair_exact (pairs_of kind rows)
 
--- the set of the grants, one row later
+-- the set of the grants, with one more row
 grants_put : (rows : List Row) (row : Row) → from_list (grants_of (rows ++ row ∷ [])) ≡ with_grant (from_list (grants_of rows)) row
 grants_put rows row = ap from_list (grants_more rows row) ∙ by row
   where
@@ -134,7 +134,7 @@ grants_put rows row = ap from_list (grants_more rows row) ∙ by row
     by (SetRow k a n) = put_none triple_total triple_exact (grants_of rows)
     by (LockedRow a) = put_none triple_total triple_exact (grants_of rows)
 
--- the set of the cardinalities of a kind of sets, one row later
+-- the set of the cardinalities of a kind of sets, with one more row
 cardinalities_put : (kind : ℕ) (rows : List Row) (row : Row) → from_list (cardinalities_of kind (rows ++ row ∷ [])) ≡ with_cardinality_of kind (from_list (cardinalities_of kind rows)) row
 cardinalities_put kind rows row = ap from_list (cardinalities_more kind rows row) ∙ by row
   where
@@ -145,7 +145,7 @@ cardinalities_put kind rows row = ap from_list (cardinalities_more kind rows row
     by (SetRow k a n) = put_if cardinality_total cardinality_exact (nat_eq k kind) (cardinalities_of kind rows) (a, n)
     by (LockedRow a) = put_none cardinality_total cardinality_exact (cardinalities_of kind rows)
 
--- the set of the locks, one row later
+-- the set of the locks, with one more row
 locks_put : (rows : List Row) (row : Row) → from_list (locks_of (rows ++ row ∷ [])) ≡ with_lock (from_list (locks_of rows)) row
 locks_put rows row = ap from_list (locks_more rows row) ∙ by row
   where
@@ -156,7 +156,7 @@ locks_put rows row = ap from_list (locks_more rows row) ∙ by row
     by (SetRow k a n) = put_none name_total name_exact (locks_of rows)
     by (LockedRow a) = put_if name_total name_exact true (locks_of rows) a
 
--- the sets of the rows with one more behind, each by what the row puts there
+-- the sets of the rows with one more, each with what the row adds to it
 abbrev by_sets : ℕ → List Row → Row → Gathered
 by_sets version rows row = record {
   facts = record {
@@ -177,7 +177,7 @@ by_sets version rows row = record {
   pairs = with_pair_of CLOSURE_PAIR (from_list (pairs_of CLOSURE_PAIR rows)) row;
 }
 
--- one row behind the others puts its entry
+-- one more row adds its entry
 pub gathered_more : (version : ℕ) (rows : List Row) (row : Row) → gathered version (rows ++ row ∷ []) ≡ with_stored (gathered version rows) row
 unfolding gathered with_row
 gathered_more version rows row = all_sets ∙ by row
@@ -211,7 +211,7 @@ gathered_more version rows row = all_sets ∙ by row
 
 -- ---- keys that occur once
 
--- keys occur once where a row of a new key comes behind
+-- keys occur once if a row with a new key is appended
 pub keys_more : (rows : List Row) (row : Row) → HaveKeysOnce rows → list_any (λ (other : Row). same_key other row) rows ≡ false → HaveKeysOnce (rows ++ row ∷ [])
 keys_more [] row once free = (refl, tt)
 keys_more (first ∷ rows) row once free =
@@ -220,7 +220,7 @@ keys_more (first ∷ rows) row once free =
       keys_more rows row once.1 parts.1,
     )
 
--- where keys occur once, a row has another key than those before it
+-- if keys occur once, a row has another key than those before it
 pub keys_before : (rows : List Row) (row : Row) (rest : List Row) → HaveKeysOnce (rows ++ row ∷ rest) → list_any (λ (other : Row). same_key other row) rows ≡ false
 keys_before [] row rest once = refl
 keys_before (first ∷ rows) row rest once =
@@ -229,11 +229,11 @@ keys_before (first ∷ rows) row rest once =
 
 -- ---- rows that may be read
 
--- no rows are readable
+-- the empty list of rows is readable
 pub readable_none : (version : ℕ) → AreReadable version []
 readable_none version = record { known = refl; keys = tt }
 
--- a known row of a new key goes on
+-- readable rows with a known row of a new key appended are readable
 pub readable_more : (version : ℕ) (rows : List Row) (row : Row) → AreReadable version rows → IsTrue (is_known version row) → list_any (λ (other : Row). same_key other row) rows ≡ false →
     AreReadable version (rows ++ row ∷ [])
 readable_more version rows row readable known free = record {
@@ -241,7 +241,7 @@ readable_more version rows row readable known free = record {
   keys = keys_more rows row readable.keys free;
 }
 
--- a row of readable ones is known
+-- each of readable rows is known
 pub readable_known : (version : ℕ) (rows : List Row) (row : Row) (rest : List Row) → AreReadable version (rows ++ row ∷ rest) → IsTrue (is_known version row)
 readable_known version rows row rest readable =
     (and_parts (is_known version row) _ (and_parts (list_all (is_known version) rows) _ (sym (list_all-append (is_known version) rows (row ∷ rest)) ∙ readable.known)).1).0

@@ -1,4 +1,4 @@
--- What the gathered sets have is what is among the rows.
+-- The gathered sets have exactly the entries of the rows.
 use Rattle.std.proofs.Common.{◌≡◌, ℕ, Bool, true, false, cond, ◌&&◌, is_some, Option, Some, ◌||◌, List, [], ◌∷◌, refl, sym, ◌∙◌, ap, subst}
 use Rattle.std.specs.Prelude.{nat_eq, if◌then◌else◌}
 use Rattle.std.specs.List.{list_any}
@@ -19,13 +19,13 @@ use Rattle.rbac_sets.specs.declared.table.Table.{Table}
 use Rattle.admin_mgr.specs.Changes.{same_row}
 use Rattle.admin_mgr.specs.Gathered.{Gathered, gathered, has_key, names_of, pairs_of, grants_of, cardinalities_of, locks_of, is_known, is_among, same_key}
 
--- a set of no name has no cardinality
+-- if no cardinality has the name, no set of this name has one
 pub no_cardinality : (cardinalities : Cardinalities) (name : Bytes) (n : ℕ) → any (λ (entry : Cardinality). same_name entry.0 name) cardinalities ≡ false → contains cardinalities (name, n) ≡ false
 no_cardinality cardinalities name n none = false_from_ne_true _ (λ there. true≢false (
     sym ((any-Decides cardinality_total cardinality_exact (λ (entry : Cardinality). same_name entry.0 name) cardinalities).1 ((name, n), there, (tie_Decides name_total name_exact name name).1 refl))
     ∙ none))
 
--- a static set of no key has no cardinality
+-- a static set whose key is not there has no cardinality
 pub no_static_key : (g : Gathered) (name : Bytes) (n : ℕ) → has_key g (SetRow STATIC_CARDINALITY name n) ≡ false → contains g.facts.ssd.cardinalities (name, n) ≡ false
 unfolding has_key
 no_static_key g name n none = no_cardinality g.facts.ssd.cardinalities name n none
@@ -45,12 +45,12 @@ first_or P k n table others at rest = by (nat_eq k n) refl
     by true is known = subst P (sym (eqb-true k n is)) at
     by false is known = rest known
 
--- what holds at each kind of names holds at any kind of a name that has a table
+-- what holds of each kind of names holds of any kind of a name that has a table
 pub known_names : (P : ℕ → Type 0) → P USER → P ROLE → P OBJECT → (k : ℕ) (x : Bytes) → is_some (table_of (NameRow k x)) ≡ true → P k
 known_names P user role object k x =
     first_or P k USER _ _ user (first_or P k ROLE _ _ role (first_or P k OBJECT _ _ object (λ none. absurd (true≢false (sym none)))))
 
--- what holds at each kind of pairs holds at any kind of a pair that has a table
+-- what holds of each kind of pairs holds of any kind of a pair that has a table
 pub known_pairs : (P : ℕ → Type 0) → P PERMISSION → P ASSIGNMENT → P INHERITANCE → P CLOSURE_PAIR → P STATIC_MEMBER → P DYNAMIC_MEMBER → P SESSION → P ACTIVATED_ROLE
     → (k : ℕ) (x y : Bytes) → is_some (table_of (PairRow k x y)) ≡ true → P k
 known_pairs P permission assignment inheritance closure static dynamic session activated k x y =
@@ -58,14 +58,14 @@ known_pairs P permission assignment inheritance closure static dynamic session a
     (first_or P k STATIC_MEMBER _ _ static (first_or P k DYNAMIC_MEMBER _ _ dynamic (first_or P k SESSION _ _ session (first_or P k ACTIVATED_ROLE _ _ activated
     (λ none. absurd (true≢false (sym none))))))))))
 
--- what holds at both kinds of cardinalities holds at any kind of a cardinality that has a table
+-- what holds of both kinds of cardinalities holds of any kind of a cardinality that has a table
 pub known_sets : (P : ℕ → Type 0) → P STATIC_CARDINALITY → P DYNAMIC_CARDINALITY → (k : ℕ) (x : Bytes) (n : ℕ) → is_some (table_of (SetRow k x n)) ≡ true → P k
 known_sets P static dynamic k x n =
     first_or P k STATIC_CARDINALITY _ _ static (first_or P k DYNAMIC_CARDINALITY _ _ dynamic (λ none. absurd (true≢false (sym none))))
 
 -- ---- membership
 
--- a test of a list that begins with an item where another test holds
+-- a test of a list that begins with an optional item
 one_more : {K : Type 0} (p : K → Bool) (b : Bool) (x : K) (xs : List K) (rest : Bool) → list_any p xs ≡ rest → list_any p (cond b (x ∷ xs) xs) ≡ (b && p x || rest)
 one_more p true x xs rest is = ap (λ r. p x || r) is
 one_more p false x xs rest is = is
@@ -166,7 +166,7 @@ any_sets kind x n (SetRow k a m ∷ rows) =
 any_sets kind x n (LockedRow a ∷ rows) = any_sets kind x n rows
 
 module _ {K : Type 0} {R : K → K → Ordering} (total : IsTotalOrder R) (exact : IsAntisymmetric R) where
-  -- a test of the members of a list's set is one of the list
+  -- a test holds of a member of a list's set exactly if it does of an entry of the list
   pub any-from_list : (p : K → Bool) (xs : List K) → any p (from_list {R = R} xs) ≡ list_any p xs
   any-from_list p xs =
       let some = any-Decides total exact p (from_list {R = R} xs) in

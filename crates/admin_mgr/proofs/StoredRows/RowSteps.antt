@@ -9,11 +9,11 @@ use Rattle.admin_mgr.specs.Checked.{AreReadable}
 use Rattle.admin_mgr.proofs.StoredRows.GatherLaws.{gathered_more, readable_none, readable_more, readable_known, readable_free}
 use Rattle.admin_mgr.proofs.StoredRows.KeyLaws.{key_among}
 
--- so many rows were gathered, these are left, and what was gathered is readable
+-- the rows done so far are gathered and readable, and the rest is left
 abbrev pub SoFar : ℕ → List Row → List Row → List Row → Gathered → Type 0
 SoFar version rows done rest made = (rows ≡ done ++ rest) × (made ≡ gathered version done) × AreReadable version done
 
--- rows make no other version
+-- rows don't change the version
 pub version-gathered : (version : ℕ) (rows : List Row) → (gathered version rows).facts.version ≡ version
 unfolding gathered
 version-gathered version rows = refl
@@ -31,7 +31,7 @@ module _ (version : ℕ) (rows done rest left : List Row) (row : Row) (made : Ga
   version_is : made.facts.version ≡ version
   version_is = ap (λ (g : Gathered). g.facts.version) so_far.1 ∙ version-gathered version done
 
-  -- a row that fits goes on
+  -- a row that fits may be gathered too
   pub one_so_far : (after : Gathered) → fits made row ≡ true → after ≡ with_stored made row → SoFar version rows (done ++ row ∷ []) rest after
   one_so_far after fit is =
       let parts = and_parts (is_known made.facts.version row) (not (has_key made row)) fit in

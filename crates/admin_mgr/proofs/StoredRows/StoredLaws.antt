@@ -1,4 +1,4 @@
--- Readable rows: what their sets have, and what they have not.
+-- Readable rows: what their sets have, and what they don't have.
 use Rattle.std.proofs.Common.{◌≡◌, ◌≢◌, ℕ, Bool, true, false, cond, not, ◌&&◌, ◌||◌, List, [], ◌∷◌, refl, sym, ◌∙◌, ap, subst, inl, inr}
 use Rattle.std.specs.Prelude.{IsTrue, ◌↔◌, nat_eq, is_some, if◌then◌else◌}
 use Rattle.std.specs.List.{list_any, list_all}
@@ -23,7 +23,7 @@ use Rattle.admin_mgr.proofs.StoredRows.KeyLaws.{known_names, known_pairs, known_
 
 -- ---- a row that the version doesn't know
 
--- no kind that is not known is this one
+-- a kind that is not known is not this known one
 unless : (known : ℕ → Bool) (k n : ℕ) (A rest : Bool) → known k ≡ false → known n ≡ true → rest ≡ false → (if nat_eq k n then A else rest) ≡ false
 unless known k n A rest unknown known_n is = by (nat_eq k n) refl
   where
@@ -74,7 +74,7 @@ among_known version (first ∷ rows) row known there =
 
 -- ---- the rows of the sets
 
--- a role is above another one exactly if the test of the stored pairs says so
+-- the test holds exactly if the roles differ and the first dominates the second
 pub apart_and_above : (edges : Pairs) (a b : Bytes) → IsTrue (geq edges a b && not (same_name a b)) ↔ ((a ≢ b) × Geq edges a b)
 apart_and_above edges a b = (
   λ h. (let parts = and_parts (geq edges a b) (not (same_name a b)) h in
@@ -117,7 +117,7 @@ module _ (version : ℕ) (rows : List Row) (known : IsTrue (list_all (is_known v
 
 -- ---- rows that occur once
 
--- rows of two keys are two
+-- rows with different keys differ
 other_row : (row other : Row) → same_key row other ≡ false → same_row row other ≡ false
 other_row (NameRow k a) other apart = apart
 other_row (PairRow k a b) other apart = apart
@@ -131,7 +131,7 @@ other_row (SetRow k a m) (SetRow l x n) apart = false_from_ne_true _ (λ same.
 other_row (SetRow k a m) (LockedRow x) apart = apart
 other_row (LockedRow a) other apart = apart
 
--- where no row has the key, none is the row
+-- if no row has the key, none is the row
 none_other : (row : Row) (rows : List Row) → list_any (λ (other : Row). same_key row other) rows ≡ false → list_any (λ (other : Row). same_row row other) rows ≡ false
 none_other row [] free = refl
 none_other row (first ∷ rows) free =
@@ -165,7 +165,7 @@ same_set_later kind k a m n (SetRow l x j ∷ rows) here there = by (same_set_la
     by behind false e h = or_right _ _ (behind h)
 same_set_later kind k a m n (LockedRow x ∷ rows) here there = same_set_later kind k a m n rows here there
 
--- two entries of one set are one
+-- two entries of one set are equal
 once : (kind : ℕ) (rows : List Row) (a : Bytes) (m n : ℕ) → HaveKeysOnce rows →
     list_any (eq_by_cmp cardinality_cmp (a, m)) (cardinalities_of kind rows) ≡ true → list_any (eq_by_cmp cardinality_cmp (a, n)) (cardinalities_of kind rows) ≡ true → m ≡ n
 once kind [] a m n keys here there = absurd (true≢false (sym here))
@@ -198,7 +198,7 @@ once kind (SetRow l x j ∷ rows) a m n keys here there = by (once kind rows a m
     by behind false e h k = behind h k
 once kind (LockedRow x ∷ rows) a m n keys here there = once kind rows a m n keys.1 here there
 
--- two cardinalities of one set are one
+-- two cardinalities of one set are equal
 pub one_cardinality : (kind : ℕ) (rows : List Row) → HaveKeysOnce rows → (name : Bytes) (n other : ℕ) →
     IsTrue (contains (from_list {R = cardinality_cmp} (cardinalities_of kind rows)) (name, n)) → IsTrue (contains (from_list {R = cardinality_cmp} (cardinalities_of kind rows)) (name, other)) → n ≡ other
 one_cardinality kind rows keys name n other here there = once kind rows name n other keys
@@ -207,7 +207,7 @@ one_cardinality kind rows keys name n other here there = once kind rows name n o
 
 -- ---- version 1 has no locks
 
--- rows that version 1 knows name no lock
+-- no row that version 1 knows is a lock
 unlocked_rows : (version : ℕ) (rows : List Row) → version ≡ 1 → IsTrue (list_all (is_known version) rows) → locks_of rows ≡ []
 unlocked_rows version [] first known = refl
 unlocked_rows version (NameRow k a ∷ rows) first known = unlocked_rows version rows first (and_parts (is_known version (NameRow k a)) _ known).1
@@ -217,7 +217,7 @@ unlocked_rows version (SetRow k a n ∷ rows) first known = unlocked_rows versio
 unlocked_rows version (LockedRow a ∷ rows) first known =
     absurd (true≢false (sym (eq-eqb version 1 first) ∙ not-true _ (and_parts (is_known version (LockedRow a)) _ known).0))
 
--- readable rows of version 1 make no lock
+-- readable rows of version 1 have no lock
 pub no_locks : (version : ℕ) (rows : List Row) → AreReadable version rows → version ≡ 1 → (gathered version rows).facts.locked ≡ empty
 unfolding gathered from_list
 no_locks version rows readable first = ap from_list (unlocked_rows version rows first readable.known)

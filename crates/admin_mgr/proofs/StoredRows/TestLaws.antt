@@ -1,4 +1,4 @@
--- What the tests of gathered sets say.
+-- What the tests of gathered sets decide.
 use Rattle.std.proofs.Common.{◌≡◌, ◌+◌, ◌≤◌, Bool, true, false, not, ◌&&◌, refl, sym, ◌∙◌, ap, subst, inl, inr, arith}
 use Rattle.std.specs.Prelude.{IsTrue, ◌↔◌, ◌⊎◌, nat_le, Result, Ok, Err}
 use Rattle.std.specs.List.{list_all}
@@ -25,14 +25,14 @@ use Rattle.admin_mgr.proofs.Verdicts.SeparationLaws.{static_test, dynamic_test, 
 use Rattle.std.specs.declared.cmp.Ordering.{Ordering}
 use Rattle.std.specs.FinMap as finmap
 
--- the user is authorized for what was activated exactly if each of these roles is reached
+-- the user is authorized for the activated roles exactly if each of them is reachable from the user's assignments
 pub authorized_active : (S : RbacState) (session user : Bytes) →
     all (is_authorized S user) (active_roles S session) ≡ list_all (λ (pair : Pair). is_reached S.edges (run_of S.assignments user) pair.1) (run_of S.active session)
 authorized_active S session user =
     all_seconds (is_authorized S user) S.active session
     ∙ (λ i. list_all (λ (pair : Pair). authorized_reached S user pair.1 i) (run_of S.active session))
 
--- ---- what is spoken of is there
+-- ---- what the rows refer to is there
 
 -- each pair begins with one of the names
 firsts : (names : Names) (pairs : Pairs) → IsTrue (are_firsts_in names pairs) ↔ ((a b : Bytes) → IsTrue (contains pairs (a, b)) → IsTrue (contains names a))
@@ -55,7 +55,7 @@ members_there roles separation =
       λ h. and_from _ _ (sets.1 (λ pair there. (h pair.0 pair.1 there).0)) (ends.1 (λ a b there. (h a b there).1)),
     )
 
--- the test whether what is spoken of is there
+-- the test whether what the rows refer to is there
 pub complete : (g : Gathered) → IsTrue (is_complete g) ↔ IsComplete g
 complete g =
     let S = g.facts in
@@ -130,7 +130,7 @@ len-empty : {K : Type 0} (R : K → K → Ordering) → len (empty {R = R}) ≡ 
 unfolding len empty
 len-empty R = finmap.len-empty R (Unit {0})
 
--- a set of two names has two
+-- a set of two different names has two members
 two_names : (x y : Bytes) → contains {R = name_cmp} (insert empty x) y ≡ false → len {R = name_cmp} (insert (insert empty x) y) ≡ 2
 two_names x y apart =
     let one : len {R = name_cmp} (insert empty x) ≡ len {R = name_cmp} empty + 1 = len-new empty x (contains-empty name_cmp x) in
@@ -138,7 +138,7 @@ two_names x y apart =
     let none : len {R = name_cmp} empty ≡ 0 = len-empty name_cmp in
     omega (arith, one, two, none)
 
--- a set of one name at most has no two that differ
+-- a set of at most one name has no two that differ
 pub no_two : (names : Names) → len names ≤ 1 → (x y : Bytes) → IsTrue (contains names x) → IsTrue (contains names y) → x ≡ y
 no_two names few x y here there = by (contains {R = name_cmp} (insert empty x) y) refl
   where
@@ -160,7 +160,7 @@ no_two names few x y here there = by (contains {R = name_cmp} (insert empty x) y
         let most = len-subset name_total name_exact (insert (insert empty x) y) names both in
         let two = two_names x y e in absurd (omega (arith, most, two, few))
 
--- a set whose names are all one has one name at most
+-- a set whose names are all equal has at most one
 pub one_at_most : (names : Names) → ((x y : Bytes) → IsTrue (contains names x) → IsTrue (contains names y) → x ≡ y) → len names ≤ 1
 one_at_most names same = elim (cases_lt 0 (len names)) [
   | inl some ↦
@@ -230,13 +230,13 @@ dynamic_sets_are S =
 
 -- ---- why the hierarchy is refused
 
--- want of memory, a cycle, or pairs that are no closure
+-- a failed allocation, a cycle, or pairs that are not the closure
 abbrev pub RefusesOrder : Gathered → Refusal → Type 0
 RefusesOrder g refusal = (refusal ≡ Memory)
     ⊎ (((refusal ≡ Damaged 5) × (IsAcyclic g.facts.edges → ⊥))
     ⊎ ((refusal ≡ Damaged 6) × IsAcyclic g.facts.edges × (IsClosure g.facts.edges g.pairs → ⊥)))
 
--- equal errors are of equal causes
+-- values are equal if `Err` of both are
 err_is : {X : Type 0} (x y : Refusal) → ◌≡◌ {A = Result X Refusal} (Err x) (Err y) → x ≡ y
 err_is {X} x y h = ap at h
   where
@@ -244,7 +244,7 @@ err_is {X} x y h = ap at h
     at (Ok _) = x
     at (Err z) = z
 
--- what the hierarchy says of its refusal
+-- why the hierarchy is refused, from what its contract ensures
 pub order_refused : {X : Type 0} (g : Gathered) (refusal : Refusal) → let Told : Refusal → Type 0 = (λ other. ◌≡◌ {A = Result X Refusal} (Err refusal) (Err other)) in
     (Told (Damaged 5) ⊎ (Told (Damaged 6) ⊎ Told Memory)) → (Told (Damaged 5) → IsAcyclic g.facts.edges → ⊥)
     → (Told (Damaged 6) → IsAcyclic g.facts.edges × (IsClosure g.facts.edges g.pairs → ⊥)) → RefusesOrder g refusal

@@ -1,4 +1,4 @@
--- No limit is passed exactly where the relations are within the limits.
+-- No limit is exceeded exactly if the relations are within the limits.
 use Rattle.std.proofs.Common.{◌≡◌, ℕ, ◌≤◌, Bool, true, false, cond, List, [], ◌∷◌, refl, sym, ◌∙◌, inl, inr, arith}
 use Rattle.std.specs.Prelude.{Some, None, find, nat_lt}
 use Rattle.std.proofs.lemmas.Bool.{cases_lt, lt-ltb, ltb-false, ltb-true, true≢false, false_from_ne_true, or_parts, or_from}
@@ -18,7 +18,7 @@ abbrev NonePass : {X : Type 0} → (X → Bool) → List X → Type 0
 NonePass p [] = Unit {0}
 NonePass p (x ∷ xs) = (p x ≡ false) × NonePass p xs
 
--- where nothing is found, no item passes
+-- if nothing is found, no item passes
 none_found : {X : Type 0} (p : X → Bool) (xs : List X) → find p xs ≡ None → NonePass p xs
 none_found p [] h = tt
 none_found {X} p (x ∷ xs) h = by (none_found p xs) (p x) refl h
@@ -27,7 +27,7 @@ none_found {X} p (x ∷ xs) h = by (none_found p xs) (p x) refl h
     by rest true e h = cc
     by rest false e h = (e, rest h)
 
--- where something is found, not all fail
+-- if something is found, some item passes
 one_found : {X : Type 0} (p : X → Bool) (xs : List X) (x : X) → find p xs ≡ Some x → NonePass p xs → ⊥
 one_found p [] x h none = cc
 one_found {X} p (y ∷ xs) x h none = by (one_found p xs x) (p y) refl h
@@ -36,11 +36,11 @@ one_found {X} p (y ∷ xs) x h none = by (one_found p xs x) (p y) refl h
     by rest true e h = true≢false (sym e ∙ none.0)
     by rest false e h = rest h none.1
 
--- a number that is no more than the limit doesn't pass it
+-- a number that is at most the limit doesn't exceed it
 not_more : (limit n : ℕ) → n ≤ limit → nat_lt limit n ≡ false
 not_more limit n most = false_from_ne_true _ (λ h. (let more = ltb-true limit n h in absurd (omega (arith, more, most))))
 
--- no first name has more than so many pairs
+-- if the test fails, no first name has more pairs than the limit
 few_behind : (limit : ℕ) (pairs : Pairs) → has_more_behind limit pairs ≡ false → (first : Bytes) → len (seconds pairs first) ≤ limit
 few_behind limit pairs none first = elim (cases_lt limit (len (seconds pairs first))) [
   | inl more ↦
@@ -50,14 +50,14 @@ few_behind limit pairs none first = elim (cases_lt limit (len (seconds pairs fir
   | inr few ↦ few
 ]
 
--- and the other way round
+-- and conversely
 behind_few : (limit : ℕ) (pairs : Pairs) → ((first : Bytes) → len (seconds pairs first) ≤ limit) → has_more_behind limit pairs ≡ false
 behind_few limit pairs few = false_from_ne_true _ (λ h.
     (let one = (any-Decides pair_total pair_exact (λ (pair : Pair). nat_lt limit (len (seconds pairs pair.0))) pairs).0 h in
     let more = ltb-true limit (len (seconds pairs one.0.0)) one.2 in
     let most = few one.0.0 in absurd (omega (arith, more, most))))
 
--- where no limit is passed, all are kept
+-- if no limit is exceeded, the relations are within all limits
 pub within_limits : (S : RbacState) → first_passed S ≡ None → IsWithinLimits S
 within_limits S none =
     let each = none_found (is_passed S) limited_kinds none in
@@ -87,7 +87,7 @@ within_limits S none =
       active_roles = few_behind (limit_of ActiveRole S.version) S.active rest.1.1.1.0;
     }
 
--- where all are kept, no limit is passed
+-- if the relations are within all limits, none is exceeded
 pub no_limit_passed : (S : RbacState) (kind : Kind) → IsWithinLimits S → first_passed S ≡ Some kind → ⊥
 no_limit_passed S kind within found = one_found (is_passed S) limited_kinds kind found (
   not_more (limit_of User S.version) (len S.users) within.users,

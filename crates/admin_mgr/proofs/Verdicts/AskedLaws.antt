@@ -1,4 +1,4 @@
--- What becomes of a command goes by what it asks for.
+-- The result of a command depends only on what it asks for.
 use Rattle.std.proofs.Common.{◌≡◌, refl, ap, sym}
 use Rattle.rbac_sets.specs.NameOrder.{name_total, name_exact}
 use Rattle.rbac_sets.specs.Asked.{Single, asked_of, without_room}
@@ -13,7 +13,7 @@ use Rattle.admin_mgr.specs.Verdict.{verdict, refusals}
 use Rattle.admin_mgr.specs.Run.{tally}
 use Rattle.admin_mgr.specs.Asked.{asked_verdict, asked_after, asked_tally, GoesByAsked, CommandsGoByAsked}
 
--- a set without room is the same set
+-- a set without its room is the same set
 same_roles : (roles : Stored Bytes) → set_of name_cmp (without_room (set_of name_cmp roles)) ≡ set_of name_cmp roles
 same_roles roles = from_members name_total name_exact (set_of name_cmp roles)
 

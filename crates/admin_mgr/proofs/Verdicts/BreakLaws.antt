@@ -1,4 +1,4 @@
--- The state after a command on separation of duty sets of one kind: no session ends, and what the sets violate then.
+-- The state after a command on separation of duty sets of one kind: no session ends, and which set is violated then.
 use Rattle.std.proofs.Common.{◌≡◌, ℕ, false, cond, refl, ◌∙◌, ap}
 use Rattle.std.specs.Prelude.{IsTrue, Some, None}
 use Rattle.std.specs.Option.{option_map}
@@ -18,23 +18,23 @@ use Rattle.admin_mgr.proofs.StateAfter.SessionLaws.{goes_on, none_ends_where}
 use Rattle.admin_mgr.proofs.Verdicts.VerdictLaws.{mapped_cond}
 use Rattle.admin_mgr.proofs.Verdicts.ViolationLaws.{AreKept, created, member_added, renumbered}
 
--- each set of a good state is kept
+-- no set of a good state is violated
 pub kept_sets : (duty : SeparationOfDuty) (S : RbacState) → IsGood S → AreKept (is_kept duty S) (sets_of duty S)
 kept_sets Static S good x there = (kept_statically S (members_of S.ssd x.0) x.1).1 (λ user _. good.static_separation x.0 user x.1 there)
 kept_sets Dynamic S good x there = (kept_dynamically S (members_of S.dsd x.0) x.1).1 (λ session user owner. good.dynamic_separation x.0 session user x.1 there owner)
 
--- and well formed
+-- and its sets are well formed
 pub formed_sets : (duty : SeparationOfDuty) (S : RbacState) → IsGood S → IsSeparation S.roles (sets_of duty S)
 formed_sets Static S good = good.well_formed.ssd
 formed_sets Dynamic S good = good.well_formed.dsd
 
--- no session ends for other sets
+-- no session ends if the sets are replaced
 none_ends : (duty : SeparationOfDuty) (S : RbacState) → IsGood S → (other : Separation) → end_sessions (with_sets duty S other) ≡ with_sets duty S other
 unfolding may_go_on authorized_users
 none_ends Static S good other = none_ends_where (record S { ssd = other }) (goes_on S good) good.well_formed.owned
 none_ends Dynamic S good other = none_ends_where (record S { dsd = other }) (goes_on S good) good.well_formed.owned
 
--- what other sets violate is found by the users and sessions of the state
+-- which of other sets is violated depends on the users and sessions of the state
 breaks_other : (duty : SeparationOfDuty) (S : RbacState) (other : Separation) → breaks duty (with_sets duty S other) ≡ option_map (refusal_of duty) (least_violated (is_kept duty S) other)
 unfolding is_kept_statically is_kept_dynamically authorized_users
 breaks_other Static S other = refl
@@ -83,7 +83,7 @@ module _ (duty : SeparationOfDuty) (S : RbacState) (good : IsGood S) (name : Byt
       to Static = refl
       to Dynamic = refl
 
-  -- ---- what it violates
+  -- ---- the set that is violated then
 
   pub create_set_breaks : (roles : Stored Bytes) (n : ℕ) → has_set (sets_of duty S) name ≡ false →
       breaks duty (after S (create_set duty name roles n)) ≡ cond (is_kept duty S (set_of name_cmp roles) n) None (Some (refusal_of duty name))

@@ -1,4 +1,5 @@
--- Users and sessions by what they hold, and separation of duty sets by their cardinality. The crates above may name these.
+-- The roles of users and sessions, from their assigned and activated roles, and separation of duty sets by their cardinality.
+-- Crates that depend on this one may use these laws.
 use Rattle.std.proofs.Common.{◌≡◌, Bool, List, refl, sym, ◌∙◌, ap}
 use Rattle.std.specs.Prelude.{count_by, is_some}
 use Rattle.std.proofs.lemmas.Bool.{and_parts, and_from}
@@ -13,7 +14,7 @@ use Rattle.admin_mgr.specs.RbacState.{RbacState, Separation, cardinality_of, has
 use Rattle.admin_mgr.specs.Authorization.{authorized_users, is_authorized, is_session_role}
 use Rattle.admin_mgr.specs.Held.{run_of, is_reached, reached_roles, reached_members}
 
--- a user is authorized for the roles that are reached from its assignments
+-- a user is authorized for the roles that are reachable from the user's assignments
 pub authorized_reached : (S : RbacState) (user role : Bytes) → is_authorized S user role ≡ is_reached S.edges (run_of S.assignments user) role
 unfolding authorized_users
 authorized_reached S user role =
@@ -33,11 +34,11 @@ authorized_reached S user role =
     )))
     ∙ any_seconds (λ r. geq S.edges r role) S.assignments user
 
--- a session has the roles that are reached from what was activated in it
+-- a session has the roles that are reachable from the roles activated in it
 pub session_reached : (S : RbacState) (session role : Bytes) → is_session_role S session role ≡ is_reached S.edges (run_of S.active session) role
 session_reached S session role = any_seconds (λ r. geq S.edges r role) S.active session
 
--- ---- how many of some roles they have
+-- ---- how many of some roles users and sessions have
 
 pub authorized_roles_count : (S : RbacState) (user : Bytes) (roles : Names) →
     count (is_authorized S user) roles ≡ reached_roles S.edges (run_of S.assignments user) (members roles)
@@ -64,7 +65,7 @@ session_members_count S session pairs name = session_roles_count S session (seco
 
 -- ---- sets by their cardinality
 
--- a separation of duty set is there exactly where it has a cardinality
+-- a separation of duty set is there exactly if it has a cardinality
 pub is_some_cardinality : (separation : Separation) (name : Bytes) → is_some (cardinality_of separation name) ≡ has_set separation name
 unfolding cardinality_of any
 is_some_cardinality separation name = is_some_found (λ (entry : Cardinality). entry.1) (λ (entry : Cardinality). same_name entry.0 name) (members separation.cardinalities)

@@ -29,7 +29,7 @@ use Rattle.admin_mgr.proofs.Verdicts.KeepLaws.{same_where, kept_members, kept_be
 use Rattle.admin_mgr.proofs.StateAfter.SessionLaws.{none_ends_where}
 use Rattle.admin_mgr.proofs.Verdicts.TouchLaws.{untouched, violated_by, asked_passed}
 
--- the role asc is not reached, or fewer than so many of the members are with the role desc
+-- the pairs don't reach the role asc, or reach fewer than n of the members with the role desc added
 abbrev keeps_below : Pairs → List Pair → Bytes → Bytes → List Pair → ℕ → Bool
 keeps_below edges held asc desc members n = not (is_reached edges held asc) || nat_lt (reached_with edges held desc members) n
 
@@ -64,13 +64,13 @@ module _ (S : RbacState) (good : IsGood S) (asc desc : Bytes) (no_back : geq S.e
         | inr new ↦ (let parts = and_parts _ _ new in inr ((geq-Decides S.edges r asc).0 parts.0, (geq-Decides S.edges desc q).0 parts.1))
       ])))
 
-  -- what is held reaches what it did, and through asc what desc reaches
+  -- the pairs reach what they did, and if they reach asc also what desc dominates
   reached_more : (held : List Pair) (q : Bytes) → is_reached (insert S.edges (asc, desc)) held q ≡ (is_reached S.edges held q || (is_reached S.edges held asc && geq S.edges desc q))
   reached_more held q =
       (λ i. list_any (λ (p : Pair). crossed p.1 q i) held)
       ∙ any_crossed (λ (p : Pair). geq S.edges p.1 q) (λ (p : Pair). geq S.edges p.1 asc) (geq S.edges desc q) held
 
-  -- only who reaches asc is counted anew
+  -- only for pairs that reach asc the members have to be counted again
   counted_below : (held members : List Pair) (n : ℕ) → reached_members S.edges held members < n →
       nat_lt (reached_members (insert S.edges (asc, desc)) held members) n ≡ keeps_below S.edges held asc desc members n
   counted_below held members n fewer =
@@ -80,7 +80,7 @@ module _ (S : RbacState) (good : IsGood S) (asc desc : Bytes) (no_back : geq S.e
       by true = refl
       by false = ap (λ k. nat_lt k n) (λ i. count_by (λ (m : Pair). or-false (is_reached S.edges held m.1) i) members) ∙ lt-ltb _ _ fewer
 
-  -- and only a set with a member that desc reaches
+  -- and only for a set with a member that desc dominates
   untouched_keeps : (held members : List Pair) (n : ℕ) → reached_members S.edges held members < n → is_touched S.edges desc members ≡ false → keeps_below S.edges held asc desc members n ≡ true
   untouched_keeps held members n fewer none = or_right (not (is_reached S.edges held asc)) _
       (ap (λ k. nat_lt k n) (untouched (λ (m : Pair). is_reached S.edges held m.1) (λ (m : Pair). geq S.edges desc m.1) members none) ∙ lt-ltb _ _ fewer)
@@ -89,7 +89,7 @@ module _ (S : RbacState) (good : IsGood S) (asc desc : Bytes) (no_back : geq S.e
   touched_only true kept h = refl
   touched_only false kept h = ap not (h refl)
 
-  -- ---- who goes on
+  -- ---- nobody is authorized for less, and sessions go on
 
   pub still_authorized : (user role : Bytes) → IsTrue (is_authorized S user role) → IsTrue (is_authorized (with_edge S asc desc) user role)
   unfolding with_edge
@@ -103,9 +103,9 @@ module _ (S : RbacState) (good : IsGood S) (asc desc : Bytes) (no_back : geq S.e
       ((all-Decides name_total name_exact (is_authorized (with_edge S asc desc) p.1) (active_roles S p.0)).1 (λ role active.
       still_authorized p.1 role (good.authorized p.0 p.1 role there ((seconds-Decides S.active p.0 role).0 active))))
 
-  -- ---- what users and sessions violate
+  -- ---- the set that is violated
 
-  -- a set of the state is kept where each holder of asc has fewer than so many with desc
+  -- a set of the state is not violated exactly if whoever has asc has fewer of its members than its cardinality, with desc
   kept_below : (duty : SeparationOfDuty) (x : Cardinality) → IsTrue (contains (sets_of duty S).cardinalities x) →
       is_kept duty (with_edge S asc desc) (members_of (sets_of duty S) x.0) x.1 ≡ list_all (λ held. keeps_below S.edges held asc desc (run_of (sets_of duty S).members x.0) x.1) (runs_of duty S)
   unfolding with_edge

@@ -1,4 +1,4 @@
--- Separation of duty by the runs of users or sessions: with another cardinality, and with one role more.
+-- Separation of duty by the roles of each user or session: with another cardinality, and with one more role.
 use Rattle.std.proofs.Common.{◌≡◌, ℕ, ◌+◌, ◌<◌, ◌≤◌, Bool, true, false, cond, not, ◌||◌, ◌&&◌, List, [], ◌∷◌, refl, sym, ◌∙◌, ap, subst, arith}
 use Rattle.std.specs.Prelude.{IsTrue, Option, Some, None, find, nat_lt, unwrap_or}
 use Rattle.std.specs.Option.{option_map}
@@ -40,7 +40,7 @@ numbered : (p : Cardinality → Bool) (xs : List Cardinality) (n : ℕ) (o : Opt
 numbered p xs n None is h = cc
 numbered p xs n (Some x) is h = (x, is, ap (λ o. unwrap_or o n) h)
 
--- the number that is told is the set's
+-- the cardinality that is found is the set's
 pub cardinality_there : (separation : Separation) (name : Bytes) (n : ℕ) → cardinality_of separation name ≡ Some n → IsTrue (contains separation.cardinalities (name, n))
 unfolding cardinality_of
 cardinality_there separation name n told =
@@ -50,14 +50,14 @@ cardinality_there separation name n told =
     let same : one.0 ≡ (name, n) = λ i. ((tie_Decides name_total name_exact one.0.0 name).0 found.1 i, one.2 i) in
     subst (λ x. IsTrue (contains separation.cardinalities x)) same (contains-members separation.cardinalities one.0 ∙ found.0)
 
--- ---- who a set is kept by
+-- ---- when a set is not violated
 
--- two tests agree on a list that do where a third holds, as it does of each entry
+-- two tests agree on a list if they agree wherever a third holds, and that holds of each entry
 pub same_where : {X : Type 0} (holds p q : X → Bool) (xs : List X) → list_all holds xs ≡ true → ((x : X) → holds x ≡ true → p x ≡ q x) → list_all p xs ≡ list_all q xs
 same_where holds p q [] each same = refl
 same_where holds p q (x ∷ xs) each same = let parts = and_parts (holds x) _ each in λ i. same x parts.0 i && same_where holds p q xs parts.1 same i
 
--- roles are kept where each user or session reaches fewer of them
+-- a set is not violated exactly if each user or session has fewer of its roles than its cardinality
 pub kept_by_runs : (duty : SeparationOfDuty) (S : RbacState) (roles : Names) (n : ℕ) →
     is_kept duty S roles n ≡ list_all (λ held. nat_lt (reached_roles S.edges held (members roles)) n) (runs_of duty S)
 unfolding is_kept_statically is_kept_dynamically all
@@ -72,12 +72,12 @@ pub kept_members : (duty : SeparationOfDuty) (S : RbacState) (separation : Separ
 kept_members duty S separation name n =
     kept_by_runs duty S (members_of separation name) n ∙ (λ i. list_all (λ held. nat_lt (reached_seconds S.edges held separation.members name i) n) (runs_of duty S))
 
--- a set of a good state is kept
+-- no set of a good state is violated
 pub kept_before : (duty : SeparationOfDuty) (S : RbacState) → IsGood S → (x : Cardinality) → IsTrue (contains (sets_of duty S).cardinalities x) →
     list_all (λ held. nat_lt (reached_members S.edges held (run_of (sets_of duty S).members x.0)) x.1) (runs_of duty S) ≡ true
 kept_before duty S good x there = sym (kept_members duty S (sets_of duty S) x.0 x.1) ∙ kept_sets duty S good x there
 
--- so it is with a larger cardinality
+-- nor is it with a larger cardinality
 pub larger : (duty : SeparationOfDuty) (S : RbacState) → IsGood S → (name : Bytes) (before n : ℕ) → IsTrue (contains (sets_of duty S).cardinalities (name, before)) → before ≤ n →
     is_kept duty S (members_of (sets_of duty S) name) n ≡ true
 larger duty S good name before n there more =
@@ -128,7 +128,7 @@ module _ (p : Bytes → Bool) (roles : Names) (role : Bytes) (absent : contains 
       ∙ sym (contains-retain name_total name_exact roles p y)) in
       count-len name_total name_exact p (insert roles role) ∙ ap len same ∙ sym (count-len name_total name_exact p roles)
 
-  -- where there were fewer, only who has the new role is counted anew
+  -- if there were fewer than n, only those with the new role have to be counted again
   fewer_with : (n : ℕ) → count p roles < n → (not (p role) || nat_lt (count p roles + 1) n) ≡ nat_lt (count p (insert roles role)) n
   fewer_with n fewer = by (p role) refl
     where

@@ -1,4 +1,4 @@
--- Separation of duty by the numbers of roles is that by the roles, where the roles are there.
+-- Separation of duty by the numbers of roles is separation of duty by the roles, if the roles are there.
 use Rattle.std.proofs.Common.{◌≡◌, ℕ, Bool, true, false, cond, not, ◌&&◌, ◌||◌, List, [], ◌∷◌, ◌++◌, length, map, refl, sym, ◌∙◌, ap, arith}
 use Rattle.std.specs.Prelude.{IsTrue, Some, None, count_by, filter, find, nat_lt}
 use Rattle.std.specs.List.{list_all, list_any}
@@ -28,7 +28,7 @@ use Rattle.admin_mgr.proofs.Verdicts.KeepLaws.{kept_members, same_where}
 
 -- ---- tests along lists
 
--- what holds of each entry holds of each that a filter leaves
+-- what holds of each entry of a list holds of each entry that a filter leaves
 all_filter : {X : Type 0} (holds q : X → Bool) (xs : List X) → list_all holds xs ≡ true → list_all holds (filter q xs) ≡ true
 all_filter holds q [] each = refl
 all_filter {X} holds q (x ∷ xs) each = (let parts = and_parts (holds x) _ each in step parts.0 (all_filter holds q xs parts.1) (q x))
@@ -41,7 +41,7 @@ all_everywhere : {X : Type 0} (p : X → Bool) (xs : List X) → ((x : X) → p 
 all_everywhere p [] each = refl
 all_everywhere p (x ∷ xs) each = and_from _ _ (each x) (all_everywhere p xs each)
 
--- where two tests agree on each entry of which a third holds, they agree at each place of a list of such
+-- tests that agree wherever a third holds have the same results on a list if the third holds of each entry
 map_where : {X : Type 0} (holds p q : X → Bool) (xs : List X) → list_all holds xs ≡ true → ((x : X) → holds x ≡ true → p x ≡ q x) → map p xs ≡ map q xs
 map_where holds p q [] each same = refl
 map_where holds p q (x ∷ xs) each same = (let parts = and_parts (holds x) _ each in λ i. same x parts.0 i ∷ map_where holds p q xs parts.1 same i)
@@ -52,7 +52,7 @@ any_where holds p q xs each same = sym (any_map p (λ b. b) xs) ∙ ap (list_any
 count_where : {X : Type 0} (holds p q : X → Bool) (xs : List X) → list_all holds xs ≡ true → ((x : X) → holds x ≡ true → p x ≡ q x) → count_by p xs ≡ count_by q xs
 count_where holds p q xs each same = sym (count_map p (λ b. b) xs) ∙ ap (count_by (λ b. b)) (map_where holds p q xs each same) ∙ count_map q (λ b. b) xs
 
--- ---- the table and the numbers of the roles that are there
+-- ---- the matrix of the order, and the numbers of the roles that are there
 
 module _ (roles : Names) (edges : Pairs) (table : Table) (is : table ≡ table_of edges (members roles)) where
   abbrev there : Pair → Bool
@@ -69,7 +69,7 @@ module _ (roles : Names) (edges : Pairs) (table : Table) (is : table ≡ table_o
       any_map (λ (pair : Pair). number pair.1) (λ n. entry table n (number role)) held
       ∙ any_where there _ _ held each (λ pair at. entry-number roles edges table is pair.1 role at here)
 
-  -- by the numbers of what each has and of some more roles
+  -- fewer than n members, counted by the numbers of the roles that each one has and of some more roles
   below_by : (more : List ℕ) (p : List Pair → Bytes → Bool) → ((held : List Pair) → list_all there held ≡ true → (role : Bytes) → contains roles role ≡ true → reaches table (numbers held ++ more) (number role) ≡ p held role)
       → (runs : List (List Pair)) → list_all (list_all there) runs ≡ true → (pairs : List Pair) → list_all there pairs ≡ true → (n : ℕ)
       → keep_below table (map (λ run. numbers run ++ more) runs) (numbers pairs) n ≡ list_all (λ held. nat_lt (count_by (λ (pair : Pair). p held pair.1) pairs) n) runs
@@ -94,7 +94,7 @@ module _ (roles : Names) (edges : Pairs) (table : Table) (is : table ≡ table_o
       any_map (λ (pair : Pair). number pair.1) (λ m. entry table (number more) m) pairs
       ∙ any_where there _ _ pairs all_there (λ pair here. entry-number roles edges table is more pair.1 at here)
 
-  -- the first set that one more role breaks
+  -- the first set that is violated with one more role
   pub first_broken_is : (more : Bytes) → contains roles more ≡ true → (runs : List (List Pair)) → list_all (list_all there) runs ≡ true → (pairs : Pairs) → all there pairs ≡ true → (sets : List Cardinality)
       → first_broken_by table (members roles) (map (λ run. numbers run ++ number more ∷ []) runs) (number more) pairs sets ≡ find_broken edges runs more pairs sets
   unfolding all
@@ -102,7 +102,7 @@ module _ (roles : Names) (edges : Pairs) (table : Table) (is : table ≡ table_o
       λ i. find (λ (set : Cardinality). (let run = run_of pairs set.0 in let in_run = all_filter there _ (members pairs) all_there in
       touched_is more at run in_run i && not (below_with_is more at runs each run in_run set.1 i))) sets
 
--- ---- nobody
+-- ---- no user or session
 
 find_nothing : {X : Type 0} (test : X → Bool) (xs : List X) → find (λ x. test x && false) xs ≡ None
 find_nothing test [] = refl
@@ -112,7 +112,7 @@ find_nothing {X} test (x ∷ xs) = step (find_nothing test xs) (test x)
     step rest true = rest
     step rest false = rest
 
--- where nobody is asked, no set is broken
+-- if there is no user or session, no set is violated
 pub nobody_breaks : {X : Type 0} (run : X → List Pair) (xs : List X) → length xs ≡ 0 → (edges : Pairs) (more : Bytes) (pairs : Pairs) (sets : List Cardinality)
     → find_broken edges (map run xs) more pairs sets ≡ None
 nobody_breaks run [] none edges more pairs sets = find_nothing (λ (set : Cardinality). is_touched edges more (run_of pairs set.0)) sets
@@ -124,7 +124,7 @@ nobody_breaks run (x ∷ xs) none edges more pairs sets = absurd (omega (arith, 
 seconds_in : (names : Names) (pairs : Pairs) → ((a b : Bytes) → IsTrue (contains pairs (a, b)) → IsTrue (contains names b)) → IsTrue (are_seconds_in names pairs)
 seconds_in names pairs within = (all-Decides pair_total pair_exact (λ (pair : Pair). contains names pair.1) pairs).1 (λ pair here. within pair.0 pair.1 here)
 
--- in a state whose sets and relations fit, the roles are there
+-- in a well-formed state, the roles that the relations refer to are there
 pub roles_are_there : (S : RbacState) → IsWellFormed S → IsTrue (are_roles_there S)
 roles_are_there S formed = and_from _ _ (and_from _ _ (and_from _ _
     (seconds_in S.roles S.assignments (λ user role here. (formed.assignments user role here).1))
@@ -132,7 +132,7 @@ roles_are_there S formed = and_from _ _ (and_from _ _ (and_from _ _
     (seconds_in S.roles S.ssd.members (λ set role here. (formed.ssd.members set role here).1)))
     (seconds_in S.roles S.dsd.members (λ set role here. (formed.dsd.members set role here).1))
 
--- and so they are where the rows of a state are complete
+-- and so they are if the rows of a state are complete
 pub complete_roles_are_there : (g : Gathered) → IsComplete g → IsTrue (are_roles_there g.facts)
 complete_roles_are_there g all = (let S = g.facts in and_from _ _ (and_from _ _ (and_from _ _
     (seconds_in S.roles S.assignments (λ user role here. (all.assignments user role here).1))
@@ -153,7 +153,7 @@ module _ (S : RbacState) (there : IsTrue (are_roles_there S)) where
   members_are_there Static = in_each.2
   members_are_there Dynamic = in_each.3
 
-  -- so are those of each user or session
+  -- so are the roles of each user or session
   pub runs_are_there : (duty : SeparationOfDuty) → list_all (list_all (λ (pair : Pair). contains S.roles pair.1)) (runs_of duty S) ≡ true
   unfolding all
   runs_are_there Static =
@@ -163,7 +163,7 @@ module _ (S : RbacState) (there : IsTrue (are_roles_there S)) where
       list_all-map (list_all (λ (pair : Pair). contains S.roles pair.1)) (λ (session : Pair). run_of S.active session.0) (members S.sessions)
       ∙ all_everywhere _ (members S.sessions) (λ session. all_filter _ _ (members S.active) in_each.1)
 
-  -- those of the users or sessions that a test leaves too
+  -- and those of the users or sessions that pass a test
   pub left_are_there : (duty : SeparationOfDuty) (test : List Pair → Bool) → list_all (list_all (λ (pair : Pair). contains S.roles pair.1)) (filter test (runs_of duty S)) ≡ true
   left_are_there duty test = all_filter _ test (runs_of duty S) (runs_are_there duty)
 
@@ -172,7 +172,7 @@ module _ (S : RbacState) (there : IsTrue (are_roles_there S)) where
   by_members Static = refl
   by_members Dynamic = refl
 
-  -- the sets of one kind are kept where they are by the numbers
+  -- no set of one kind is violated exactly if none is by the numbers
   pub keep_all_is : (table : Table) → table ≡ table_of S.edges (members S.roles) → (duty : SeparationOfDuty)
       → keep_all table (members S.roles) (map (λ run. numbers_of (members S.roles) run ++ []) (runs_of duty S)) (sets_of duty S).members (members (sets_of duty S).cardinalities) ≡ are_kept duty S
   unfolding all

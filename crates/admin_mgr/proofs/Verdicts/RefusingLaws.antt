@@ -1,4 +1,4 @@
--- A verdict refuses a command: it is none of the refusals of memory, of the store or of a closed office.
+-- A verdict refuses a command: it is never `Memory`, `Store` or `Closed`.
 use Rattle.std.proofs.Common.{◌≡◌, Bool, true, false, List, [], ◌∷◌, Option, Some, None, refl, subst}
 use Rattle.std.specs.Option.{option_map}
 use Rattle.std.specs.List.{AllByRecursion}
@@ -14,17 +14,17 @@ use Rattle.admin_mgr.specs.Assignment.{assignment_refusals}
 use Rattle.admin_mgr.specs.Verdict.{refusals, verdict}
 use Rattle.admin_mgr.specs.CommandLaws.{refuses_commands, VerdictsRefuseCommands}
 
--- none, or one that a command may be refused by
+-- no refusal, or one of those that a command may have
 abbrev MayBeTold : Option Refusal → Type 0
 MayBeTold None = Unit {0}
 MayBeTold (Some refusal) = refuses_commands refusal ≡ true
 
--- one where a test holds
+-- a refusal if a test holds
 on : (b : Bool) (refusal : Refusal) → refuses_commands refusal ≡ true → MayBeTold (refuse_if b refusal)
 on true refusal told = told
 on false refusal told = tt
 
--- one where a test does not hold
+-- a refusal if a test fails
 off : (b : Bool) (refusal : Refusal) → refuses_commands refusal ≡ true → MayBeTold (refuse_unless b refusal)
 off true refusal told = tt
 off false refusal told = told

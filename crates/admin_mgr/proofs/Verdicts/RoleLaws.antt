@@ -14,12 +14,12 @@ use Rattle.admin_mgr.specs.Good.{IsWellFormed}
 use Rattle.admin_mgr.specs.Laws.{AuthorizedRolesAreThere, SessionRolesAreThere}
 
 module _ (S : RbacState) (formed : IsWellFormed S) where
-  -- edges lead from a role to roles
+  -- what a role dominates is a role
   role_below : (a b : Bytes) → IsTrue (contains S.roles a) → Leads (HasPair S.edges) a b → IsTrue (contains S.roles b)
   role_below a b is_role here = is_role
   role_below a b is_role (step edge rest) = role_below _ b (formed.edges a _ edge).1 rest
 
-  -- whoever is authorized is so for a role
+  -- users are only authorized for roles
   authorized_role : (user role : Bytes) → IsTrue (is_authorized S user role) → IsTrue (contains S.roles role)
   unfolding authorized_users
   authorized_role user role h =
@@ -28,13 +28,13 @@ module _ (S : RbacState) (formed : IsWellFormed S) where
       let parts = and_parts _ _ (sym (contains-retain pair_total pair_exact S.assignments test found.0) ∙ found.1) in
       role_below found.0.1 role (formed.assignments found.0.0 found.0.1 parts.0).1 ((geq-Decides S.edges found.0.1 role).0 parts.1)
 
-  -- what a session has is a role
+  -- sessions only have roles
   session_role : (session role : Bytes) → IsTrue (is_session_role S session role) → IsTrue (contains S.roles role)
   session_role session role h =
       let found = (any-Decides name_total name_exact (λ active. geq S.edges active role) (seconds S.active session)).0 h in
       role_below found.0 role (formed.active session found.0 ((seconds-Decides S.active session found.0).0 found.1)) ((geq-Decides S.edges found.0 role).0 found.2)
 
--- a test that implies another is not changed by it
+-- a conjunction with a test that the other implies is the other
 implied : (a b : Bool) → (IsTrue b → IsTrue a) → (a && b) ≡ b
 implied true b h = refl
 implied false true h = h refl

@@ -44,7 +44,7 @@ subset_form S = (by_subsets S, by_counting S)
 
 -- ---- the first violated set
 
--- whether a set is not kept
+-- whether a set is violated
 abbrev pub is_broken : (Names → ℕ → Bool) → Separation → Cardinality → Bool
 is_broken is_kept separation entry = not (is_kept (members_of separation entry.0) entry.1)
 
@@ -56,12 +56,12 @@ none_found {X} p (x ∷ xs) = step (none_found p xs) (p x)
     step rest true = (λ h. cc, λ h. absurd (true≢false h))
     step rest false = rest
 
--- nothing is told where nothing was found
+-- a mapped option is `None` exactly if the option is
 pub unmapped : {A B : Type 0} (f : A → B) (o : Option A) → (option_map f o ≡ None) ↔ (o ≡ None)
 unmapped f None = (λ _. refl, λ _. refl)
 unmapped f (Some x) = (λ h. cc, λ h. cc)
 
--- none is named exactly if each is kept
+-- no set is named exactly if none is violated
 pub least_violated-None : (is_kept : Names → ℕ → Bool) (separation : Separation) →
     (least_violated is_kept separation ≡ None) ↔ ((name : Bytes) (n : ℕ) → IsTrue (contains separation.cardinalities (name, n)) → IsTrue (is_kept (members_of separation name) n))
 unfolding least_violated any
@@ -76,7 +76,7 @@ least_violated-None is_kept separation =
 
 -- ---- static
 
--- who is authorized is a user
+-- only users are authorized
 pub authorized-user : (S : RbacState) → IsWellFormed S → (user role : Bytes) → IsTrue (is_authorized S user role) → IsTrue (contains S.users user)
 unfolding authorized_users
 authorized-user S formed user role h =
@@ -84,7 +84,7 @@ authorized-user S formed user role h =
     let assigned = (and_parts _ _ (sym (contains-retain pair_total pair_exact S.assignments (λ (a : Pair). geq S.edges a.1 role) found.0) ∙ found.1)).0 in
     subst (λ x. IsTrue (contains S.users x)) found.2 (formed.assignments found.0.0 found.0.1 assigned).0
 
--- each user is kept from so many of the roles exactly if the test says so
+-- the test holds exactly if each user is authorized for fewer than n of the roles
 pub kept_statically : (S : RbacState) (roles : Names) (n : ℕ) →
     IsTrue (is_kept_statically S roles n) ↔ ((user : Bytes) → IsTrue (contains S.users user) → count (is_authorized S user) roles < n)
 unfolding is_kept_statically
@@ -92,7 +92,7 @@ kept_statically S roles n =
     let each = all-Decides name_total name_exact (λ user. nat_lt (count (is_authorized S user) roles) n) S.users in
     (λ h user there. ltb-true _ _ (each.0 h user there), λ h. each.1 (λ user there. lt-ltb _ _ (h user there)))
 
--- a name that is no user is authorized for nothing
+-- a name that is no user is authorized for none of the roles
 nobody : (S : RbacState) → IsWellFormed S → (user : Bytes) (roles : Names) → contains S.users user ≡ false → count (is_authorized S user) roles ≤ 0
 nobody S formed user roles absent =
     let counted : count (is_authorized S user) roles ≡ len (retain roles (is_authorized S user)) = count-len name_total name_exact (is_authorized S user) roles in
@@ -120,7 +120,7 @@ static_test S formed =
 
 -- ---- dynamic
 
--- each session is kept from so many of the roles exactly if the test says so
+-- the test holds exactly if each session has fewer than n of the roles
 pub kept_dynamically : (S : RbacState) (roles : Names) (n : ℕ) →
     IsTrue (is_kept_dynamically S roles n) ↔ ((session user : Bytes) → IsTrue (contains S.sessions (session, user)) → count (is_session_role S session) roles < n)
 unfolding is_kept_dynamically

@@ -24,7 +24,7 @@ use Rattle.admin_mgr.proofs.StateAfter.SessionLaws.{none_ends_where}
 use Rattle.admin_mgr.proofs.Verdicts.TouchLaws.{any_insert, one_more, violated_by, with_sessions, OthersStay, session_breaks}
 use Rattle.admin_mgr.proofs.Verdicts.ViolationLaws.{paired-Decides, with_paired-others, with_paired-own, with_one-others, with_one-own}
 
--- a session may go on whose user is there and not locked, and authorized for what was activated in it
+-- a session may go on if its user is there, not locked, and authorized for the roles activated in it
 may_go : (S : RbacState) (sessions active : Pairs) (p : Pair) → IsTrue (contains S.users p.1) → contains S.locked p.1 ≡ false →
     ((role : Bytes) → IsTrue (contains (seconds active p.0) role) → IsTrue (is_authorized S p.1 role)) → IsTrue (may_go_on (with_sessions S sessions active) p)
 unfolding may_go_on with_sessions authorized_users

@@ -1,4 +1,4 @@
--- Which set is named where a command touches one user or one session.
+-- Which set is named if a command concerns only one user or one session.
 use Rattle.std.proofs.Common.{◌≡◌, ◌≢◌, ℕ, suc, ◌<◌, Bool, true, false, cond, not, ◌||◌, ◌&&◌, List, [], ◌∷◌, length, refl, sym, ◌∙◌, ap, subst, inl, inr}
 use Rattle.std.specs.Prelude.{IsTrue, ◌⊎◌, Some, None, find, nat_lt, count_by}
 use Rattle.std.specs.Bool.{Decides}
@@ -32,7 +32,7 @@ find_same p q (x ∷ xs) same =
     (λ i. cond (same x (or_left (eq_by_cmp cardinality_cmp x x) _ ((tie_Decides cardinality_total cardinality_exact x x).1 refl)) i) (Some x) (find p xs))
     ∙ ap (λ rest. cond (q x) (Some x) rest) (find_same p q xs (λ y there. same y (or_right (eq_by_cmp cardinality_cmp y x) _ there)))
 
--- the first set that is not kept, by another test of the sets that are there
+-- the first violated set, by another test of the sets that are there
 pub violated_by : (is_kept : Names → ℕ → Bool) (separation : Separation) (test : Cardinality → Bool)
     → ((x : Cardinality) → IsTrue (contains separation.cardinalities x) → not (is_kept (members_of separation x.0) x.1) ≡ test x)
     → least_violated is_kept separation ≡ option_map (λ (x : Cardinality). x.0) (find test (members separation.cardinalities))
@@ -42,7 +42,7 @@ violated_by is_kept separation test same =
     (find_same (λ (x : Cardinality). not (is_kept (members_of separation x.0) x.1)) test (members separation.cardinalities)
     (λ x there. same x (contains-members separation.cardinalities x ∙ there)))
 
--- ---- one more role: where it reaches no member, nothing is counted anew
+-- ---- one more role: if it dominates no member of a set, the count is as before
 
 kept_by_length : {X : Type 0} (p t : X → Bool) (xs : List X) → list_any t xs ≡ false → length (filter (λ x. p x || t x) xs) ≡ length (filter p xs)
 kept_by_length p t [] none = refl
@@ -57,7 +57,7 @@ kept_by_length {X} p t (x ∷ xs) none = step (kept_by_length p t xs) (p x) (t x
 pub untouched : {X : Type 0} (p t : X → Bool) (xs : List X) → list_any t xs ≡ false → count_by (λ x. p x || t x) xs ≡ count_by p xs
 untouched p t xs none = sym (length-filter (λ x. p x || t x) xs) ∙ kept_by_length p t xs none ∙ length-filter p xs
 
--- only a touched set can come to have too many
+-- the count of either test can only reach n if the second holds of some entry
 pub one_more : {X : Type 0} (p t : X → Bool) (xs : List X) (n : ℕ) → count_by p xs < n →
     (list_any t xs && not (nat_lt (count_by (λ x. p x || t x) xs) n)) ≡ not (nat_lt (count_by (λ x. p x || t x) xs) n)
 one_more {X} p t xs n fewer = by (list_any t xs) refl
@@ -85,7 +85,7 @@ any_insert p s x =
 unfoldable pub with_assignment : RbacState → Pair → RbacState
 with_assignment S pair = record S { assignments = insert S.assignments pair }
 
--- somebody is authorized who was, or who is the user, for a role that is the new one or below it
+-- a user is authorized who was before, or to whom the new role is assigned, for a role that the new one dominates
 pub authorized-assigned : (S : RbacState) (user role other q : Bytes) →
     Decides (is_authorized (with_assignment S (user, role)) other q) (IsTrue (is_authorized S other q) ⊎ ((other ≡ user) × IsTrue (geq S.edges role q)))
 unfolding authorized_users with_assignment
@@ -125,7 +125,7 @@ user_reached S user role q =
     ∙ ap (λ b. b || geq S.edges role q) (authorized_reached S user q)
 
 module _ (S : RbacState) (good : IsGood S) (user role : Bytes) (is_user : IsTrue (contains S.users user)) where
-  -- only this user is counted anew
+  -- only this user has to be counted again
   kept_by_user : (x : Cardinality) → IsTrue (contains S.ssd.cardinalities x) →
       is_kept_statically (with_assignment S (user, role)) (members_of S.ssd x.0) x.1 ≡ nat_lt (count (is_authorized (with_assignment S (user, role)) user) (members_of S.ssd x.0)) x.1
   unfolding with_assignment
@@ -156,7 +156,7 @@ abbrev pub OthersStay : RbacState → Pairs → Pairs → Bytes → Type 0
 OthersStay S sessions active session = (other user : Bytes) → IsTrue (contains sessions (other, user)) → (other ≡ session) ⊎ (IsTrue (contains S.sessions (other, user)) × (seconds active other ≡ seconds S.active other))
 
 module _ (S : RbacState) (good : IsGood S) (sessions active : Pairs) (session user : Bytes) (there : IsTrue (contains sessions (session, user))) (others : OthersStay S sessions active session) where
-  -- only this session is counted anew
+  -- only this session has to be counted again
   kept_by_session : (x : Cardinality) → IsTrue (contains S.dsd.cardinalities x) →
       is_kept_dynamically (with_sessions S sessions active) (members_of S.dsd x.0) x.1 ≡ nat_lt (count (is_session_role (with_sessions S sessions active) session) (members_of S.dsd x.0)) x.1
   unfolding with_sessions
@@ -175,7 +175,7 @@ module _ (S : RbacState) (good : IsGood S) (sessions active : Pairs) (session us
       ∙ ap (λ k. not (nat_lt k x.1)) (count_seconds (is_session_role (with_sessions S sessions active) session) S.dsd.members x.0
       ∙ (λ i. count_by (λ (m : Pair). same m.1 i) (run_of S.dsd.members x.0)))
 
--- where no set is touched, none is found broken
+-- if no entry is touched, none is found violated
 pub none_broken : {K : Type 0} (touched kept : K → Bool) (xs : List K) → list_any touched xs ≡ false → find (λ x. touched x && not (kept x)) xs ≡ None
 none_broken touched kept [] none = refl
 none_broken touched kept (x ∷ xs) none = by (touched x) refl (none_broken touched kept xs)
@@ -184,7 +184,7 @@ none_broken touched kept (x ∷ xs) none = by (touched x) refl (none_broken touc
     by true is rest = absurd (true≢false (ap (λ t. t || list_any touched xs) (sym is) ∙ none))
     by false is rest = rw is (rest (ap (λ t. t || list_any touched xs) (sym is) ∙ none))
 
--- to ask those that pass a test is to ask each whether it fails it or keeps
+-- an entry fails the first test or passes the second, for all, exactly if all that pass the first pass the second
 pub asked_passed : {K : Type 0} (passes keeps : K → Bool) (xs : List K) → list_all (λ x. not (passes x) || keeps x) xs ≡ list_all keeps (filter passes xs)
 asked_passed passes keeps [] = refl
 asked_passed passes keeps (x ∷ xs) = by (passes x) refl (asked_passed passes keeps xs)

@@ -1,4 +1,4 @@
--- The first of several refusals, and what a command had to pass.
+-- The first of several refusals, and the conditions that an accepted command meets.
 use Rattle.std.proofs.Common.{◌≡◌, Bool, true, false, cond, List, [], ◌∷◌, ◌++◌, refl, sym}
 use Rattle.std.specs.Prelude.{Option, Some, None}
 use Rattle.std.specs.Option.{option_map}
@@ -10,12 +10,12 @@ pub none_unless_some : {X : Type 0} (o : Option X) → ((x : X) → o ≡ Some x
 none_unless_some None h = refl
 none_unless_some (Some x) h = absurd (h x refl)
 
--- no refusal of the list holds
+-- no refusal of the list applies
 abbrev pub AllPassed : List (Option Refusal) → Type 0
 AllPassed [] = Unit {0}
 AllPassed (refusal ∷ rest) = (refusal ≡ None) × AllPassed rest
 
--- there is no first refusal only where none holds
+-- there is no first refusal only if none applies
 pub passed : (refusals : List (Option Refusal)) → first refusals ≡ None → AllPassed refusals
 passed [] h = tt
 passed (None ∷ rest) h = (refl, passed rest h)
@@ -41,14 +41,14 @@ stopped_before [] one other refusal h = cc
 stopped_before (None ∷ rest) one other refusal h = stopped_before rest one other refusal h
 stopped_before (Some found ∷ rest) one other refusal h = sym h
 
--- where none holds, the last one decides
+-- if none applies, the last one decides
 pub last_decides : (refusals : List (Option Refusal)) (last : Option Refusal) → first refusals ≡ None → first (refusals ++ last ∷ []) ≡ last
 last_decides [] None h = refl
 last_decides [] (Some refusal) h = refl
 last_decides (None ∷ rest) last h = last_decides rest last h
 last_decides (Some one ∷ rest) last h = cc
 
--- with no first refusal the last one does not hold either
+-- if there is no first refusal, none before the last one applies, nor does the last one
 pub all_but_last : (refusals : List (Option Refusal)) (last : Option Refusal) → first (refusals ++ last ∷ []) ≡ None → (first refusals ≡ None) × (last ≡ None)
 all_but_last [] None h = (refl, refl)
 all_but_last [] (Some refusal) h = cc

@@ -1,4 +1,4 @@
--- Which set is named where a command changes one set alone.
+-- Which set is named if a command changes only one set.
 use Rattle.std.proofs.Common.{◌≡◌, ◌≢◌, ℕ, Bool, true, false, cond, not, ◌||◌, List, [], ◌∷◌, refl, sym, ◌∙◌, ap, subst, inl, inr}
 use Rattle.std.specs.Prelude.{IsTrue, ◌⊎◌, ◌↔◌, Some, None, find}
 use Rattle.std.specs.Bool.{Decides}
@@ -15,7 +15,7 @@ use Rattle.admin_mgr.specs.After.{paired, without_cardinality, with_set, with_me
 use Rattle.admin_mgr.specs.Good.{IsSeparation}
 use Rattle.admin_mgr.proofs.Verdicts.SeparationLaws.{is_broken, least_violated-None}
 
--- ---- the first entry that is found, where only one name can be
+-- ---- the first entry that is found, if only one name is possible
 
 named : (p : Cardinality → Bool) (xs : List Cardinality) (name : Bytes)
     → ((x : Cardinality) → IsTrue (list_any (eq_by_cmp cardinality_cmp x) xs) → IsTrue (p x) → x.0 ≡ name)
@@ -30,7 +30,7 @@ named p (x ∷ xs) name only =
     step rest here true e = ap Some (here e)
     step rest here false e = rest
 
--- the set is named if it is not kept, where each other one is kept
+-- the set is named if it is violated, and no set otherwise, provided that no other set is violated
 pub only_set : (is_kept : Names → ℕ → Bool) (separation : Separation) (name : Bytes) (n : ℕ) → IsTrue (contains separation.cardinalities (name, n))
     → ((x : Cardinality) → IsTrue (contains separation.cardinalities x) → (x ≡ (name, n)) ⊎ IsTrue (is_kept (members_of separation x.0) x.1))
     → least_violated is_kept separation ≡ cond (is_kept (members_of separation name) n) None (Some name)
@@ -109,7 +109,7 @@ with_one-own members name role = same_members name_total name_exact (seconds (in
 
 -- ---- the three commands
 
--- each set is kept
+-- no set is violated
 abbrev pub AreKept : (Names → ℕ → Bool) → Separation → Type 0
 AreKept is_kept separation = (x : Cardinality) → IsTrue (contains separation.cardinalities x) → IsTrue (is_kept (members_of separation x.0) x.1)
 

@@ -1,4 +1,4 @@
-//! Each review function, and the access decision.
+//! Each review function, and the access check.
 use super::small_office::{small_office, tells, tells_pairs};
 use admin_mgr::State;
 use rbac_sets::{Name, Refusal};

@@ -1,4 +1,4 @@
-//! Questions with an answer of each form.
+//! Queries with an answer of each form.
 use super::small_office::small_office;
 use crate::comparing::{are, are_pairs};
 use admin_mgr::State;
@@ -29,7 +29,7 @@ fn is_granted(answer: &Answer) -> bool {
     matches!(answer, Answer::Access(true))
 }
 
-// Asks, and lets the question go.
+// Answers the query, and drops it.
 fn answer_to(alloc: Global, state: &State, query: Query) -> Result<Answer, Refusal> {
     let answer = ask(alloc, state, &query);
     drop(query);

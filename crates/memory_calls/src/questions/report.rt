@@ -12,7 +12,7 @@ const REPORT: &str = "    assigned  authorized     granted   permitted     junio
            0           0           0           0           0           0  temp
 ";
 
-// A function, so that a proof needs not look at the text.
+// A function, so that proofs needn't unfold the text.
 fn report() -> &'static str {
     REPORT
 }

@@ -1,4 +1,4 @@
-//! A small office with something of everything.
+//! A small office with an entry in each set and relation except the locks.
 use crate::comparing::{are, are_pairs};
 use crate::rows::{Line, rows_of};
 use admin_mgr::State;
@@ -30,7 +30,7 @@ const LINES: &[Line] = &[
     ('p', Row::ACTIVATED_ROLE, "s1", "boss", ""),
 ];
 
-// A function, so that a proof needs not look at all lines.
+// A function, so that proofs needn't unfold the lines.
 fn lines() -> &'static [Line] {
     LINES
 }
@@ -40,7 +40,7 @@ pub(super) fn small_office(alloc: Global) -> Result<State, Refusal> {
     State::of_rows(alloc, 2, rows_of(alloc, lines())?)
 }
 
-// Whether these names are told, in this order.
+// Whether the result is these names, in this order.
 pub(super) fn tells(told: Result<Vec<Name>, Refusal>, want: &[&str]) -> Result<bool, Refusal> {
     let names = told?;
     let is_told = are(&names, want);
@@ -48,7 +48,7 @@ pub(super) fn tells(told: Result<Vec<Name>, Refusal>, want: &[&str]) -> Result<b
     Ok(is_told)
 }
 
-// Whether these pairs of names are told, in this order.
+// Whether the result is these pairs of names, in this order.
 pub(super) fn tells_pairs(
     told: Result<Vec<(Name, Name)>, Refusal>,
     want: &[(&str, &str)],

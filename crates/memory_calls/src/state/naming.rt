@@ -1,12 +1,12 @@
-//! Commands from their words, here and in tests/office of the repository. What is no command is refused by
-//! `BadRequest`.
+//! Parses the commands of test scripts, here and in tests/office of the repository. A text that is no command is
+//! refused with `BadRequest`.
 //!
-//! A command is written as its function with its keys in the order of its arguments. A list of roles
-//! is written `a,b,c`, and `-` is the empty list. The records of an import are words such as `ann/clerk`.
+//! A command is written as its function and its arguments in order, separated by white space. A list of roles is
+//! written `a,b,c`, and the empty list `-`. A record of an import is written `ann/clerk`.
 use rbac_sets::{Command, Name, NameSet, Refusal};
 use std::alloc::Global;
 
-// The command of these words.
+// The command that the text states.
 pub(super) fn read_command(alloc: Global, text: &str) -> Result<Command, Refusal> {
     let words: Vec<&str> = text.split_whitespace().collect(alloc)?;
     let command = read_words(alloc, &words);

@@ -1,7 +1,7 @@
-//! Memory that is refused while a command is done.
+//! Commands with failing allocations.
 //!
-//! The test passes where memory is ample. `tests/refused.sh` runs it with each allocation refused in
-//! turn, one in a run.
+//! The test passes with enough memory. `tests/refused.sh` runs it again and again, and in each run fails one
+//! allocation, each in turn.
 use super::naming::read_command;
 use admin_mgr::State;
 use rbac_sets::{Command, CountSet, GrantSet, Name, NameSet, PairSet, Refusal};
@@ -9,7 +9,7 @@ use std::alloc::{AllocError, Global};
 use std::process::Abort;
 use std::test::Fail;
 
-// Each command at least once, all of them accepted; some end sessions.
+// Each kind of command at least once. All are accepted, and some end sessions.
 const COMMANDS: &[&str] = &[
     "addUser ann",
     "addUser bob",
@@ -65,14 +65,14 @@ const COMMANDS: &[&str] = &[
     "deleteUser bob",
 ];
 
-// What is left after them.
+// The sets and relations that are not empty after them.
 const LEFT: &str = "users ann
 roles boss chief clerk
 edges chief/boss
 closure chief/boss
 ";
 
-// A function, so that a proof needs not look at so many words.
+// A function, so that proofs needn't unfold the list.
 fn commands() -> &'static [&'static str] {
     COMMANDS
 }
@@ -170,7 +170,7 @@ fn push_others(text: &mut String, state: &State) -> Result<(), AllocError> {
     push_pairs(text, "active", state.active())
 }
 
-// Every set and relation of the state that has an entry.
+// The sets and relations of the state that have an entry, as text.
 fn show(alloc: Global, state: &State) -> Result<String, AllocError> {
     let mut text = String::new(alloc);
     push_core(&mut text, state)?;
@@ -178,7 +178,7 @@ fn show(alloc: Global, state: &State) -> Result<String, AllocError> {
     Ok(text)
 }
 
-// The same, also where memory is refused once.
+// The same, with a second attempt if an allocation fails.
 fn show_again(alloc: Global, state: &State) -> Result<String, AllocError> {
     match show(alloc, state) {
         Ok(text) => Ok(text),
@@ -186,7 +186,7 @@ fn show_again(alloc: Global, state: &State) -> Result<String, AllocError> {
     }
 }
 
-// Plans a command, makes room for the plan, and makes its changes.
+// Plans a command, makes room for the plan, and commits it.
 fn apply(alloc: Global, state: &mut State, command: &Command) -> Result<(), Refusal> {
     let plan = state.plan(alloc, command)?;
     state.make_room(&plan)?;
@@ -194,7 +194,7 @@ fn apply(alloc: Global, state: &mut State, command: &Command) -> Result<(), Refu
     Ok(())
 }
 
-// Reads a command, and has it done.
+// Parses a command, and applies it.
 pub(super) fn obey(alloc: Global, state: &mut State, text: &str) -> Result<(), Refusal> {
     let command = read_command(alloc, text)?;
     let done = apply(alloc, state, &command);
@@ -202,8 +202,8 @@ pub(super) fn obey(alloc: Global, state: &mut State, text: &str) -> Result<(), R
     done
 }
 
-// Has a command done. Where memory is refused, nothing may have changed, other commands are done, and
-// then this one is.
+// Applies a command. If an allocation fails, nothing may have changed; then other commands are applied, and this one
+// again.
 fn insist(rt: &impl Abort, alloc: Global, state: &mut State, text: &str) -> Result<(), Fail> {
     let before = show_again(alloc, state)?;
     match obey(alloc, state, text) {
@@ -217,7 +217,7 @@ fn insist(rt: &impl Abort, alloc: Global, state: &mut State, text: &str) -> Resu
     Ok(())
 }
 
-// Has all commands done.
+// Applies all commands.
 fn insist_on_all(rt: &impl Abort, alloc: Global, state: &mut State) -> Result<(), Fail> {
     for text in commands() {
         insist(rt, alloc, state, text)?;
@@ -225,13 +225,13 @@ fn insist_on_all(rt: &impl Abort, alloc: Global, state: &mut State) -> Result<()
     Ok(())
 }
 
-// Whether the state is what is left.
+// Whether the state is the one expected after all commands.
 fn is_left(alloc: Global, state: &State) -> Result<bool, Fail> {
     let text = show_again(alloc, state)?;
     Ok(text.as_str() == left())
 }
 
-// Has all commands done, and tells whether the state is what is left then.
+// Applies all commands, and returns whether the state is then as expected.
 fn leaves_what_it_should(rt: &impl Abort, alloc: Global, state: &mut State) -> Result<bool, Fail> {
     insist_on_all(rt, alloc, state)?;
     is_left(alloc, state)

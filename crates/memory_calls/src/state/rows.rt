@@ -1,12 +1,12 @@
-//! States of stored rows.
+//! States from stored rows.
 use crate::rows::{Line, rows_of};
 use admin_mgr::State;
 use rbac_sets::{Refusal, Row};
 use std::alloc::Global;
 use std::test::Fail;
 
-// Ann is a clerk and in a session as one; an auditor inherits from a clerk, who may open the safe. Bob is
-// locked, and nobody may be authorized for all of three roles.
+// Ann is a clerk, and active as a clerk in a session. Auditors inherit from clerks, who may open the safe. Bob is a
+// clerk too, but locked. Nobody may be authorized for both roles, and no session may have both.
 const BANK: &[Line] = &[
     ('n', Row::USER, "ann", "", ""),
     ('n', Row::USER, "bob", "", ""),
@@ -30,7 +30,7 @@ const BANK: &[Line] = &[
     ('p', Row::ASSIGNMENT, "bob", "clerk", ""),
 ];
 
-// A function, so that a proof needs not look at all lines.
+// A function, so that proofs needn't unfold the lines.
 fn bank() -> &'static [Line] {
     BANK
 }
@@ -72,7 +72,7 @@ fn rows_make_a_state(rt: HostRuntime) -> Result<(), Fail> {
     Ok(())
 }
 
-// The number of the check that fails, and 0 where none does.
+// The number of the check that failed, or 0 if none did.
 fn number_of(answer: &Result<State, Refusal>) -> u32 {
     match answer {
         Err(Refusal::Damaged(number)) => *number,

@@ -1,4 +1,4 @@
-//! Verdicts that name a set, and what is told of an import.
+//! Refusals that name a set, and the report of an import.
 use super::naming::read_command;
 use super::refused::obey;
 use admin_mgr::{Plan, Report, State};
@@ -6,7 +6,7 @@ use rbac_sets::{Command, Refusal};
 use std::alloc::Global;
 use std::test::Fail;
 
-// Ann may not become an approver as well.
+// Ann is a clerk. Static separation keeps her from becoming an approver as well.
 fn begin(alloc: Global, state: &mut State) -> Result<(), Refusal> {
     for text in [
         "addUser ann",
@@ -21,7 +21,7 @@ fn begin(alloc: Global, state: &mut State) -> Result<(), Refusal> {
     Ok(())
 }
 
-// The static set that a refusal names.
+// The static set that a refusal names, or an empty text.
 fn named_set(refusal: &Refusal) -> &str {
     match refusal {
         Refusal::StaticSeparation(set) => set.as_str(),
@@ -29,7 +29,7 @@ fn named_set(refusal: &Refusal) -> &str {
     }
 }
 
-// Whether its plan is refused with the set pay.
+// Whether the command is refused by static separation for the set pay.
 fn is_refused(alloc: Global, state: &State, command: &Command) -> bool {
     match state.plan(alloc, command) {
         Ok(_) => false,
@@ -37,7 +37,7 @@ fn is_refused(alloc: Global, state: &State, command: &Command) -> bool {
     }
 }
 
-// Whether Ann may not become an approver for the set pay.
+// Whether the set pay keeps Ann from becoming an approver.
 fn is_kept_out(alloc: Global, state: &State) -> Result<bool, Refusal> {
     let command = read_command(alloc, "assignUser ann approver")?;
     let told = is_refused(alloc, state, &command);
@@ -60,7 +60,7 @@ fn a_violated_set_is_named(rt: HostRuntime) -> Result<(), Fail> {
     Ok(())
 }
 
-// Whether one record was assigned, one had been before, and the third was refused by static separation.
+// Whether one record was assigned, one was assigned before, and the third was refused with 24 StaticSeparation.
 fn tells_of_records(report: &Report) -> bool {
     report.assigned == 1
         && report.already == 1
@@ -71,12 +71,12 @@ fn tells_of_records(report: &Report) -> bool {
             .all(|told| told.0 == 3 && told.1 == 24)
 }
 
-// Whether the plan tells so, and has one change.
+// Whether the plan has this report, and one change.
 fn has_one_change(plan: &Plan) -> bool {
     tells_of_records(plan.report()) && plan.changes().len() == 1
 }
 
-// Whether the plan of the command does.
+// Whether the plan of the command has this report, and one change.
 fn plans_one_change(alloc: Global, state: &State, command: &Command) -> Result<bool, Refusal> {
     let plan = state.plan(alloc, command)?;
     let told = has_one_change(&plan);
@@ -84,7 +84,7 @@ fn plans_one_change(alloc: Global, state: &State, command: &Command) -> Result<b
     Ok(told)
 }
 
-// Whether the plan of the import does.
+// Whether the plan of an import has this report, and one change.
 fn is_planned(alloc: Global, state: &State) -> Result<bool, Refusal> {
     let text = "importAssignments bob/approver ann/clerk ann/approver";
     let command = read_command(alloc, text)?;

@@ -1,10 +1,10 @@
-//! Sets of each kind of entry, filled in the room that was reserved.
+//! Sets of each type of entry, filled after room was reserved.
 use crate::comparing::{are, are_pairs};
 use rbac_sets::{CountSet, Entry, GrantSet, Name, NameSet, PairSet, Refusal, SortedSet, Taking};
 use std::alloc::Global;
 use std::test::Fail;
 
-// Puts an entry that is not there, where there is room.
+// Inserts an entry, if it isn't there and there is room.
 fn put<K: Entry>(set: &mut SortedSet<K>, entry: K) {
     if set.room() > 0 && !set.contains(&entry) {
         set.insert_reserved(entry);
@@ -248,7 +248,7 @@ fn removes_by_references_to_the_parts(rt: HostRuntime) -> Result<(), Fail> {
     Ok(())
 }
 
-// Puts all entries of a set that has none of the other's, in room that is made for them.
+// Makes room for the entries of a set that has none in common with the other, and inserts all of them.
 fn merge(set: &mut PairSet, more: PairSet) -> Result<(), Refusal> {
     set.reserve(more.len())?;
     if set.is_disjoint(&more) && more.len() <= set.room() {
@@ -292,7 +292,7 @@ fn merges_and_takes_whole_sets(rt: HostRuntime) -> Result<(), Fail> {
     Ok(())
 }
 
-// Takes each of these pairs that is there, and says how many were.
+// Removes each of these pairs that is there, and returns how many were.
 fn take_each(taking: &mut Taking<(Name, Name)>, pairs: &PairSet) -> u32 {
     let mut count: u32 = 0;
     for pair in pairs.iter() {
@@ -314,7 +314,7 @@ fn take_pairs(
     Ok(count)
 }
 
-// Takes pairs that stand behind one another, and then some that stand before them.
+// Removes pairs in ascending order, and then some that precede the last of them.
 fn takes_in_turn(alloc: Global, set: &mut PairSet) -> Result<bool, Refusal> {
     let mut taking = set.start_taking();
     let is_empty = set.is_empty();

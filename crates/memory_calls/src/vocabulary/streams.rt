@@ -1,9 +1,9 @@
-//! Streams over memory, over std's readers and writers, and over ones that fail.
+//! Streams over memory, over the readers and writers of std, and over ones that fail.
 use rbac_sets::{Fault, MemorySink, MemorySource, Reader, Sink, Source, Writer};
 use std::io;
 use std::test::Fail;
 
-// Fails at its second call, and moves one byte at each other one.
+// Fails at its second call, and transfers one byte at each other one.
 #[derive(Drop)]
 struct Failing {
     calls: usize,
@@ -33,7 +33,7 @@ impl io::Write for Failing {
     }
 }
 
-// Takes no byte, and says that all is well.
+// Accepts no byte, and reports success.
 #[derive(Drop)]
 struct Full;
 
@@ -47,18 +47,18 @@ impl io::Write for Full {
     }
 }
 
-// Whether the next read of three bytes answers so, and leaves so many failures.
+// Whether the next read into three bytes returns this result, and this is the number of failures afterwards.
 fn reads(source: &mut impl Source, answer: Result<usize, Fault>, failures: u64) -> bool {
     let mut buffer = [0; 3];
     source.read(&mut buffer) == answer && source.failures() == failures
 }
 
-// Whether a write of the piece answers so, and leaves so many failures.
+// Whether a write of the piece returns this result, and this is the number of failures afterwards.
 fn writes(sink: &mut impl Sink, piece: &[u8], answer: Result<usize, Fault>, failures: u64) -> bool {
     sink.write(piece) == answer && sink.failures() == failures
 }
 
-// Whether the source gives `abcdefg` to buffers of three bytes, and then nothing more.
+// Whether reads of three bytes give `abcdefg`, and then nothing more.
 fn gives_its_pieces(source: &mut impl Source) -> bool {
     for piece in ["abc", "def", "g", "", ""] {
         let mut buffer = [0; 3];
@@ -73,7 +73,7 @@ fn gives_its_pieces(source: &mut impl Source) -> bool {
     source.failures() == 0
 }
 
-// Whether the sink takes `ab`, nothing and `cde` whole.
+// Whether the sink accepts each of `ab`, an empty piece and `cde` as a whole.
 fn takes_its_pieces(sink: &mut impl Sink) -> bool {
     for piece in ["ab", "", "cde"] {
         if !writes(sink, piece.as_bytes(), Ok(piece.len()), 0) {
@@ -83,7 +83,7 @@ fn takes_its_pieces(sink: &mut impl Sink) -> bool {
     true
 }
 
-// Whether nothing is read into no place, and `ab` into the front of three.
+// Whether nothing is read into an empty buffer, and `ab` into the front of a buffer of three bytes.
 fn fills_the_front(source: &mut MemorySource<'_>) -> bool {
     let mut buffer = [0; 3];
     source.read(&mut []) == Ok(0) && source.read(&mut buffer) == Ok(2) && buffer == *b"ab\0"

@@ -1,18 +1,18 @@
-//! Counting by the numbers of roles. A run has the roles of one user, or of one permission.
+//! Counting by the numbers of roles. A run is the numbers of the roles of one user, or of one permission.
 ghost use Rattle.std.specs.Prelude.{◌≡◌, nat_eq, count_by};
 ghost use Rattle.std.specs.List.{list_any};
 ghost use Rattle.order_table.specs.Table.{entry};
 
 use order_table::OrderTable;
 
-// Whether one of the roles is the role of this number.
+// Whether the role is one of the run's.
 fn has_number(numbers: &[usize], role: usize) -> bool
     ensures { result ≡ list_any (λ number. nat_eq number role) numbers.now }
 {
     numbers.iter().any(|number| *number == role)
 }
 
-// Whether one of the roles is the role of this number, or below it.
+// Whether the role equals or dominates one of the run's.
 fn has_below(table: &OrderTable, numbers: &[usize], role: usize) -> bool
     ensures { result ≡ list_any (λ number. entry table.now role number) numbers.now }
 {
@@ -33,14 +33,14 @@ pub(super) fn count_runs_with(runs: &[Vec<usize>], role: usize) -> u64
     runs.iter().filter(|run| has_number(run, role)).count() as u64
 }
 
-// How many of the runs have the role, or one above it.
+// How many of the runs have the role, or a senior of it.
 pub(super) fn count_runs_above(table: &OrderTable, runs: &[Vec<usize>], role: usize) -> u64
     ensures { result ≡ count_by (λ run. list_any (λ number. entry table.now number role) run.items) runs.now }
 {
     runs.iter().filter(|run| table.reaches(run, role)).count() as u64
 }
 
-// How many of the runs have the role, or one below it.
+// How many of the runs have the role, or a junior of it.
 pub(super) fn count_runs_below(table: &OrderTable, runs: &[Vec<usize>], role: usize) -> u64
     ensures { result ≡ count_by (λ run. list_any (λ number. entry table.now role number) run.items) runs.now }
 {

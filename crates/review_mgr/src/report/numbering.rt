@@ -12,10 +12,10 @@ use order_table::{OrderTable, number, second_numbers};
 use rbac_sets::{GrantSet, Name, PairSet, Refusal};
 use std::alloc::Global;
 
-// What the report counts: a role's number is its place among the roles in byte order.
+// The numbers that the report counts: a role's number is its place among the roles in byte order.
 #[derive(Drop)]
 pub(super) struct Numbers {
-    // which role is above which
+    // the reachability matrix of the roles
     pub(super) table: OrderTable,
     // of each user, the roles that it is assigned
     pub(super) assigned: Vec<Vec<usize>>,
@@ -67,7 +67,7 @@ fn third_numbers(
     Ok(numbers)
 }
 
-// For each user the numbers of the roles that it is assigned.
+// For each user, the numbers of the roles that it is assigned.
 fn assigned_numbers(
     alloc: Global,
     roles: &[Name],
@@ -86,7 +86,7 @@ fn assigned_numbers(
     Ok(runs)
 }
 
-// For each permission the numbers of the roles that it is granted to.
+// For each permission, the numbers of the roles that it is granted to.
 fn granted_numbers(
     alloc: Global,
     roles: &[Name],

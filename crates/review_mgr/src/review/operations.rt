@@ -15,8 +15,8 @@ use std::alloc::Global;
 ///
 /// # Errors
 ///
-/// `NoRole` where there is no such role, else `NoObject` where there is no such object. `Memory`
-/// where memory for the answer was refused.
+/// `NoRole` if there is no such role, otherwise `NoObject` if there is no such object. `Memory` if
+/// allocation failed.
 #[tactic(auto, unfolding(crate::specs::Questions::refused, crate::specs::Questions::refusals))]
 pub fn role_operations_on_object(
     alloc: Global,
@@ -41,8 +41,8 @@ pub fn role_operations_on_object(
 ///
 /// # Errors
 ///
-/// `NoUser` where there is no such user, else `NoObject` where there is no such object. `Memory`
-/// where memory for the answer was refused.
+/// `NoUser` if there is no such user, otherwise `NoObject` if there is no such object. `Memory` if
+/// allocation failed.
 #[tactic(auto, unfolding(crate::specs::Questions::refused, crate::specs::Questions::refusals))]
 pub fn user_operations_on_object(
     alloc: Global,

@@ -12,12 +12,12 @@ use admin_mgr::State;
 use rbac_sets::{Name, Refusal};
 use std::alloc::Global;
 
-/// RolePermissions, authorized_permissions: what is granted to the role or to a descendant of it, as
-/// pairs (object, operation).
+/// RolePermissions, authorized_permissions: the permissions that are granted to the role or to a
+/// junior of it, as pairs (object, operation).
 ///
 /// # Errors
 ///
-/// `NoRole` where there is no such role. `Memory` where memory for the answer was refused.
+/// `NoRole` if there is no such role. `Memory` if allocation failed.
 #[tactic(auto, unfolding(crate::specs::Questions::refused, crate::specs::Questions::refusals, admin_mgr::specs::Authorization::authorized_permissions))]
 pub fn role_permissions(
     alloc: Global,
@@ -39,7 +39,7 @@ pub fn role_permissions(
 ///
 /// # Errors
 ///
-/// `NoUser` where there is no such user. `Memory` where memory for the answer was refused.
+/// `NoUser` if there is no such user. `Memory` if allocation failed.
 #[tactic(auto, unfolding(crate::specs::Questions::refused, crate::specs::Questions::refusals))]
 pub fn user_permissions(
     alloc: Global,
@@ -65,8 +65,8 @@ pub fn user_permissions(
 ///
 /// # Errors
 ///
-/// `NoObject` where there is no such object, else `NoPermission` where there is no such permission.
-/// `Memory` where memory for the answer was refused.
+/// `NoObject` if there is no such object, otherwise `NoPermission` if there is no such permission.
+/// `Memory` if allocation failed.
 #[tactic(auto, unfolding(crate::specs::Questions::refused, crate::specs::Questions::refusals))]
 pub fn permission_roles(
     alloc: Global,

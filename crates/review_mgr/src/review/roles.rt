@@ -16,7 +16,7 @@ use std::alloc::Global;
 ///
 /// # Errors
 ///
-/// `NoRole` where there is no such role. `Memory` where memory for the answer was refused.
+/// `NoRole` if there is no such role. `Memory` if allocation failed.
 #[tactic(auto, unfolding(crate::specs::Questions::refused, crate::specs::Questions::refusals, crate::specs::Review::assigned_users))]
 pub fn assigned_users(alloc: Global, state: &State, role: &Name) -> Result<Vec<Name>, Refusal>
     ensures answered { OnOk result (refused state.now.facts (AssignedUsers role.now) ≡ None) }
@@ -33,7 +33,7 @@ pub fn assigned_users(alloc: Global, state: &State, role: &Name) -> Result<Vec<N
 ///
 /// # Errors
 ///
-/// `NoUser` where there is no such user. `Memory` where memory for the answer was refused.
+/// `NoUser` if there is no such user. `Memory` if allocation failed.
 #[tactic(auto, unfolding(crate::specs::Questions::refused, crate::specs::Questions::refusals, crate::specs::Review::assigned_roles))]
 pub fn assigned_roles(alloc: Global, state: &State, user: &Name) -> Result<Vec<Name>, Refusal>
     ensures answered { OnOk result (refused state.now.facts (AssignedRoles user.now) ≡ None) }
@@ -46,12 +46,11 @@ pub fn assigned_roles(alloc: Global, state: &State, user: &Name) -> Result<Vec<N
     seconds_of(alloc, state.assignments(), user)
 }
 
-/// AuthorizedUsers, authorized_users: the users that are assigned to the role or to an ascendant of
-/// it.
+/// AuthorizedUsers, authorized_users: the users that are assigned to the role or to a senior of it.
 ///
 /// # Errors
 ///
-/// `NoRole` where there is no such role. `Memory` where memory for the answer was refused.
+/// `NoRole` if there is no such role. `Memory` if allocation failed.
 #[tactic(auto, unfolding(crate::specs::Questions::refused, crate::specs::Questions::refusals, admin_mgr::specs::Authorization::authorized_users))]
 pub fn authorized_users(alloc: Global, state: &State, role: &Name) -> Result<Vec<Name>, Refusal>
     ensures answered { OnOk result (refused state.now.facts (AuthorizedUsers role.now) ≡ None) }
@@ -64,12 +63,12 @@ pub fn authorized_users(alloc: Global, state: &State, role: &Name) -> Result<Vec
     users_above(alloc, state.order(), state.assignments(), role)
 }
 
-/// AuthorizedRoles: the roles for which the user is authorized, which are those assigned to it, and
-/// their descendants.
+/// AuthorizedRoles: the roles for which the user is authorized: those that it is assigned, and their
+/// juniors.
 ///
 /// # Errors
 ///
-/// `NoUser` where there is no such user. `Memory` where memory for the answer was refused.
+/// `NoUser` if there is no such user. `Memory` if allocation failed.
 #[tactic(auto, unfolding(crate::specs::Questions::refused, crate::specs::Questions::refusals))]
 pub fn authorized_roles(alloc: Global, state: &State, user: &Name) -> Result<Vec<Name>, Refusal>
     ensures answered { OnOk result (refused state.now.facts (AuthorizedRoles user.now) ≡ None) }

@@ -16,7 +16,7 @@ use std::alloc::Global;
 ///
 /// # Errors
 ///
-/// `Memory` where memory for the answer was refused.
+/// `Memory` if allocation failed.
 #[tactic(auto, unfolding(crate::specs::Questions::refused, crate::specs::Questions::refusals, crate::specs::Review::role_sets))]
 pub fn ssd_role_sets(alloc: Global, state: &State) -> Result<Vec<Name>, Refusal>
     ensures answered { OnOk result (refused state.now.facts SsdRoleSets ≡ None) }
@@ -30,7 +30,7 @@ pub fn ssd_role_sets(alloc: Global, state: &State) -> Result<Vec<Name>, Refusal>
 ///
 /// # Errors
 ///
-/// `NoSet` where there is no such set. `Memory` where memory for the answer was refused.
+/// `NoSet` if there is no such set. `Memory` if allocation failed.
 #[tactic(auto, unfolding(crate::specs::Questions::refused, crate::specs::Questions::refusals))]
 pub fn ssd_role_set_roles(alloc: Global, state: &State, set: &Name) -> Result<Vec<Name>, Refusal>
     ensures answered { OnOk result (refused state.now.facts (SsdRoleSetRoles set.now) ≡ None) }
@@ -43,11 +43,11 @@ pub fn ssd_role_set_roles(alloc: Global, state: &State, set: &Name) -> Result<Ve
     seconds_of(alloc, state.ssd_members(), set)
 }
 
-/// SsdRoleSetCardinality: the cardinality of a static separation of duty set. It takes no memory.
+/// SsdRoleSetCardinality: the cardinality of a static separation of duty set. It doesn't allocate.
 ///
 /// # Errors
 ///
-/// `NoSet` where there is no such set.
+/// `NoSet` if there is no such set.
 #[tactic(auto, unfolding(crate::specs::Questions::refused, crate::specs::Questions::refusals))]
 pub fn ssd_role_set_cardinality(state: &State, set: &Name) -> Result<u32, Refusal>
     ensures answered { OnOk result (refused state.now.facts (SsdRoleSetCardinality set.now) ≡ None) }
@@ -64,7 +64,7 @@ pub fn ssd_role_set_cardinality(state: &State, set: &Name) -> Result<u32, Refusa
 ///
 /// # Errors
 ///
-/// `Memory` where memory for the answer was refused.
+/// `Memory` if allocation failed.
 #[tactic(auto, unfolding(crate::specs::Questions::refused, crate::specs::Questions::refusals, crate::specs::Review::role_sets))]
 pub fn dsd_role_sets(alloc: Global, state: &State) -> Result<Vec<Name>, Refusal>
     ensures answered { OnOk result (refused state.now.facts DsdRoleSets ≡ None) }
@@ -78,7 +78,7 @@ pub fn dsd_role_sets(alloc: Global, state: &State) -> Result<Vec<Name>, Refusal>
 ///
 /// # Errors
 ///
-/// `NoSet` where there is no such set. `Memory` where memory for the answer was refused.
+/// `NoSet` if there is no such set. `Memory` if allocation failed.
 #[tactic(auto, unfolding(crate::specs::Questions::refused, crate::specs::Questions::refusals))]
 pub fn dsd_role_set_roles(alloc: Global, state: &State, set: &Name) -> Result<Vec<Name>, Refusal>
     ensures answered { OnOk result (refused state.now.facts (DsdRoleSetRoles set.now) ≡ None) }
@@ -91,11 +91,11 @@ pub fn dsd_role_set_roles(alloc: Global, state: &State, set: &Name) -> Result<Ve
     seconds_of(alloc, state.dsd_members(), set)
 }
 
-/// DsdRoleSetCardinality: the cardinality of a dynamic separation of duty set. It takes no memory.
+/// DsdRoleSetCardinality: the cardinality of a dynamic separation of duty set. It doesn't allocate.
 ///
 /// # Errors
 ///
-/// `NoSet` where there is no such set.
+/// `NoSet` if there is no such set.
 #[tactic(auto, unfolding(crate::specs::Questions::refused, crate::specs::Questions::refusals))]
 pub fn dsd_role_set_cardinality(state: &State, set: &Name) -> Result<u32, Refusal>
     ensures answered { OnOk result (refused state.now.facts (DsdRoleSetCardinality set.now) ≡ None) }

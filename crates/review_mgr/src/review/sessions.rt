@@ -12,11 +12,11 @@ use admin_mgr::State;
 use rbac_sets::{Name, Refusal};
 use std::alloc::Global;
 
-/// SessionRoles, session_roles: the roles that were activated in the session, and their descendants.
+/// SessionRoles, session_roles: the roles that were activated in the session, and their juniors.
 ///
 /// # Errors
 ///
-/// `NoSession` where there is no such session. `Memory` where memory for the answer was refused.
+/// `NoSession` if there is no such session. `Memory` if allocation failed.
 #[tactic(auto, unfolding(crate::specs::Questions::refused, crate::specs::Questions::refusals))]
 pub fn session_roles(alloc: Global, state: &State, session: &Name) -> Result<Vec<Name>, Refusal>
     ensures answered { OnOk result (refused state.now.facts (SessionRoles session.now) ≡ None) }
@@ -30,11 +30,12 @@ pub fn session_roles(alloc: Global, state: &State, session: &Name) -> Result<Vec
     roles_reached(alloc, state.order(), activated_in(state, session))
 }
 
-/// SessionPermissions: what is granted to the roles of the session, as pairs (object, operation).
+/// SessionPermissions: the permissions that are granted to the roles of the session, as pairs
+/// (object, operation).
 ///
 /// # Errors
 ///
-/// `NoSession` where there is no such session. `Memory` where memory for the answer was refused.
+/// `NoSession` if there is no such session. `Memory` if allocation failed.
 #[tactic(auto, unfolding(crate::specs::Questions::refused, crate::specs::Questions::refusals))]
 pub fn session_permissions(
     alloc: Global,

@@ -7,7 +7,7 @@ use Rattle.rbac_sets.specs.SortedSet.{set_of}
 use Rattle.rbac_sets.proofs.Lists.{find_filter}
 use Rattle.admin_mgr.proofs.lookup.number_of.Goals as goal
 
--- the number of the first entry of the run is the one that is found
+-- the cardinality of the first entry of the run is the one that is found
 found : (name : Bytes) (run entries : List Cardinality) (entry : Option Cardinality) → entry ≡ slice_get run 0 → run ≡ filter (λ (e : Cardinality). same_name e.0 name) entries →
     option_map (λ (e : Cardinality). e.1) entry ≡ option_map (λ (e : Cardinality). e.1) (find (λ (e : Cardinality). same_name e.0 name) entries)
 found name run entries entry first runs =

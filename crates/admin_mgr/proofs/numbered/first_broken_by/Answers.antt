@@ -10,7 +10,7 @@ use Rattle.admin_mgr.specs.Numbers.{break_by, count_reached, first_broken_by}
 use Rattle.admin_mgr.proofs.PlanRows.ListLaws.{found_here, found_later}
 use Rattle.admin_mgr.proofs.numbered.first_broken_by.Goals as goal
 
--- whether a set is broken, by the numbers of its members
+-- whether a set is violated, by the numbers of its members
 broken_by : {X : Type 0} (run : X → List ℕ) (runs : List X) (table : Table) (role : ℕ) (members wanted : List ℕ) (n : ℕ) → members ≡ wanted
     → break_by table (map run runs) role wanted n ≡ (list_any (λ member. entry table role member) members && not (list_all (λ x. nat_lt (count_reached table (run x) members) n) runs))
 broken_by run runs table role members wanted n are =

@@ -10,7 +10,7 @@ use Rattle.admin_mgr.specs.Numbers.{count_reached, keep_all, keep_below}
 use Rattle.admin_mgr.proofs.PlanRows.ListLaws.{all_here, all_later}
 use Rattle.admin_mgr.proofs.numbered.keep_all.Goals as goal
 
--- whether a set is kept, by the numbers of its members
+-- whether a set is not violated, by the numbers of its members
 kept_by : {X : Type 0} (run : X → List ℕ) (runs : List X) (table : Table) (members wanted : List ℕ) (n : ℕ) → members ≡ wanted
     → keep_below table (map run runs) wanted n ≡ list_all (λ x. nat_lt (count_reached table (run x) members) n) runs
 kept_by run runs table members wanted n are = ap (λ ms. keep_below table (map run runs) ms n) (sym are) ∙ list_all-map (λ r. nat_lt (count_reached table r members) n) run runs

@@ -4,7 +4,7 @@ use Rattle.role_order.specs.Order.{geq}
 use Rattle.review_mgr.proofs.Below.{reaches_start}
 use Rattle.review_mgr.proofs.gather.roles_below.Goals as goal
 
--- The list is empty first, so that nothing but what the role reaches comes to be there.
+-- The list is empty at first, so that it has only the role and its juniors.
 pub put_below-requires : goal.put_below-requires
 put_below-requires c = (reaches_start c.args.order.now.edges [] _ cc).sorted
 

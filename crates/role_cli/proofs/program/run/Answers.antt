@@ -5,12 +5,12 @@ use Rattle.role_cli.specs.Telling.{no_memory_line}
 use Rattle.role_cli.specs.declared.failure.Failure.TheVariants.{Refused}
 use Rattle.role_cli.proofs.program.run.Goals as goal
 
--- The choice is the one that was made, and the status 0 tells that it was done.
+-- The choice is the one in the arguments, and status 0 means that it was done.
 pub returns-in-Ok-clause-done : goal.returns-in-Ok-clause-done
 returns-in-Ok-clause-done g c zero =
     inr (c.in-Ok.choice, c.in-Ok.ensures.ok, on_ok-holds c.done.result _ (c.status_of.ensures.done.0 zero) c.done.ensures.done, c.done.ensures.unread)
 
--- The status 1 tells that it failed.
+-- Status 1 means that it failed.
 pub returns-in-Ok-clause-stopped : goal.returns-in-Ok-clause-stopped
 returns-in-Ok-clause-stopped g c one =
     inr (
@@ -21,7 +21,7 @@ returns-in-Ok-clause-stopped g c one =
           if_err-both c.done.result _ _ (c.status_of.ensures.stopped one) (c.done.ensures.stopped in_memory) (c.done.ensures.caused in_memory),
     )
 
--- Memory failed before anything was chosen.
+-- An allocation failed before anything was chosen.
 pub returns-in-Err-Memory-clause-told : goal.returns-in-Err-Memory-clause-told
 returns-in-Err-Memory-clause-told g c _ = (Refused Memory, (no_memory_line, tt, c.tell_no_memory.ensures))
 

@@ -8,7 +8,7 @@ use Rattle.role_cli.proofs.Results.{on_ok-then}
 use Rattle.role_cli.proofs.Working.{writes_no_line}
 use Rattle.role_cli.proofs.work.import.Goals as goal
 
--- The line that answers was written.
+-- The answer line was written.
 pub returns-clause-ok : goal.returns-clause-ok
 returns-clause-ok g c =
     let (pairs, answer, lists, performs, text) = c.in-Ok.ensures.ok in

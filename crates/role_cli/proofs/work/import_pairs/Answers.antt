@@ -10,7 +10,7 @@ use Rattle.role_wire.proofs.Performed.{command_done, command_refused}
 use Rattle.role_wire.proofs.Results.{if_err-then, if_ok-then}
 use Rattle.role_cli.proofs.work.import_pairs.Goals as goal
 
--- The office did the command, and this is what accepts an import.
+-- The office did the command, and this is the text that accepts an import.
 pub returns-clause-ok : goal.returns-clause-ok
 returns-clause-ok g c =
     let is : c.apply.result ≡ Ok c.in_ok-report.report = search rules in

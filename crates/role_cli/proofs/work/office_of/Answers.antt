@@ -3,7 +3,7 @@ use Rattle.role_cli.proofs.Beginning.{begins_open, starts_open, unopened_open}
 use Rattle.role_cli.proofs.Results.{if_err-three, if_ok-join}
 use Rattle.role_cli.proofs.work.office_of.Goals as goal
 
--- ---- an office is made
+-- ---- an office is created
 
 pub returns-in-Init-clause-begins : goal.returns-in-Init-clause-begins
 returns-in-Init-clause-begins g c =

@@ -5,7 +5,7 @@ use Rattle.role_wire.proofs.Results.{if_err-then}
 use Rattle.role_cli.proofs.Results.{on_ok-then}
 use Rattle.role_cli.proofs.work.run_on_connection.Goals as goal
 
--- The work was done over the office that was opened, whose run goes on.
+-- The work was done over the office that was opened, and continues its run.
 pub returns-in-Ok-clause-done : goal.returns-in-Ok-clause-done
 returns-in-Ok-clause-done g c clean =
     let it = c.run_on_office-done.ensures in

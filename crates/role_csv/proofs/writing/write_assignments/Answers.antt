@@ -6,7 +6,7 @@ use Rattle.rbac_sets.specs.Sets.{Pair, members}
 use Rattle.role_csv.specs.Export.{export, exported, line_of}
 use Rattle.role_csv.proofs.writing.write_assignments.Goals as goal
 
--- an export has a byte at least
+-- an export has at least one byte
 length-export : (pairs : List Pair) → 1 ≤ length (export pairs)
 unfolding export line_of csv_on_literals
 length-export pairs = omega arith

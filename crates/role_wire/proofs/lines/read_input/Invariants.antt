@@ -3,11 +3,11 @@ use Rattle.std.specs.Io.KnownBytes.{Consumes}
 use Rattle.role_wire.specs.Reading.{place_of, IsRead}
 use Rattle.role_wire.proofs.lines.read_input.Given as goal
 
--- so many reads were made between the two counts of them, which may have come to its greatest value
+-- this many reads were made between the two counts, or the count has reached its greatest value
 abbrev pub HasRead : ℕ → ℕ → ℕ → Type 0
 HasRead turns before now = (now ≤ before + turns) × ((before + turns ≤ now) ⊎ (2 ^ 64 - 1 ≤ now))
 
--- these bytes of the input were read, and no count fell
+-- these bytes of the input were read, and no count decreased
 pub record ReadsInput (consumed read : List ℕ → Type 0) (turns number answered failed_writes failed_writes_now idle_writes idle_writes_now failed_reads failed_reads_now reads reads_now : ℕ) : Type 0 where
   pub taken : List ℕ
   pub is_consumed : consumed taken

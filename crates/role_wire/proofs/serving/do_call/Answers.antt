@@ -29,7 +29,7 @@ returns-clause-made g c =
       subst (λ read. ComesOf (state g.S.Store) c.args.office.now read made c.do_body.new.office) (sym (called_whole c.in-Ok.body.items _ c.args.called c.args.count full)) (rw c.deref.ensures.value at told),
     ))
 
--- Memory for the body failed, and nothing was done.
+-- Allocating the body failed, and nothing was done.
 pub returns-in-Err-Memory-clause-made : goal.returns-in-Err-Memory-clause-made
 returns-in-Err-Memory-clause-made g c =
     let (taken, consumes, few) = c.in-Err-Memory.ensures.stops in (

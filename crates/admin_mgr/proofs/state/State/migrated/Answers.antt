@@ -8,7 +8,7 @@ use Rattle.admin_mgr.specs.Life.{taken_into_version_2}
 use Rattle.admin_mgr.proofs.StateAfter.MigratedLaws.{migrated_good, migrated_named}
 use Rattle.admin_mgr.proofs.state.State.migrated.Goals as goal
 
--- with nobody locked, the same in version 2 is the state taken into it
+-- nobody is locked in version 1, so the same state in version 2 is the migrated one
 taken : (S T : RbacState) → IsGood S → S.version ≡ 1 → T ≡ record S { version = 2 } → T ≡ taken_into_version_2 S
 taken S T good first is = is ∙ ap (λ (locked : Names). record S { version = 2; locked = locked }) (good.no_locks first)
 

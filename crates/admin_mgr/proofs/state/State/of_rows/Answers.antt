@@ -24,11 +24,11 @@ returns-in-Some-clause-err c =
     let told = sym (c.early_refusal.ensures ∙ ap early_refusal c.in_ok-made.ensures.ok.0) ∙ c.in-Some.is in
     refuses_rows c.args.version c.args.rows.items c.in-Some.refusal c.in_ok-made.ensures.ok.1 (early_told (gathered c.args.version c.args.rows.items) c.in-Some.refusal told)
 
--- the sets are those of the rows
+-- the checks before those of the hierarchy pass
 made_is : (version : ℕ) (rows : List Row) (made : Gathered) → made ≡ gathered version rows → early_refusal made ≡ None → PassBefore (gathered version rows) 5
 made_is version rows made is none = early_passed (gathered version rows) (sym (ap early_refusal is) ∙ none)
 
--- the hierarchy passed too
+-- so do those of the hierarchy
 to_seven : (version : ℕ) (rows : List Row) (made : Gathered) → made ≡ gathered version rows → early_refusal made ≡ None
     → IsAcyclic made.facts.edges × IsClosure made.facts.edges made.pairs → PassBefore (gathered version rows) 7
 to_seven version rows made is none order =
@@ -44,7 +44,7 @@ returns-in_err-relations-clause-err c =
     (made_is c.args.version c.args.rows.items c.in_ok-made.made made.0 (sym c.early_refusal.ensures ∙ none_unless_some _ c.in_default.not-Some))
     (subst (λ (g : Gathered). RefusesOrder g c.in_err-relations.field-0.0) made.0 c.in_err-relations.ensures.err)))
 
--- what the relations speak of is there
+-- the roles that the relations refer to are there
 roles_there : (version : ℕ) (rows : List Row) (made : Gathered) (S : RbacState) → made ≡ gathered version rows → early_refusal made ≡ None → S ≡ made.facts → IsTrue (are_roles_there S)
 roles_there version rows made S is none facts =
     subst (λ T. IsTrue (are_roles_there T)) (sym (facts ∙ ap (λ (g : Gathered). g.facts) is)) (complete_roles_are_there (gathered version rows) (made_is version rows made is none 3 (omega arith)))
@@ -62,7 +62,7 @@ returns-in-Ok-Some-clause-err c =
     (late_told c.args.version c.args.rows.items made.1 c.in-Ok-Some.refusal
     (to_seven c.args.version c.args.rows.items c.in_ok-made.made made.0 (sym c.early_refusal.ensures ∙ none_unless_some _ c.in_default.not-Some) c.in_ok-relations.ensures.order) told)
 
--- where nothing is refused, the relations are the state of the rows
+-- if nothing is refused, the relations are the state of the rows
 is_state : (version : ℕ) (rows : List Row) (made : Gathered) (S : RbacState) → (version ≡ 1) ⊎ (version ≡ 2) → made ≡ gathered version rows → AreReadable version rows → early_refusal made ≡ None
     → IsAcyclic made.facts.edges × IsClosure made.facts.edges made.pairs → S ≡ made.facts → late_refusal S ≡ None → IsStateOf version rows S
 is_state version rows made S known is readable early order facts late =

@@ -3,7 +3,7 @@ use Rattle.admin_mgr.specs.Planned.{LeadsTo}
 use Rattle.admin_mgr.specs.After.{after}
 use Rattle.memory_calls.proofs.state.refused.apply.Goals as goal
 
--- The plan leads to the state after the command, also once room was made.
+-- The plan still leads to the state after the command once room is made.
 pub commit-requires-clause-planned : goal.commit-requires-clause-planned
 commit-requires-clause-planned c =
     let T = after c.args.state.now.facts c.args.command.now in

@@ -1,4 +1,4 @@
--- A try that a signal interrupts takes no byte.
+-- An attempt that a signal interrupts consumes no byte.
 use Rattle.std.proofs.Common.{◌≡◌}
 use Rattle.std.specs.Io.KnownBytes.{Keeps}
 use Rattle.rbac_sets.proofs.source.ReaderSource.read.Given as goal

@@ -34,7 +34,7 @@ returns-in_err-add-clause-err c =
       | inr failed ↦ inr (failed.0, unfit failed.1)
     ])
 
--- at the end all rows were taken
+-- at the end all rows were gathered
 all_taken : (rows done rest : List Row) → rows ≡ done ++ rest → length rest ≡ 0 → rows ≡ done
 all_taken rows done rest is none = is ∙ ap (λ xs. done ++ xs) (no_items rest none) ∙ append-nil done
 
