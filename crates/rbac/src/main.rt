@@ -1,4 +1,4 @@
-//! The program `rbac`: hands its words and the standard streams to `role_cli::run`.
+//! The program `rbac`: passes its arguments and the standard streams to `role_cli::run`.
 #![tactic(auto)]
 
 use rbac_sets::{Reader, Writer, write_all};
@@ -20,7 +20,7 @@ fn main(rt: HostRuntime) -> ExitCode {
     }
 }
 
-// Does what the program's words ask, and gives the exit status.
+// Does what the arguments ask for, and returns the exit status.
 fn run(rt: &HostRuntime) -> io::Result<u8> {
     let mut words = Vec::new(rt.alloc());
     for word in env::args(rt)? {
@@ -36,7 +36,7 @@ fn run(rt: &HostRuntime) -> io::Result<u8> {
     Ok(role_cli::run(rt, &texts, &mut source, &mut out, &mut err))
 }
 
-// Writes a line to standard error. A fault of it changes nothing.
+// Writes a line to standard error. If that fails, nothing else changes.
 fn tell(rt: &HostRuntime, line: &[u8]) {
     let _ = write_all(&mut Writer::new(rt.stderr()), line);
 }

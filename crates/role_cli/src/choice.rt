@@ -1,4 +1,4 @@
-//! What the words of a command line choose.
+//! The work that the arguments choose.
 ghost use Rattle.std.specs.Prelude.{◌≡◌, ◌≢◌, ◌⊎◌, ◌↔◌, ◌≤◌, [], IsTrue, true, false, IfOk, IfErr, Some, None, map, codes, option_map};
 ghost use Rattle.clap.specs.Words.{HasMatchesOf, first_of, found_of, one_of, rows_of, subcommand_rows_of, kind_of, subcommand_of, takes, fault_of, HasKind};
 ghost use Rattle.role_cli.specs.Choosing.{Chooses, ChoosesOf, HasBothOrNeither, IsEntered, IsFault, IsFaultBy, IsGiven, IsInMemory, IsOfKind, IsValueOf, IsWhole, IsWordOf, ReplaysBothOrNeither};
@@ -9,55 +9,55 @@ use clap::error::ErrorKind;
 use clap::{ArgMatches, Error};
 use std::alloc::{AllocError, Global};
 
-/// The office of a replay.
+/// Where the office of a replay is.
 #[derive(Drop)]
 pub enum Place {
-    /// The office in the file of this path.
+    /// In the file at this path.
     File(String),
-    /// A new office in memory.
+    /// In memory; it is a new office.
     Memory,
 }
 
-/// What the words of a command line ask for. The first text is the path of an office's file.
+/// What the arguments ask for. The first text is the path of the office's file.
 #[derive(Drop)]
 pub enum Choice {
-    /// Makes an office in the file.
+    /// Creates an office in the file.
     Init(String),
     /// Answers the lines of standard input.
     Replay(Place),
-    /// Answers requests over HTTP on this port, from 1 to 65,535, for this many connections, from 1
-    /// to 1,000,000.
+    /// Answers requests over HTTP: the port, from 1 to 65,535, and the number of connections, from 1 to
+    /// 1,000,000.
     Serve(String, u16, u32),
-    /// Imports the assignments of the CSV file of the second path.
+    /// Imports the assignments of the CSV file at the second path.
     Import(String, String),
     /// Writes the assignments as CSV.
     Export(String),
     /// Writes the role report.
     Report(String),
-    /// Tells whether the file holds a good office.
+    /// Checks that the file holds a good office.
     Check(String),
-    /// Takes an office of version 1 into version 2.
+    /// Migrates an office of version 1 to version 2.
     Migrate(String),
 }
 
-/// Why words choose nothing. It is a fault of the command line, and none of an office's refusals.
+/// Why the arguments choose nothing. None of these is a refusal of an office.
 #[derive(Drop)]
 pub enum Unchosen {
     /// `replay` has both FILE and `--memory`, or neither.
     Either,
-    /// The words are no command line of the program, or ask for help. The text of the error tells.
+    /// The arguments are no command line of the program, or ask for help or the version. The error has the text.
     Fault(Error),
-    /// Memory was refused.
+    /// An allocation failed.
     Memory,
 }
 
-/// What the words of a command line choose. The first of them is the program's name.
+/// What the arguments `words` choose. The first of them is the program's name.
 ///
 /// # Errors
 ///
-/// - `Fault`: the words are no command line of the program, or ask for help.
+/// - `Fault`: the arguments are no command line of the program, or ask for help or the version.
 /// - `Either`: `replay` has both FILE and `--memory`, or neither.
-/// - `Memory`: memory was refused.
+/// - `Memory`: an allocation failed.
 pub fn choose<'a>(alloc: Global, words: &'a [&'a str]) -> Result<Choice, Unchosen>
     ensures ok { IfOk result (Chooses (subcommand_of program (map (λ s. s.now) words.entry.now))) }
     ensures fault { IfErr result (λ e. IsFault e → takes program (map (λ s. s.now) words.entry.now) ≡ false) }
@@ -70,7 +70,7 @@ pub fn choose<'a>(alloc: Global, words: &'a [&'a str]) -> Result<Choice, Unchose
     }
 }
 
-// The matches of the words.
+// The matches of the arguments.
 fn matches<'a>(alloc: Global, words: &'a [&'a str]) -> Result<ArgMatches<'a>, Error>
     ensures ok { IfOk result (HasMatchesOf program (map (λ s. s.now) words.entry.now)) }
     ensures none { IfOk result (λ _. fault_of program (map (λ s. s.now) words.entry.now) ≡ []) }
@@ -116,7 +116,7 @@ fn limit_of(matches: &ArgMatches) -> u32
     limit
 }
 
-// Whether `--memory` is there.
+// Whether `--memory` is given.
 fn is_in_memory(matches: &ArgMatches) -> bool
     ensures { IsTrue result ↔ IsInMemory (rows_of (found_of matches.now)) }
 {
@@ -133,7 +133,7 @@ fn maybe_text_of<'a>(matches: &ArgMatches<'a>, id: &str) -> Option<&'a str>
     matches.get_str(id)
 }
 
-// The choice of `replay`.
+// What `replay` chooses.
 fn replay_choice(alloc: Global, matches: &ArgMatches) -> Result<Choice, Unchosen>
     ensures ok { IfOk result (ChoosesOf (codes "replay") (rows_of (found_of matches.now))) }
     ensures err { IfErr result (λ e. (e ≡ Unchosen.Memory) ⊎ ((e ≡ Unchosen.Either) × HasBothOrNeither (rows_of (found_of matches.now)))) }
@@ -156,7 +156,7 @@ fn replay_choice(alloc: Global, matches: &ArgMatches) -> Result<Choice, Unchosen
     }
 }
 
-// The choice of `serve`.
+// What `serve` chooses.
 fn serve_choice(alloc: Global, matches: &ArgMatches) -> Result<Choice, AllocError>
     requires { IsWhole (codes "serve") (rows_of (found_of matches.now)) }
     ensures { IfOk result (ChoosesOf (codes "serve") (rows_of (found_of matches.now))) }
@@ -165,7 +165,7 @@ fn serve_choice(alloc: Global, matches: &ArgMatches) -> Result<Choice, AllocErro
     Ok(Choice::Serve(file, port_of(matches), limit_of(matches)))
 }
 
-// The choice of `import`.
+// What `import` chooses.
 fn import_choice(alloc: Global, matches: &ArgMatches) -> Result<Choice, AllocError>
     requires { IsWhole (codes "import") (rows_of (found_of matches.now)) }
     ensures { IfOk result (ChoosesOf (codes "import") (rows_of (found_of matches.now))) }
@@ -174,7 +174,7 @@ fn import_choice(alloc: Global, matches: &ArgMatches) -> Result<Choice, AllocErr
     Ok(Choice::Import(file, text_of(alloc, matches, "CSV")?))
 }
 
-// The choice of a subcommand with FILE alone.
+// What a subcommand with FILE alone chooses.
 fn file_choice(alloc: Global, name: &str, matches: &ArgMatches) -> Result<Choice, AllocError>
     requires whole { IsWhole name.now (rows_of (found_of matches.now)) }
     requires others { (name.now ≢ codes "replay") × (name.now ≢ codes "serve") × (name.now ≢ codes "import") }
@@ -191,7 +191,7 @@ fn file_choice(alloc: Global, name: &str, matches: &ArgMatches) -> Result<Choice
     })
 }
 
-// The subcommand that was met, with its matches.
+// The subcommand among the arguments, with its matches.
 fn met<'m, 'a>(matches: &'m ArgMatches<'a>) -> Option<(&'a str, &'m ArgMatches<'a>)>
     ensures { option_map (λ p. (p.0.now, rows_of (found_of p.1.now))) result ≡ subcommand_rows_of matches.entry.now }
 {
@@ -215,7 +215,7 @@ fn chosen(alloc: Global, matches: &ArgMatches) -> Result<Choice, Unchosen>
     }
 }
 
-// The fault of words that were not taken.
+// Why arguments with this error choose nothing.
 fn refused(error: Error) -> Unchosen
     ensures memory { kind_of error ≡ ErrorKind.OutOfMemory → result ≡ Unchosen.Memory }
     ensures fault { result ≢ Unchosen.Either }

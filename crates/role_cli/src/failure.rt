@@ -1,4 +1,4 @@
-//! Why the program did not do what it was asked, and how it says so.
+//! Why the program failed, and the line that reports it.
 ghost use Rattle.std.specs.Prelude.{⊤, ◌⊎◌};
 ghost use Rattle.rbac_sets.specs.Stream.{HasRisen};
 ghost use Rattle.role_cli.specs.Telling.{IsLineOf, SaysSome, Says, no_memory_line};
@@ -8,64 +8,64 @@ use role_wire::{Stop, Verdict, answer_text};
 use std::alloc::Global;
 use std::io::{Cursor, Write};
 
-/// The most bytes of the line that names a stop.
+/// The greatest length of the line that reports a stop, in bytes.
 const LONGEST_STOP: usize = 96;
 
-/// What is told where memory doesn't suffice for another line.
+/// The line that is written if another one can't be allocated.
 const NO_MEMORY: &[u8] = b"rbac: {\"code\":40,\"error\":\"Memory\"}\n";
 
-/// Why the program did not do what it was asked.
+/// Why the program failed.
 #[derive(Drop)]
 pub enum Failure {
-    /// The office, or a text that was to be imported, was refused.
+    /// The office, a command or a CSV text was refused, or memory, the store or the output failed.
     Refused(Refusal),
-    /// A replay stopped, or a text that was to be imported could not be read.
+    /// A replay stopped, or a CSV file could not be read.
     Stopped(Stop),
-    /// The port of a server could not be listened on.
+    /// The server could not listen on its port.
     NotListening,
-    /// The next connection of a server could not be accepted.
+    /// The server could not accept the next connection.
     NotAccepting,
-    /// A server answered 500: its office is closed.
+    /// The server sent a reply with the status 500, after which its office is closed.
     Closed,
 }
 
 impl Failure {
-    /// Writes the one line that says so to `err`, or as much of it as is taken: an output that fails
-    /// changes nothing. If memory for the line of a refusal failed, the line says that.
-    pub fn tell<E: Sink>(self, alloc: Global, err: &mut E)
+    /// Writes the one line that reports the failure to `err`. If writing fails, the rest of the line is
+    /// lost. If the line of a refusal can't be allocated, the line reports that.
+    pub fn report<E: Sink>(self, alloc: Global, err: &mut E)
         ensures { SaysSome (IsLineOf self) (E.written err.old) (E.written err.new) (HasRisen (E.failed err.old) (E.failed err.new) ⊎ HasRisen (E.idle err.old) (E.idle err.new)) }
     {
         match self {
-            Failure::Refused(refusal) => tell_refusal(alloc, refusal, err),
-            Failure::Stopped(stop) => tell_stop(err, &stop),
-            Failure::NotListening => tell(err, b"rbac: cannot listen\n"),
-            Failure::NotAccepting => tell(err, b"rbac: cannot accept\n"),
-            Failure::Closed => tell(err, b"rbac: closed\n"),
+            Failure::Refused(refusal) => report_refusal(alloc, refusal, err),
+            Failure::Stopped(stop) => report_stop(err, &stop),
+            Failure::NotListening => write(err, b"rbac: cannot listen\n"),
+            Failure::NotAccepting => write(err, b"rbac: cannot accept\n"),
+            Failure::Closed => write(err, b"rbac: closed\n"),
         }
     }
 }
 
-/// Writes that memory failed.
-pub fn tell_no_memory<E: Sink>(err: &mut E)
+/// Writes the line that reports that an allocation failed.
+pub fn report_no_memory<E: Sink>(err: &mut E)
     ensures { Says no_memory_line (E.written err.old) (E.written err.new) (HasRisen (E.failed err.old) (E.failed err.new) ⊎ HasRisen (E.idle err.old) (E.idle err.new)) }
 {
-    tell(err, NO_MEMORY);
+    write(err, NO_MEMORY);
 }
 
-/// Writes a text, or as much of it as is taken.
-pub fn tell<E: Sink>(err: &mut E, text: &[u8])
+/// Writes a text. If writing fails, the rest is lost.
+pub fn write<E: Sink>(err: &mut E, text: &[u8])
     ensures { Says text.now (E.written err.old) (E.written err.new) (HasRisen (E.failed err.old) (E.failed err.new) ⊎ HasRisen (E.idle err.old) (E.idle err.new)) }
 {
     let _ = write_all(err, text);
 }
 
-// Writes the line of a refusal, or that memory for it failed.
-fn tell_refusal<E: Sink>(alloc: Global, refusal: Refusal, err: &mut E)
+// Writes the line of a refusal, or reports that it can't be allocated.
+fn report_refusal<E: Sink>(alloc: Global, refusal: Refusal, err: &mut E)
     ensures { SaysSome (IsLineOf (Failure.Refused refusal)) (E.written err.old) (E.written err.new) (HasRisen (E.failed err.old) (E.failed err.new) ⊎ HasRisen (E.idle err.old) (E.idle err.new)) }
 {
     match refusal_line(alloc, refusal) {
-        Ok(line) => tell(err, line.as_bytes()),
-        Err(_) => tell_no_memory(err),
+        Ok(line) => write(err, line.as_bytes()),
+        Err(_) => report_no_memory(err),
     }
 }
 
@@ -78,12 +78,12 @@ fn refusal_line(alloc: Global, refusal: Refusal) -> Result<String, Refusal> {
 }
 
 // Writes the line of a stop. It doesn't allocate, since that may be what failed.
-fn tell_stop<E: Sink>(err: &mut E, stop: &Stop)
+fn report_stop<E: Sink>(err: &mut E, stop: &Stop)
     ensures { SaysSome (λ _. ⊤) (E.written err.old) (E.written err.new) (HasRisen (E.failed err.old) (E.failed err.new) ⊎ HasRisen (E.idle err.old) (E.idle err.new)) }
 {
     let mut line = Cursor::new([0u8; LONGEST_STOP]);
     if writeln!(line, "rbac: {stop}").is_ok() {
         let length = (line.position() as usize).min(LONGEST_STOP);
-        tell(err, &line.get_ref()[..length]);
+        write(err, &line.get_ref()[..length]);
     }
 }

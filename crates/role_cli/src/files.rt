@@ -1,4 +1,4 @@
-//! Offices in files: how they are opened, made, closed and put back.
+//! Offices in files: how they are opened, created and closed, and what is restored if that fails.
 ghost use Rattle.std.specs.Prelude.{◌≡◌, ◌≤◌, ◌+◌, false, IfErr, IfOk, IfSome, OnErr, OnOk};
 ghost use Rattle.sqlite.specs.Files.{IsOpened, file_state, over_files};
 ghost use Rattle.sqlite.specs.Held.{state};
@@ -18,33 +18,33 @@ use sqlite::{Connection, File, FileFrom, FileStore, Start, Unknown};
 use sqlite_disk::Disk;
 use std::{fs, io};
 
-/// The most bytes of a file in which an opening has done no more than to begin a database.
+/// The greatest length of a file in which an opening has only begun a database.
 const BEGUN: u64 = 4_096;
 
-/// Fewer bytes than a log has that holds a whole page.
+/// A log that is shorter than this holds no whole page.
 const SHORTEST_LOG: u64 = 568;
 
-/// What stood at a path before an office was to be made there.
+/// What was at a path before an office was to be created there.
 #[derive(Clone, Copy, Debug, PartialEq, Eq)]
 pub enum Before {
     /// Nothing.
     Nothing,
-    /// A file without a byte.
+    /// An empty file.
     EmptyFile,
-    /// A file with bytes, or one that has to be there.
+    /// A file that is not empty, or one that is required to exist.
     Bytes,
 }
 
 /// Opens the file at a path, does the work of a subcommand over it as `run_on_connection` does, and hands
-/// the connection back, which is still open. `before` is what stood at the path: if the opening fails, it
-/// stands there again.
+/// the connection back, which is still open. `before` is what was at the path: if the opening fails, it is
+/// restored.
 ///
-/// `start` stands for what the files hold when they are opened: whatever state they store, the work is
+/// `start` represents what the files hold when they are opened: whatever state they store, the work is
 /// done over that state. That these are the files at the path is the promise of the operating system.
 ///
 /// # Errors
 ///
-/// `Refused` with `Store` if the file can't be opened or made. Nothing was read or written then.
+/// `Refused` with `Store` if the file can't be opened or created. Nothing was read or written then.
 pub fn run_on_path<D: Start, R: Source, W: Sink>(
     rt: &HostRuntime,
     path: &str,
@@ -75,12 +75,12 @@ pub fn run_on_path<D: Start, R: Source, W: Sink>(
 }
 
 /// Does the work of a subcommand over the file at a path, and closes it. If `init` is refused before a
-/// page of an office was written, what stood at the path before stands there again.
+/// page of an office was written, what was at the path before is restored.
 ///
 /// # Errors
 ///
-/// `Refused`, with `Store` if there is no such file or it can't be opened or made, and with `NotAnOffice`
-/// if it is empty. Otherwise as the work is refused or stops.
+/// `Refused` with `Store` if there is no such file or it can't be opened or created, or with `NotAnOffice`
+/// if it is empty. Otherwise as the work fails.
 pub(crate) fn run_in_file<R: Source, W: Sink>(
     rt: &HostRuntime,
     path: &str,
@@ -99,7 +99,7 @@ pub(crate) fn run_in_file<R: Source, W: Sink>(
     done
 }
 
-// What stands at the path. Only `init` makes a file where none is.
+// What is at the path. Only `init` creates a file if there is none.
 fn found_before(rt: &HostRuntime, path: &str, choice: &Choice) -> Result<Before, Failure> {
     if let Choice::Init(_) = choice {
         return what_stands(rt, path);
@@ -108,7 +108,7 @@ fn found_before(rt: &HostRuntime, path: &str, choice: &Choice) -> Result<Before,
     Ok(Before::Bytes)
 }
 
-// What stands at the path. What is no file is refused, and a link that leads nowhere.
+// What is at the path. Anything but a regular file is refused, and so is a dangling link.
 fn what_stands(rt: &HostRuntime, path: &str) -> Result<Before, Failure> {
     match length_of(rt, path) {
         Some(0) => Ok(Before::EmptyFile),
@@ -118,8 +118,8 @@ fn what_stands(rt: &HostRuntime, path: &str) -> Result<Before, Failure> {
     }
 }
 
-// Whether a file is there, and is more than an opening would take for the beginning of a new one: it
-// has bytes, or a log beside it has.
+// Refuses a missing file, and one that an opening would take for a new one: it is empty, and so is the
+// log beside it.
 fn found(rt: &HostRuntime, path: &str) -> Result<(), Failure> {
     match length_of(rt, path) {
         None => Err(Failure::Refused(Refusal::Store)),
@@ -130,7 +130,7 @@ fn found(rt: &HostRuntime, path: &str) -> Result<(), Failure> {
     }
 }
 
-// Whether a log with bytes stands beside the file.
+// Whether there is a log beside the file that is not empty.
 fn has_log(rt: &HostRuntime, path: &str) -> bool {
     match beside(rt, path, "-wal") {
         Ok(log) => matches!(length_of(rt, log.as_str()), Some(length) if length > 0),
@@ -138,7 +138,7 @@ fn has_log(rt: &HostRuntime, path: &str) -> bool {
     }
 }
 
-// How many bytes the file has, if one is there: a folder, a pipe or a device is none.
+// The length of the file, if there is one. A folder, a pipe or a device is none.
 fn length_of(rt: &HostRuntime, path: &str) -> Option<u64> {
     match fs::metadata(rt, path) {
         Ok(found) if found.is_file() => Some(found.len()),
@@ -146,13 +146,13 @@ fn length_of(rt: &HostRuntime, path: &str) -> Option<u64> {
     }
 }
 
-// The path of the file with this ending. As `sqlite` opens it, it lies where a link leads.
+// The path of the file with this ending, beside the file that a link leads to, as `sqlite` opens it.
 fn beside(rt: &HostRuntime, path: &str, ending: &str) -> io::Result<String> {
     let real = fs::canonicalize(rt, path)?;
     Ok(format!(in rt.alloc(); "{}{ending}", real.as_str())?)
 }
 
-// Opens the file, or makes it. What a refused opening has begun goes.
+// Opens the file, or creates it. What an opening that failed has begun is removed.
 fn connect<D: Start>(
     rt: &HostRuntime,
     path: &str,
@@ -179,9 +179,9 @@ fn connect<D: Start>(
     }
 }
 
-// Copies the log into the file and takes it away, while the file is still locked. Where that fails,
-// the log stays beside the file, and the next opening reads it. Where an office was not made, what
-// stood at the path before is put back.
+// Copies the log into the file and removes it, while the file is still locked. If that fails, the log
+// stays beside the file, and the next opening reads it. If no office was created, what was at the path
+// before is restored.
 fn close(rt: &HostRuntime, path: &str, conn: Connection<FileStore<File>>, before: Before) {
     match conn.close_files() {
         Ok(files) => {
@@ -197,8 +197,8 @@ fn close(rt: &HostRuntime, path: &str, conn: Connection<FileStore<File>>, before
     }
 }
 
-// Makes the path again what it was before a refused opening or making, while the file is still
-// locked. Where more than a beginning was written, it stays: the next opening reads it.
+// Restores what was at the path before an office could not be opened or created, while the file is still
+// locked. If more than a beginning was written, it stays, and the next opening reads it.
 fn put_back(rt: &HostRuntime, path: &str, before: Before) {
     match before {
         Before::Bytes => remove_begun_log(rt, path),
@@ -214,7 +214,7 @@ fn put_back(rt: &HostRuntime, path: &str, before: Before) {
     }
 }
 
-// Whether no more than the beginning of a database was written: no whole page stands in the log.
+// Whether only the beginning of a database was written: the log holds no whole page.
 fn is_begun(rt: &HostRuntime, path: &str) -> bool {
     let Ok(log) = beside(rt, path, "-wal") else {
         return false;
@@ -223,7 +223,7 @@ fn is_begun(rt: &HostRuntime, path: &str) -> bool {
     short_log && matches!(length_of(rt, path), Some(length) if length <= BEGUN)
 }
 
-// Takes a log away that holds no page.
+// Removes a log that holds no whole page.
 fn remove_begun_log(rt: &HostRuntime, path: &str) {
     if let Ok(log) = beside(rt, path, "-wal")
         && matches!(length_of(rt, log.as_str()), Some(length) if length < SHORTEST_LOG)
@@ -232,7 +232,7 @@ fn remove_begun_log(rt: &HostRuntime, path: &str) {
     }
 }
 
-// Takes the log and its index away.
+// Removes the log and its index.
 fn remove_beside(rt: &HostRuntime, path: &str) {
     for ending in ["-wal", "-shm"] {
         if let Ok(other) = beside(rt, path, ending) {

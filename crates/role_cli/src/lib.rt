@@ -1,4 +1,4 @@
-//! The program `rbac` as a library: what it does for the words of a command line.
+//! The program `rbac` as a library: what it does for its arguments.
 #![tactic(auto)]
 
 pub use choice::{Choice, Place, Unchosen, choose};

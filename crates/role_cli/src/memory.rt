@@ -13,9 +13,9 @@ use sqlite::{Connection, FileStore, Files, Options};
 use sqlite_disk::Disk;
 use std::alloc::Global;
 
-/// How the store keeps the office. Its pages are in memory anyway, so it keeps copies of few, and
-/// its log is short: with more of both a replay is no faster. Any seed will do for the salts of the
-/// log, since nobody opens these files again.
+/// The options of the store. Its pages are in memory anyway, so it caches few of them, and its log is
+/// short: with more of both a replay is no faster. Any seed will do for the salts of the log, since
+/// nobody opens these files again.
 const OPTIONS: Options = Options {
     cache_pages: 64,
     spill_pages: 64,
@@ -23,14 +23,14 @@ const OPTIONS: Options = Options {
     seed: 1,
 };
 
-/// Answers the lines of `source` in `sink`, as `replay` of `role_wire` does, from an office of
-/// version 2 without a user and a role on. The office is in memory, and goes when the replay is over.
+/// Answers the lines of `source` in `sink`, as `replay` of `role_wire` does, over a new and empty office
+/// of version 2 in memory. The office is lost when the replay ends.
 ///
 /// # Errors
 ///
-/// `Stopped` as `replay` stops; an allocation of its files that fails is a refusal by the store.
-/// `Refused` before it, where memory doesn't suffice for an office: with `Memory`, or with `Store`
-/// where its tables could not be made. Nothing was read or written then.
+/// - `Stopped`, as `replay` stops. If an allocation for the files of the office fails, the cause is `Store`.
+/// - `Refused` with `Memory` or `Store` if an allocation for the new office failed. Nothing was read or
+///   written then.
 pub(crate) fn replay_memory<R: Source, W: Sink>(
     alloc: Global,
     source: &mut R,
@@ -51,7 +51,7 @@ pub(crate) fn replay_memory<R: Source, W: Sink>(
     }
 }
 
-// A new office over the store of files, on two files in memory.
+// Creates an office over the file store, on two files in memory.
 fn new_office(alloc: Global) -> Result<Office<FileStore<MemoryFile>>, Failure>
     ensures ok { IfOk result IsNewOffice }
     ensures err { IfErr result IsUnmade }

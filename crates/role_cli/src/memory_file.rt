@@ -1,4 +1,4 @@
-//! A file in memory: a disk for the tables of an office that goes with the program.
+//! A file in memory: a disk for an office that is lost when the program ends.
 ghost use Rattle.std.specs.Prelude.{◌≡◌, ◌+◌, ◌<◌, ◌≤◌, [], length, take, drop, true, false, refl, is_ok, OnOk, OnErr};
 ghost use Rattle.sqlite_disk.specs.Disk.{CountsFault, Cut, Holds, Torn};
 ghost use Rattle.sqlite_disk.specs.Refusal.{finds_no_room};
@@ -14,9 +14,9 @@ use std::io;
 /// store, and the office answers `Store`.
 #[derive(Drop)]
 pub struct MemoryFile {
-    /// What the file has.
+    /// The content of the file.
     bytes: Vec<u8>,
-    /// How many allocations for them failed. The count stops at the top of its type.
+    /// How many allocations for it failed. The count saturates.
     faults: u64,
 }
 
@@ -48,7 +48,7 @@ impl Disk for MemoryFile {
 
     ghost tally_of = { λ _. record { caught = 0; refused = 0 } };
 
-    // No answer is wrong, so no test of one needs a secret.
+    // No answer is wrong, so no check of one needs a secret key.
     ghost is_clean = { λ _. true };
 
     ghost key_of = { λ _. 0 };
@@ -84,7 +84,7 @@ impl Disk for MemoryFile {
         copy_out(&self.bytes, at, buf)
     }
 
-    // The digest that is wanted is that of the bytes at this place, so a test of them can't fail.
+    // The expected digest is that of the bytes at this place, so the check can't fail.
     fn read_checked(&mut self, _key: u64, _want: u64, at: usize, buf: &mut [u8]) -> io::Result<()> {
         copy_out(&self.bytes, at, buf)
     }
@@ -102,7 +102,7 @@ impl Disk for MemoryFile {
     }
 }
 
-// Fills `buf` with what the file has from this place on. A read past the end is an error.
+// Fills `buf` with the bytes of the file from this place on. A read past the end is an error.
 fn copy_out(file: &[u8], at: usize, buf: &mut [u8]) -> io::Result<()>
     ensures ok { OnOk result (buf.new ≡ take (length buf.old) (drop at file.now)) }
     ensures within { OnOk result (at + length buf.old ≤ length file.now) }
@@ -128,7 +128,7 @@ fn overwrite(file: &mut Vec<u8>, at: usize, bytes: &[u8]) -> Result<(), AllocErr
     Ok(())
 }
 
-// Gives the file this length. If it grows, the new bytes are zero.
+// Sets the length of the file. If it grows, the new bytes are zero.
 fn resize(file: &mut Vec<u8>, len: usize) -> Result<(), AllocError>
     ensures len { OnOk result (length file.new.items ≡ len) }
     ensures others { Cut len file.old.items file.new.items }

@@ -1,4 +1,4 @@
-//! What the program does for its words.
+//! What the program does for its arguments.
 ghost use Rattle.std.specs.Prelude.{◌≡◌, ◌⊎◌, ◌↔◌, ◌≤◌, ◌+◌, map, true, false, OnOk, IfErr, IsErr, IsOk};
 ghost use Rattle.clap.specs.Words.{kind_of, subcommand_of, takes};
 ghost use Rattle.rbac_sets.specs.Stream.{HasRisen};
@@ -12,7 +12,7 @@ ghost use Rattle.role_cli.specs.InMemory.{FailsInMemory, IsCaused};
 ghost use Rattle.role_cli.specs.declared.choice.Choice.{Choice};
 
 use crate::choice::{Choice, Place, Unchosen, choose};
-use crate::failure::{Failure, tell, tell_no_memory};
+use crate::failure::{Failure, report_no_memory, write};
 use crate::files::run_in_file;
 use crate::memory::replay_memory;
 use crate::memory_file::MemoryFile;
@@ -21,22 +21,21 @@ use sqlite::File;
 use sqlite_disk::Disk;
 use std::alloc::Global;
 
-/// The status of a program that did what it was asked.
+/// The exit status if all was done.
 const DONE: u8 = 0;
 
-/// The status of a program that stopped before the end.
+/// The exit status if the work failed.
 const STOPPED: u8 = 1;
 
-/// The status of a program whose words can't be taken.
+/// The exit status if the arguments are no command line of the program.
 const REFUSED: u8 = 2;
 
-/// Does what the program does for `words`, whose first is the program's name, with the files and
-/// sockets of the runtime, and gives its exit status.
+/// Does what the program does for the arguments `words`, the first of which is the program's name, with
+/// the files and sockets of the runtime, and returns the exit status.
 ///
-/// The status is 0 where it was done, and where help was asked for, which `out` has then. It is 1
-/// where the program was refused what it needs or stopped, or memory didn't suffice; `err` has one
-/// line then that says why. It is 2 where the words are no command line of the program; `err` says
-/// why, and nothing was read. A fault of `err` changes nothing.
+/// The status is 0 if the work was done, or if the arguments ask for help or the version, which is written
+/// to `out`. It is 1 if the work failed; one line in `err` says why. It is 2 if the arguments are no command
+/// line of the program; `err` says why, and nothing was read. If writing to `err` fails, nothing else changes.
 pub fn run<R: Source, W: Sink, E: Sink>(
     rt: &HostRuntime,
     words: &[&str],
@@ -65,11 +64,11 @@ pub fn run<R: Source, W: Sink, E: Sink>(
     match choose(rt.alloc(), words) {
         Ok(choice) => status_of(rt.alloc(), done(rt, &choice, source, out), err),
         Err(Unchosen::Either) => {
-            tell(err, b"rbac: give FILE or --memory\n");
+            write(err, b"rbac: give FILE or --memory\n");
             REFUSED
         }
         Err(Unchosen::Memory) => {
-            tell_no_memory(err);
+            report_no_memory(err);
             STOPPED
         }
         Err(Unchosen::Fault(error)) => explain(rt.alloc(), &error, out, err),
@@ -108,7 +107,7 @@ fn done<R: Source, W: Sink>(
     }
 }
 
-// The status, where a failure is told.
+// The exit status. A failure is reported.
 fn status_of<E: Sink>(alloc: Global, done: Result<(), Failure>, err: &mut E) -> u8
     ensures done { (result ≡ 0) ↔ IsOk done }
     ensures stopped { result ≡ 1 → IsErr done }
@@ -120,13 +119,13 @@ fn status_of<E: Sink>(alloc: Global, done: Result<(), Failure>, err: &mut E) -> 
     match done {
         Ok(()) => DONE,
         Err(failure) => {
-            failure.tell(alloc, err);
+            failure.report(alloc, err);
             STOPPED
         }
     }
 }
 
-// Writes what `clap` says: help to `out`, all else to `err`.
+// Writes the text of `clap`: help and the version to `out`, all else to `err`.
 fn explain<W: Sink, E: Sink>(alloc: Global, error: &clap::Error, out: &mut W, err: &mut E) -> u8
     ensures status { (result ≡ 0) ⊎ ((result ≡ 1) ⊎ (result ≡ 2)) }
     ensures help { result ≡ 0 → IsHelp (kind_of error.now) }
@@ -135,13 +134,13 @@ fn explain<W: Sink, E: Sink>(alloc: Global, error: &clap::Error, out: &mut W, er
     ensures silent { result ≡ 0 → err.new ≡ err.old }
 {
     let Ok(text) = format!(in alloc; "{error}") else {
-        tell_no_memory(err);
+        report_no_memory(err);
         return STOPPED;
     };
     if error.use_stderr() {
-        tell(err, text.as_bytes());
+        write(err, text.as_bytes());
         return REFUSED;
     }
-    tell(out, text.as_bytes());
+    write(out, text.as_bytes());
     DONE
 }

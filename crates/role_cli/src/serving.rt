@@ -59,7 +59,7 @@ pub fn serve_on<S: Alter, E: Sink>(
     match serve_all(alloc, office, listener, limit) {
         Ok(()) => 0,
         Err(failure) => {
-            failure.tell(alloc, err);
+            failure.report(alloc, err);
             1
         }
     }

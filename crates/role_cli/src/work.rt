@@ -1,4 +1,4 @@
-//! What is done over the office of an open connection, whatever its store.
+//! The work of each subcommand over the office of an open connection, whatever its store.
 ghost use Rattle.std.specs.Prelude.{◌≡◌, ◌⊎◌, ◌≤◌, ◌+◌, ◌++◌, ◌∷◌, [], ℕ, List, false, Ok, Err, IfErr, IfOk, MatchResult, OnErr, OnOk, codes, string_bytes};
 ghost use Rattle.std.specs.Io.KnownBytes.{Appends};
 ghost use Rattle.sqlite.specs.Held.{state};
@@ -30,24 +30,24 @@ use std::alloc::Global;
 use std::fs::File;
 use std::io::{self, ErrorKind, Read};
 
-/// The most bytes that are read of a CSV file: one more than it may have.
+/// How many bytes of a CSV file are read: one more than it may have.
 const MOST_BYTES: u64 = 2_097_153;
 
 /// Does the work of a subcommand over an open connection, whatever its store, and hands the connection
-/// back: makes, migrates or opens the office in its tables, does what the subcommand does, and writes
-/// what it writes to `out`. Only a replay reads `source`. A CSV file and the port of a server are those
-/// of the runtime.
+/// back: creates, migrates or opens the office in its tables, does what the subcommand does, and writes
+/// its output to `out`. Only a replay reads `source`. `rt` opens the CSV file and the port of a server.
 ///
 /// While the disk returns what was written, the work is done over the state that was stored in the
-/// connection, and the office is in one run from the opening on, in which a crash leaves what its
-/// answers allow: in the connection that is handed back too, however the work ended.
+/// connection. From the opening on the office is in one run, in which a crash leaves what its answers
+/// allow. This holds of the connection that is handed back too, however the work ended.
 ///
 /// # Errors
 ///
-/// `Refused` with the refusal of `create`, `migrate` or `open`: nothing was read or written then, and no
-/// office was changed. Otherwise as the work ended: `Stopped` for a replay and for a CSV file that can't
-/// be read; `Refused` if memory, the store or the output failed, or an import was refused;
-/// `NotListening`, `NotAccepting` and `Closed` for a server.
+/// - `Refused` with the refusal of `create`, `migrate` or `open`. Nothing was read or written, and no office
+///   was changed but by a migration whose commit failed.
+/// - `Refused` if an allocation, the store or the output failed, or an import was refused.
+/// - `Stopped` if a replay stopped, or a CSV file can't be read.
+/// - `NotListening`, `NotAccepting` or `Closed` for a server.
 pub fn run_on_connection<S: Alter, R: Source, W: Sink>(
     rt: &HostRuntime,
     conn: Connection<S>,
@@ -76,7 +76,7 @@ pub fn run_on_connection<S: Alter, R: Source, W: Sink>(
     }
 }
 
-// The office of the connection, for this work.
+// Creates, migrates or opens the office of the connection.
 fn office_of<S: Alter>(
     alloc: Global,
     conn: Connection<S>,
@@ -95,7 +95,7 @@ fn office_of<S: Alter>(
     }
 }
 
-// Does the work over an open office.
+// Does the work of the subcommand over an open office.
 fn run_on_office<S: Alter, R: Source, W: Sink>(
     rt: &HostRuntime,
     office: &mut Office<S>,
@@ -159,7 +159,7 @@ fn report<S: Alter, W: Sink>(alloc: Global, office: &Office<S>, out: &mut W) -> 
     }
 }
 
-// Imports the assignments of a file, and tells what became of them.
+// Imports the assignments of a file, and writes the answer.
 fn import<S: Alter, W: Sink>(
     rt: &HostRuntime,
     office: &mut Office<S>,
@@ -177,7 +177,7 @@ fn import<S: Alter, W: Sink>(
     say(out, line.as_bytes())
 }
 
-// The bytes of a CSV file, or one more than it may have if it has more.
+// The bytes of a CSV file, at most one more than it may have.
 fn text_of(rt: &HostRuntime, path: &str) -> Result<Vec<u8>, Failure>
     ensures { IfErr result IsUnread }
 {
@@ -201,7 +201,7 @@ fn bytes_of(rt: &HostRuntime, path: &str) -> io::Result<Vec<u8>> {
     Ok(bytes)
 }
 
-// Imports the assignments of a text, and returns the line that answers.
+// Imports the assignments of a text, and returns the line of the answer.
 fn imported<S: Alter>(alloc: Global, office: &mut Office<S>, text: &[u8]) -> Result<String, Refusal>
     ensures ok { IfOk result (λ line. (pairs : List Pair) × (answer : List ℕ) × (assignments text.now ≡ Ok pairs)
         × Performs (state S.Store) office.old (Change (Import pairs)) answer office.new × (string_bytes line ≡ answer ++ (10 ∷ []))) }
@@ -216,7 +216,7 @@ fn imported<S: Alter>(alloc: Global, office: &mut Office<S>, text: &[u8]) -> Res
     line
 }
 
-// Does an import, and returns the line that answers.
+// Applies an import, and returns the line of the answer.
 fn import_pairs<S: Alter>(
     alloc: Global,
     office: &mut Office<S>,
@@ -231,7 +231,7 @@ fn import_pairs<S: Alter>(
     import_line(alloc, report)
 }
 
-// The line that answers an import.
+// The line of the answer to an import.
 fn import_line(alloc: Global, report: Report) -> Result<String, Refusal>
     ensures ok { IfOk result (λ line. string_bytes line ≡ import_text (tally_of_report report) ++ (10 ∷ [])) }
     ensures err { IfErr result (λ refusal. refusal ≡ Refusal.Memory) }
