@@ -1,4 +1,4 @@
--- What holds over every list of runs of one office (a run is a `Life`): which state each opening gives, and what stays removed.
+-- What holds over every list of runs of one office: which state each opening gives, and what stays removed.
 use Rattle.std.specs.Prelude.{ℕ, ◌≡◌, ◌≢◌, ◌⊎◌, ◌↔◌, Bool, true, false, if◌then◌else◌, List, [], ◌∷◌, ◌++◌, map, filter, Contains, Some, None, Ok, Err, is_ok, IsTrue}
 use Rattle.std.specs.List.{list_any}
 use Rattle.rbac_sets.specs.Sets.{Bytes, contains}

@@ -1,4 +1,4 @@
-//! Migrating an office of version 1 to version 2.
+//! Migrates an office of version 1 to version 2.
 ghost use Rattle.std.specs.Prelude.{◌≡◌, ◌≢◌, [], false, true, IsTrue, IfErr, IfOk, MatchResult};
 ghost use Rattle.sqlite.specs.State.{HasCleanDisk, KeepsCommit, Survives};
 ghost use Rattle.sqlite.specs.Held.{state};

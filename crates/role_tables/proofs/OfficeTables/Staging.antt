@@ -1,4 +1,4 @@
--- Creating one more table leaves the others as they were.
+-- One more table is created, and the others stay as they were.
 use Rattle.std.proofs.Common.{◌<◌, take, get_or, ◌≡◌, ◌⊎◌, inl, inr, ℕ, ◌==◌, ◌+◌, ◌++◌, List, [], ◌∷◌, length, map, not, ◌||◌, slice_get, Bool, true, false, Option, Some, None, is_some, IsTrue, Ok, refl, sym, ap, subst, ◌∙◌, arith, codes}
 use Rattle.std.specs.List.{list_any, position_from}
 use Rattle.std.specs.Option.{option_and_then}
