@@ -9,7 +9,7 @@ use Rattle.admin_mgr.specs.Held.{run_of}
 use Rattle.admin_mgr.specs.declared.planning.ending.Loss.{Loss}
 use Rattle.admin_mgr.specs.declared.planning.ending.Loss.TheVariants.{User, Assignment, Role, Pairs as OrderPairs}
 
--- the role, or a senior of it, is the role of one of the pairs (holder, role), the role `gone` left out
+-- the role, or a senior of it, is the role of one of the pairs (holder, role), and that isn't the role `gone`
 abbrev pub is_held_without_role : Pairs → List Pair → Bytes → Bytes → Bool
 is_held_without_role edges held gone role = list_any (λ (pair : Pair). not (same_name pair.1 gone) && geq edges pair.1 role) held
 

@@ -1,6 +1,6 @@
 -- The roles of a holder, which is a user or a session, by its pairs (holder, role): the assignments of the user, or the activated
--- roles of the session. The holder has the roles of these pairs and their juniors: a user is authorized for them, and in a session
--- they are the session roles.
+-- roles of the session. The holder has the roles of these pairs and their juniors: a user is authorized for them, and in a
+-- session they are the session roles.
 use Rattle.std.specs.Prelude.{ℕ, Bool, not, ◌||◌, ◌&&◌, nat_lt, List, Option, count_by, find}
 use Rattle.std.specs.List.{list_any, list_all}
 use Rattle.std.specs.Option.{option_map}
@@ -10,7 +10,7 @@ use Rattle.role_order.specs.Order.{geq}
 pub use Rattle.role_order.specs.Runs.{run_of}
 use Rattle.admin_mgr.specs.RbacState.{Separation}
 
--- whether the holder of these pairs has the role: it is the role of one of the pairs, or a junior of that
+-- whether the holder of these pairs has the role: it is the role of one of the pairs, or a junior of that role
 abbrev pub is_reached : Pairs → List Pair → Bytes → Bool
 is_reached edges held role = list_any (λ (pair : Pair). geq edges pair.1 role) held
 
