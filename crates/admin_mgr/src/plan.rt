@@ -29,8 +29,8 @@ pub struct Plan {
 }
 
 impl Plan {
-    /// The rows to take, and then the rows to put. The state of the plan has each row to take and no row to
-    /// put, and no row is listed twice. It doesn't allocate.
+    /// The rows to take, and then the rows to put. The state for which the plan was made has each row to take
+    /// and no row to put, and no row is listed twice. It doesn't allocate.
     pub fn changes(&self) -> &[Change]
         ensures { result.now ≡ self.now.changes.items }
     {
