@@ -40,8 +40,8 @@ pub(crate) mod set_refusals;
 
 // The verdict on a command: the first of its refusals that applies, or `None` if the command is accepted.
 //
-// It is an error if an allocation failed: for the name of a violated separation of duty set, for the list
-// of the users or sessions that have the ascendant of a new inheritance, or for the numbers of their roles.
+// It is an error if an allocation failed: for the name of a violated separation of duty set, or for the
+// check of who would violate a set by a new inheritance.
 pub(crate) fn judge(
     alloc: Global,
     state: &State,

@@ -87,7 +87,7 @@ pub fn named_turns()
     ensures { NamedTurns }
 {}
 
-/// The verdict on a command, the state after it and its tally depend only on what it asks for, and not on
+/// The verdict on a command, the state after it and its report depend only on what it asks for, and not on
 /// the room that its sets and its list have.
 pub fn commands_go_by_asked()
     ensures { CommandsGoByAsked }

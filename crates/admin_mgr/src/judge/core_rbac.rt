@@ -1,4 +1,5 @@
-//! The verdicts on the commands of core RBAC except those on sessions, on the locks and on the import.
+//! The verdicts on the commands of core RBAC except those on sessions, and on the commands on locks and the
+//! import.
 ghost use Rattle.std.specs.Prelude.{◌≡◌, IfOk};
 ghost use Rattle.rbac_sets.specs.declared.command.Command.TheVariants.{AddUser, DeleteUser, AddRole, DeleteRole, AddPermObj, DeletePermObj, AddPermission, DeletePermission, GrantPermission, RevokePermission, AssignUser, DeassignUser, ImportAssignments, LockUserAccount, UnlockUserAccount};
 ghost use Rattle.admin_mgr.specs.Assignment.{assign_user_refusals};

@@ -24,8 +24,8 @@ use std::alloc::{AllocError, Global};
 // that some user would violate, then by `DynamicSeparation` with the first dynamic set in byte order that
 // some session would violate.
 //
-// It is an error if an allocation failed: for the name of the set, for the list of the users or sessions
-// that have `asc`, or for the numbers of their roles.
+// It is an error if an allocation failed: for the name of the set, or for the check of who would violate a
+// set.
 #[tactic(auto, unfolding(crate::specs::Verdict::verdict, crate::specs::Verdict::refusals))]
 pub(crate) fn judge_add_inheritance(
     alloc: Global,

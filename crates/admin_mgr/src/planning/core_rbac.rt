@@ -1,4 +1,4 @@
-//! The plans of the commands of core RBAC except those on sessions and the import, and of the locks.
+//! The plans of the commands of core RBAC except those on sessions, and of the commands on locks.
 ghost use Rattle.std.specs.Prelude.{◌≡◌, ◌++◌, None, IfOk, IfErr, OnOk};
 ghost use Rattle.rbac_sets.specs.declared.command.Command.TheVariants.{AddUser, DeleteUser, AddRole, DeleteRole, AddPermObj, DeletePermObj, AddPermission, DeletePermission, GrantPermission, RevokePermission, AssignUser, DeassignUser, LockUserAccount, UnlockUserAccount};
 ghost use Rattle.admin_mgr.specs.Listing.{lock_rows, new_lock_rows};
