@@ -1,4 +1,4 @@
--- The state after an accepted command. Each clause of `changed` is the function of the standard, or of this office, that has its name.
+-- The state after an accepted command. Each clause of `changed` is the function of this name, of the standard or of this office.
 use Rattle.std.specs.Prelude.{ℕ, not, ◌&&◌}
 use Rattle.rbac_sets.specs.Sets.{Bytes, Names, Pairs, Cardinalities, name_cmp, image, same_name, insert, remove, retain, union}
 use Rattle.rbac_sets.specs.SortedSet.{set_of}
@@ -39,7 +39,7 @@ module _ (separation : Separation) where
   abbrev pub without_member : Bytes → Bytes → Separation
   without_member name role = record separation { members = remove separation.members (name, role) }
 
-  -- another cardinality of a set, or the same
+  -- a set with this cardinality instead of its own
   abbrev pub with_cardinality : Bytes → ℕ → Separation
   with_cardinality name cardinality = record separation {
     cardinalities = insert (without_cardinality name separation.cardinalities) (name, cardinality);
@@ -52,7 +52,7 @@ module _ (separation : Separation) where
     cardinalities = without_cardinality name separation.cardinalities;
   }
 
--- the sets and relations with what the command puts or takes itself; sessions may have to end yet
+-- the sets and relations with what the command itself adds, removes or sets, before any session ends
 unfoldable pub changed : RbacState → Command → RbacState
 changed S (AddUser user) = record S { users = insert S.users user }
 changed S (DeleteUser user) = record S {

@@ -1,4 +1,4 @@
--- What becomes of a command, by what it asks for.
+-- The verdict on a command, the state after it and its tally, as functions of what the command asks for.
 use Rattle.std.specs.Prelude.{◌≡◌, [], ◌∷◌, length, Option}
 use Rattle.rbac_sets.specs.Asked.{Asked, Single, Import, asked_of}
 use Rattle.rbac_sets.specs.declared.command.Command.{Command}
@@ -16,17 +16,17 @@ unfoldable pub asked_verdict : RbacState → Asked → Option Refusal
 asked_verdict S (Single command) = verdict S command
 asked_verdict S (Import pairs) = first (too_many S Record (length pairs) ∷ [])
 
--- the state after it, where it is accepted
+-- the state after it, if it is accepted
 unfoldable pub asked_after : RbacState → Asked → RbacState
 asked_after S (Single command) = after S command
 asked_after S (Import pairs) = end_sessions (after_import S pairs)
 
--- what is told besides, where it is accepted
+-- its tally, if it is accepted
 unfoldable pub asked_tally : RbacState → Asked → Tally
 asked_tally S (Single command) = tally S command
 asked_tally S (Import pairs) = tally_of (import_verdicts S pairs)
 
--- what becomes of a command goes by what it asks for alone
+-- the verdict on a command, the state after it and its tally depend only on what it asks for
 pub record GoesByAsked (S : RbacState) (command : Command) : Type 0 where
   pub verdict_is : verdict S command ≡ asked_verdict S (asked_of command)
   pub after_is : after S command ≡ asked_after S (asked_of command)

@@ -1,4 +1,4 @@
--- Assigning a user to a role, once, and for each record of an import; and which sessions end by a change.
+-- Assigning a user to a role, in one command or for each record of an import; and which sessions a change ends.
 use Rattle.std.specs.Prelude.{ℕ, ◌+◌, Bool, false, not, if◌then◌else◌, ◌&&◌, nat_eq, List, [], ◌∷◌, ◌++◌, Option, Some, None, is_none, count_by}
 use Rattle.std.specs.List.{enumerate_from, filter_map}
 use Rattle.rbac_sets.specs.Refusal.{code_of}
@@ -10,7 +10,7 @@ use Rattle.admin_mgr.specs.RbacState.{RbacState, active_roles}
 use Rattle.admin_mgr.specs.Authorization.{is_authorized}
 use Rattle.admin_mgr.specs.Refusing.{refuse_if, refuse_unless, first, too_many, breaks_static}
 
--- the session's user is there, is not locked, and is authorized for each role that was activated in the session
+-- the session's user exists, is not locked, and is authorized for each role that was activated in the session
 unfoldable pub may_go_on : RbacState → Pair → Bool
 may_go_on S session = contains S.users session.1 && not (contains S.locked session.1) && all (is_authorized S session.1) (active_roles S session.0)
 
@@ -25,7 +25,7 @@ end_sessions S = record S {
 unfoldable pub after_assignment : RbacState → Pair → RbacState
 after_assignment S pair = end_sessions (record S { assignments = insert S.assignments pair })
 
--- what an assignment is refused for, in the order in which it is judged, but for static separation
+-- what refuses an assignment, in the order of judgement, without the check of static separation
 abbrev pub assign_user_refusals : RbacState → Pair → List (Option Refusal)
 assign_user_refusals S (user, role) =
     refuse_unless (contains S.users user) NoUser
@@ -41,7 +41,7 @@ assignment_refusals S pair = assign_user_refusals S pair ++ breaks_static (after
 unfoldable pub assignment_verdict : RbacState → Pair → Option Refusal
 assignment_verdict S pair = first (assignment_refusals S pair)
 
--- ---- an import: each record is assigned in turn, and a refused one leaves the state
+-- ---- an import: each record is assigned in turn, and a refused one leaves the state as it was
 
 unfoldable pub after_record : RbacState → Pair → RbacState
 after_record S pair = if is_none (assignment_verdict S pair) then after_assignment S pair else S
@@ -55,8 +55,8 @@ unfoldable pub import_verdicts : RbacState → List Pair → List (Option Refusa
 import_verdicts S [] = []
 import_verdicts S (pair ∷ pairs) = assignment_verdict S pair ∷ import_verdicts (after_record S pair) pairs
 
--- what is told of an import: how many records were assigned, how many had been before, and which others were refused,
--- each as its number from 1 and the number of the refusal
+-- What is reported of an import: how many records were assigned, how many had been assigned before, and which others were
+-- refused, each as its number, from 1, and the code of its refusal.
 pub record Tally : Type 0 where
   pub assigned : ℕ
   pub already : ℕ
@@ -67,12 +67,12 @@ abbrev pub is_already : Option Refusal → Bool
 is_already None = false
 is_already (Some refusal) = nat_eq (code_of refusal) (code_of AlreadyAssigned)
 
--- a record's number with that of its refusal, where it is refused for another reason than that
+-- the number of a record with the code of its refusal, if it was refused for another reason than that
 abbrev pub refused_record : ℕ × Option Refusal → Option (ℕ × ℕ)
 refused_record (number, None) = None
 refused_record (number, Some refusal) = if nat_eq (code_of refusal) (code_of AlreadyAssigned) then None else Some (number, code_of refusal)
 
--- what is told of a command that is no import
+-- the tally of a command that is no import
 abbrev pub no_tally : Tally
 no_tally = record { assigned = 0; already = 0; refused = [] }
 

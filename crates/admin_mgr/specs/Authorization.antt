@@ -4,7 +4,7 @@ use Rattle.rbac_sets.specs.Sets.{Bytes, Names, Pair, Pairs, Triple, any, image, 
 use Rattle.role_order.specs.Order.{geq}
 use Rattle.admin_mgr.specs.RbacState.{RbacState, active_roles}
 
--- AuthorizedUsers, authorized_users: the users who are assigned the role or a role above it
+-- AuthorizedUsers, authorized_users: the users who are assigned to the role or to a senior of it
 unfoldable pub authorized_users : RbacState → Bytes → Names
 authorized_users S role = image (λ (assignment : Pair). assignment.0) (retain S.assignments (λ assignment. geq S.edges assignment.1 role))
 
@@ -16,18 +16,18 @@ is_authorized S user role = contains (authorized_users S role) user
 unfoldable pub authorized_roles : RbacState → Bytes → Names
 authorized_roles S user = retain S.roles (is_authorized S user)
 
--- RolePermissions, authorized_permissions: what is granted to the role or to a role below it, as (object, operation)
+-- RolePermissions, authorized_permissions: the permissions granted to the role or to a junior of it, as (object, operation)
 unfoldable pub authorized_permissions : RbacState → Bytes → Pairs
 authorized_permissions S role = image (λ (grant : Triple). (grant.0, grant.1)) (retain S.grants (λ grant. geq S.edges role grant.2))
 
--- whether the role, or one above it, was activated in the session
+-- whether the role, or a senior of it, was activated in the session
 abbrev pub is_session_role : RbacState → Bytes → Bytes → Bool
 is_session_role S session role = any (λ active. geq S.edges active role) (active_roles S session)
 
--- SessionRoles, session_roles: the roles that were activated in the session, and those below them
+-- SessionRoles, session_roles: the roles that were activated in the session, and their juniors
 unfoldable pub session_roles : RbacState → Bytes → Names
 session_roles S session = retain S.roles (is_session_role S session)
 
--- CheckAccess, of a session, an operation and an object: a role of the session is granted the permission
+-- CheckAccess: whether a role of the session is granted the operation on the object
 unfoldable pub has_access : RbacState → Bytes → Bytes → Bytes → Bool
 has_access S session operation object = any (λ role. contains S.grants (object, operation, role)) (session_roles S session)

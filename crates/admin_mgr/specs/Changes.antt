@@ -1,4 +1,4 @@
--- What a list of changes of rows makes of a state.
+-- Lists of changes of rows, and which state they turn a state into.
 use Rattle.std.specs.Prelude.{◌≡◌, Bool, false, not, ◌&&◌, ◌||◌, nat_eq, List, [], ◌∷◌, IsTrue}
 use Rattle.std.specs.List.{list_any}
 use Rattle.std.specs.Ordering.{eq_by_cmp}
@@ -10,7 +10,7 @@ use Rattle.rbac_sets.specs.declared.row.Change.TheVariants.{Put, Take}
 use Rattle.admin_mgr.specs.RbacState.{RbacState}
 use Rattle.admin_mgr.specs.Rows.{has_row}
 
--- whether two rows are one
+-- whether the two rows are the same
 abbrev pub same_row : Row → Row → Bool
 same_row (NameRow k a) (NameRow l x) = nat_eq k l && same_name x a
 same_row (PairRow k a b) (PairRow l x y) = nat_eq k l && eq_by_cmp pair_cmp (x, y) (a, b)
@@ -43,13 +43,13 @@ IsOnce [] = Unit {0}
 IsOnce (Put row ∷ changes) = (is_put changes row ≡ false) × IsOnce changes
 IsOnce (Take row ∷ changes) = (is_taken changes row ≡ false) × IsOnce changes
 
--- once a row is put, none is taken any more
+-- no row is taken after a row was put
 abbrev pub TakesFirst : List Change → Type 0
 TakesFirst [] = Unit {0}
 TakesFirst (Put row ∷ changes) = ((other : Row) → is_taken changes other ≡ false) × TakesFirst changes
 TakesFirst (Take row ∷ changes) = TakesFirst changes
 
--- The changes turn the rows of S into those of T: they take rows that are there, and then put rows that aren't, each once.
+-- The changes turn the rows of S into those of T: they take rows that S has, and then put rows that S doesn't have, each once.
 pub record Turns (S : RbacState) (changes : List Change) (T : RbacState) : Type 0 where
   pub version : S.version ≡ T.version
   pub rows : (row : Row) → has_row T row ≡ (has_row S row && not (is_taken changes row) || is_put changes row)

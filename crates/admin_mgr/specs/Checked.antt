@@ -1,4 +1,4 @@
--- Which rows are those of a good state, and what is answered on others.
+-- Which rows are those of a good state, and by what other rows are refused.
 use Rattle.std.specs.Prelude.{◌≡◌, ℕ, ◌<◌, ◌≤◌, Bool, true, false, ◌||◌, nat_eq, nat_lt, List, [], ◌∷◌, Option, Some, find, IsTrue}
 use Rattle.std.specs.List.{list_any, list_all}
 use Rattle.rbac_sets.specs.Sets.{Bytes, Names, Pair, Pairs, contains, len, any, seconds}
@@ -18,20 +18,20 @@ use Rattle.admin_mgr.specs.Gathered.{Gathered, gathered, is_among, is_known, Hav
 
 -- ---- the checks
 
--- each row is one that the version has, and no key occurs twice
+-- each row is one that the version allows, and no two rows have the same key
 pub record AreReadable (version : ℕ) (rows : List Row) : Type 0 where
   pub known : IsTrue (list_all (is_known version) rows)
   pub keys : HaveKeysOnce rows
 
--- the limits in the order in which they are asked
+-- the kinds whose limits are checked, in this order
 abbrev pub limited_kinds : List Kind
 limited_kinds = User ∷ Role ∷ Object ∷ Permission ∷ Grant ∷ Assignment ∷ Edge ∷ SsdSet ∷ DsdSet ∷ Member ∷ Session ∷ ActiveRole ∷ []
 
--- some first name has more pairs than so many
+-- more pairs than the limit begin with one name
 abbrev pub has_more_behind : ℕ → Pairs → Bool
 has_more_behind limit pairs = any (λ (pair : Pair). nat_lt limit (len (seconds pairs pair.0))) pairs
 
--- there are more of the kind than its limit
+-- the limit of the kind is exceeded
 abbrev pub is_passed : RbacState → Kind → Bool
 is_passed S User = nat_lt (limit_of User S.version) (len S.users)
 is_passed S Role = nat_lt (limit_of Role S.version) (len S.roles)
@@ -48,7 +48,7 @@ is_passed S ActiveRole = has_more_behind (limit_of ActiveRole S.version) S.activ
 is_passed S Record = false
 is_passed S Byte = false
 
--- the first limit that is passed
+-- the first kind whose limit is exceeded
 abbrev pub first_passed : RbacState → Option Kind
 first_passed S = find (is_passed S) limited_kinds
 
@@ -56,7 +56,7 @@ first_passed S = find (is_passed S) limited_kinds
 abbrev pub HasMembersThere : Names → Separation → Type 0
 HasMembersThere roles separation = (name role : Bytes) → IsTrue (contains separation.members (name, role)) → IsTrue (has_set separation name) × IsTrue (contains roles role)
 
--- what a row speaks of is there
+-- each user, role, object, permission, session and set that a row refers to exists
 pub record IsComplete (g : Gathered) : Type 0 where
   pub permissions : (object operation : Bytes) → IsTrue (contains g.facts.permissions (object, operation)) → IsTrue (contains g.facts.objects object)
   pub assignments : (user role : Bytes) → IsTrue (contains g.facts.assignments (user, role)) → IsTrue (contains g.facts.users user) × IsTrue (contains g.facts.roles role)
@@ -73,7 +73,7 @@ pub record IsComplete (g : Gathered) : Type 0 where
 abbrev pub HaveOneUser : RbacState → Type 0
 HaveOneUser S = (session user other : Bytes) → IsTrue (contains S.sessions (session, user)) → IsTrue (contains S.sessions (session, other)) → user ≡ other
 
--- the cardinality of a set is from two to the number of its members
+-- the cardinality of each set is at least 2 and at most the number of its members
 abbrev pub HasCardinalities : Separation → Type 0
 HasCardinalities separation = (name : Bytes) (n : ℕ) → IsTrue (contains separation.cardinalities (name, n)) → (2 ≤ n) × (n ≤ len (members_of separation name))
 
@@ -85,12 +85,12 @@ HaveAuthorizedUsers S = (session user role : Bytes) → IsTrue (contains S.sessi
 abbrev pub HaveUnlockedUsers : RbacState → Type 0
 HaveUnlockedUsers S = (session user : Bytes) → IsTrue (contains S.sessions (session, user)) → contains S.locked user ≡ false
 
--- the first statement where the test holds, and else the second
+-- the first statement if the test holds, otherwise the second
 abbrev pub Choose : Bool → Type 0 → Type 0 → Type 0
 Choose true Then Else = Then
 Choose false Then Else = Else
 
--- the check of this number
+-- the sets pass the check of this number
 abbrev pub Passes : Gathered → ℕ → Type 0
 Passes g number =
     Choose (nat_eq number 2) (IsWithinLimits g.facts)
@@ -104,22 +104,22 @@ Passes g number =
     (Choose (nat_eq number 10) (IsDynamicallySeparated g.facts)
     (Choose (nat_eq number 11) (HaveUnlockedUsers g.facts) (Unit {0}))))))))))
 
--- ---- the answers
+-- ---- the refusals
 
 -- the check of this number fails, and each one before it passes
 pub record IsFirstFailure (g : Gathered) (number : ℕ) : Type 0 where
   pub passed : (earlier : ℕ) → earlier < number → Passes g earlier
   pub failed : Passes g number → ⊥
 
--- what may be refused on rows that make these sets: the first failure is named, and a limit by the first that is passed;
--- memory may be wanting at any time
+-- Rows that make these sets may be refused so: by the first check that fails, or for check 2 by the first kind whose limit is
+-- exceeded; and by 40 Memory at any time.
 abbrev pub RefusesSets : Gathered → Refusal → Type 0
 RefusesSets g (TooMany kind) = first_passed g.facts ≡ Some kind
 RefusesSets g (Damaged number) = (3 ≤ number) × IsFirstFailure g number
 RefusesSets g Memory = Unit {0}
 RefusesSets g _ = ⊥
 
--- what may be refused on these rows: the first check is that they are readable
+-- these rows may be refused so; check 1 is that they are readable
 abbrev pub RefusesRows : ℕ → List Row → Refusal → Type 0
 RefusesRows version rows Memory = Unit {0}
 RefusesRows version rows (Damaged number) =
@@ -142,6 +142,6 @@ pub record IsStateOf (version : ℕ) (rows : List Row) (S : RbacState) : Type 0 
   pub stored : AreRowsOf S rows
   pub good : IsGood S
 
--- the rows of a good state are refused for want of memory alone
+-- the rows of a good state are refused by 40 Memory only
 abbrev pub GoodRowsAreRead : Type 0
 GoodRowsAreRead = (S : RbacState) (rows : List Row) (refusal : Refusal) → IsGood S → AreRowsOf S rows → RefusesRows S.version rows refusal → refusal ≡ Memory

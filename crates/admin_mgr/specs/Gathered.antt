@@ -1,4 +1,4 @@
--- The sets that a list of rows makes.
+-- The sets that stored rows make.
 use Rattle.std.specs.Prelude.{◌≡◌, refl, ℕ, Bool, false, not, ◌&&◌, nat_eq, is_some, if◌then◌else◌, List, [], ◌∷◌}
 use Rattle.std.specs.List.{list_any}
 use Rattle.std.specs.Coded.{Coded, coded×, code_by}
@@ -32,7 +32,7 @@ abbrev pub HaveKeysOnce : List Row → Type 0
 HaveKeysOnce [] = Unit {0}
 HaveKeysOnce (row ∷ rows) = (list_any (λ (other : Row). same_key row other) rows ≡ false) × HaveKeysOnce rows
 
--- ---- what the rows of one kind name, in their order
+-- ---- the entries of the rows of one kind, in their order
 
 abbrev pub names_of : ℕ → List Row → List Bytes
 names_of kind [] = []
@@ -61,7 +61,7 @@ locks_of (_ ∷ rows) = locks_of rows
 
 -- ---- the sets
 
--- the sets and relations that rows make, and the pairs that are stored beside the edges of the role hierarchy
+-- the sets and relations that rows make, and the closure pairs that are stored beside the edges of the role hierarchy
 pub record Gathered : Type 0 where
   pub facts : RbacState
   pub pairs : Pairs
@@ -70,7 +70,7 @@ abbrev pub coded_gathered : Coded Gathered
 coded_gathered =
     code_by (RbacState × Pairs) (coded× coded_state (coded_set coded_pair)) (λ g. (g.facts, g.pairs)) (λ p. record { facts = p.0; pairs = p.1 }) (λ _. refl)
 
--- what the rows of an office of this version make
+-- the sets that the rows of an office of this version make
 unfoldable pub gathered : ℕ → List Row → Gathered
 gathered version rows = record {
   facts = record {
@@ -93,19 +93,19 @@ gathered version rows = record {
 
 -- ---- one row more
 
--- the pair of a row of this kind is put
+-- the pairs, with that of the row if it is of this kind
 abbrev pub with_pair_of : ℕ → Pairs → Row → Pairs
 with_pair_of kind pairs (PairRow k a b) = if nat_eq k kind then insert pairs (a, b) else pairs
 with_pair_of kind pairs _ = pairs
 
--- one row more
+-- the sets with one row more
 abbrev pub with_stored : Gathered → Row → Gathered
 with_stored g row = record {
   facts = with_edges (with_row g.facts row) (with_pair_of INHERITANCE g.facts.edges row);
   pairs = with_pair_of CLOSURE_PAIR g.pairs row;
 }
 
--- a row of this key is there
+-- there is a row with the key of this one
 unfoldable pub has_key : Gathered → Row → Bool
 has_key g (NameRow kind a) = has_name g.facts kind a
 has_key g (PairRow kind a b) = if nat_eq kind CLOSURE_PAIR then contains g.pairs (a, b) else has_pair g.facts kind a b

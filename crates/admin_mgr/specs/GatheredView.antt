@@ -1,4 +1,4 @@
--- What the fields of the gathered rows stand for.
+-- The sets that the fields of `Gathered` hold.
 use Rattle.rbac_sets.specs.Sets.{name_cmp, pair_cmp, triple_cmp}
 use Rattle.rbac_sets.specs.SortedSet.{set_of}
 use Rattle.admin_mgr.specs.Kept.{separation_of}

@@ -1,4 +1,4 @@
--- Who a kind of separation of duty goes over: users with what they are assigned, or sessions with what was activated in them.
+-- Who a kind of separation of duty applies to: users with their assignments, or sessions with their activated roles.
 use Rattle.std.specs.Prelude.{List, map}
 use Rattle.rbac_sets.specs.Sets.{Pair, members, pair_cmp}
 use Rattle.rbac_sets.specs.SortedSet.{set_of}
@@ -9,12 +9,12 @@ use Rattle.admin_mgr.specs.declared.separation_of_duty.SeparationOfDuty.TheVaria
 use Rattle.admin_mgr.specs.RbacState.{RbacState}
 use Rattle.admin_mgr.specs.Held.{run_of}
 
--- of each user its assignments, or of each session its activated roles, as pairs (holder, role)
+-- for each user its assignments, or for each session its activated roles, as pairs (holder, role)
 abbrev pub runs_of : SeparationOfDuty → RbacState → List (List Pair)
 runs_of Static S = map (run_of S.assignments) (members S.users)
 runs_of Dynamic S = map (λ (session : Pair). run_of S.active session.0) (members S.sessions)
 
--- the runs that are still to come
+-- the runs that the iterator has still to yield
 abbrev pub runs_left : Runs → List (List Pair)
 runs_left (OfUsers users assignments) = map (run_of (set_of pair_cmp assignments.now)) users.now
 runs_left (OfSessions sessions active) = map (λ (session : Pair). run_of (set_of pair_cmp active.now) session.0) sessions.now

@@ -1,4 +1,4 @@
--- What an import of assignments puts.
+-- The assignments that an import adds, and what its records have come to one after another.
 use Rattle.std.specs.Prelude.{◌≡◌, ℕ, ◌+◌, ◌||◌, if◌then◌else◌, List, [], ◌∷◌, ◌++◌, Option, Some, None, is_none}
 use Rattle.std.specs.List.{cons_option}
 use Rattle.rbac_sets.specs.SortedSet.{set_of}
@@ -29,7 +29,7 @@ accepted S (pair ∷ pairs) =
 abbrev pub put_assignment : Pair → Change
 put_assignment pair = Put (PairRow ASSIGNMENT pair.0 pair.1)
 
--- what an assignment is refused for where these were added before, but for static separation
+-- what refuses an assignment if these pairs were added before it, without the check of static separation
 abbrev pub record_refusals : RbacState → Pairs → Pair → List (Option Refusal)
 record_refusals S added (user, role) =
     refuse_unless (contains S.users user) NoUser
@@ -38,9 +38,9 @@ record_refusals S added (user, role) =
     ∷ too_many S Assignment (len S.assignments + len added + 1)
     ∷ []
 
--- ---- what the records so far have come to
+-- ---- what the records so far have come to: the pairs added, their changes, and the report
 
--- nothing yet
+-- no record was judged yet
 pub record IsBegun (begun : Imported) : Type 0 where
   pub added : set_of pair_cmp begun.added ≡ empty
   pub changes : begun.changes.items ≡ []
@@ -64,7 +64,7 @@ pub record IsTold (number : ℕ) (refusal : Refusal) (before later : Imported) :
   pub already : later.report.already ≡ before.report.already + (if is_already (Some refusal) then 1 else 0)
   pub refused : later.report.refused.items ≡ before.report.refused.items ++ cons_option (refused_record (number, Some refusal)) []
 
--- one more record was judged so
+-- one more record was judged, with this verdict
 abbrev pub Follows : Option Refusal → ℕ → Pair → Imported → Imported → Type 0
 Follows None number pair before later = IsAssigned pair before later
 Follows (Some refusal) number pair before later = IsTold number refusal before later

@@ -5,8 +5,8 @@ use Rattle.rbac_sets.specs.Sets.{pair_cmp, cardinality_cmp, Pair, Cardinality}
 use Rattle.rbac_sets.specs.SortedSet.{Stored, set_of}
 use Rattle.admin_mgr.specs.RbacState.{RbacState, Separation, coded_state}
 
--- the state, and how many more entries each set can take without memory: by the number of its table, and of the hierarchy by
--- its edges and its pairs
+-- The state, and for how many more entries each set has room without an allocation: by the number of its table, and for the role
+-- hierarchy by its edges and its closure pairs.
 pub record Kept : Type 0 where
   pub facts : RbacState
   pub room : List (ℕ × ℕ)
@@ -19,6 +19,6 @@ coded_kept =
     (λ k. (k.facts, (k.room, (k.edge_room, k.pair_room))))
     (λ p. record { facts = p.0; room = p.1.0; edge_room = p.1.1.0; pair_room = p.1.1.1 }) (λ _. refl)
 
--- the separation of duty sets of these members and cardinalities
+-- the separation of duty sets with these members and cardinalities
 abbrev pub separation_of : Stored Pair → Stored Cardinality → Separation
 separation_of members cardinalities = record { members = set_of pair_cmp members; cardinalities = set_of cardinality_cmp cardinalities }

@@ -22,18 +22,18 @@ use Rattle.admin_mgr.specs.Good.{IsGood, IsWellFormed, IsStaticallySeparated, Is
 abbrev pub IsWithin : Names → Names → Type 0
 IsWithin part roles = (role : Bytes) → IsTrue (contains part role) → IsTrue (contains roles role)
 
--- nobody is authorized for each of the roles
+-- nobody is authorized for all of the roles
 abbrev pub HaveNobodyInCommon : RbacState → Names → Type 0
 HaveNobodyInCommon S part = (user : Bytes) → ((role : Bytes) → IsTrue (contains part role) → IsTrue (is_authorized S user role)) → ⊥
 
--- static separation of duty as the standard says it: as many roles of a set as its cardinality, or more, have no
--- authorized user in common
+-- static separation of duty as the standard defines it: if a set has cardinality n, any n or more of its roles have no authorized
+-- user in common
 abbrev pub IsSeparatedBySubsets : RbacState → Type 0
 IsSeparatedBySubsets S =
     (name : Bytes) (n : ℕ) (part : Names)
     → IsTrue (contains S.ssd.cardinalities (name, n)) → IsWithin part (members_of S.ssd name) → n ≤ len part → HaveNobodyInCommon S part
 
--- counting the roles of each user says the same
+-- the definition that counts the roles of each user is equivalent to the standard's
 abbrev pub SubsetForm : Type 0
 SubsetForm = (S : RbacState) → IsStaticallySeparated S ↔ IsSeparatedBySubsets S
 
@@ -45,27 +45,27 @@ RowsDetermine = (S T : RbacState) → S.version ≡ T.version → ((row : Row) �
 abbrev pub AcceptedIsGood : Type 0
 AcceptedIsGood = (S : RbacState) → IsGood S → (command : Command) → verdict S command ≡ None → IsGood (after S command)
 
--- where the relations are well formed, no static set is named exactly where none is violated
+-- if the relations are well formed, the test of a verdict names no static set if and only if none is violated
 abbrev pub StaticTest : Type 0
 StaticTest = (S : RbacState) → IsWellFormed S → (static_violation S ≡ None) ↔ IsStaticallySeparated S
 
--- no dynamic set is named exactly where none is violated
+-- the test of a verdict names no dynamic set if and only if none is violated
 abbrev pub DynamicTest : Type 0
 DynamicTest = (S : RbacState) → (dynamic_violation S ≡ None) ↔ IsDynamicallySeparated S
 
--- where the relations are well formed, the roles for which a user is authorized are all roles that are there: their set
--- leaves none out
+-- if the relations are well formed, `authorized_roles` leaves out none of the roles for which a user is authorized: each of them
+-- is a role of the state
 abbrev pub AuthorizedRolesAreThere : Type 0
 AuthorizedRolesAreThere = (S : RbacState) → IsWellFormed S → (user role : Bytes) → contains (authorized_roles S user) role ≡ is_authorized S user role
 
--- and so are the roles of a session
+-- and `session_roles` leaves out none of the roles of a session
 abbrev pub SessionRolesAreThere : Type 0
 SessionRolesAreThere = (S : RbacState) → IsWellFormed S → (session role : Bytes) → contains (session_roles S session) role ≡ is_session_role S session role
 
--- ---- an import that is made twice
+-- ---- an import that is repeated
 
--- the number of a refusal, and what it may be the second time: where static separation refused, there may be too many
--- assignments by then
+-- the code of a refusal, and the code that it may have the second time: it is the same, but 24 StaticSeparation may become
+-- 32 TooMany, since there may be too many assignments by then
 abbrev pub IsSameCode : ℕ → ℕ → Type 0
 IsSameCode code again = (code ≡ again) ⊎ ((code ≡ code_of (StaticSeparation [])) × (again ≡ code_of (TooMany Assignment)))
 
@@ -76,8 +76,8 @@ RefuseTheSame (record_told ∷ told) (record_again ∷ again) =
     (record_told.0 ≡ record_again.0) × IsSameCode record_told.1 record_again.1 × RefuseTheSame told again
 RefuseTheSame _ _ = ⊥
 
--- in T, the state after the import in S, the same import is accepted, and changes nothing: each record that was assigned
--- is told as assigned before, and the others are refused as they were
+-- In T, the state after the import in S, the same import is accepted, and changes nothing. Each record that was assigned counts
+-- as assigned before, and the same other records are refused.
 pub record IsIdleAgain (S T : RbacState) (pairs : Vec Pair Global) : Type 0 where
   pub accepted : verdict T (ImportAssignments pairs) ≡ None
   pub state : after T (ImportAssignments pairs) ≡ T
@@ -85,7 +85,7 @@ pub record IsIdleAgain (S T : RbacState) (pairs : Vec Pair Global) : Type 0 wher
   pub already : (tally T (ImportAssignments pairs)).already ≡ (tally S (ImportAssignments pairs)).assigned + (tally S (ImportAssignments pairs)).already
   pub refused : RefuseTheSame (tally S (ImportAssignments pairs)).refused (tally T (ImportAssignments pairs)).refused
 
--- an import that is made again changes nothing
+-- an import that is repeated changes nothing
 abbrev pub ImportTwice : Type 0
 ImportTwice = (S : RbacState) (pairs : Vec Pair Global) → verdict S (ImportAssignments pairs) ≡ None →
     IsIdleAgain S (after S (ImportAssignments pairs)) pairs

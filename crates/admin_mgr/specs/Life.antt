@@ -1,4 +1,4 @@
--- What an office answers from one opening to the next, and what a stop at any moment leaves.
+-- Runs of an office: what it answers from one opening to the next, and what a crash at any moment leaves.
 use Rattle.std.specs.Prelude.{◌≡◌, ◌⊎◌, Bool, true, false, ◌&&◌, List, [], ◌∷◌, ◌++◌, Some, None, Result, Ok, Err, All}
 use Rattle.std.specs.List.{list_any, flat_map}
 use Rattle.rbac_sets.specs.Sets.{Bytes, Pair, empty, same_name}
@@ -12,18 +12,18 @@ use Rattle.admin_mgr.specs.After.{after}
 use Rattle.admin_mgr.specs.Verdict.{verdict}
 use Rattle.admin_mgr.specs.Run.{tally}
 
--- a command and what was answered: what is told of it where it is done, or a refusal
+-- a command and its answer: the command's tally if it was done, otherwise a refusal
 pub record Event : Type 0 where
   pub command : Command
   pub reply : Result Tally Refusal
 
--- the office was closed
+-- the command was answered by 42 Closed
 abbrev pub IsClosedReply : Event → Type 0
 IsClosedReply event = event.reply ≡ Err Closed
 
--- The events are possible from S on in this order, and a stop at their end may leave T. A command is answered by its
--- verdict; memory may be refused at any; where the store refused an accepted one, it was done or nothing was, and the
--- office is closed from then on.
+-- From the state S on, the events are possible in this order, and a crash at their end may leave T. A command is answered by its
+-- verdict. Any command may be answered by 40 Memory, and then nothing changes. An accepted command may be answered by 41 Store:
+-- it was done then, or nothing was, and the office is closed from then on.
 abbrev pub Leaves : RbacState → List Event → RbacState → Type 0
 Leaves S [] T = T ≡ S
 Leaves S (event ∷ events) T = elim event.reply as (λ _. Type 0) [
@@ -34,45 +34,45 @@ Leaves S (event ∷ events) T = elim event.reply as (λ _. Type 0) [
   | Err refusal ↦ (verdict S event.command ≡ Some refusal) × Leaves S events T
 ]
 
--- from an opening to the next one, or to a stop
+-- a run of an office, from an opening to the next one or to a crash: the state it was opened with, and its events
 pub record Life : Type 0 where
   pub start : RbacState
   pub events : List Event
 
--- the state taken into version 2, with no user locked
+-- the state migrated to version 2, with no user locked
 abbrev pub taken_into_version_2 : RbacState → RbacState
 taken_into_version_2 S = record S { version = 2; locked = empty }
 
--- two states differ in their version at most
+-- the two states are equal, except that their versions may differ
 abbrev pub IsSameButVersion : RbacState → RbacState → Type 0
 IsSameButVersion S T = record S { version = T.version } ≡ T
 
--- an office may be opened with S after a life: a stop leaves S, or a state of version 1 that was taken into version 2
+-- an office may be opened with S after this run: a crash may leave S, or a state of version 1 that is S once it is migrated
 abbrev pub OpensAfter : Life → RbacState → Type 0
 OpensAfter life S = Leaves life.start life.events S
     ⊎ ((T : RbacState) × Leaves life.start life.events T × (T.version ≡ 1) × (S ≡ taken_into_version_2 T))
 
--- each life begins with a state that the one before may be followed by, and its events are possible; what the first may
--- begin with is handed over
+-- each run begins with a state that the office may be opened with after the run before it, and its events are possible; `opens`
+-- says with which states the first run may begin
 abbrev pub FollowOn : (RbacState → Type 0) → List Life → Type 0
 FollowOn opens [] = Unit {0}
 FollowOn opens (life ∷ lives) = opens life.start × ((T : RbacState) × Leaves life.start life.events T) × FollowOn (OpensAfter life) lives
 
--- lives of one office: the first begins with the empty state of either version
+-- the runs of one office, in order: the first begins with the empty state of either version
 abbrev pub AreLives : List Life → Type 0
 AreLives lives = FollowOn (λ S. (S ≡ empty_state 1) ⊎ (S ≡ empty_state 2)) lives
 
--- the events of lives, one after another
+-- the events of the runs, in order
 abbrev pub events_of : List Life → List Event
 events_of lives = flat_map (λ (life : Life). life.events) lives
 
--- ---- what was taken and not given again
+-- ---- what was deassigned or revoked, and not assigned or granted again
 
--- the command may have taken effect
+-- the command may have taken effect: it was answered `Ok`, or by 41 Store
 abbrev pub took_effect : Event → Bool
 took_effect event = elim event.reply [ Ok told ↦ true | Err Store ↦ true | Err _ ↦ false ]
 
--- the command assigns the user to the role, where it is accepted
+-- the command asks to assign the user to the role, by assignUser or in a record of an import
 abbrev pub assigns : Bytes → Bytes → Command → Bool
 assigns user role (AssignUser u r) = same_name u user && same_name r role
 assigns user role (ImportAssignments pairs) = list_any (λ (pair : Pair). same_name pair.0 user && same_name pair.1 role) pairs.items
@@ -84,7 +84,7 @@ IsDeassignedInForce events user role = (before : List Event) × (told : Tally) �
     (events ≡ before ++ record { command = DeassignUser user role; reply = Ok told } ∷ later)
     × All (λ (event : Event). (took_effect event && assigns user role event.command) ≡ false) later
 
--- the command grants the permission to the role, where it is accepted
+-- the command asks to grant the permission to the role
 abbrev pub grants_to : Bytes → Bytes → Bytes → Command → Bool
 grants_to object operation role (GrantPermission ob op r) = same_name ob object && same_name op operation && same_name r role
 grants_to object operation role _ = false

@@ -1,5 +1,5 @@
--- The changes of a plan, written row by row: sets of rows that go or come, the rows of sessions that end, and the rows of an
--- edge with the pairs of the order.
+-- The changes of a plan, row by row: lists of rows to take or to put, the rows of sessions that end, locks, and the row of an
+-- edge with the closure pairs that change with it.
 use Rattle.std.specs.Prelude.{ℕ, Bool, not, List, [], ◌∷◌, map, filter, if◌then◌else◌}
 use Rattle.std.specs.List.{flat_map}
 use Rattle.rbac_sets.specs.Sets.{Bytes, Pair, Triple, Pairs, contains, members}
@@ -11,7 +11,7 @@ use Rattle.rbac_sets.specs.declared.row.Change.TheVariants.{Put, Take}
 use Rattle.admin_mgr.specs.RbacState.{RbacState}
 use Rattle.admin_mgr.specs.Held.{run_of}
 
--- the row of a pair, by the kind of pairs that it is
+-- the row of a pair, of this kind
 abbrev pub pair_row : ℕ → Pair → Row
 pair_row kind pair = PairRow kind pair.0 pair.1
 
@@ -19,34 +19,34 @@ pair_row kind pair = PairRow kind pair.0 pair.1
 abbrev pub grant_row : Triple → Row
 grant_row grant = GrantRow grant.0 grant.1 grant.2
 
--- the row of each entry goes
+-- takes the row of each entry
 abbrev pub take_all : {K : Type 0} → (K → Row) → List K → List Change
 take_all row entries = map (λ entry. Take (row entry)) entries
 
--- the row of each entry comes
+-- puts the row of each entry
 abbrev pub put_all : {K : Type 0} → (K → Row) → List K → List Change
 put_all row entries = map (λ entry. Put (row entry)) entries
 
--- a session's row goes, and the rows of the roles that were activated in it
+-- takes the row of the session, and the rows of the roles that were activated in it
 abbrev pub session_rows : RbacState → Pair → List Change
 session_rows S session = Take (PairRow SESSION session.0 session.1) ∷ take_all (pair_row ACTIVATED_ROLE) (run_of S.active session.0)
 
--- the rows of the sessions that don't go on, one session after the other
+-- takes the rows of the sessions that don't go on, one session after the other
 abbrev pub ended_rows : RbacState → (Pair → Bool) → List Change
 ended_rows S goes_on = flat_map (session_rows S) (filter (λ session. not (goes_on session)) (members S.sessions))
 
--- the lock of a user goes, where there is one
+-- takes the lock of the user, if there is one
 abbrev pub lock_rows : RbacState → Bytes → List Change
 lock_rows S user = if contains S.locked user then Take (LockedRow user) ∷ [] else []
 
--- the lock of a user comes, where there is none
+-- puts the lock of the user, unless there is one
 abbrev pub new_lock_rows : RbacState → Bytes → List Change
 new_lock_rows S user = if contains S.locked user then [] else Put (LockedRow user) ∷ []
 
--- the row of an edge comes, and those of the pairs that the order gains by it
+-- puts the row of an edge, and the rows of these pairs, which the closure gains by it
 abbrev pub order_puts : Bytes → Bytes → Pairs → List Change
 order_puts asc desc pairs = Put (PairRow INHERITANCE asc desc) ∷ put_all (pair_row CLOSURE_PAIR) (members pairs)
 
--- the row of an edge goes, and those of the pairs that the order loses by it
+-- takes the row of an edge, and the rows of these pairs, which the closure loses by it
 abbrev pub order_takes : Bytes → Bytes → Pairs → List Change
 order_takes asc desc pairs = Take (PairRow INHERITANCE asc desc) ∷ take_all (pair_row CLOSURE_PAIR) (members pairs)

@@ -1,4 +1,4 @@
--- Which state a plan leads to, what is told of it, and the room that it needs.
+-- Which state a plan leads to, what it reports, and the room that it needs.
 use Rattle.std.specs.Prelude.{◌≡◌, Option, Some, None}
 use Rattle.rbac_sets.specs.declared.command.Command.{Command}
 use Rattle.role_order.specs.Planned.{Order, Fits, changed}
@@ -14,7 +14,7 @@ use Rattle.admin_mgr.specs.Changes.{Turns}
 use Rattle.admin_mgr.specs.Stepping.{HasRoom}
 use Rattle.admin_mgr.specs.Good.{IsGood}
 
--- the hierarchy's plan leads from the edges of S to those of T; with none they are the same
+-- the plan of the role hierarchy leads from the edges of S to those of T; without one these are the same
 abbrev pub TurnsEdges : RbacState → Option OrderPlan → RbacState → Type 0
 TurnsEdges S None T = S.edges ≡ T.edges
 TurnsEdges S (Some plan) T = Fits S.edges plan × (changed S.edges plan ≡ T.edges)
@@ -25,11 +25,11 @@ pub record LeadsTo (S : RbacState) (plan : Plan) (T : RbacState) : Type 0 where
   pub edges : TurnsEdges S plan.order T
   pub good : IsGood T
 
--- what a report tells
+-- the tally of a report
 abbrev pub tally_of_report : Report → Tally
 tally_of_report report = record { assigned = report.assigned; already = report.already; refused = report.refused.items }
 
--- the plan does in S what the command asks
+-- the plan leads from S to the state after the command, and has the report of the command
 pub record IsPlanOf (S : RbacState) (command : Command) (plan : Plan) : Type 0 where
   pub leads : LeadsTo S plan (after S command)
   pub report : tally_of_report plan.report ≡ tally S command
@@ -38,7 +38,7 @@ pub record IsPlanOf (S : RbacState) (command : Command) (plan : Plan) : Type 0 w
 abbrev pub order_of : Kept → Order
 order_of kept = record { edges = kept.facts.edges; edge_room = kept.edge_room; pair_room = kept.pair_room }
 
--- the hierarchy has room for what its plan puts
+-- the role hierarchy has room for what its plan puts
 abbrev pub HasRoomIn : Kept → Option OrderPlan → Type 0
 HasRoomIn kept None = Unit {0}
 HasRoomIn kept (Some plan) = OrderHasRoom (order_of kept) plan

@@ -7,18 +7,18 @@ use Rattle.rbac_sets.specs.Sets as set
 use Rattle.rbac_sets.specs.Sets.{Bytes, Names, Pairs, Triples, Cardinality, Cardinalities, any, members, seconds, same_name, coded_name, coded_pair, coded_triple, coded_cardinality}
 
 -- The separation of duty sets of one kind, static or dynamic: the pairs (set, role), and the pairs (set, cardinality).
--- From a set of cardinality n nobody may have n roles.
+-- No user may be authorized for n roles of a static set of cardinality n, and no session may have n roles of a dynamic one.
 pub record Separation : Type 0 where
   pub members : Pairs
   pub cardinalities : Cardinalities
 
 -- USERS, ROLES, OBS, the permissions with PRMS and OPS, UA, PA, the immediate inheritances, SESSIONS, and SSD and DSD
 pub record RbacState : Type 0 where
-  -- 1, or 2 where users can be locked
+  -- 1 or 2; users can be locked in version 2 only
   pub version : ℕ
   -- USERS
   pub users : Names
-  -- the users who may have no session
+  -- the locked users, who may have no session
   pub locked : Names
   -- ROLES
   pub roles : Names
@@ -34,7 +34,7 @@ pub record RbacState : Type 0 where
   pub edges : Pairs
   -- SESSIONS, each with its user: (session, user)
   pub sessions : Pairs
-  -- the roles that were activated: (session, role)
+  -- the activated roles: (session, role)
   pub active : Pairs
   -- SSD
   pub ssd : Separation
@@ -44,7 +44,7 @@ pub record RbacState : Type 0 where
 abbrev pub no_separation : Separation
 no_separation = record { members = set.empty; cardinalities = set.empty }
 
--- an office of this version in which nothing was done yet
+-- the state of a new office of this version: all its sets are empty
 abbrev pub empty_state : ℕ → RbacState
 empty_state version = record {
   version = version;
@@ -70,11 +70,11 @@ members_of separation name = seconds separation.members name
 abbrev pub has_set : Separation → Bytes → Bool
 has_set separation name = any (λ entry. same_name entry.0 name) separation.cardinalities
 
--- SsdRoleSetCardinality, DsdRoleSetCardinality: the number of a set, if there is one of this name
+-- SsdRoleSetCardinality, DsdRoleSetCardinality: the cardinality of the set of this name, if there is one
 unfoldable pub cardinality_of : Separation → Bytes → Option ℕ
 cardinality_of separation name = option_map (λ (entry : Cardinality). entry.1) (find (λ (entry : Cardinality). same_name entry.0 name) (members separation.cardinalities))
 
--- whether a number, if there is one, is below the count
+-- whether the number is less than the count; true if there is no number
 abbrev pub is_below : Option ℕ → ℕ → Bool
 is_below None count = true
 is_below (Some n) count = nat_lt n count
@@ -92,7 +92,7 @@ coded_separation =
     code_by (Pairs × Cardinalities) (coded× (set.coded_set coded_pair) (set.coded_set coded_cardinality)) (λ s. (s.members, s.cardinalities))
     (λ p. record { members = p.0; cardinalities = p.1 }) (λ _. refl)
 
--- a state is stored as the pairs of its fields
+-- a state is encoded as the nested pairs of its fields
 abbrev pub coded_state : Coded RbacState
 coded_state =
     code_by

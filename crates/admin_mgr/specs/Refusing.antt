@@ -1,4 +1,4 @@
--- Refusals by a test, the first of several, the limits, and separation of duty.
+-- Refusals by a test, the first of several, and refusals for a limit or for a violated separation of duty set.
 use Rattle.std.specs.Prelude.{ℕ, Bool, if◌then◌else◌, nat_lt, List, [], ◌∷◌, Option, Some, None}
 use Rattle.std.specs.Option.{option_map}
 use Rattle.rbac_sets.specs.Kind.{limit_of}
@@ -8,11 +8,11 @@ use Rattle.rbac_sets.specs.declared.refusal.Refusal.TheVariants.{StaticSeparatio
 use Rattle.admin_mgr.specs.RbacState.{RbacState}
 use Rattle.admin_mgr.specs.Separation.{static_violation, dynamic_violation}
 
--- refused where the test holds
+-- refused if the test holds
 abbrev pub refuse_if : Bool → Refusal → Option Refusal
 refuse_if test refusal = if test then Some refusal else None
 
--- refused where the test does not hold
+-- refused unless the test holds
 abbrev pub refuse_unless : Bool → Refusal → Option Refusal
 refuse_unless test refusal = if test then None else Some refusal
 
@@ -22,18 +22,18 @@ first [] = None
 first (Some refusal ∷ rest) = Some refusal
 first (None ∷ rest) = first rest
 
--- whether so many are more than the limit of their kind
+-- whether this number of the kind exceeds its limit in the state's version
 abbrev pub is_too_many : RbacState → Kind → ℕ → Bool
 is_too_many S kind number = nat_lt (limit_of kind S.version) number
 
--- refused where there would be more than the limit
+-- refused if this number of the kind exceeds its limit
 abbrev pub too_many : RbacState → Kind → ℕ → Option Refusal
 too_many S kind number = refuse_if (is_too_many S kind number) (TooMany kind)
 
--- refused where this state violates a static set: the first one in byte order is named
+-- refused if this state violates a static set; the refusal names the first one in byte order
 abbrev pub breaks_static : RbacState → Option Refusal
 breaks_static S = option_map StaticSeparation (static_violation S)
 
--- refused where this state violates a dynamic set: the first one in byte order is named
+-- refused if this state violates a dynamic set; the refusal names the first one in byte order
 abbrev pub breaks_dynamic : RbacState → Option Refusal
 breaks_dynamic S = option_map DynamicSeparation (dynamic_violation S)

@@ -1,4 +1,4 @@
--- The rows in which a state is stored: one for each entry of its sets, and one for each pair of the role order.
+-- The rows in which a state is stored: one for each entry of its sets, and one for each pair of the closure of its edges.
 use Rattle.std.specs.Prelude.{ℕ, Bool, false, not, ◌&&◌, nat_eq, if◌then◌else◌}
 use Rattle.rbac_sets.specs.Sets.{Bytes, same_name, contains}
 use Rattle.rbac_sets.specs.declared.row.Row.{Row}
@@ -7,7 +7,7 @@ use Rattle.rbac_sets.specs.declared.row.TheConstants.Row.{USER, ROLE, OBJECT, PE
 use Rattle.role_order.specs.Order.{geq}
 use Rattle.admin_mgr.specs.RbacState.{RbacState}
 
--- names by their kind
+-- the state has a row of this kind with this name
 abbrev pub has_name : RbacState → ℕ → Bytes → Bool
 has_name S kind name =
     if nat_eq kind USER then contains S.users name
@@ -15,11 +15,11 @@ has_name S kind name =
     else if nat_eq kind OBJECT then contains S.objects name
     else false
 
--- r is another role than q, and above it
+-- r is a senior of q: another role, with r >= q
 abbrev pub is_above : RbacState → Bytes → Bytes → Bool
 is_above S r q = geq S.edges r q && not (same_name r q)
 
--- pairs by their kind; those of the closure are the pairs of the order
+-- the state has a row of this kind with this pair; the closure pairs are those of a role and its juniors
 abbrev pub has_pair : RbacState → ℕ → Bytes → Bytes → Bool
 has_pair S kind a b =
     if nat_eq kind PERMISSION then contains S.permissions (a, b)

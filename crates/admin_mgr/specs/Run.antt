@@ -1,4 +1,4 @@
--- A list of commands, one after the other: a refused one leaves the state.
+-- A list of commands, one after the other: a refused command leaves the state as it was.
 use Rattle.std.specs.Prelude.{if◌then◌else◌, List, [], ◌∷◌, Option, is_none}
 use Rattle.rbac_sets.specs.declared.command.Command.{Command}
 use Rattle.rbac_sets.specs.declared.command.Command.TheVariants.{ImportAssignments}
@@ -8,21 +8,21 @@ use Rattle.admin_mgr.specs.Assignment.{Tally, tally_of, no_tally, import_verdict
 use Rattle.admin_mgr.specs.After.{after}
 use Rattle.admin_mgr.specs.Verdict.{verdict}
 
--- the state once the command was judged
+-- the state after the command was accepted or refused
 unfoldable pub next : RbacState → Command → RbacState
 next S command = if is_none (verdict S command) then after S command else S
 
--- the state once each command was judged, in this order
+-- the state after each command was accepted or refused, in this order
 unfoldable pub run : RbacState → List Command → RbacState
 run S [] = S
 run S (command ∷ commands) = run (next S command) commands
 
--- what is told of each command, in this order
+-- the verdict on each command, in this order
 unfoldable pub verdicts : RbacState → List Command → List (Option Refusal)
 verdicts S [] = []
 verdicts S (command ∷ commands) = verdict S command ∷ verdicts (next S command) commands
 
--- what is told of an accepted command besides
+-- what is reported of an accepted command: only an import has anything to report
 unfoldable pub tally : RbacState → Command → Tally
 tally S (ImportAssignments pairs) = tally_of (import_verdicts S pairs.items)
 tally S _ = no_tally

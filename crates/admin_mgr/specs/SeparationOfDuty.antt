@@ -25,22 +25,22 @@ abbrev pub with_sets : SeparationOfDuty → RbacState → Separation → RbacSta
 with_sets Static S sets = record S { ssd = sets }
 with_sets Dynamic S sets = record S { dsd = sets }
 
--- what the limit on the number of its sets counts
+-- the kind that has the limit on the number of its sets
 abbrev pub kind_of : SeparationOfDuty → Kind
 kind_of Static = SsdSet
 kind_of Dynamic = DsdSet
 
--- the number of the rows of its sets' members
+-- the kind of the rows of its sets' members
 abbrev pub member_rows : SeparationOfDuty → ℕ
 member_rows Static = STATIC_MEMBER
 member_rows Dynamic = DYNAMIC_MEMBER
 
--- the number of the rows of its sets' cardinalities
+-- the kind of the rows of its sets' cardinalities
 abbrev pub cardinality_rows : SeparationOfDuty → ℕ
 cardinality_rows Static = STATIC_CARDINALITY
 cardinality_rows Dynamic = DYNAMIC_CARDINALITY
 
--- no user is authorized for so many of the roles, or no session has so many
+-- each user is authorized for fewer of these roles than the cardinality, or each session has fewer
 abbrev pub is_kept : SeparationOfDuty → RbacState → Names → ℕ → Bool
 is_kept Static = is_kept_statically
 is_kept Dynamic = is_kept_dynamically
@@ -50,7 +50,7 @@ abbrev pub refusal_of : SeparationOfDuty → Bytes → Refusal
 refusal_of Static = StaticSeparation
 refusal_of Dynamic = DynamicSeparation
 
--- refused where this state violates a set: the first one in byte order is named
+-- refused if this state violates a set of this kind; the refusal names the first one in byte order
 abbrev pub breaks : SeparationOfDuty → RbacState → Option Refusal
 breaks Static = breaks_static
 breaks Dynamic = breaks_dynamic

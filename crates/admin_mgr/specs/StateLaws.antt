@@ -1,4 +1,4 @@
--- What holds of the empty state, of a state that is taken into version 2, and of the rows of a good state.
+-- What holds of the empty state, of a state that is migrated to version 2, and of the rows of a good state.
 use Rattle.std.specs.Prelude.{◌≡◌, ◌⊎◌, ℕ, false, List}
 use Rattle.rbac_sets.specs.declared.row.Row.{Row}
 use Rattle.admin_mgr.specs.RbacState.{RbacState, empty_state}
@@ -7,18 +7,18 @@ use Rattle.admin_mgr.specs.Good.{IsGood}
 use Rattle.admin_mgr.specs.Life.{taken_into_version_2}
 use Rattle.admin_mgr.specs.Checked.{AreReadable, AreRowsOf}
 
--- the state of either version in which nothing was done yet is good
+-- the empty state of either version is good
 abbrev pub EmptyIsGood : Type 0
 EmptyIsGood = (version : ℕ) → (version ≡ 1) ⊎ (version ≡ 2) → IsGood (empty_state version)
 
--- and it has no row
+-- the empty state has no row
 abbrev pub EmptyHasNoRow : Type 0
 EmptyHasNoRow = (version : ℕ) (row : Row) → has_row (empty_state version) row ≡ false
 
--- a good state of version 1 that is taken into version 2 is good
+-- a good state of version 1 that is migrated to version 2 is good
 abbrev pub MigratedIsGood : Type 0
 MigratedIsGood = (S : RbacState) → IsGood S → S.version ≡ 1 → IsGood (taken_into_version_2 S)
 
--- each row of a good state is one that its version has, and no key occurs twice among them
+-- each row of a good state is one that its version allows, and no two rows have the same key
 abbrev pub GoodRowsAreReadable : Type 0
 GoodRowsAreReadable = (S : RbacState) (rows : List Row) → IsGood S → AreRowsOf S rows → AreReadable S.version rows

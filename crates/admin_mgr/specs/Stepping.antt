@@ -1,5 +1,5 @@
--- A state with one row more or less, and the room that a list of changes takes. The rows of the hierarchy change with its
--- edges, all at once, and no change of one row touches them.
+-- A state with one row more or less, and the room that a list of changes needs. No change of one row touches the rows of the role
+-- hierarchy: these change all at once, with its edges.
 use Rattle.std.specs.Prelude.{◌≡◌, ℕ, ◌+◌, ◌≤◌, Bool, true, false, ◌&&◌, ◌||◌, nat_eq, if◌then◌else◌, List, [], ◌∷◌, Option, None}
 use Rattle.rbac_sets.specs.Sets.{Pairs, insert, remove}
 use Rattle.rbac_sets.specs.declared.row.Row.{Row}
@@ -20,7 +20,7 @@ is_plain (GrantRow a b c) = true
 is_plain (SetRow kind a n) = nat_eq kind STATIC_CARDINALITY || nat_eq kind DYNAMIC_CARDINALITY
 is_plain (LockedRow a) = true
 
--- one row more
+-- the state with one row more
 unfoldable pub with_row : RbacState → Row → RbacState
 with_row S (NameRow kind a) = record S {
   users = if nat_eq kind USER then insert S.users a else S.users;
@@ -42,7 +42,7 @@ with_row S (SetRow kind a n) = record S {
 }
 with_row S (LockedRow a) = record S { locked = insert S.locked a }
 
--- one row less
+-- the state with one row less
 unfoldable pub without_row : RbacState → Row → RbacState
 without_row S (NameRow kind a) = record S {
   users = if nat_eq kind USER then remove S.users a else S.users;
@@ -72,43 +72,43 @@ abbrev pub after_change : RbacState → Change → RbacState
 after_change S (Put row) = with_row S row
 after_change S (Take row) = without_row S row
 
--- the changes one after the other
+-- the state after the changes, one after the other
 unfoldable pub after_changes : RbacState → List Change → RbacState
 after_changes S [] = S
 after_changes S (change ∷ changes) = after_changes (after_change S change) changes
 
--- a row that is to be put isn't there
+-- if the change puts a plain row, the state doesn't have this row yet
 abbrev pub IsFree : RbacState → Change → Type 0
 IsFree S (Put row) = (is_plain row && has_row S row) ≡ false
 IsFree S (Take row) = Unit {0}
 
--- each row that is to be put isn't there when its turn comes
+-- this holds of each change in the state after the changes before it
 abbrev pub AreFree : RbacState → List Change → Type 0
 AreFree S [] = Unit {0}
 AreFree S (change ∷ changes) = IsFree S change × AreFree (after_change S change) changes
 
 -- ---- room
 
--- the table in which a change puts a row
+-- the table into which the change puts a row, if it puts one
 abbrev pub table_put : Change → Option Table
 table_put (Put row) = table_of row
 table_put (Take row) = None
 
--- the change puts a row in the table of this number
+-- the change puts a row into the table of this number
 abbrev pub puts_at : ℕ → Change → Bool
 puts_at number change = is_number number (table_put change)
 
--- how many of the changes put a row in the table of this number
+-- how many of the changes put a row into the table of this number
 abbrev pub puts_of : ℕ → List Change → ℕ
 puts_of number [] = 0
 puts_of number (change ∷ changes) = (if puts_at number change then 1 else 0) + puts_of number changes
 
--- each table, given by its number, has room for the rows that are put there
+-- each table, given as its number and its room, has room for the rows that the changes put into it
 abbrev pub HasRoom : List (ℕ × ℕ) → List Change → Type 0
 HasRoom [] changes = Unit {0}
 HasRoom (table ∷ tables) changes = (puts_of table.0 changes ≤ table.1) × HasRoom tables changes
 
--- the same tables with no less room, but for one entry in the table of the change
+-- the same tables have no less room, except that the table into which the change puts a row may have room for one entry less
 abbrev pub Spends : Change → List (ℕ × ℕ) → List (ℕ × ℕ) → Type 0
 Spends change [] [] = Unit {0}
 Spends change (old ∷ olds) (new ∷ news) = (old.0 ≡ new.0) × (old.1 ≤ new.1 + (if puts_at old.0 change then 1 else 0)) × Spends change olds news

@@ -1,4 +1,4 @@
--- The checks of a state's sets as tests.
+-- The checks of the sets that rows make, as tests.
 use Rattle.std.specs.Prelude.{Bool, not, ◌&&◌, nat_le, if◌then◌else◌, Option, Some, None}
 use Rattle.rbac_sets.specs.Sets.{Names, Pair, Pairs, Triple, Cardinality, all, contains, len, seconds}
 use Rattle.rbac_sets.specs.declared.refusal.Refusal.{Refusal}
@@ -19,41 +19,41 @@ are_firsts_in names pairs = all (λ (pair : Pair). contains names pair.0) pairs
 abbrev pub are_seconds_in : Names → Pairs → Bool
 are_seconds_in names pairs = all (λ (pair : Pair). contains names pair.1) pairs
 
--- each member is one of a set that has a cardinality
+-- each member belongs to a set that has a cardinality
 abbrev pub have_sets : Separation → Bool
 have_sets separation = all (λ (pair : Pair). has_set separation pair.0) separation.members
 
--- each activated role is one of a session
+-- each activated role belongs to a session that exists
 abbrev pub have_sessions : RbacState → Bool
 have_sessions S = all (λ (pair : Pair). has_session S pair.0) S.active
 
--- each grant is one of a permission
+-- each grant is one of a permission that exists
 abbrev pub have_permissions : RbacState → Bool
 have_permissions S = all (λ (grant : Triple). contains S.permissions (grant.0, grant.1)) S.grants
 
--- each grant is one to a role
+-- each grant is one to a role that exists
 abbrev pub have_roles : RbacState → Bool
 have_roles S = all (λ (grant : Triple). contains S.roles grant.2) S.grants
 
--- what permissions, grants, assignments and locks speak of is there
+-- what permissions, grants, assignments and locks refer to exists
 abbrev pub is_core_complete : RbacState → Bool
 is_core_complete S = are_firsts_in S.objects S.permissions && have_permissions S && have_roles S
     && are_firsts_in S.users S.assignments && are_seconds_in S.roles S.assignments && all (contains S.users) S.locked
 
--- what the hierarchy speaks of is there
+-- the roles of edges and closure pairs exist
 abbrev pub is_hierarchy_complete : Gathered → Bool
 is_hierarchy_complete g = are_firsts_in g.facts.roles g.facts.edges && are_seconds_in g.facts.roles g.facts.edges
     && are_firsts_in g.facts.roles g.pairs && are_seconds_in g.facts.roles g.pairs
 
--- what separation of duty speaks of is there
+-- the sets and roles of members of separation of duty sets exist
 abbrev pub are_sets_complete : RbacState → Bool
 are_sets_complete S = have_sets S.ssd && are_seconds_in S.roles S.ssd.members && have_sets S.dsd && are_seconds_in S.roles S.dsd.members
 
--- what sessions speak of is there
+-- the users of sessions, and the sessions and roles of activated roles, exist
 abbrev pub are_sessions_complete : RbacState → Bool
 are_sessions_complete S = are_seconds_in S.users S.sessions && have_sessions S && are_seconds_in S.roles S.active
 
--- what a row speaks of is there
+-- each user, role, object, permission, session and set that a row refers to exists
 abbrev pub is_complete : Gathered → Bool
 is_complete g = is_core_complete g.facts && is_hierarchy_complete g && are_sets_complete g.facts && are_sessions_complete g.facts
 
@@ -61,7 +61,7 @@ is_complete g = is_core_complete g.facts && is_hierarchy_complete g && are_sets_
 abbrev pub have_one_user : RbacState → Bool
 have_one_user S = all (λ (session : Pair). nat_le (len (seconds S.sessions session.0)) 1) S.sessions
 
--- the cardinality of a set is from two to the number of its members
+-- the cardinality of each set is at least 2 and at most the number of its members
 abbrev pub has_cardinalities : Separation → Bool
 has_cardinalities separation = all (λ (entry : Cardinality). nat_le 2 entry.1 && nat_le entry.1 (len (members_of separation entry.0))) separation.cardinalities
 
@@ -69,19 +69,19 @@ has_cardinalities separation = all (λ (entry : Cardinality). nat_le 2 entry.1 &
 abbrev pub have_authorized_users : RbacState → Bool
 have_authorized_users S = all (λ (session : Pair). all (is_authorized S session.1) (active_roles S session.0)) S.sessions
 
--- the roles that are assigned, that were activated and that sets have are there
+-- the roles of assignments, of activations and of separation of duty sets exist
 abbrev pub are_roles_there : RbacState → Bool
 are_roles_there S = are_seconds_in S.roles S.assignments && are_seconds_in S.roles S.active && are_seconds_in S.roles S.ssd.members && are_seconds_in S.roles S.dsd.members
 
--- each static set is kept by each user
+-- no static set is violated
 abbrev pub are_kept_statically : RbacState → Bool
 are_kept_statically S = all (λ (entry : Cardinality). is_kept_statically S (members_of S.ssd entry.0) entry.1) S.ssd.cardinalities
 
--- each dynamic set is kept by each session
+-- no dynamic set is violated
 abbrev pub are_kept_dynamically : RbacState → Bool
 are_kept_dynamically S = all (λ (entry : Cardinality). is_kept_dynamically S (members_of S.dsd entry.0) entry.1) S.dsd.cardinalities
 
--- the same of the sets of one kind
+-- no set of this kind is violated
 abbrev pub are_kept : SeparationOfDuty → RbacState → Bool
 are_kept Static S = are_kept_statically S
 are_kept Dynamic S = are_kept_dynamically S
@@ -90,14 +90,14 @@ are_kept Dynamic S = are_kept_dynamically S
 abbrev pub have_unlocked_users : RbacState → Bool
 have_unlocked_users S = all (λ (session : Pair). not (contains S.locked session.1)) S.sessions
 
--- why these sets are refused before the hierarchy is asked
+-- why these sets are refused before the role hierarchy is checked
 abbrev pub early_refusal : Gathered → Option Refusal
 early_refusal g = elim (first_passed g.facts) [
   | Some kind ↦ Some (TooMany kind)
   | None ↦ if is_complete g then (if have_one_user g.facts then None else Some (Damaged 4)) else Some (Damaged 3)
 ]
 
--- why a state is refused whose rows are complete and whose hierarchy is sound
+-- why a state is refused whose rows are complete and whose role hierarchy is sound
 abbrev pub late_refusal : RbacState → Option Refusal
 late_refusal S =
     if has_cardinalities S.ssd && has_cardinalities S.dsd then

@@ -1,11 +1,11 @@
--- A state with the sets of which rows are taken together.
+-- A state with the sets from which rows are taken together.
 use Rattle.std.specs.Prelude.{◌≤◌}
 use Rattle.rbac_sets.specs.Sets.{pair_cmp, triple_cmp}
 use Rattle.rbac_sets.specs.SortedSet.{set_of}
 use Rattle.admin_mgr.specs.RbacState.{RbacState}
 use Rattle.admin_mgr.specs.declared.relations.together.Together.{Together}
 
--- the state with these sets in the place of its own
+-- the state with these sets instead of its own
 abbrev pub with_sets : RbacState → Together → RbacState
 with_sets S sets = record S {
   assignments = set_of pair_cmp sets.assignments;

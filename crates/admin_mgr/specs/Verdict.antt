@@ -1,5 +1,5 @@
--- Whether a command is accepted, and else which refusal is told. Each clause of `refusals` is the function of the standard,
--- or of this office, that has its name.
+-- Whether a command is accepted, and if not, by which refusal it is answered. Each clause of `refusals` lists what refuses the
+-- function of this name, of the standard or of this office.
 use Rattle.std.specs.Prelude.{ℕ, ◌+◌, pos, Bool, nat_eq, ◌&&◌, ◌||◌, nat_le, List, [], ◌∷◌, ◌++◌, length, Option}
 use Rattle.rbac_sets.specs.Sets.{Bytes, Names, name_cmp, any, all, same_name, contains, len}
 use Rattle.rbac_sets.specs.SortedSet.{set_of}
@@ -16,7 +16,7 @@ use Rattle.admin_mgr.specs.Refusing.{refuse_if, refuse_unless, first, too_many, 
 use Rattle.admin_mgr.specs.Assignment.{assignment_refusals}
 use Rattle.admin_mgr.specs.After.{after}
 
--- ---- what has to be there, or not
+-- ---- what has to exist, or must not exist
 
 module _ (S : RbacState) where
   abbrev pub wants_user : Bytes → Option Refusal
@@ -47,15 +47,15 @@ module _ (S : RbacState) where
   abbrev pub wants_locks : Option Refusal
   wants_locks = refuse_if (nat_eq S.version 1) (Version (pos 1))
 
-  -- the role ends an edge or is a member of a set
+  -- the role is an immediate ascendant or descendant, or a member of a separation of duty set
   abbrev pub is_in_use : Bytes → Bool
   is_in_use role = any (λ edge. same_name edge.0 role || same_name edge.1 role) S.edges
       || any (λ member. same_name member.1 role) S.ssd.members
       || any (λ member. same_name member.1 role) S.dsd.members
 
--- ---- separation of duty sets of one kind, but for what the state after the command violates
+-- ---- separation of duty sets of one kind, without the check that the state after the command violates none
 
--- the cardinality is from two to the number of the roles
+-- the cardinality has to be at least 2 and at most the number of the roles
 abbrev pub bad_cardinality : ℕ → Names → Option Refusal
 bad_cardinality cardinality roles = refuse_unless (nat_le 2 cardinality && nat_le cardinality (len roles)) BadCardinality
 
@@ -79,7 +79,7 @@ module _ (S : RbacState) (separation : Separation) where
       ∷ too_many S Member (len (members_of separation name) + 1)
       ∷ []
 
-  -- DeleteSsdRoleMember, DeleteDsdRoleMember: the cardinality stays, and fits the roles that are left
+  -- DeleteSsdRoleMember, DeleteDsdRoleMember: the cardinality stays, and must not exceed the number of roles that are left
   abbrev pub delete_member_refusals : Bytes → Bytes → List (Option Refusal)
   delete_member_refusals name role =
       refuse_unless (has_set separation name) NoSet
@@ -95,7 +95,7 @@ set_cardinality_refusals separation name cardinality =
     ∷ bad_cardinality cardinality (members_of separation name)
     ∷ []
 
--- ---- the other commands that separation of duty judges, but for that
+-- ---- the other commands that are checked against separation of duty, without this check
 
 module _ (S : RbacState) where
   abbrev pub add_inheritance_refusals : Bytes → Bytes → List (Option Refusal)
@@ -194,6 +194,6 @@ refusals S (ImportAssignments pairs) = too_many S Record (length pairs.items) �
 refusals S (LockUserAccount user) = wants_locks S ∷ wants_user S user ∷ []
 refusals S (UnlockUserAccount user) = wants_locks S ∷ wants_user S user ∷ []
 
--- the first refusal that holds; with none the command is accepted
+-- the first refusal that applies; if none does, the command is accepted
 unfoldable pub verdict : RbacState → Command → Option Refusal
 verdict S command = first (refusals S command)

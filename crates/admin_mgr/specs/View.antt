@@ -1,4 +1,4 @@
--- What the fields of the relations stand for.
+-- The state that the fields of `Relations` hold.
 use Rattle.std.specs.Prelude.{[], ◌∷◌}
 use Rattle.rbac_sets.specs.Sets.{name_cmp, pair_cmp, triple_cmp}
 use Rattle.rbac_sets.specs.SortedSet.{set_of}
@@ -7,7 +7,7 @@ use Rattle.rbac_sets.specs.declared.table.Table.TheVariants.{Users, Roles, Objec
 use Rattle.admin_mgr.specs.Kept.{Kept, separation_of}
 use Rattle.admin_mgr.specs.declared.relations.Relations.TheInside.{Inside}
 
--- the room is told by table, but for the tables of the role hierarchy
+-- the state, and the room of each set by the number of its table; the role hierarchy has its own two numbers
 abbrev pub view_of : Inside → Kept
 view_of a = record {
   facts = record {

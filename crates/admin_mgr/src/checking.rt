@@ -1,4 +1,4 @@
-//! What is asked of the relations once the hierarchy is made.
+//! The checks of the relations once the role hierarchy is built.
 ghost use Rattle.std.specs.Prelude.{◌≡◌, not, ◌&&◌, map, nat_le, IsTrue, IfOk, IfErr};
 ghost use Rattle.std.specs.List.{list_all};
 ghost use Rattle.rbac_sets.specs.Sets.{Pair, all, members};
@@ -20,12 +20,12 @@ use rbac_sets::{CountSet, Name, PairSet, Refusal};
 use role_order::RoleOrder;
 use std::alloc::{AllocError, Global};
 
-// Why the relations are refused, where what they speak of is there and the hierarchy is sound: by
-// `Damaged` with 7 where a cardinality isn't from two to the number of the set's members, with 8 where
-// a session's user isn't authorized for an activated role, with 9 and 10 where a static and a dynamic
-// set is violated, and with 11 where a locked user has a session.
+// Why the relations are refused, if the roles that they refer to exist. By `Damaged` with 7 if a cardinality
+// isn't at least 2 and at most the number of the set's members, 8 if a session's user isn't authorized for a
+// role that was activated in it, 9 if a static and 10 if a dynamic set is violated, and 11 if a locked user
+// has a session.
 //
-// An error says that memory for the numbers of the roles was refused.
+// It is an error if an allocation failed.
 pub(crate) fn late_refusal(alloc: Global, relations: &Relations) -> Result<Option<Refusal>, Refusal>
     requires { IsTrue (are_roles_there relations.now.facts) }
     ensures ok { IfOk result (λ found. found ≡ late_refusal relations.now.facts) }
@@ -50,7 +50,7 @@ pub(crate) fn late_refusal(alloc: Global, relations: &Relations) -> Result<Optio
     Ok(None)
 }
 
-// Whether the cardinality of each set is from two to the number of its members.
+// Whether the cardinality of each set is at least 2 and at most the number of its members.
 fn have_cardinalities(relations: &Relations) -> bool
     ensures { result ≡ (has_cardinalities relations.now.facts.ssd && has_cardinalities relations.now.facts.dsd) }
 {
@@ -58,7 +58,7 @@ fn have_cardinalities(relations: &Relations) -> bool
         && has_cardinalities(relations.dsd_members(), relations.dsd_cardinalities())
 }
 
-// Whether the cardinality of each set of this kind is from two to the number of its members.
+// The same for the sets of one kind.
 #[tactic(auto, unfolding(rbac_sets::specs::Sets::all))]
 fn has_cardinalities(members: &PairSet, cardinalities: &CountSet) -> bool
     ensures { result ≡ has_cardinalities (separation_of members.now cardinalities.now) }
@@ -88,14 +88,14 @@ fn is_authorized_in(relations: &Relations, session: &Name, user: &Name) -> bool
     are_reached(relations.order(), held, active)
 }
 
-// Whether the second part of each of the pairs is reached.
+// Whether the holder has the role of each of the pairs.
 fn are_reached(order: &RoleOrder, held: &[(Name, Name)], pairs: &[(Name, Name)]) -> bool
     ensures { result ≡ list_all (λ (pair : Pair). is_reached order.now.edges held.now pair.1) pairs.now }
 {
     pairs.iter().all(|pair| is_reached(order, held, &pair.1))
 }
 
-// Whether each static set is kept by each user, or each dynamic set by each session.
+// Whether no user violates a static set, or no session a dynamic one.
 fn are_kept(
     alloc: Global,
     relations: &Relations,
@@ -116,7 +116,7 @@ fn are_kept(
     Ok(kept)
 }
 
-// What each user is assigned, or what was activated in each session.
+// The assignments of each user, or the activated roles of each session.
 fn all_runs<'a>(
     alloc: Global,
     relations: &'a Relations,

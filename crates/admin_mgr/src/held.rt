@@ -1,4 +1,5 @@
-//! What is reached from the roles that a user is assigned or a session has activated.
+//! The roles of a holder, which is a user or a session, by its pairs (holder, role): the assignments of the
+//! user, or the activated roles of the session. The holder has the roles of these pairs and their juniors.
 ghost use Rattle.std.specs.Prelude.{◌≡◌, ◌&&◌, ◌||◌, not, nat_lt};
 ghost use Rattle.std.specs.Option.{option_copied};
 ghost use Rattle.rbac_sets.specs.Sets.{pair_cmp};
@@ -8,14 +9,14 @@ ghost use Rattle.admin_mgr.specs.Held.{is_reached, reached_roles, reached_member
 use rbac_sets::{Name, PairSet};
 use role_order::RoleOrder;
 
-// Whether the role is the second part of one of the pairs, or below it.
+// Whether the holder of these pairs has the role.
 pub(crate) fn is_reached(order: &RoleOrder, held: &[(Name, Name)], role: &Name) -> bool
     ensures { result ≡ is_reached order.now.edges held.now role.now }
 {
     held.iter().any(|pair| order.geq(&pair.1, role))
 }
 
-// How many of the roles are reached.
+// How many of the roles the holder has.
 pub(crate) fn reached_roles(order: &RoleOrder, held: &[(Name, Name)], roles: &[Name]) -> usize
     ensures { result ≡ reached_roles order.now.edges held.now roles.now }
 {
@@ -25,7 +26,7 @@ pub(crate) fn reached_roles(order: &RoleOrder, held: &[(Name, Name)], roles: &[N
         .count()
 }
 
-// How many of the members, pairs (set, role), are reached.
+// How many of the members, pairs (set, role), the holder has.
 pub(crate) fn reached_members(
     order: &RoleOrder,
     held: &[(Name, Name)],
@@ -39,7 +40,7 @@ pub(crate) fn reached_members(
         .count()
 }
 
-// How many of the members are reached, from one more role too.
+// How many of the members the holder has if it gets one more role.
 pub(crate) fn reached_with(
     order: &RoleOrder,
     held: &[(Name, Name)],
@@ -54,14 +55,14 @@ pub(crate) fn reached_with(
         .count()
 }
 
-// Whether the role is one of these, or below one.
+// Whether the role is one of these, or a junior of one.
 fn is_reached_from(order: &RoleOrder, roles: &[Name], role: &Name) -> bool
     ensures { result ≡ is_reached_from order.now.edges roles.now role.now }
 {
     roles.iter().any(|above| order.geq(above, role))
 }
 
-// How many of the members are one of these roles, or below one.
+// How many of the members are one of these roles, or a junior of one.
 fn reached_from(order: &RoleOrder, roles: &[Name], members: &[(Name, Name)]) -> usize
     ensures { result ≡ reached_from order.now.edges roles.now members.now }
 {
@@ -71,14 +72,14 @@ fn reached_from(order: &RoleOrder, roles: &[Name], members: &[(Name, Name)]) -> 
         .count()
 }
 
-// Whether one of the members is this role, or below it.
+// Whether one of the members is this role, or a junior of it.
 pub(crate) fn is_touched(order: &RoleOrder, role: &Name, members: &[(Name, Name)]) -> bool
     ensures { result ≡ is_touched order.now.edges role.now members.now }
 {
     members.iter().any(|member| order.geq(role, &member.1))
 }
 
-// The first of the sets from which these roles reach as many members as its cardinality.
+// The first of the sets that somebody with these roles violates.
 pub(crate) fn first_with_all<'a>(
     order: &RoleOrder,
     roles: &[Name],
@@ -90,15 +91,15 @@ pub(crate) fn first_with_all<'a>(
     cardinalities.iter().find(|entry| has_all(order, roles, members.with_first(&entry.0), entry.1))
 }
 
-// Whether these roles reach so many of the members.
+// Whether somebody with these roles violates the set of these members and this cardinality.
 fn has_all(order: &RoleOrder, roles: &[Name], members: &[(Name, Name)], cardinality: u32) -> bool
     ensures { result ≡ not (nat_lt (reached_from order.now.edges roles.now members.now) cardinality) }
 {
     reached_from(order, roles, members) >= cardinality as usize
 }
 
-// The first of the sets from which what is held and one more role reach as many members as its
-// cardinality. Only a set with a member that the role reaches is asked.
+// The first of the sets that the holder violates if it gets one more role. Only sets are considered that have
+// this role or a junior of it as a member.
 pub(crate) fn first_with_one<'a>(
     order: &RoleOrder,
     held: &[(Name, Name)],
@@ -117,7 +118,8 @@ pub(crate) fn first_with_one<'a>(
     ))
 }
 
-// Whether the role reaches one of the members, and with what is held so many of them.
+// Whether one of the members is one more role or a junior of it, and the holder violates the set if it gets
+// this role.
 fn has_with(
     order: &RoleOrder,
     held: &[(Name, Name)],

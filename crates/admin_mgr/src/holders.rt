@@ -1,16 +1,16 @@
-//! Who a kind of separation of duty goes over: users with what they are assigned, or sessions with what
-//! was activated in them.
+//! Who a kind of separation of duty applies to: users with their assignments, or sessions with their
+//! activated roles.
 ghost use Rattle.std.specs.Iterator.{YieldsFirstRef, item_count};
 
 use rbac_sets::{Name, PairSet};
 
-// The runs of the users or sessions that are left, in byte order of these: of each the pairs
-// (holder, role) that begin with its name. A run may be empty.
+// An iterator over users or sessions in byte order. For each it yields the run of its pairs (holder, role),
+// which may be empty.
 #[derive(Drop)]
 pub(crate) enum Runs<'a> {
-    // Of users, in their assignments.
+    // The users still to come, and the assignments.
     OfUsers(&'a [Name], &'a PairSet),
-    // Of sessions with their users, in the roles that were activated.
+    // The sessions still to come, with their users, and the activated roles.
     OfSessions(&'a [(Name, Name)], &'a PairSet),
 }
 

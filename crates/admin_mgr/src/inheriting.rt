@@ -1,7 +1,7 @@
 //! Which separation of duty sets one more immediate inheritance violates.
 //!
-//! Only who reaches the ascendant can come to violate a set: the roles that each of these has are
-//! gathered once, and then the sets are asked one after another.
+//! Only a user or session that has the ascendant can come to violate a set. The roles of each of these
+//! are collected once, and then the sets are checked one after another.
 ghost use Rattle.std.specs.Prelude.{◌≡◌, IsTrue, IfOk, filter};
 ghost use Rattle.std.specs.Prelude.{map as list_map};
 ghost use Rattle.std.specs.List.{list_all, list_any};
@@ -21,8 +21,8 @@ use rbac_sets::{Name, PairSet, Refusal};
 use role_order::RoleOrder;
 use std::alloc::{AllocError, Global};
 
-// The first of the sets of this kind from which somebody who reaches `asc` would have as many roles as
-// its cardinality, with `desc` below `asc`. Only a set with a member that `desc` reaches is asked.
+// The first set of this kind in byte order that a user or session that has `asc` would violate if it got
+// `desc` as well. Only sets are considered that have `desc` or a junior of it as a member.
 pub(crate) fn first_broken<'a>(
     alloc: Global,
     state: &'a State,
@@ -48,8 +48,8 @@ pub(crate) fn first_broken<'a>(
     }
 }
 
-// What each user who is authorized for the role is assigned, or what was activated in each session that
-// has it.
+// The assignments of each user who is authorized for the role, or the activated roles of each session that
+// has the role.
 fn who_reach<'a>(
     alloc: Global,
     state: &'a State,
@@ -63,16 +63,16 @@ fn who_reach<'a>(
         .collect(alloc)
 }
 
-// Whether the role reaches a member of one of the sets.
+// Whether the role or a junior of it is a member of one of the sets.
 fn touches_some(order: &RoleOrder, role: &Name, members: &PairSet, sets: &[(Name, u32)]) -> bool
     ensures { result ≡ list_any (λ (entry : Cardinality). is_touched order.now.edges role.now (run_of (set_of pair_cmp members.now) entry.0)) sets.now }
 {
     sets.iter().any(|entry| is_touched(order, role, members.with_first(&entry.0)))
 }
 
-// The first of the sets from which one of these runs and one more role reach as many members as its
-// cardinality. Only a set with a member that the role reaches is asked. The table of the order is made
-// only where there is a run.
+// The first of the sets that the holder of one of these runs violates if it gets one more role. Only sets
+// are considered that have this role or a junior of it as a member. The reachability matrix is built only if
+// there is a run.
 fn find_broken<'a>(
     alloc: Global,
     state: &State,

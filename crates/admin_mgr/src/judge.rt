@@ -1,11 +1,12 @@
-//! Whether a command is accepted, and else which refusal is told.
+//! Whether a command is accepted, and if not, by which refusal it is answered.
 //!
 //! There is one function for each command, or for the same command on static and on dynamic sets, and
-//! `judge` for any. Its answer is the verdict itself: the first of the command's refusals that holds, and
-//! `None` where the command is accepted. The state is never copied: what separation of duty says of the
-//! state after the command is found from the state before it. An assignment, an activated role and an
-//! inheritance pass over all sets of the kind, and count in those alone that have a member which the role
-//! reaches; a new session is counted in every dynamic set; a command on one set is counted in that set.
+//! `judge` for any. The result is the verdict: the first of the command's refusals that applies, or `None`
+//! if the command is accepted. The state is never copied: whether the state after the command violates a
+//! separation of duty set is computed from the state before it. An assignment, an activated role and an
+//! inheritance are checked against each set of the kind of which the role (of an inheritance, the descendant) or
+//! a junior of it is a member; a new session is checked against every dynamic set, and a command on one set
+//! against that set.
 ghost use Rattle.std.specs.Prelude.{◌≡◌, IfOk};
 ghost use Rattle.admin_mgr.specs.Verdict.{verdict};
 
@@ -37,11 +38,10 @@ mod separation;
 mod sessions;
 pub(crate) mod set_refusals;
 
-// The verdict on a command: the first of its refusals that holds, in their order, and `None` where the
-// command is accepted.
+// The verdict on a command: the first of its refusals that applies, or `None` if the command is accepted.
 //
-// An error says that memory was refused, for the name of a violated separation of duty set, for the list of
-// who reaches the ascendant of a new inheritance or for the numbers of their roles.
+// It is an error if an allocation failed: for the name of a violated separation of duty set, or for the
+// check of who would violate a set by a new inheritance.
 pub(crate) fn judge(
     alloc: Global,
     state: &State,

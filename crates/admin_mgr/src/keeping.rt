@@ -1,4 +1,5 @@
-//! Whether separation of duty sets are kept: static ones by each user, dynamic ones by each session.
+//! Whether separation of duty sets are kept, that is, not violated: static sets by any user, dynamic sets by
+//! any session.
 ghost use Rattle.std.specs.Prelude.{◌≡◌, ◌+◌, ◌||◌, not, nat_lt, IsTrue, false};
 ghost use Rattle.rbac_sets.specs.Sets.{contains, insert, name_cmp};
 ghost use Rattle.rbac_sets.specs.SortedSet.{set_of};
@@ -13,7 +14,7 @@ use crate::state::State;
 use rbac_sets::{Name, NameSet};
 use role_order::RoleOrder;
 
-// Whether nobody has so many of the roles.
+// Whether each user or session has fewer of the roles than `cardinality`.
 pub(crate) fn keeps(
     state: &State,
     duty: SeparationOfDuty,
@@ -27,7 +28,8 @@ pub(crate) fn keeps(
         < cardinality as usize)
 }
 
-// Whether nobody has so many of the set's roles, where the set has the cardinality `before`.
+// Whether each user or session has fewer of the set's roles than `cardinality`. The set's own cardinality is
+// `before`.
 pub(crate) fn keeps_set(
     state: &State,
     duty: SeparationOfDuty,
@@ -45,7 +47,8 @@ pub(crate) fn keeps_set(
     keeps_members(state.relations(), duty, set, cardinality)
 }
 
-// Whether nobody has so many of the set's roles. The relations may be anything.
+// Whether each user or session has fewer of the set's roles than `cardinality`. The relations need not be
+// good.
 fn keeps_members(
     relations: &Relations,
     duty: SeparationOfDuty,
@@ -59,8 +62,8 @@ fn keeps_members(
     duty.runs(relations).all(|held| reached_members(order, held, members) < cardinality as usize)
 }
 
-// Whether nobody has so many of the set's roles and one more, where so many are the set's cardinality
-// and the role is no member of it.
+// Whether each user or session has fewer of the set's roles and `role` than `cardinality`, which is the set's
+// own. The role is no member of the set.
 pub(crate) fn keeps_with(
     state: &State,
     duty: SeparationOfDuty,
@@ -78,7 +81,7 @@ pub(crate) fn keeps_with(
     duty.runs(state.relations()).all(|held| is_below_with(order, held, role, members, cardinality))
 }
 
-// Whether the role isn't reached, or fewer than so many of the members and it.
+// Whether the holder doesn't have the role, or has fewer of the members and the role than `cardinality`.
 fn is_below_with(
     order: &RoleOrder,
     held: &[(Name, Name)],

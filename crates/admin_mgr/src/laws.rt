@@ -7,8 +7,8 @@ ghost use Rattle.admin_mgr.specs.Named.{NamedTurns};
 ghost use Rattle.admin_mgr.specs.RowsAfter.{RowsFollow};
 ghost use Rattle.admin_mgr.specs.StateLaws.{EmptyIsGood, EmptyHasNoRow, MigratedIsGood, GoodRowsAreReadable};
 
-/// Static separation of duty, by counting each user's roles, says what the standard says: as many
-/// roles of a set as its cardinality, or more, have no authorized user in common.
+/// Static separation of duty, defined here by counting each user's roles, is that of the standard: if a set
+/// has cardinality n, any n or more of its roles have no authorized user in common.
 pub fn subset_form()
     ensures { SubsetForm }
 {}
@@ -19,46 +19,47 @@ pub fn rows_determine()
     ensures { RowsDetermine }
 {}
 
-/// An accepted command leads from a good state to a good state, whichever it is.
+/// Any accepted command leads from a good state to a good state.
 pub fn accepted_good()
     ensures { AcceptedIsGood }
 {}
 
-/// The test of a verdict names no static separation of duty set exactly where none is violated.
+/// If the relations are well formed, the test of a verdict names no static separation of duty set if and
+/// only if none is violated.
 #[tactic(auto, using(crate::proofs::Verdicts::SeparationLaws::static_test))]
 pub fn static_test()
     ensures { StaticTest }
 {}
 
-/// The test of a verdict names no dynamic separation of duty set exactly where none is violated.
+/// The test of a verdict names no dynamic separation of duty set if and only if none is violated.
 #[tactic(auto, using(crate::proofs::Verdicts::SeparationLaws::dynamic_test))]
 pub fn dynamic_test()
     ensures { DynamicTest }
 {}
 
-/// The roles for which a user is authorized, and those of a session, are roles that are there: the sets
-/// authorized_roles and session_roles, which keep to the roles of the state, leave none out.
+/// If the relations are well formed, `authorized_roles` and `session_roles`, which have only roles of the
+/// state, leave out none for which the user is authorized and none that the session has.
 #[tactic(auto, using(crate::proofs::Verdicts::RoleLaws::authorized_roles_are_there, crate::proofs::Verdicts::RoleLaws::session_roles_are_there))]
 pub fn reached_roles_are_there()
     ensures authorized { AuthorizedRolesAreThere }
     ensures session { SessionRolesAreThere }
 {}
 
-/// An import of assignments that is made again changes nothing, whatever the state was: it assigns no
-/// record, tells those that were assigned as assigned before, and refuses the same records as the
-/// first time. Where static separation of duty refused one, there may be too many assignments by then.
+/// An import of assignments that is repeated changes nothing, whatever the state was: it assigns no record,
+/// counts those that were assigned as assigned before, and refuses the same records as the first time. Their
+/// codes are the same, except that 24 StaticSeparation may become 32 TooMany, since there may be too many
+/// assignments by then.
 pub fn import_twice()
     ensures { ImportTwice }
 {}
 
-/// The rows of a good state, each once and in any order, are refused by `State::of_rows` for want of
-/// memory alone.
+/// `State::of_rows` refuses the rows of a good state, each once and in any order, by 40 Memory only.
 #[tactic(auto, using(crate::proofs::StoredRows::AcceptLaws::good_rows_are_read))]
 pub fn good_rows_are_read()
     ensures { GoodRowsAreRead }
 {}
 
-/// Each row of a good state is one that its version has, and no key occurs twice among them.
+/// Each row of a good state is one that its version allows, and no two rows have the same key.
 pub fn good_rows_are_readable()
     ensures { GoodRowsAreReadable }
 {}
@@ -69,38 +70,38 @@ pub fn empty_states()
     ensures rows { EmptyHasNoRow }
 {}
 
-/// A good state of version 1 that is taken into version 2 is good.
+/// A good state of version 1 that is migrated to version 2 is good.
 #[tactic(auto, using(crate::proofs::StateAfter::MigratedLaws::migrated_good))]
 pub fn migrated_good()
     ensures { MigratedIsGood }
 {}
 
-/// Changes that turn one state into another turn the rows of the one, each once, into those of the
-/// other, each once.
+/// Changes that turn one state into another also turn a list of the rows of the one, each once, into such a
+/// list of the other.
 pub fn rows_follow()
     ensures { RowsFollow }
 {}
 
-/// Changes whose names are names lead from a state whose names are names to another such state.
+/// Changes whose names are valid lead from a state whose names are valid to another such state.
 pub fn named_turns()
     ensures { NamedTurns }
 {}
 
-/// What becomes of a command goes by what it asks for alone: the verdict, the state after it and what
-/// is told besides are the same, whatever room its sets and its list have.
+/// The verdict on a command, the state after it and its report depend only on what it asks for, and not on
+/// the room that its sets and its list have.
 pub fn commands_go_by_asked()
     ensures { CommandsGoByAsked }
 {}
 
-/// A verdict is a refusal by a number from 2 to 32, by 37, or by 51: it never says that memory or the
-/// store was refused, or that the office is closed.
+/// The code of a refusal by a verdict is from 2 to 32, 37 UserLocked or 51 Version, and so never 40 Memory,
+/// 41 Store or 42 Closed.
 #[tactic(auto, using(crate::proofs::Verdicts::RefusingLaws::verdicts_refuse_commands))]
 pub fn verdicts_refuse_commands()
     ensures { VerdictsRefuseCommands }
 {}
 
-/// Nothing but assignUser and an import adds to UA, nothing but grantPermission adds to PA, and no
-/// command changes the version.
+/// Only assignUser and an import add to UA, only grantPermission adds to PA, and no command changes the
+/// version.
 #[tactic(auto, using(crate::proofs::StateAfter::EffectLaws::assigned_by_command, crate::proofs::StateAfter::EffectLaws::granted_by_command, crate::proofs::StateAfter::EffectLaws::version_stays))]
 pub fn effects()
     ensures assignments { AssignedByCommand }

@@ -2,9 +2,10 @@
 //!
 //! The state has the sets and relations of core RBAC, of the role hierarchy and of static and
 //! dynamic separation of duty, and it is always good. A command is judged on the state as it is,
-//! without a copy of it: the verdict is the first of the command's refusals that holds. The plan of
-//! an accepted command names the rows that go and those that come; once room was made for them,
-//! `State::commit` changes them in place and can't fail. `State::of_rows` is the state of stored rows.
+//! without a copy of it: the verdict is the first of the command's refusals that applies. The plan of
+//! an accepted command lists the rows to remove and the rows to add. Once `State::make_room` has made
+//! room for them, `State::commit` changes the state in place and can't fail. `State::of_rows` reads a
+//! state from stored rows.
 //!
 //! # Example
 //!
@@ -22,7 +23,7 @@
 //!     state.make_room(&plan)?;
 //!     state.commit(plan);
 //!     assert_eq!(rt; state.users().len(), 1);
-//!     // The user is there now, so that the same command is refused.
+//!     // The user exists now, so the same command is refused.
 //!     assert!(rt; matches!(state.plan(alloc, &command), Err(refusal) if refusal.code() == 3));
 //!     Ok(())
 //! }

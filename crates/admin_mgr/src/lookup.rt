@@ -1,4 +1,4 @@
-//! What a set of names or pairs says of one name.
+//! Lookups of names in sets of names and pairs.
 ghost use Rattle.std.specs.Prelude.{◌≡◌, ◌||◌, find, filter};
 ghost use Rattle.std.specs.List.{list_any, list_all};
 ghost use Rattle.std.specs.Option.{option_map};
@@ -8,7 +8,7 @@ ghost use Rattle.admin_mgr.specs.Tested.{are_firsts_in, are_seconds_in};
 
 use rbac_sets::{CountSet, Name, NameSet, PairSet};
 
-// Whether the two names are one.
+// Whether the two names are equal.
 #[tactic(auto, using(rbac_sets::proofs::SetLaws::same_bytes))]
 pub(crate) fn is_same(a: &Name, b: &Name) -> bool
     ensures { result ≡ same_name a.now b.now }
@@ -71,7 +71,7 @@ pub(crate) fn are_in(names: &[Name], set: &NameSet) -> bool
     names.iter().all(|name| set.contains(name))
 }
 
-// The number of a name, if it has one.
+// The number that is paired with the name, if there is one.
 pub(crate) fn number_of(numbers: &CountSet, name: &Name) -> Option<u32>
     ensures { result ≡ option_map (λ (entry : Cardinality). entry.1) (find (λ (entry : Cardinality). same_name entry.0 name.now) (members (set_of cardinality_cmp numbers.now))) }
 {

@@ -1,8 +1,8 @@
-//! Who has how many roles of a set, by the numbers of the roles: a role's number is its place among the roles
-//! in byte order.
+//! Checks of separation of duty over the numbers of roles: a role's number is its place among the roles in
+//! byte order.
 //!
-//! What goes over all users or sessions for many sets takes the numbers of what each has once, and then reads
-//! the table of the order.
+//! If all users or sessions are checked against many sets, the numbers of their roles are looked up once, and
+//! then only the reachability matrix is read.
 ghost use Rattle.std.specs.Prelude.{◌≡◌, ◌++◌, ◌&&◌, not, nat_lt, IfOk, IfErr};
 ghost use Rattle.std.specs.Prelude.{map as list_map};
 ghost use Rattle.std.specs.List.{list_all, list_any};
@@ -17,8 +17,8 @@ use order_table::{OrderTable, second_numbers};
 use rbac_sets::{Name, PairSet, Refusal};
 use std::alloc::Global;
 
-// The numbers of the roles of each run, and behind them those of some more roles. A run has the pairs
-// (holder, role) of one user or session.
+// The numbers of the roles of each run, followed by the numbers `more`. A run has the pairs (holder, role) of
+// one user or session.
 pub(crate) fn run_numbers(
     alloc: Global,
     roles: &[Name],
@@ -37,7 +37,7 @@ pub(crate) fn run_numbers(
     Ok(numbers)
 }
 
-// The numbers of the roles of one run, and behind them those of some more roles.
+// The numbers of the roles of one run, followed by the numbers `more`.
 fn numbers_with(
     alloc: Global,
     roles: &[Name],
@@ -53,7 +53,7 @@ fn numbers_with(
     Ok(numbers)
 }
 
-// How many of the members are one of these roles, or below one.
+// How many of the members are one of these roles, or a junior of one.
 fn reached(table: &OrderTable, run: &[usize], members: &[usize]) -> usize
     ensures { result ≡ count_reached table.now run.now members.now }
 {
@@ -63,7 +63,7 @@ fn reached(table: &OrderTable, run: &[usize], members: &[usize]) -> usize
         .count()
 }
 
-// Whether each of the runs reaches fewer than so many of the members.
+// Whether none of the runs violates the set of these members and this cardinality.
 fn keep_below(table: &OrderTable, runs: &[Vec<usize>], members: &[usize], cardinality: u32) -> bool
     ensures { result ≡ list_all (λ run. nat_lt (count_reached table.now run.items members.now) cardinality) runs.now }
 {
@@ -71,14 +71,14 @@ fn keep_below(table: &OrderTable, runs: &[Vec<usize>], members: &[usize], cardin
         .all(|run| reached(table, run, members) < cardinality as usize)
 }
 
-// Whether one of the members is this role, or below it.
+// Whether one of the members is this role, or a junior of it.
 fn touches(table: &OrderTable, role: usize, members: &[usize]) -> bool
     ensures { result ≡ list_any (λ member. entry table.now role member) members.now }
 {
     members.iter().any(|member| table.geq(role, *member))
 }
 
-// Whether a role reaches one of the members, and one of the runs so many of them.
+// Whether one of the members is this role or a junior of it, and one of the runs violates the set.
 fn break_by(
     table: &OrderTable,
     runs: &[Vec<usize>],
@@ -92,7 +92,7 @@ fn break_by(
     touches(table, role, members) && !keep_below(table, runs, members, cardinality)
 }
 
-// Whether each of the sets is kept by each of the runs.
+// Whether none of the runs violates any of the sets.
 pub(crate) fn keep_all(
     alloc: Global,
     table: &OrderTable,
@@ -114,7 +114,8 @@ pub(crate) fn keep_all(
     Ok(true)
 }
 
-// The first of the sets that a role reaches and one of the runs breaks.
+// The first of the sets that one of the runs violates. Only sets are considered that have this role or a
+// junior of it as a member.
 pub(crate) fn first_broken_by<'a>(
     alloc: Global,
     table: &OrderTable,

@@ -1,11 +1,11 @@
-//! What a command does to a state, as changes of rows.
+//! What a command changes in a state, as changes of rows.
 ghost use Rattle.std.specs.Prelude.{◌≡◌, true};
 ghost use Rattle.rbac_sets.specs.Named.{are_named};
 
 use rbac_sets::Change;
 use role_order::OrderPlan;
 
-/// What is told of an import: how many of its records were assigned, how many had been before, and
+/// The report of an import: how many of its records were assigned, how many had been assigned before, and
 /// which were refused for another reason. It is zero and empty for any other command.
 #[derive(Drop)]
 pub struct Report {
@@ -18,9 +18,9 @@ pub struct Report {
     pub refused: Vec<(u32, u32)>,
 }
 
-/// The rows that an accepted command takes and puts, and what is told of it.
+/// The rows that an accepted command removes and adds, and its report.
 ///
-/// It is made by `State::plan`, and `State::commit` makes its changes.
+/// `State::plan` makes it, and `State::commit` makes its changes.
 #[derive(Drop)]
 pub struct Plan {
     pub(crate) changes: Vec<Change>,
@@ -29,15 +29,15 @@ pub struct Plan {
 }
 
 impl Plan {
-    /// The rows that are taken, and then those that are put: each row that is taken is there, none
-    /// that is put is there, and none is named twice. It takes no memory.
+    /// The rows to take, and then the rows to put. The state for which the plan was made has each row to take
+    /// and no row to put, and no row is listed twice. It doesn't allocate.
     pub fn changes(&self) -> &[Change]
         ensures { result.now ≡ self.now.changes.items }
     {
         &self.changes
     }
 
-    /// What holds of every plan: each name in its rows is a name. It takes no memory.
+    /// Each name in the plan's rows is valid, which holds of every plan. It doesn't allocate.
     pub fn is_named(&self)
         ensures { are_named self.now.changes.items ≡ true }
     {
@@ -46,7 +46,7 @@ impl Plan {
         }
     }
 
-    /// What is told of an import; zero and empty for any other command. It takes no memory.
+    /// The report of an import; zero and empty for any other command. It doesn't allocate.
     pub fn report(&self) -> &Report
         ensures { result.now ≡ self.now.report }
     {

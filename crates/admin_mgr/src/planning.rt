@@ -1,8 +1,8 @@
-//! How the plan of each command is made.
+//! The plan of each command.
 //!
-//! A plan is made for a command that was judged before and is accepted: there is one function for each
-//! command, and `make` for any. It names the rows that go and then those that come, and never copies
-//! the state.
+//! A plan is made for a command that was judged before and is accepted. There is one function for each
+//! command, and `make` for any. A plan lists the rows to take and then those to put; the state is never
+//! copied.
 ghost use Rattle.std.specs.Prelude.{◌≡◌, ◌⊎◌, Some, None, IfOk, IfErr};
 ghost use Rattle.admin_mgr.specs.Verdict.{verdict};
 ghost use Rattle.admin_mgr.specs.Planned.{IsPlanOf};
@@ -40,18 +40,17 @@ mod separation;
 mod sessions;
 
 impl State {
-    /// The plan of a command: it judges the command, and names the rows that go and those that come
-    /// where it is accepted. Nothing is changed yet: `make_room` makes room for the plan, and `commit`
-    /// makes its changes.
+    /// Judges the command and, if it is accepted, makes its plan: the rows to remove and those to add. Nothing
+    /// is changed yet: `make_room` makes room for the plan, and `commit` makes its changes.
     ///
-    /// The rows are exactly the difference between the state and the state after the command, those of
-    /// the role hierarchy and of sessions that end included. An import is one plan: its records are
-    /// judged one after another, each on the state with those that were accepted before it.
+    /// The rows are exactly the difference between the state and the state after the command, including
+    /// those of the role hierarchy and of sessions that end. An import is one plan: its records are judged
+    /// one after another, each on the state with the records that were accepted before it.
     ///
     /// # Errors
     ///
-    /// The first of the command's refusals that holds, in the order of docs/MODEL.md. `Memory` where
-    /// memory for the plan was refused. The state is kept in any case.
+    /// The first of the command's refusals that applies, in the order of docs/MODEL.md. `Memory` if an
+    /// allocation failed. The state stays as it is in any case.
     pub fn plan(&self, alloc: Global, command: &Command) -> Result<Plan, Refusal>
         ensures accepted { IfOk result (λ plan. verdict self.now.facts command.now ≡ None) }
         ensures planned { IfOk result (IsPlanOf self.now.facts command.now) }

@@ -13,11 +13,10 @@ mod changing;
 pub(crate) mod gathered;
 mod together;
 
-// The sets and relations of core RBAC, of the role hierarchy and of separation of duty, between the
-// changes of one command: they may be anything.
+// The sets and relations of core RBAC, of the role hierarchy and of separation of duty. Between the changes of
+// one command they need not be good.
 //
-// A contract sees them as `facts`, and beside them how many more entries each set can take without
-// memory.
+// Contracts see them as `facts`, and also for how many more entries each set has room without an allocation.
 #[derive(Drop)]
 pub(crate) struct Relations {
     version: u32,
@@ -50,7 +49,7 @@ impl Model for Relations {
 }
 
 impl Relations {
-    // Nothing yet, in an office of this version. It takes no memory.
+    // Empty sets and relations, in an office of this version. It doesn't allocate.
     pub(crate) fn empty(alloc: Global, version: u32) -> Relations
         ensures { result.facts ≡ empty_state version }
     {
@@ -73,7 +72,7 @@ impl Relations {
         }
     }
 
-    // The same in version 2. It takes no memory.
+    // The same in version 2. It doesn't allocate.
     pub(crate) fn into_version_2(mut self) -> Relations
         ensures { result.facts ≡ record self.facts { version = 2 } }
     {

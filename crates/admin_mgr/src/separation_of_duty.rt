@@ -21,7 +21,7 @@ pub(crate) enum SeparationOfDuty {
 }
 
 impl SeparationOfDuty {
-    // What the limit on the number of its sets counts.
+    // The kind that has the limit on the number of its sets.
     pub(crate) fn kind(self) -> Kind
         ensures { result ≡ kind_of self }
     {
@@ -68,7 +68,7 @@ impl SeparationOfDuty {
         self.members_in(state.relations())
     }
 
-    // The same of relations that may be anything.
+    // The same for relations that need not be good.
     pub(crate) fn members_in(self, relations: &Relations) -> &PairSet
         ensures { set_of pair_cmp result.now ≡ (sets_of self relations.now.facts).members }
     {
@@ -85,7 +85,7 @@ impl SeparationOfDuty {
         self.cardinalities_in(state.relations())
     }
 
-    // The same of relations that may be anything.
+    // The same for relations that need not be good.
     pub(crate) fn cardinalities_in(self, relations: &Relations) -> &CountSet
         ensures { set_of cardinality_cmp result.now ≡ (sets_of self relations.now.facts).cardinalities }
     {
@@ -105,8 +105,8 @@ impl SeparationOfDuty {
         }
     }
 
-    // Who this kind goes over: of each user the assignments, or of each session the roles that were
-    // activated in it, as pairs (holder, role).
+    // Who this kind applies to: for each user its assignments, or for each session its activated roles, as pairs
+    // (holder, role).
     pub(crate) fn runs(self, relations: &Relations) -> Runs<'_>
         ensures { runs_left result ≡ runs_of self relations.now.facts }
     {

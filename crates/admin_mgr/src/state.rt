@@ -19,12 +19,12 @@ use role_order::RoleOrder;
 use std::alloc::Global;
 use std::marker::Model;
 
-/// The state of an office: the sets and relations of the standard, which are good.
+/// The state of an office: the sets and relations of the standard. It is always good.
 ///
-/// What a relation speaks of is there, the role hierarchy has no cycle, no separation of duty set is
-/// violated, a session's user is authorized for each role that was activated in it and is not locked,
-/// and no limit of the state's version is passed; and each of its names is a name. A contract sees the sets and relations as `facts`.
-/// No reader takes memory.
+/// That is: each user, role, object, permission, session and set that a relation refers to exists; the role
+/// hierarchy has no cycle; no separation of duty set is violated; a session's user is authorized for each role
+/// that was activated in it, and is not locked; no limit of the state's version is exceeded; and each name is
+/// valid. Contracts see the sets and relations as `facts`. No function that reads the state allocates.
 #[derive(Drop)]
 pub struct State {
     relations: Relations,
@@ -45,7 +45,7 @@ impl Model for State {
 }
 
 impl State {
-    /// A state of version 2 in which nothing was done yet. It takes no memory.
+    /// The state of a new office of version 2: all its sets are empty. It doesn't allocate.
     pub fn empty(alloc: Global) -> State
         ensures { result.facts ≡ empty_state 2 }
     {
@@ -54,7 +54,7 @@ impl State {
         }
     }
 
-    /// A state of version 1 in which nothing was done yet. It takes no memory.
+    /// The state of a new office of version 1: all its sets are empty. It doesn't allocate.
     pub fn empty_v1(alloc: Global) -> State
         ensures { result.facts ≡ empty_state 1 }
     {
@@ -63,18 +63,18 @@ impl State {
         }
     }
 
-    /// The state that is stored as these rows, in an office of this version, which is 1 or 2.
+    /// The state that is stored as `rows`, in any order, in an office of this `version`, which is 1 or 2.
     ///
     /// # Errors
     ///
-    /// The first of the checks that fails is named. `Damaged(1)` where a row is of a kind that the version
-    /// hasn't, or two rows have one key; then `TooMany` where there is more of a kind than its limit; then
-    /// `Damaged` by 3 where a row speaks of what isn't there, 4 where a session has two users, 5 where the
-    /// immediate inheritances have a cycle, 6 where the stored pairs of the order aren't those that the
-    /// immediate inheritances lead over, 7 where the cardinality of a separation of duty set isn't from
-    /// two to the number of its members, 8 where a session's user isn't authorized for a role that was
-    /// activated in it, 9 where a static and 10 where a dynamic separation of duty set is violated, and 11
-    /// where a locked user has a session. `Memory` where memory was refused.
+    /// The refusal names the first check that fails. `Damaged(1)` if a row is of a kind that the version
+    /// doesn't have, or two rows have the same key; then `TooMany` if a limit is exceeded, with the first
+    /// such kind; then `Damaged` with 3 if a row refers to something that doesn't exist, 4 if a session has
+    /// two users, 5 if the immediate inheritances have a cycle, 6 if the stored closure pairs are not the
+    /// closure of the immediate inheritances, 7 if the cardinality of a separation of duty set isn't at least
+    /// 2 and at most the number of its members, 8 if a session's user isn't authorized for a role that was
+    /// activated in it, 9 if a static and 10 if a dynamic separation of duty set is violated, and 11 if a
+    /// locked user has a session. `Memory` if an allocation failed.
     pub fn of_rows(alloc: Global, version: u32, rows: Vec<Row>) -> Result<State, Refusal>
         requires { (version ≡ 1) ⊎ (version ≡ 2) }
         ensures ok { IfOk result (λ state. IsStateOf version rows.items state.facts) }
@@ -99,8 +99,8 @@ impl State {
         }
     }
 
-    /// A state of version 1 taken into version 2, with the same sets and relations and no user locked.
-    /// It takes no memory, and isn't refused: no limit of version 2 is lower.
+    /// The state, of version 1, migrated to version 2: it has the same sets and relations, and no user is
+    /// locked. It doesn't allocate and can't fail: no limit of version 2 is lower.
     pub fn migrated(self) -> State
         requires { self.facts.version ≡ 1 }
         ensures { result.facts ≡ taken_into_version_2 self.facts }
@@ -110,32 +110,32 @@ impl State {
         State { relations }
     }
 
-    // The relations alone, for what asks no more of them.
+    // The relations alone, for functions that don't need them to be good.
     pub(crate) fn relations(&self) -> &Relations
         ensures { result.now ≡ self.now }
     {
         &self.relations
     }
 
-    /// The law of the type, for one state: it is good.
+    /// The state is good: the invariant of the type, as a fact about one state.
     ///
-    /// Like the functions of `laws` it does nothing and gives nothing when it runs. Code calls it where
-    /// its proof needs that the state is good.
+    /// Like the functions of `laws` it does nothing when it runs. Code calls it if its proof needs the fact.
     pub fn is_good(&self)
         ensures { IsGood self.now.facts }
     {
         let _ = &self.relations;
     }
 
-    /// The law of the type, for one state: each name in its rows is a name. As `is_good` it does nothing.
+    /// Each name in the state's rows is valid, by the invariant of the type. Like `is_good` it does nothing
+    /// when it runs.
     pub fn is_named(&self)
         ensures { AreNamed self.now.facts }
     {
         let _ = &self.relations;
     }
 
-    /// 1, or 2 where users can be locked and the limits of users, roles and immediate inheritances
-    /// are larger. No command changes it.
+    /// 1 or 2. In version 2 users can be locked, and the limits of users, roles and immediate inheritances
+    /// are larger. No command changes the version.
     pub fn version(&self) -> u32
         ensures version { result ≡ self.now.facts.version }
         ensures known { (result ≡ 1) ⊎ (result ≡ 2) }
@@ -150,7 +150,7 @@ impl State {
         self.relations.users()
     }
 
-    /// The locked users, who may have no session. There are none in version 1.
+    /// The locked users, who have no session. There are none in version 1.
     pub fn locked(&self) -> &NameSet
         ensures { set_of name_cmp result.now ≡ self.now.facts.locked }
     {
@@ -200,7 +200,7 @@ impl State {
     }
 
     /// The roles that were activated in the sessions, as pairs (session, role). `session_roles` of the
-    /// standard has the roles below these too.
+    /// standard has the juniors of these too.
     pub fn active(&self) -> &PairSet
         ensures { set_of pair_cmp result.now ≡ self.now.facts.active }
     {
@@ -236,15 +236,15 @@ impl State {
     }
 
     /// The role hierarchy: the immediate inheritances, as edges (ascendant, descendant), and their
-    /// order.
+    /// closure.
     pub fn order(&self) -> &RoleOrder
         ensures { result.now.edges ≡ self.now.facts.edges }
     {
         self.relations.order()
     }
 
-    /// SsdRoleSetCardinality: the cardinality of a static separation of duty set, and `None` where
-    /// there is no set of this name.
+    /// SsdRoleSetCardinality: the cardinality of the static separation of duty set of this name, or `None`
+    /// if there is no such set.
     #[tactic(auto, unfolding(crate::specs::RbacState::cardinality_of))]
     pub fn ssd_n(&self, set: &Name) -> Option<u32>
         ensures { result ≡ cardinality_of self.now.facts.ssd set.now }
@@ -252,8 +252,8 @@ impl State {
         number_of(self.ssd_cardinalities(), set)
     }
 
-    /// DsdRoleSetCardinality: the cardinality of a dynamic separation of duty set, and `None` where
-    /// there is no set of this name.
+    /// DsdRoleSetCardinality: the cardinality of the dynamic separation of duty set of this name, or `None`
+    /// if there is no such set.
     #[tactic(auto, unfolding(crate::specs::RbacState::cardinality_of))]
     pub fn dsd_n(&self, set: &Name) -> Option<u32>
         ensures { result ≡ cardinality_of self.now.facts.dsd set.now }
@@ -261,16 +261,15 @@ impl State {
         number_of(self.dsd_cardinalities(), set)
     }
 
-    /// Makes room for all that a plan puts, in each set and in the role hierarchy, so that `commit`
-    /// needs no memory.
+    /// Makes room for all that a plan adds, in each set and in the role hierarchy, so that `commit` doesn't
+    /// allocate.
     ///
-    /// The plan may be any. It is a function of this office and none of the standard: an accepted
-    /// command is first made durable, and by then its changes may no longer fail.
+    /// `plan` may be any plan, also one of another state. This is a function of the office and none of the
+    /// standard: an accepted command is made durable first, and after that its changes must not fail.
     ///
     /// # Errors
     ///
-    /// `Memory` where memory for the room was refused. The sets and relations are the same in any
-    /// case.
+    /// `Memory` if an allocation failed. The sets and relations stay the same in any case.
     pub fn make_room(&mut self, plan: &Plan) -> Result<(), Refusal>
         ensures keeps { self.new.facts ≡ self.old.facts }
         ensures room { OnOk result (HasRoomFor self.new plan.now) }
@@ -283,11 +282,12 @@ impl State {
         Ok(())
     }
 
-    /// Makes the changes of a plan, in the room that was made: what each administrative command and
-    /// each function of the system on sessions does to the sets and relations, once it is accepted.
+    /// Makes the changes of a plan, in the room that `make_room` made: what each administrative command
+    /// and each system function on sessions does to the sets and relations once it is accepted.
     ///
-    /// The plan is one that leads from this state to a good one, as `plan` gives, and the state is that
-    /// one afterwards. What the plan tells is handed back. It takes no memory and can't fail.
+    /// `plan` has to lead from this state to a good one, as a plan that `State::plan` made of this state
+    /// does, and the state is that one afterwards. Returns the plan's report. It doesn't allocate and can't
+    /// fail.
     pub fn commit(&mut self, plan: Plan) -> Report
         requires planned { (T : RbacState) × LeadsTo self.old.facts plan T }
         requires room { HasRoomFor self.old plan }

@@ -1,4 +1,4 @@
--- What a call of an office answers, and what a stop then leaves, as an event of its life.
+-- What a call of an office answers, and what a crash then leaves, as an event of its run.
 use Rattle.std.proofs.Common.{◌≡◌, ◌⊎◌, ◌∷◌, [], inl, inr, true, Some, None, Ok, Err, refl, sym, subst}
 use Rattle.std.specs.Prelude.{All}
 use Rattle.std.proofs.lemmas.List.Elements.{All-nil}
@@ -31,7 +31,7 @@ plan_refused old command refusal (inr told) = go refusal (verdicts_refuse_comman
     go Closed judged is = absurd (cc)
     go _ judged is = (is, refl)
 
--- where nothing was changed, a stop leaves the state
+-- if nothing was changed, a crash leaves the state
 pub leaves_unchanged : {S : Type 0} (g : Ghosts S) (old : Opened S) (command : Command) (refusal : Refusal) → (refusal ≡ Memory) ⊎ (verdict old.facts command ≡ Some refusal) → Stands (state g old.conn) old.facts
     → LeavesAsIn (state g old.conn) old.facts (event_of command (Err refusal) ∷ [])
 leaves_unchanged g old command refusal cause stands trees may = (old.facts, possible refusal cause, stands.left trees may)
@@ -46,11 +46,11 @@ leaves_unchanged g old command refusal cause stands trees may = (old.facts, poss
     possible r (inl wanting) = subst (λ r. Leaves old.facts (event_of command (Err r) ∷ []) old.facts) (sym wanting) refl
     possible r (inr told) = plain r (verdicts_refuse_commands old.facts command r told) told
 
--- where the command was done, a stop leaves the state after it
+-- if the command was done, a crash leaves the state after it
 pub leaves_done : (new : State) (S : RbacState) (command : Command) (report : Report) → verdict S command ≡ None → tally_of_report report ≡ tally S command → Stands new (after S command) → LeavesAsIn new S (event_of command (Ok report) ∷ [])
 leaves_done new S command report accepted told stands trees may = (after S command, (accepted, told, refl), stands.left trees may)
 
--- where the store refused a call, it leaves the state before or after
+-- if the store failed in a call, a crash leaves the state before or after
 pub leaves_stopped : (new : State) (S : RbacState) (command : Command) → verdict S command ≡ None → LeavesEither new S (after S command) → LeavesAsIn new S (event_of command (Err Store) ∷ [])
 leaves_stopped new S command accepted either trees may = elim (either trees may) [
   | inl before ↦ (S, (accepted, none_follows, inl refl), before)

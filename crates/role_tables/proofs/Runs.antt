@@ -1,4 +1,4 @@
--- How a run begins, goes on by a call, and is found again.
+-- How a run begins, how a call adds an event to it, and what the next opening gives after a crash.
 use Rattle.std.proofs.Common.{◌≡◌, ◌⊎◌, Bool, true, false, List, [], ◌∷◌, ◌++◌, refl, sym, ◌∙◌, ap, subst, inl, inr}
 use Rattle.std.specs.Prelude.{IsTrue, Some, Result, Ok, Err, ◌||◌}
 use Rattle.std.proofs.lemmas.Bool.{cases_Bool, true≢false}
@@ -80,7 +80,7 @@ module _ {S : Type 0} (shown : Held S → State) (old : Opened S) (event : Event
     open_so_far : is_closed_by events ≡ false
     open_so_far = sym run.closed ∙ works
 
-    -- what the events leave, the last leaves of the state before it
+    -- what all events may leave, the last event may leave from the state before it
     last_of : (T : RbacState) → Leaves start (events ++ event ∷ []) T → Leaves old.facts (event ∷ []) T
     last_of T left = subst (λ M. Leaves M (event ∷ []) T) (sym run.state) ((open_goes_on start events (event ∷ []) T run.possible open_so_far).0 left)
 
@@ -129,7 +129,7 @@ module _ {S : Type 0} (shown : Held S → State) (old : Opened S) (event : Event
     | inr works ↦ goes_on_open works
   ]
 
--- a call is one event more of whatever run the office is in
+-- a call adds one event to whatever run the office is in
 pub goes_on : {S : Type 0} (shown : Held S → State) (old : Opened S) (event : Event) (new : Opened S) → IsCall shown old event new → GoesOnBy shown old event new
 goes_on shown old event new call start events run = goes_on_by shown old event new call start events run
 

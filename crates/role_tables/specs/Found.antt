@@ -1,5 +1,5 @@
--- What is found of an office in a database, by the names of tables and columns, however the tables were made; and the
--- first two of the checks that it has to pass.
+-- What a database has of an office, by the names of tables and columns, however the tables were created; and the first two of
+-- the checks that it has to pass.
 use Rattle.std.specs.Prelude.{ℕ, ◌≡◌, ◌⊎◌, ◌&&◌, ◌^◌, pos, nat_le, nat_lt, Bool, true, false, List, [], ◌∷◌, map, slice_get, Option, Some, IsSome, IsTrue}
 use Rattle.std.specs.Option.{option_and_then, option_map}
 use Rattle.rbac_sets.specs.Name.{is_name}
@@ -19,19 +19,19 @@ use Rattle.sqlite_schema.specs.Names.{table_named, column_named}
 use Rattle.role_tables.specs.TableByName.{Place, names_of, cells_at}
 use Rattle.role_tables.specs.OfficeTables.{StoredTable, Meta, Names, Pairs, Grants, Sets, Locks, making, places}
 
--- ---- what is found
+-- ---- the rows of the tables
 
--- the columns of these names, where each is there
+-- the columns of these names, if each is there
 abbrev pub find_places : Table → List (List ℕ) → Option (List Place)
 find_places table [] = Some []
 find_places table (name ∷ names) =
     option_and_then (λ at. option_and_then (λ c. option_map (λ (more : List Place). (name, at, c) ∷ more) (find_places table names)) (slice_get table.columns at)) (column_named table name)
 
--- the table of this name, where it is there
+-- the table of this name, if it is there
 abbrev pub find_table : Schema → List ℕ → Option Table
 find_table schema name = option_and_then (slice_get schema.tables) (table_named schema name)
 
--- the values that the columns of the kind hold in the table of its name, where they are there
+-- the values in the columns of this kind of table, row by row, if the table and the columns are there
 abbrev pub held_in : Database → StoredTable → Option (List sql.Row)
 held_in db kind = option_and_then (λ table. option_map (λ found. map (cells_at table found) (db.trees table.tree)) (find_places table (names_of (places kind)))) (find_table db.schema (making kind).name)
 
@@ -39,11 +39,11 @@ held_in db kind = option_and_then (λ table. option_map (λ found. map (cells_at
 abbrev pub HasTable : State → StoredTable → Type 0
 HasTable s kind = IsSome (held_in s.now kind)
 
--- what is found of each kind of table
+-- what a database has of each kind of table, if it is there: the values of its rows
 abbrev pub Found : Type 0
 Found = StoredTable → Option (List sql.Row)
 
--- ---- check 1, but for keys
+-- ---- check 1, except for keys
 
 abbrev pub is_text : Value → Bool
 is_text (Text t) = true
@@ -63,7 +63,7 @@ abbrev pub is_count : Value → Bool
 is_count (Int (pos n)) = nat_lt n (2 ^ 32)
 is_count _ = false
 
--- the values are of their columns' types, the kind is known, and a count fits
+-- the values are of their columns' types, the kind is known, and a cardinality fits a u32
 abbrev pub is_whole : StoredTable → sql.Row → Bool
 is_whole Meta v = is_text (column v 0) && is_whole_number (column v 1)
 is_whole Names v = is_kind 3 (column v 0) && is_text (column v 1)
@@ -82,7 +82,7 @@ abbrev pub number_of : Value → ℕ
 number_of (Int (pos n)) = n
 number_of _ = 0
 
--- the texts are names
+-- the texts are valid names
 abbrev pub has_names : StoredTable → sql.Row → Bool
 has_names Meta v = true
 has_names Names v = is_name (text_of (column v 1))
@@ -100,7 +100,7 @@ row_in Grants v = GrantRow (text_of (column v 0)) (text_of (column v 1)) (text_o
 row_in Sets v = SetRow (number_of (column v 0)) (text_of (column v 1)) (number_of (column v 2))
 row_in Locks v = LockedRow (text_of (column v 0))
 
--- what may be refused of one row; a text that isn't UTF-8 is no name
+-- how one row may be refused; a text that isn't UTF-8 is no valid name
 abbrev pub RefusesRow : StoredTable → sql.Row → Refusal → Type 0
 RefusesRow kind v Memory = Unit {0}
 RefusesRow kind v (Damaged check) = ((check ≡ 1) × (is_whole kind v ≡ false)) ⊎ ((check ≡ 2) × IsTrue (is_whole kind v) × (has_names kind v ≡ false))

@@ -19,7 +19,7 @@ use Rattle.role_tables.specs.declared.gathering.Gathering.{Gathering}
 abbrev pub IsOfRows : StoredTable → Type 0
 IsOfRows table = table ≢ Meta
 
--- the values of these rows were judged and, while all were good, their rows kept
+-- the values of these rows were judged and, while all passed, their rows kept
 pub record Gathers (kind : StoredTable) (shown : List sql.Row) (old new : Gathering) : Type 0 where
   pub whole : new.is_whole ≡ (old.is_whole && list_all (is_whole kind) shown)
   pub named : IsTrue new.is_whole → new.is_named ≡ (old.is_named && list_all (has_names kind) shown)
@@ -34,17 +34,17 @@ IsRead (Some values) shown = IsPermutation values shown
 abbrev pub GathersTable : Option (List sql.Row) → StoredTable → Gathering → Gathering → Type 0
 GathersTable found kind old new = (shown : List sql.Row) × IsRead found shown × Gathers kind shown old new
 
--- The values were judged, and found good or not so, and, while all were good, these rows kept in some order.
+-- the values were judged with these results and, while all passed, these rows kept in some order
 pub record GathersPart (are_whole are_named : Bool) (rows : List Row) (old new : Gathering) : Type 0 where
   pub whole : new.is_whole ≡ (old.is_whole && are_whole)
   pub named : IsTrue new.is_whole → new.is_named ≡ (old.is_named && are_named)
   pub kept : IsTrue new.is_whole → IsTrue new.is_named → (more : List Row) × IsPermutation rows more × (new.rows.items ≡ old.rows.items ++ more)
 
--- the values of the table are whole
+-- the values of the table pass check 1
 abbrev pub whole_at : StoredTable → Found → Bool
 whole_at kind found = list_all (is_whole kind) (values found kind)
 
--- the texts of the table are names
+-- the texts of the table are valid names
 abbrev pub named_at : StoredTable → Found → Bool
 named_at kind found = list_all (has_names kind) (values found kind)
 
@@ -64,19 +64,19 @@ AreOfRows tables = AllByRecursion IsOfRows tables
 abbrev pub GathersTables : Found → List StoredTable → Gathering → Gathering → Type 0
 GathersTables found tables = GathersPart (list_all (λ table. whole_at table found) tables) (list_all (λ table. named_at table found) tables) (rows_in_all found tables)
 
--- what was seen of the rows of meta_row says that the version is this
+-- by what was read of meta_row, this is the version
 abbrev pub IsVersionSeen : Metas → Schema → ℕ → Type 0
 IsVersionSeen metas schema version =
     IsTrue metas.is_tagged × (metas.unknown ≡ None) × (((version ≡ 1) × (metas.is_second ≡ false)) ⊎ ((version ≡ 2) × IsTrue metas.is_second × IsTrue (is_there schema Locks)))
 
--- or it says why there is none
+-- or this is why there is none
 abbrev pub RefusesVersion : Metas → Schema → Refusal → Type 0
 RefusesVersion metas schema refusal =
     ((refusal ≡ NotAnOffice) × (metas.is_tagged ≡ false))
     ⊎ (((n : ℤ) × (refusal ≡ Version n) × IsTrue metas.is_tagged × (metas.unknown ≡ Some n))
     ⊎ ((refusal ≡ NotAnOffice) × IsTrue metas.is_tagged × (metas.unknown ≡ None) × IsTrue metas.is_second × (is_there schema Locks ≡ false)))
 
--- the rows that were gathered are refused
+-- the rows that were gathered are refused so
 abbrev pub RefusesGathering : ℕ → Gathering → Refusal → Type 0
 RefusesGathering version all refusal =
     ((refusal ≡ Damaged 1) × (all.is_whole ≡ false))

@@ -1,4 +1,4 @@
--- What is looked for in a schema before tables are made.
+-- Whether the tables of an office are in a schema, and whether they can be created in it.
 use Rattle.std.specs.Prelude.{ℕ, ◌&&◌, ◌||◌, not, Bool, List, codes, is_some, Option, Some, None, false}
 use Rattle.std.specs.List.{list_any, list_all}
 use Rattle.sqlite.specs.Table.{Table}
@@ -12,7 +12,7 @@ use Rattle.role_tables.specs.Found.{find_table}
 abbrev pub is_free : Schema → List ℕ → Bool
 is_free schema name = not (list_any (λ t. same_name t.name name) schema.tables) && not (is_referred schema name)
 
--- no table counts its rowids, or the table that counts them is there
+-- no table counts its rowids (AUTOINCREMENT), or the table that has the counts is there
 abbrev pub may_count : Schema → Bool
 may_count schema = not (list_any (λ t. t.is_counted) schema.tables) || list_any (λ t. same_name t.name (codes "sqlite_sequence")) schema.tables
 
@@ -20,7 +20,7 @@ may_count schema = not (list_any (λ t. t.is_counted) schema.tables) || list_any
 abbrev pub are_free : Schema → List StoredTable → Bool
 are_free schema tables = list_all (λ table. is_free schema (making table).name) tables
 
--- the tables of an office of this version can be made
+-- the tables of an office of this version can be created
 abbrev pub may_create : ℕ → Schema → Bool
 may_create version schema = are_free schema (tables_of version) && may_count schema
 
@@ -41,6 +41,6 @@ has_columns schema name columns = is_such (find_table schema name) (λ table. ha
 abbrev pub is_there : Schema → StoredTable → Bool
 is_there schema kind = has_columns schema (making kind).name (names_of (places kind))
 
--- each of these tables is
+-- each of these tables is there with its columns
 abbrev pub are_there : Schema → List StoredTable → Bool
 are_there schema tables = list_all (is_there schema) tables

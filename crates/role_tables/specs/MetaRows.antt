@@ -1,4 +1,4 @@
--- What is seen of the rows of meta_row as they are read.
+-- What is kept of the rows of meta_row as they are read.
 use Rattle.std.specs.Prelude.{◌≡◌, ◌||◌, ◌&&◌, ℤ, false, List, length, Option, Some, None, IsTrue, nat_eq, if◌then◌else◌}
 use Rattle.std.specs.List.{list_any, list_all}
 use Rattle.std.specs.Int.Signed.{lt_z}
@@ -9,7 +9,7 @@ use Rattle.role_tables.specs.Found.{is_whole, held_in}
 use Rattle.role_tables.specs.Opening.{values, is_tagged, version_at, listed, versions, is_number, is_known_version, IsLeastUnknown, is_single}
 use Rattle.role_tables.specs.declared.meta_rows.Metas.{Metas}
 
--- the least number so far that is no version, if there is one
+-- the least number so far that is no known version, if there is one
 abbrev pub IsUnknownOf : List ℤ → Option ℤ → Type 0
 IsUnknownOf numbers None = IsTrue (list_all is_known_version numbers)
 IsUnknownOf numbers (Some n) = IsLeastUnknown numbers n
@@ -29,7 +29,7 @@ pub record SeesMore (row : sql.Row) (old new : Metas) : Type 0 where
   pub one : new.is_one ≡ old.is_empty
   pub empty : new.is_empty ≡ false
 
--- what was seen of these rows
+-- what is kept of these rows
 pub record Sees (shown : List sql.Row) (metas : Metas) : Type 0 where
   pub tagged : metas.is_tagged ≡ list_any is_tagged shown
   pub unknown : IsUnknownOf (versions shown) metas.unknown
@@ -38,6 +38,6 @@ pub record Sees (shown : List sql.Row) (metas : Metas) : Type 0 where
   pub one : metas.is_one ≡ is_single shown
   pub empty : metas.is_empty ≡ nat_eq (length shown) 0
 
--- the rows of meta_row were seen, and nothing was changed
+-- the rows of meta_row were read, and nothing was changed
 abbrev pub SeesMetas : State → State → Metas → Type 0
 SeesMetas old new metas = Sees (values (held_in old.now) Meta) metas × IsUnchanged old new

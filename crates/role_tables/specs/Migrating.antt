@@ -1,4 +1,4 @@
--- How an office of version 1 is taken into version 2.
+-- How an office of version 1 is migrated to version 2.
 use Rattle.std.specs.Prelude.{ℕ, ◌≡◌, ◌≢◌, ◌⊎◌, ◌&&◌, pos, true, Bool, codes, IsTrue, Result}
 use Rattle.rbac_sets.specs.declared.refusal.Refusal.{Refusal}
 use Rattle.rbac_sets.specs.declared.refusal.Refusal.TheVariants.{Memory, Store, Version}
@@ -17,37 +17,37 @@ use Rattle.role_tables.specs.TableByName.{without_row}
 use Rattle.role_tables.specs.OfficeTables.{StoredTable, Meta, Rows, changed_at, meta_row, cells, HoldsTables}
 use Rattle.role_tables.specs.InSchema.{is_free, may_count}
 
--- the table of locks can be made
+-- the table of locks can be created
 abbrev pub may_lock : Schema → Bool
 may_lock schema = is_free schema (codes "locked_row") && may_count schema
 
--- in a transaction, the row of the version is taken
+-- inside a transaction, the row of the version is deleted
 pub record TakesVersion (version : ℕ) (old new : State) : Type 0 where
   pub taken : (want : StoredTable → Bool) (rows : Rows) → IsTrue (want Meta) → HoldsTables want old.now rows → HoldsTables want new.now (changed_at Meta (without_row (cells (meta_row (codes "rbac") version))) rows)
   pub mode : new.in_transaction ≡ old.in_transaction
 
--- what may be refused: where an office of version 2 is there, that alone; else what an opening refuses. 41 stands where a
--- call of the store is refused or the table of locks can't be made, and memory may be wanting at any time
+-- How a migration may be refused: by 51 Version if an office of version 2 is there, and otherwise as an opening may be. Besides,
+-- 41 Store comes if the store fails in a call or the table of locks can't be created, and an allocation may fail at any time.
 abbrev pub RefusesMigration : Found → Refusal → Type 0
 RefusesMigration found refusal =
     (refusal ≡ Store) ⊎ ((refusal ≡ Memory) ⊎ (((refusal ≡ Version (pos 2)) × IsSecond found) ⊎ (RefusesFound found refusal × (IsSecond found → ⊥))))
 
--- the state of version 1 that stands was to be taken into version 2, in one transaction
+-- the durable state of version 1 was to be migrated to version 2, in one transaction
 abbrev pub MigratesTables : State → State → Result (Unit {0}) Error → Type 0
 MigratesTables old new result = (from : RbacState) → from.version ≡ 1 → IsGood from → may_lock old.now.schema ≡ true → Stands old from → TransactsTo old new (taken_into_version_2 from) result
 
--- the table of locks could be made; a state of version 1 was found, and this is it in version 2
+-- the table of locks could be created, a state of version 1 was read, and `made` is this state in version 2
 abbrev pub IsMigratedFrom : Database → RbacState → Type 0
 IsMigratedFrom db made = IsTrue (may_lock db.schema) × (first : RbacState) × IsStateFound (held_in db) first × (first.version ≡ 1) × (made ≡ taken_into_version_2 first)
 
--- the state that stood was of version 1, and it stands in version 2 now
+-- the state that was durable was of version 1, and it is durable in version 2 now
 abbrev pub Moves : State → State → RbacState → Type 0
 Moves old new made = WhateverStands old (λ S. (S.version ≡ 1) × (made ≡ taken_into_version_2 S) × Stands new (taken_into_version_2 S))
 
--- the state that stood is held as before; where the store refused no call, a stop leaves it
+-- the state that was durable is held as before, and a crash leaves it unless the store failed
 abbrev pub StaysRefused : State → State → Refusal → Type 0
 StaysRefused old new refusal = WhateverStands old (λ S. HoldsAsBefore old new × (refusal ≢ Store → LeavesOnly new S))
 
--- a stop leaves the state that stood or, where it was of version 1, the same in version 2
+-- a crash leaves the state that was durable or, if it was of version 1, the same in version 2
 abbrev pub LeavesEitherVersion : State → State → Type 0
 LeavesEitherVersion old new = WhateverStands old (λ S. (trees : Trees) → new.may_leave trees → LeavesState S trees ⊎ ((S.version ≡ 1) × LeavesState (taken_into_version_2 S) trees))

@@ -16,7 +16,7 @@ use Rattle.admin_mgr.specs.Life.{Event}
 use Rattle.admin_mgr.specs.Planned.{tally_of_report}
 use Rattle.role_tables.specs.Standing.{Stands}
 
--- a connection with the state that stands in it, and whether the store has refused a call
+-- an office: its connection, its state, and whether the store has failed in a call
 pub record Opened (S : Type 0) : Type 0 where
   pub conn : Held S
   pub facts : RbacState
@@ -26,7 +26,7 @@ abbrev pub coded_opened : {S : Type 0} → Coded S → Coded (Opened S)
 coded_opened {S} store =
     code_by (Held S × (RbacState × Bool)) (coded× (held_code store) (coded× coded_state coded_bool)) (λ o. (o.conn, (o.facts, o.is_closed))) (λ p. record { conn = p.0; facts = p.1.0; is_closed = p.1.1 }) (λ _. refl)
 
--- what an open office answers to a command, and what becomes of it
+-- what an open office answers to a command, and the office after it
 abbrev pub Answers : {S : Type 0} → Opened S → Command → Result Report Refusal → Opened S → Type 0
 Answers old command (Ok report) new = (verdict old.facts command ≡ None) × (tally_of_report report ≡ tally old.facts command) × (new.facts ≡ after old.facts command) × (new.is_closed ≡ false)
 Answers old command (Err Memory) new = new ≡ old
@@ -34,11 +34,11 @@ Answers old command (Err Store) new = (verdict old.facts command ≡ None) × (n
 Answers old command (Err Closed) new = ⊥
 Answers old command (Err refusal) new = (verdict old.facts command ≡ Some refusal) × (new ≡ old)
 
--- the command and its answer as an event of the office's life
+-- the command and its answer as an event of the office's run
 abbrev pub event_of : Command → Result Report Refusal → Event
 event_of command (Ok report) = record { command = command; reply = Ok (tally_of_report report) }
 event_of command (Err refusal) = record { command = command; reply = Err refusal }
 
--- it is true if the office was open, its state was stored in the tables, and the disk returned what was written
+-- it is true if the office was open, its state was durable, and the disk returned what was written
 abbrev pub WhereItStood : {S : Type 0} → Ghosts S → Opened S → Opened S → Type 0 → Type 0
 WhereItStood store old new Is = old.is_closed ≡ false → HasCleanDisk (state store new.conn) → Stands (state store old.conn) old.facts → Is

@@ -1,4 +1,4 @@
--- The six tables of the office, found by their names.
+-- The six tables of an office, which are looked up by their names.
 use Rattle.std.specs.Prelude.{true, not, nat_eq, IsTrue, ℕ, ◌+◌, ◌==◌, if◌then◌else◌, Bool, List, [], ◌∷◌, codes, pos}
 use Rattle.sqlite.specs.declared.types.Value.TheVariants.{Int, Text as Words}
 use Rattle.sqlite.specs.Collation.TheVariants.{Binary}
@@ -16,7 +16,7 @@ use Rattle.role_tables.specs.StrictTable.{column_of, strict_table}
 use Rattle.std.specs.List.{AllByRecursion}
 use Rattle.role_tables.specs.TableByName.{Place, HasNoNull, HoldsRows}
 
--- how a table is made, but for its place
+-- what a table is created with
 pub record Making : Type 0 where
   pub name : List ℕ
   pub columns : List Column
@@ -34,6 +34,7 @@ making Grants = record { name = codes "grant_row"; columns = column_of (codes "o
 making Sets = record { name = codes "set_row"; columns = column_of (codes "kind") Integer ∷ column_of (codes "name") Text ∷ column_of (codes "n") Integer ∷ []; key = 1 ∷ 2 ∷ []; checks = is_between 1 1 2 ∷ op2 (Compare Ge Binary) (col 1 3) (lit (Int (pos 2))) ∷ [] }
 making Locks = record { name = codes "locked_row"; columns = column_of (codes "a") Text ∷ []; key = 1 ∷ []; checks = [] }
 
+-- the table as it is created, with its rows in the tree of this number
 abbrev pub made : StoredTable → ℕ → Table
 made kind tree = strict_table (making kind).name tree (making kind).columns (making kind).key (making kind).checks
 
@@ -81,7 +82,7 @@ code Grants = 3
 code Sets = 4
 code Locks = 5
 
--- the rows of one table change so
+-- the rows, with those of one table changed so
 abbrev pub changed_at : StoredTable → (List Row → List Row) → Rows → Rows
 changed_at kind change rows other = if code other == code kind then change (rows other) else rows other
 
@@ -94,11 +95,11 @@ is_wanted version _ = true
 abbrev pub tables_of : ℕ → List StoredTable
 tables_of version = if nat_eq version 1 then Meta ∷ Names ∷ Pairs ∷ Grants ∷ Sets ∷ [] else Meta ∷ Names ∷ Pairs ∷ Grants ∷ Sets ∷ Locks ∷ []
 
--- those of them that have rows of its state
+-- those of them that hold rows of its state
 abbrev pub row_tables : ℕ → List StoredTable
 row_tables version = if nat_eq version 1 then Names ∷ Pairs ∷ Grants ∷ Sets ∷ [] else Names ∷ Pairs ∷ Grants ∷ Sets ∷ Locks ∷ []
 
--- the wanted tables were made so, and they hold these rows; whatever other tables there are
+-- the wanted tables are exactly as `made` says, and they hold these rows, whatever other tables there are
 pub record HoldsTables (wanted : StoredTable → Bool) (db : Database) (rows : Rows) : Type 0 where
   pub sound : IsDatabase db
   pub tables : (kind : StoredTable) → IsTrue (wanted kind) → HoldsRows db (making kind).name (made kind) (places kind) (rows kind)

@@ -1,5 +1,6 @@
--- What `open` answers on what is found in a database, in the order in which it is judged: that an office is there (50), its
--- version (51), the table of locks (50), check 1 but for keys, check 2, and then the rows as `State::of_rows` judges them.
+-- How `open` judges what a database has of an office, in this order: that an office is there (50 NotAnOffice), its version
+-- (51 Version), the table of locks (50 NotAnOffice), check 1 except for keys and check 2 (52 Damaged), and then the rows as
+-- `State::of_rows` judges them.
 use Rattle.std.specs.Prelude.{ℕ, ◌≡◌, ◌≢◌, ◌⊎◌, ◌||◌, ◌&&◌, ◌≤ℤ◌, ℤ, pos, Bool, true, false, if◌then◌else◌, List, [], ◌∷◌, length, map, Option, Some, None, codes, IsTrue, IsSome, IsPermutation, bytes_eq, All, nat_eq}
 use Rattle.std.specs.List.{list_any, list_all, flat_map, Contains}
 use Rattle.std.specs.Ordering.{int_eq}
@@ -19,7 +20,7 @@ use Rattle.role_tables.specs.OfficeTables.{StoredTable, Meta, Locks, is_wanted, 
 use Rattle.role_tables.specs.StoredState.{stored_rows}
 use Rattle.role_tables.specs.Found.{Found, is_text, text_of, is_whole, has_names, row_in, held_in}
 
--- the values that were found, none where the table or a column isn't there
+-- the values of the table's rows, none if the table or a column is missing
 abbrev pub values : Found → StoredTable → List sql.Row
 values found kind = elim (found kind) [ Some rows ↦ rows | None ↦ [] ]
 
@@ -49,16 +50,16 @@ is_number n m = int_eq m (pos n)
 abbrev pub is_known_version : ℤ → Bool
 is_known_version n = is_number 1 n || is_number 2 n
 
--- the five tables of either version are there with their columns
+-- the five tables of both versions are there with their columns
 abbrev pub HasFive : Found → Type 0
 HasFive found = (kind : StoredTable) → IsTrue (is_wanted 1 kind) → IsSome (found kind)
 
--- an office is there: its tables, and a row with the tag
+-- an office is there: its five tables, and a row with the tag
 pub record IsOffice (found : Found) : Type 0 where
   pub tables : HasFive found
   pub tagged : IsTrue (list_any is_tagged (values found Meta))
 
--- the number is the least of those that are no version
+-- the number is the least of those that are no known version
 pub record IsLeastUnknown (numbers : List ℤ) (n : ℤ) : Type 0 where
   pub there : Contains numbers n
   pub unknown : is_known_version n ≡ false
@@ -71,26 +72,26 @@ HasKnownVersions found = IsTrue (list_all is_known_version (versions (values fou
 abbrev pub version_in : Found → ℕ
 version_in found = if list_any (is_number 2) (versions (values found Meta)) then 2 else 1
 
--- an office of version 2 is there
+-- an office of version 2 is there, perhaps without its table of locks
 abbrev pub IsSecond : Found → Type 0
 IsSecond found = IsOffice found × HasKnownVersions found × (version_in found ≡ 2)
 
 abbrev pub HasLocks : Found → Type 0
 HasLocks found = (version_in found ≡ 1) ⊎ IsSome (found Locks)
 
--- an office of a known version is there
+-- an office of a known version is there, with all tables of this version
 abbrev pub IsReached : Found → Type 0
 IsReached found = IsOffice found × HasKnownVersions found × HasLocks found
 
 abbrev pub is_single : List sql.Row → Bool
 is_single rows = nat_eq (length rows) 1
 
--- check 1, but for keys: the values are of their columns' types, and meta_row has one row
+-- check 1, except for keys: the values are of their columns' types, and meta_row has one row
 pub record AreWhole (found : Found) : Type 0 where
   pub rows : (kind : StoredTable) → IsTrue (is_wanted (version_in found) kind) → IsTrue (list_all (is_whole kind) (values found kind))
   pub one : IsTrue (is_single (values found Meta))
 
--- check 2
+-- check 2: the texts are valid names
 abbrev pub AreNamed : Found → Type 0
 AreNamed found = (kind : StoredTable) → IsTrue (is_wanted (version_in found) kind) → IsTrue (list_all (has_names kind) (values found kind))
 
@@ -106,11 +107,11 @@ rows_in_all found tables = flat_map (λ table. rows_at table found) tables
 abbrev pub rows_found : Found → List Row
 rows_found found = rows_in_all found (row_tables (version_in found))
 
--- the rows are refused in some order of them
+-- the rows, read in some order, are refused so
 abbrev pub RefusesRead : Found → Refusal → Type 0
 RefusesRead found refusal = (rows : List Row) × IsPermutation (rows_found found) rows × RefusesRows (version_in found) rows refusal
 
--- what may be refused on what was found; memory may be wanting at any time
+-- how an opening may be refused because of what was found; an allocation may fail at any time
 abbrev pub RefusesFound : Found → Refusal → Type 0
 RefusesFound found Memory = Unit {0}
 RefusesFound found NotAnOffice = (IsOffice found → ⊥) ⊎ (IsOffice found × HasKnownVersions found × (HasLocks found → ⊥))
@@ -131,19 +132,19 @@ pub record IsStateFound (found : Found) (S : RbacState) : Type 0 where
   pub same : IsPermutation (rows_found found) rows
   pub state : IsStateOf (version_in found) rows S
 
--- the state was found, and nothing was changed
+-- the state was read, and nothing was changed
 abbrev pub ReadsState : State → State → RbacState → Type 0
 ReadsState old new S = IsStateFound (held_in old.now) S × IsUnchanged old new
 
--- memory was refused, or a call of the store, or one of the five tables is not there
+-- an allocation failed, or the store did, or one of the five tables is missing
 abbrev pub RefusesMetas : Found → Refusal → Type 0
 RefusesMetas found refusal = (refusal ≡ Memory) ⊎ ((refusal ≡ Store) ⊎ ((refusal ≡ NotAnOffice) × (HasFive found → ⊥)))
 
--- memory was refused, or a call of the store
+-- an allocation failed, or the store did
 abbrev pub IsMemoryOrStore : Refusal → Type 0
 IsMemoryOrStore refusal = (refusal ≡ Memory) ⊎ (refusal ≡ Store)
 
--- an opening may be refused so, whatever the disk does: by want of memory, by the store, or by what is found
+-- an opening may be refused so, whatever the disk does: because an allocation or the store failed, or because of what is found
 abbrev pub is_opening_refusal : Refusal → Bool
 is_opening_refusal Memory = true
 is_opening_refusal Store = true
@@ -153,22 +154,22 @@ is_opening_refusal (TooMany kind) = true
 is_opening_refusal (Damaged check) = true
 is_opening_refusal _ = false
 
--- where an opening is refused for what is found, no good state has exactly these rows, each once, under the one row of its
+-- if an opening is refused because of what is found, no good state has exactly these rows, each once, under the one row of its
 -- version
 abbrev pub RefusedFindNone : Type 0
 RefusedFindNone = (found : Found) (refusal : Refusal) (S : RbacState) → RefusesFound found refusal → refusal ≢ Memory → IsStateFound found S → ⊥
 
 -- Each table of the state's version was found with its rows of the state, each once and in some order, and meta_row with the
--- one row of the version. Nothing is said of how the tables were made.
+-- one row of the version. Nothing is required of how the tables were created.
 pub record HasRowsOf (found : Found) (S : RbacState) : Type 0 where
   pub rows : List Row
   pub rows_are : AreRowsOf S rows
   pub tables : (kind : StoredTable) → IsTrue (is_wanted S.version kind) → (values : List sql.Row) × (found kind ≡ Some values) × IsPermutation (stored_rows S.version rows kind) values
 
--- where the rows of a good state with names for texts were found, nothing is refused for them
+-- if the rows of a good state whose texts are valid names were found, they are refused by Memory alone
 abbrev pub GoodRowsAreFound : Type 0
 GoodRowsAreFound = (found : Found) (S : RbacState) (refusal : Refusal) → IsGood S → names.AreNamed S → HasRowsOf found S → RefusesFound found refusal → refusal ≡ Memory
 
--- and no other state
+-- and no other state is read from them
 abbrev pub FoundAlone : Type 0
 FoundAlone = (found : Found) (S T : RbacState) → IsGood S → names.AreNamed S → HasRowsOf found S → IsStateFound found T → T ≡ S

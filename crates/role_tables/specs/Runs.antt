@@ -27,16 +27,16 @@ module _ {S : Type 0} (shown : Held S → State) where
     pub stands : HasCleanDisk (shown office.conn) → office.is_closed ≡ false → Stands (shown office.conn) office.facts
     pub held : HasCleanDisk (shown office.conn) → IsTrue (shown office.conn).is_open → HoldsState (shown office.conn).now office.facts
     pub left : HasCleanDisk (shown office.conn) → LeavesAsIn (shown office.conn) start events
-    -- each such state is one of names, as an opening wants it
+    -- the texts of each such state are valid names, as an opening requires
     pub names : (T : RbacState) → Leaves start events T → AreNamed T
 
-  -- whatever run the office was in, it is in the same run now, with this event more
+  -- whatever run the office was in, it is in the same run now, with this event added
   abbrev pub GoesOnBy : Opened S → Event → Opened S → Type 0
   GoesOnBy old event new = (start : RbacState) (events : List Event) → IsInRun start events old → IsInRun start (events ++ event ∷ []) new
 
-  -- After a crash in the last of these runs, while the disk returned what was written: the next connection that is open outside a
-  -- transaction on what was left holds a good state, whose texts are names, and with which the next run may begin. It is the
-  -- state after a prefix of the accepted commands of the run that holds every acknowledged one.
+  -- After a crash in the last of these runs, while the disk returned what was written: on the next connection that is open
+  -- outside a transaction on what was left, a good state is durable, whose texts are valid names and with which the next run may
+  -- begin. It is the state after a prefix of the accepted commands of the run, and the prefix has every acknowledged one.
   abbrev pub RecoversRun : State → Type 0
   RecoversRun next = (before : List Life) (start : RbacState) (events : List Event) (office : Opened S) (trees : Trees)
       → AreLives (before ++ run_of start events ∷ []) → IsInRun start events office

@@ -1,4 +1,4 @@
--- What a connection holds of a state, and what a stop leaves.
+-- Durability: whether a connection holds a state, and what a crash leaves.
 use Rattle.std.specs.Prelude.{◌≡◌, ◌⊎◌, false, IsTrue, List, Result, OnOk, OnErr}
 use Rattle.sqlite.specs.Tree.{Trees}
 use Rattle.sqlite.specs.Effect.{Database, IsDatabase}
@@ -10,38 +10,38 @@ use Rattle.admin_mgr.specs.Life.{Event, Leaves}
 use Rattle.admin_mgr.specs.Named.{AreNamed}
 use Rattle.role_tables.specs.StoredState.{HoldsState}
 
--- what a stop leaves is a database of which this is true
+-- the trees, as a crash left them, are those of a database of which this is true
 abbrev pub LeavesSuch : (Database → Type 0) → Trees → Type 0
 LeavesSuch Is trees = (db : Database) × (trees ≡ db.trees) × Is db
 
--- it is a database that holds the state
+-- they are those of a database that holds the state
 abbrev pub LeavesState : RbacState → Trees → Type 0
 LeavesState S trees = LeavesSuch (λ db. HoldsState db S) trees
 
--- the connection is open outside a transaction, this is true of its database, and a stop would leave such a database
+-- the connection is open outside a transaction, this is true of its database, and a crash would leave such a database
 pub record Rests (s : State) (Is : Database → Type 0) : Type 0 where
   pub is_open : IsTrue s.is_open
   pub autocommit : s.in_transaction ≡ false
   pub held : Is s.now
   pub left : (trees : Trees) → s.may_leave trees → LeavesSuch Is trees
 
--- the state stands in the tables, and a stop would leave it there
+-- the state is durable: the connection is open outside a transaction and holds it, and a crash would leave it
 abbrev pub Stands : State → RbacState → Type 0
 Stands s S = Rests s (λ db. HoldsState db S)
 
--- a database of the trees that are left holds the state, whatever schema was read from them
+-- if a database that holds the state has these trees, each database with them holds it, whatever schema was read from them
 abbrev pub SameTreesHoldSame : Type 0
 SameTreesHoldSame = (S : RbacState) (trees : Trees) (db : Database) → LeavesState S trees → IsDatabase db → db.trees ≡ trees → HoldsState db S
 
--- where the connection is open outside a transaction on the trees that a stop left, the state stands in the tables
+-- if the connection is open outside a transaction on the trees of a database that holds the state, the state is durable on it
 abbrev pub FindsWhatWasLeft : State → Type 0
 FindsWhatWasLeft s = (S : RbacState) (trees : Trees) → LeavesState S trees → IsTrue s.is_open → s.in_transaction ≡ false → s.now.trees ≡ trees → Stands s S
 
--- it is true of whatever good state stands in the tables
+-- it is true of whatever good state is durable on the connection, if its texts are valid names
 abbrev pub WhateverStands : State → (RbacState → Type 0) → Type 0
 WhateverStands s Is = (S : RbacState) → IsGood S → AreNamed S → Stands s S → Is S
 
--- no fault is forgotten: a disk that is clean now was clean before
+-- no fault of the disk is forgotten: if it is clean now, it was clean before
 abbrev pub ForgetsNoFault : State → State → Type 0
 ForgetsNoFault old new = HasCleanDisk new → HasCleanDisk old
 
@@ -49,24 +49,24 @@ ForgetsNoFault old new = HasCleanDisk new → HasCleanDisk old
 abbrev pub HoldsAsBefore : State → State → Type 0
 HoldsAsBefore old new = IsTrue new.is_open → new.now ≡ old.now
 
--- a stop leaves the state
+-- a crash leaves the state
 abbrev pub LeavesOnly : State → RbacState → Type 0
 LeavesOnly s S = (trees : Trees) → s.may_leave trees → LeavesState S trees
 
--- it leaves the one state or the other
+-- a crash leaves the one state or the other
 abbrev pub LeavesEither : State → RbacState → RbacState → Type 0
 LeavesEither s S T = (trees : Trees) → s.may_leave trees → LeavesState S trees ⊎ LeavesState T trees
 
--- a stop leaves what it could leave before, or the state
+-- a crash leaves what it could leave before, or the state
 abbrev pub LeavesBeforeOr : State → State → RbacState → Type 0
 LeavesBeforeOr old new S = (trees : Trees) → new.may_leave trees → old.may_leave trees ⊎ LeavesState S trees
 
--- a stop leaves a state that it may leave by this event from S on
+-- a crash leaves a state that these events allow from S on
 abbrev pub LeavesAsIn : State → RbacState → List Event → Type 0
 LeavesAsIn s S events = (trees : Trees) → s.may_leave trees → (T : RbacState) × Leaves S events T × LeavesState T trees
 
--- Of a transaction that was to lead to such a database: where it was committed, the connection rests on one; else it holds what
--- it held before. A stop leaves what it could leave before, or such a database.
+-- A transaction that was to lead to such a database: if it was committed, such a database is durable; otherwise the connection
+-- holds what it held before. A crash leaves what it could leave before, or such a database.
 pub record Transacts (old new : State) (Is : Database → Type 0) (result : Result (Unit {0}) Error) : Type 0 where
   pub done : OnOk result (Rests new Is)
   pub undone : OnErr result (HoldsAsBefore old new)

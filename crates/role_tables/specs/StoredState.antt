@@ -16,7 +16,7 @@ stored (GrantRow object operation role) = grant_row object operation role
 stored (SetRow kind name n) = set_row kind name n
 stored (LockedRow user) = locked_row user
 
--- the row stands in this table
+-- the row belongs to this table
 abbrev pub is_of : StoredTable → Row → Bool
 is_of table row = code table == code (table_of (stored row))
 
@@ -33,8 +33,8 @@ meta_of version _ = []
 abbrev pub stored_rows : ℕ → List Row → Rows
 stored_rows version rows table = meta_of version table ++ map cells_of (filter (is_of table) rows)
 
--- The tables of the state's version were made so, and hold the rows of the state, each once, and the one row of its version. No
--- foreign key of another table names one of them, which `HoldsRows` asks of each table.
+-- The tables of the state's version are exactly as `made` says (OfficeTables.antt), and hold the rows of the state, each once,
+-- and the one row of its version. No foreign key of another table names one of them, which `HoldsRows` requires of each table.
 pub record HoldsState (db : Database) (S : RbacState) : Type 0 where
   pub rows : List Row
   pub rows_are : AreRowsOf S rows

@@ -5,7 +5,7 @@ use Rattle.rbac_sets.specs.declared.row.Change.TheVariants.{Put, Take}
 use Rattle.role_tables.specs.OfficeTables.{StoredTable, Meta, Names, Pairs, Grants, Sets, Locks, table_of}
 use Rattle.role_tables.specs.StoredState.{stored}
 
--- puts one row
+-- inserts one row
 abbrev pub put_text : StoredTable → List ℕ
 put_text Meta = codes "INSERT INTO meta_row (tag, version) VALUES (?1, ?2)"
 put_text Names = codes "INSERT INTO name_row (kind, a) VALUES (?1, ?2)"
@@ -14,7 +14,7 @@ put_text Grants = codes "INSERT INTO grant_row (ob, op, role) VALUES (?1, ?2, ?3
 put_text Sets = codes "INSERT INTO set_row (kind, name, n) VALUES (?1, ?2, ?3)"
 put_text Locks = codes "INSERT INTO locked_row (a) VALUES (?1)"
 
--- takes one row
+-- deletes one row
 abbrev pub take_text : StoredTable → List ℕ
 take_text Meta = codes "DELETE FROM meta_row WHERE tag = ?1 AND version = ?2"
 take_text Names = codes "DELETE FROM name_row WHERE kind = ?1 AND a = ?2"
@@ -32,7 +32,7 @@ read_text Grants = codes "SELECT ob, op, role FROM grant_row"
 read_text Sets = codes "SELECT kind, name, n FROM set_row"
 read_text Locks = codes "SELECT a FROM locked_row"
 
--- makes the table
+-- creates the table
 abbrev pub create_text : StoredTable → List ℕ
 create_text Meta = codes "CREATE TABLE meta_row (tag TEXT NOT NULL, version INTEGER NOT NULL, PRIMARY KEY (tag)) STRICT"
 create_text Names = codes "CREATE TABLE name_row (kind INTEGER NOT NULL CHECK (kind BETWEEN 1 AND 3), a TEXT NOT NULL, PRIMARY KEY (kind, a)) STRICT"

@@ -1,4 +1,4 @@
--- What changes of rows, inside a transaction, make of the tables.
+-- What the tables hold after changes of rows inside a transaction.
 use Rattle.std.specs.Prelude.{ℕ, ◌≡◌, IsTrue, List, Result}
 use Rattle.std.specs.List.{AllByRecursion}
 use Rattle.rbac_sets.specs.Named.{row_of}
@@ -22,19 +22,19 @@ IsKept version change = IsTrue (is_wanted version (table_of (stored (row_of chan
 abbrev pub AreKept : List Change → ℕ → Type 0
 AreKept changes version = AllByRecursion (IsKept version) changes
 
--- in a transaction, the tables of an office that has those of the changed rows come to hold these rows
+-- inside a transaction: if the office has the tables of the changed rows, its tables now hold the rows that `after` gives
 pub record TablesAfter (old new : State) (Kept : ℕ → Type 0) (after : List Row → List Row) : Type 0 where
   pub rows : (version : ℕ) (rows : List Row) → Kept version → HoldsTables (is_wanted version) old.now (stored_rows version rows) → HoldsTables (is_wanted version) new.now (stored_rows version (after rows))
   pub mode : new.in_transaction ≡ old.in_transaction
 
--- they come to hold the rows as one change makes them
+-- its tables now hold the rows after one change
 abbrev pub ChangesTables : State → State → Change → Type 0
 ChangesTables old new change = TablesAfter old new (λ version. IsKept version change) (λ rows. rows_by rows change)
 
--- they come to hold the rows as these changes make them
+-- its tables now hold the rows after these changes
 abbrev pub ChangesAll : State → State → List Change → Type 0
 ChangesAll old new changes = TablesAfter old new (AreKept changes) (λ rows. rows_after rows changes)
 
--- the changes that turn the state that stands into another were written in one transaction
+-- the changes that turn the durable state into another were written in one transaction
 abbrev pub WritesChanges : State → State → List Change → Result (Unit {0}) Error → Type 0
 WritesChanges old new changes result = (from to : RbacState) → Turns from changes to → IsGood from → IsGood to → Stands old from → TransactsTo old new to result

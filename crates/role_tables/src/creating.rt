@@ -1,4 +1,4 @@
-//! Making an office.
+//! Creates an empty office.
 ghost use Rattle.std.specs.Prelude.{◌≡◌, ◌⊎◌, ◌&&◌, [], false, true, not, IfErr, IfOk, MatchResult, OnOk};
 ghost use Rattle.admin_mgr.specs.RbacState.{empty_state};
 ghost use Rattle.sqlite.specs.State.{HasCleanDisk, KeepsCommit, Survives};
@@ -17,7 +17,7 @@ use rbac_sets::Refusal;
 use sqlite::{Alter, Connection, Error, Transaction};
 use std::alloc::Global;
 
-// Makes the tables, one after the other.
+// Creates the tables, one after the other.
 fn create_tables<S: Alter>(tx: &mut Transaction<'_, S>, tables: &[StoredTable]) -> Result<(), Error>
     ensures same_reference { tx.new.conn.ghost_name ≡ tx.old.conn.ghost_name }
     ensures made { HasCleanDisk (state S.Store tx.new.conn.now) → OnOk result (StageAfter (state S.Store tx.old.conn.now) (state S.Store tx.new.conn.now) tables.now) }
@@ -30,7 +30,7 @@ fn create_tables<S: Alter>(tx: &mut Transaction<'_, S>, tables: &[StoredTable]) 
     Ok(())
 }
 
-// Makes the tables of an empty office of this version, in one transaction.
+// Creates the tables of an empty office of this version, in one transaction.
 fn create_office<S: Alter>(conn: &mut Connection<S>, version: u32) -> Result<(), Error>
     requires known { (version ≡ 1) ⊎ (version ≡ 2) }
     requires autocommit { conn.old.in_transaction ≡ false }
@@ -45,7 +45,7 @@ fn create_office<S: Alter>(conn: &mut Connection<S>, version: u32) -> Result<(),
     tx.commit()
 }
 
-// Makes an empty office, whose state is this one.
+// Creates an empty office with this state.
 fn create_with<S: Alter>(conn: Connection<S>, first: State) -> Result<Office<S>, Unopened<S>>
     requires empty { first.facts ≡ empty_state first.facts.version }
     ensures ok { IfOk result (λ o. (o.facts ≡ first.facts) × (o.is_closed ≡ false) × MakesOffice (state S.Store conn) (state S.Store o.conn) first.facts) }
@@ -73,17 +73,17 @@ fn create_with<S: Alter>(conn: Connection<S>, first: State) -> Result<Office<S>,
     }
 }
 
-/// Makes an empty office of version 2 on a connection outside a transaction. Whatever else the
-/// database has stays as it is.
+/// Creates an empty office of version 2 on a connection outside a transaction. Whatever else the
+/// database has stays as it is. `alloc` is the allocator of the office's state.
 ///
 /// It is a function of this office and none of the standard.
 ///
 /// # Errors
 ///
-/// `Store` where the connection is inside a transaction, where the database has a table of an office
-/// or a foreign key that names one, or counts rowids without the table for it, and where the store
-/// refuses a call. The connection is handed back with what it held before; a stop then leaves what it
-/// could leave before, or the new office.
+/// `Store` if the connection is inside a transaction; if the database has a table of an office or a
+/// foreign key that names one; if a table counts its rowids (AUTOINCREMENT) and the database has no table
+/// `sqlite_sequence` for the counts; or if the store fails in a call. The connection is handed back with
+/// what it held before. A crash then leaves what it could leave before, or the new office.
 pub fn create<S: Alter>(alloc: Global, conn: Connection<S>) -> Result<Office<S>, Unopened<S>>
     ensures ok { IfOk result (λ o. (o.facts ≡ empty_state 2) × (o.is_closed ≡ false) × MakesOffice (state S.Store conn) (state S.Store o.conn) (empty_state 2)) }
     ensures clean { MatchResult result (λ o. ForgetsNoFault (state S.Store conn) (state S.Store o.conn)) (λ u. ForgetsNoFault (state S.Store conn) (state S.Store u.conn)) }
@@ -96,11 +96,11 @@ pub fn create<S: Alter>(alloc: Global, conn: Connection<S>) -> Result<Office<S>,
     create_with(conn, State::empty(alloc))
 }
 
-/// Makes an empty office of version 1, as `create` does one of version 2.
+/// Creates an empty office of version 1, as `create` does one of version 2.
 ///
 /// # Errors
 ///
-/// As `create`, but that a table of locks may be there: an office of version 1 has none.
+/// As `create`, except that a table of locks may be there: an office of version 1 has none.
 pub fn create_v1<S: Alter>(alloc: Global, conn: Connection<S>) -> Result<Office<S>, Unopened<S>>
     ensures ok { IfOk result (λ o. (o.facts ≡ empty_state 1) × (o.is_closed ≡ false) × MakesOffice (state S.Store conn) (state S.Store o.conn) (empty_state 1)) }
     ensures clean { MatchResult result (λ o. ForgetsNoFault (state S.Store conn) (state S.Store o.conn)) (λ u. ForgetsNoFault (state S.Store conn) (state S.Store u.conn)) }

@@ -1,4 +1,4 @@
-//! Reading the rows of tables, one at a time, however they were made.
+//! Reads the rows of a table one at a time, however the table was created.
 ghost use Rattle.std.specs.Prelude.{◌≡◌, ◌⊎◌, ◌∷◌, [], false, true, IsSome, IsTrue, IfOk, IfErr, OnOk};
 ghost use Rattle.sqlite.specs.State.{HasCleanDisk, KeepsCommit, Survives};
 ghost use Rattle.sqlite.specs.Held.{state};
@@ -13,7 +13,7 @@ use rbac_sets::{Refusal, Row};
 use sqlite::{Alter, Connection};
 use std::alloc::Global;
 
-/// The rows so far, and whether each passed the first check and the second.
+/// The rows so far, and whether each passed check 1 and check 2.
 #[derive(Drop)]
 pub(crate) struct Gathering {
     pub(crate) rows: Vec<Row>,
@@ -37,7 +37,7 @@ fn row_of(alloc: Global, table: StoredTable, row: &sqlite::Row) -> Result<Row, R
     }
 }
 
-// Judges the values of one row, and keeps the row while all were good.
+// Judges the values of one row, and keeps the row while all rows have passed.
 fn gather_row(
     alloc: Global,
     table: StoredTable,

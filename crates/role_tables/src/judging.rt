@@ -1,4 +1,4 @@
-//! The state that stands in a database, however its tables were made.
+//! Reads and judges the state that a database holds, however its tables were created.
 ghost use Rattle.std.specs.Prelude.{◌≡◌, ◌⊎◌, ◌&&◌, [], false, true, IsTrue, IfOk, IfErr, OnOk};
 ghost use Rattle.sqlite.specs.State.{HasCleanDisk, IsUnchanged, KeepsCommit, Survives};
 ghost use Rattle.sqlite.specs.Held.{state};
@@ -21,7 +21,7 @@ use sqlite::{Alter, Connection};
 use sqlite_schema::schema::Schema;
 use std::alloc::Global;
 
-// What stands in `meta_row`, where the five tables are there.
+// Reads `meta_row`, if the five tables of both versions are there.
 fn find_metas<S: Alter>(conn: &mut Connection<S>) -> Result<Metas, Refusal>
     ensures five { IfOk result (λ _. HasFive (held_in (state S.Store conn.old).now)) }
     ensures seen { HasCleanDisk (state S.Store conn.new) → IfOk result (SeesMetas (state S.Store conn.old) (state S.Store conn.new)) }
@@ -75,7 +75,7 @@ pub(crate) fn refuse_second<S: Alter>(conn: &mut Connection<S>) -> Result<(), Re
     Ok(())
 }
 
-// No row yet; the rows of `meta_row` count to the first check.
+// No row yet. Check 1 includes the rows of `meta_row`.
 fn first_gathering(alloc: Global, metas: &Metas) -> Gathering
     ensures whole { result.is_whole ≡ (metas.now.is_whole && metas.now.is_one) }
     ensures named { result.is_named ≡ true }
@@ -88,7 +88,7 @@ fn first_gathering(alloc: Global, metas: &Metas) -> Gathering
     }
 }
 
-// Reads these tables to their ends, and gathers their rows.
+// Reads these tables to the end, and gathers their rows.
 fn read_tables<S: Alter>(
     alloc: Global,
     conn: &mut Connection<S>,
@@ -109,7 +109,7 @@ fn read_tables<S: Alter>(
     Ok(())
 }
 
-// The state of the rows that were gathered.
+// The state that the gathered rows make.
 fn judge_rows(alloc: Global, version: u32, all: Gathering) -> Result<State, Refusal>
     requires { (version ≡ 1) ⊎ (version ≡ 2) }
     ensures ok { IfOk result (λ made. IsTrue all.is_whole × IsTrue all.is_named × IsStateOf version all.rows.items made.facts) }
@@ -125,7 +125,7 @@ fn judge_rows(alloc: Global, version: u32, all: Gathering) -> Result<State, Refu
     State::of_rows(alloc, version, all.rows)
 }
 
-// The state that is found in the database.
+// Reads the state that the database holds, and commits nothing.
 fn find_state<S: Alter>(alloc: Global, conn: &mut Connection<S>) -> Result<State, Refusal>
     ensures ok { HasCleanDisk (state S.Store conn.new) → IfOk result (λ made. ReadsState (state S.Store conn.old) (state S.Store conn.new) made.facts) }
     ensures err { HasCleanDisk (state S.Store conn.new) → IfErr result (λ refusal. (refusal ≡ Refusal.Store) ⊎ RefusesFound (held_in (state S.Store conn.old).now) refusal) }
@@ -141,7 +141,7 @@ fn find_state<S: Alter>(alloc: Global, conn: &mut Connection<S>) -> Result<State
     judge_rows(alloc, version, all)
 }
 
-/// The state that stands in the database.
+/// Reads the state that the database holds. Outside a transaction the connection then holds what it held before.
 pub(crate) fn read_state<S: Alter>(
     alloc: Global,
     conn: &mut Connection<S>,

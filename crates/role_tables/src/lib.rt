@@ -1,10 +1,10 @@
 //! An office in one SQLite file: its tables, opening it, and doing commands.
 //!
-//! `create` makes the tables of an empty office, `open` reads the state that stands in them, and
-//! `Office::apply` does a command: it is judged and planned on the state in memory, its changes of
-//! rows go into one transaction, and then into the state. However it is stopped, the tables hold the
-//! state before the command or the state after it. Everything is over any store of `sqlite`, a file
-//! or memory.
+//! `create` creates the tables of an empty office, `open` reads the state that they hold, `migrate` opens an
+//! office of version 1 in version 2, and `Office::apply` does a command: it is judged and planned on the
+//! state in memory, its changes of rows are written in one transaction, and then the state in memory is
+//! changed. Whenever it crashes, the tables hold the state before the command or the state after it.
+//! The crate works over any store of `sqlite`, a file or memory.
 //!
 //! # Example
 //!

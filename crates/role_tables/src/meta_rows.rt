@@ -1,4 +1,4 @@
-//! Reading the rows of `meta_row`, one at a time, however it was made.
+//! Reads the rows of `meta_row` one at a time, however the table was created.
 ghost use Rattle.std.specs.Prelude.{◌≡◌, ◌⊎◌, ◌||◌, ◌&&◌, false, true, [], IsSome, IsTrue, IfOk, IfErr, is_none};
 ghost use Rattle.sqlite_value.specs.Order.{column};
 ghost use Rattle.sqlite.specs.State.{HasCleanDisk, KeepsCommit, Survives};
@@ -13,7 +13,7 @@ use rbac_sets::Refusal;
 use sqlite::types::ValueRef;
 use sqlite::{Alter, Connection};
 
-/// What was seen of the rows so far.
+/// What is known of the rows that were read so far.
 #[derive(Drop)]
 pub(crate) struct Metas {
     pub(crate) is_tagged: bool,
@@ -25,7 +25,7 @@ pub(crate) struct Metas {
 }
 
 impl Metas {
-    /// Whether they are those of an office of version 2.
+    /// Whether the rows are those of an office of version 2.
     pub(crate) fn names_second(&self) -> bool
         ensures { result ≡ (self.now.is_tagged && (is_none self.now.unknown && self.now.is_second)) }
     {
@@ -56,7 +56,7 @@ fn version_at(row: &sqlite::Row) -> Option<i64>
     }
 }
 
-// Whether a whole number stands in the column.
+// Whether the column has a whole number.
 fn is_number_at(row: &sqlite::Row, at: usize) -> bool
     ensures { result ≡ is_whole_number (column row.now at) }
 {
@@ -76,7 +76,7 @@ fn is_known(version: i64) -> bool
     version == 1 || version == 2
 }
 
-// The lesser of the two that is no version.
+// The lesser of the two, counting only those that are no known version.
 fn lesser(least: Option<i64>, version: Option<i64>) -> Option<i64>
     ensures { result ≡ lesser least version }
 {
@@ -92,7 +92,7 @@ fn lesser(least: Option<i64>, version: Option<i64>) -> Option<i64>
     }
 }
 
-// One row more.
+// Adds one row.
 fn see(row: &sqlite::Row, into: &mut Metas)
     ensures { SeesMore row.now into.old into.new }
 {
@@ -105,7 +105,7 @@ fn see(row: &sqlite::Row, into: &mut Metas)
     into.is_empty = false;
 }
 
-/// Reads the table to its end.
+/// Reads `meta_row` to the end.
 pub(crate) fn read_metas<S: Alter>(conn: &mut Connection<S>) -> Result<Metas, Refusal>
     ensures seen { HasCleanDisk (state S.Store conn.new) → HasTable (state S.Store conn.old) Meta → IfOk result (SeesMetas (state S.Store conn.old) (state S.Store conn.new)) }
     ensures refused { IfErr result IsMemoryOrStore }

@@ -1,4 +1,4 @@
-//! Taking an office of version 1 into version 2.
+//! Migrates an office of version 1 to version 2.
 ghost use Rattle.std.specs.Prelude.{◌≡◌, ◌≢◌, [], false, true, IsTrue, IfErr, IfOk, MatchResult};
 ghost use Rattle.sqlite.specs.State.{HasCleanDisk, KeepsCommit, Survives};
 ghost use Rattle.sqlite.specs.Held.{state};
@@ -20,7 +20,7 @@ use rbac_sets::Refusal;
 use sqlite::{Alter, Connection, Error};
 use std::alloc::Global;
 
-// Makes the table of locks and changes the version, in one transaction.
+// Creates the table of locks and changes the version, in one transaction.
 fn migrate_tables<S: Alter>(conn: &mut Connection<S>) -> Result<(), Error>
     requires { conn.old.in_transaction ≡ false }
     ensures ended { conn.new.in_transaction ≡ false }
@@ -35,7 +35,7 @@ fn migrate_tables<S: Alter>(conn: &mut Connection<S>) -> Result<(), Error>
     tx.commit()
 }
 
-// Reads an office that is not of version 2, and takes it there.
+// Reads an office that is not of version 2, and migrates it to version 2.
 fn migrate_first<S: Alter>(alloc: Global, conn: &mut Connection<S>) -> Result<State, Refusal>
     requires { conn.old.in_transaction ≡ false }
     ensures ended { conn.new.in_transaction ≡ false }
@@ -63,7 +63,7 @@ fn migrate_first<S: Alter>(alloc: Global, conn: &mut Connection<S>) -> Result<St
     }
 }
 
-// Reads an office of version 1, and takes it into version 2.
+// Reads an office of version 1, and migrates it to version 2.
 fn migrate_state<S: Alter>(alloc: Global, conn: &mut Connection<S>) -> Result<State, Refusal>
     requires { conn.old.in_transaction ≡ false }
     ensures ended { conn.new.in_transaction ≡ false }
@@ -82,19 +82,19 @@ fn migrate_state<S: Alter>(alloc: Global, conn: &mut Connection<S>) -> Result<St
     migrate_first(alloc, conn)
 }
 
-/// Takes the office of version 1 that stands in the tables of a connection outside a transaction into
-/// version 2, in which users can be locked and more users, roles and immediate inheritances have
-/// room, and opens it. Nobody is locked; all else is as it was.
+/// Migrates the office of version 1 that the tables of a connection outside a transaction hold to version
+/// 2, and opens it. In version 2 users can be locked, and there may be more users, roles and immediate
+/// inheritances. Nobody is locked; all else is as it was. `alloc` is the allocator of the office's state.
 ///
 /// It is a function of this office and none of the standard.
 ///
 /// # Errors
 ///
-/// What `open` refuses, but `Version(2)` where the office is of version 2 already, whatever its rows are;
-/// then `Store` where the table of locks, or a foreign key that names it, is there, where a table counts
-/// its rowids without the table for it, or where the store refuses a call.
-/// After any refusal but `Store` nothing is changed; after `Store` a stop leaves an office of version 1 in
-/// version 1 or in version 2, and one of version 2 as it was.
+/// What `open` refuses, but `Version(2)` if the office is of version 2 already, whatever its rows are; then
+/// `Store` if the table of locks or a foreign key that names it is there, if a table counts its rowids
+/// (AUTOINCREMENT) and the database has no table `sqlite_sequence` for the counts, or if the store fails
+/// in a call. After any refusal but `Store` nothing is changed. After `Store` a crash leaves an office of
+/// version 1 in version 1 or in version 2, and one of version 2 as it was.
 pub fn migrate<S: Alter>(alloc: Global, conn: Connection<S>) -> Result<Office<S>, Unopened<S>>
     ensures ok { IfOk result (λ o. (o.is_closed ≡ false) × ((state S.Store conn).in_transaction ≡ false)
         × (HasCleanDisk (state S.Store o.conn) → IsMigratedFrom (state S.Store conn).now o.facts)) }

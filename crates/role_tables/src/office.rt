@@ -18,8 +18,8 @@ use std::marker::Model;
 /// An office: the state of an organisation's users, roles, permissions and sessions, in memory and in
 /// the tables of a store.
 ///
-/// It is closed once the store has refused a call: what the tables hold then is the state before the
-/// command or the state after it, and an opening tells which.
+/// It is closed once the store has failed in a call. The stored state is then the state before the
+/// command or the state after it, and only a new opening shows which.
 #[derive(Drop)]
 pub struct Office<S: Alter> {
     conn: Connection<S>,
@@ -43,7 +43,7 @@ impl<S: Alter> Model for Office<S> {
 }
 
 impl<S: Alter> Office<S> {
-    // The office over a connection in whose tables the state stands.
+    // The office of a connection and the state that its tables hold.
     pub(crate) fn new(conn: Connection<S>, state: State) -> Office<S>
         requires { conn.in_transaction ≡ false }
         ensures { (result.conn ≡ conn) × (result.facts ≡ state.facts) × (result.is_closed ≡ false) }
@@ -57,17 +57,19 @@ impl<S: Alter> Office<S> {
         }
     }
 
-    /// Does a command: any administrative command of the standard, or function of its system on
-    /// sessions. Its changes go into the tables in one transaction, and then into the state in memory.
+    /// Does a command: an administrative command or supporting system function of the standard, or one of
+    /// this office's own. Its changes are written to the tables in one transaction, and then made in the
+    /// state in memory.
     ///
-    /// The report is that of an import; it is zero and empty for any other command.
+    /// What the command needs is allocated from `alloc`. The report is that of an import; it is zero and
+    /// empty for any other command.
     ///
     /// # Errors
     ///
-    /// `Closed` where the office is closed. Then the first refusal of the command that holds, or
-    /// `Memory` where memory was refused: state and tables are as before. `Store` where the store
-    /// refused a call, and the office is closed: the open tables hold what they held before, and a stop
-    /// leaves the state before the command or the state after it.
+    /// `Closed` if the office is closed; nothing is changed. Otherwise the first refusal of the command that
+    /// applies, or `Memory` if an allocation failed: state and tables are as before. `Store` if the store
+    /// failed in a call, and the office is closed: the open tables hold what they held before, and a
+    /// crash leaves the state before the command or the state after it.
     pub fn apply(&mut self, alloc: Global, command: &Command) -> Result<Report, Refusal>
         ensures closed { IsTrue self.old.is_closed → (result ≡ Err Refusal.Closed) × (self.new ≡ self.old) }
         ensures answers { self.old.is_closed ≡ false → Answers self.old command.now result self.new }
@@ -76,10 +78,10 @@ impl<S: Alter> Office<S> {
         ensures undone { WhereItStood S.Store self.old self.new (IfErr result (λ _. HoldsAsBefore (state S.Store self.old.conn) (state S.Store self.new.conn))) }
         ensures stop { WhereItStood S.Store self.old self.new (LeavesAsIn (state S.Store self.new.conn) self.old.facts (event_of command.now result ∷ [])) }
 
-        // So each state that a crash may leave is one of names, as a next opening wants it.
+        // So the texts of each state that a crash may leave are valid names, as the next opening requires.
         ensures named { result ≡ Err Refusal.Store → AreNamed (after self.old.facts command.now) }
 
-        // All of this together: the call is one event more of whatever run the office is in.
+        // All of this together: the call adds one event to whatever run the office is in.
         ensures run { GoesOnBy (state S.Store) self.old (event_of command.now result) self.new }
     {
         if self.is_closed {
@@ -102,11 +104,11 @@ impl<S: Alter> Office<S> {
         }
     }
 
-    /// The state. It takes no memory.
+    /// The state of an open office. It doesn't allocate.
     ///
     /// # Errors
     ///
-    /// `Closed` where the office is closed.
+    /// `Closed` if the office is closed.
     pub fn state(&self) -> Result<&State, Refusal>
         ensures open { self.now.is_closed ≡ false → IfOk result (λ s. s.now.facts ≡ self.now.facts) }
         ensures told { is_err result ≡ self.now.is_closed }
@@ -118,9 +120,9 @@ impl<S: Alter> Office<S> {
         Ok(&self.state)
     }
 
-    /// The law of the type, for one office, closed or not: its state is good, and its names are names.
+    /// The law of the type, for one office, closed or not: its state is good, and its names are valid.
     ///
-    /// As `State::is_good` it does nothing and gives nothing when it runs.
+    /// Like `State::is_good` it does nothing and returns nothing when it runs.
     pub fn is_good(&self)
         ensures { IsGood self.now.facts × AreNamed self.now.facts }
     {
@@ -128,14 +130,14 @@ impl<S: Alter> Office<S> {
         self.state.is_named();
     }
 
-    /// Whether the store has refused a call. It takes no memory.
+    /// Whether the store has failed in a call, so that the office is closed. It doesn't allocate.
     pub fn is_closed(&self) -> bool
         ensures { result ≡ self.now.is_closed }
     {
         self.state().is_err()
     }
 
-    /// The connection, as it is: of a closed office too. It takes no memory.
+    /// Returns the connection as it is, of a closed office too. It doesn't allocate.
     pub fn into_connection(self) -> Connection<S>
         ensures same { result ≡ self.conn }
         ensures autocommit { result.in_transaction ≡ false }

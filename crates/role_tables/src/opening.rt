@@ -1,4 +1,4 @@
-//! Opening an office.
+//! Opens an office.
 ghost use Rattle.std.specs.Prelude.{◌≡◌, ◌⊎◌, [], false, true, IfErr, IfOk, IsTrue, MatchResult};
 ghost use Rattle.sqlite.specs.State.{HasCleanDisk, Survives};
 ghost use Rattle.sqlite.specs.Held.{state};
@@ -13,29 +13,29 @@ use rbac_sets::Refusal;
 use sqlite::{Alter, Connection};
 use std::alloc::Global;
 
-/// A connection on which no office was made or opened, handed back, and why.
+/// The connection of a refused creation, opening or migration, handed back, and the refusal.
 #[derive(Drop)]
 pub struct Unopened<S: Alter> {
-    /// Why.
+    /// Why the call was refused.
     pub refusal: Refusal,
-    /// The connection, as the call that was refused leaves it.
+    /// The connection, as the refused call left it.
     pub conn: Connection<S>,
 }
 
-/// Opens the office that stands in the tables of a connection outside a transaction, however these
-/// tables were made. No row is changed.
+/// Opens the office that the tables of a connection outside a transaction hold, however these tables
+/// were created. No row is changed. `alloc` is the allocator of the office's state.
 ///
 /// It is a function of this office and none of the standard.
 ///
 /// # Errors
 ///
-/// `Store` where the connection is inside a transaction, or where the store refuses a call. Then, in
-/// this order: `NotAnOffice` where a table of an office or a column of it isn't there, or no row of
-/// `meta_row` has the tag of an office; `Version` where such a row names another version than 1 and 2
-/// (the least of them is told); `NotAnOffice` where it names version 2 and the table of locks isn't
-/// there; `Damaged(1)` where a value is not of its column's type, a kind isn't known, a cardinality
-/// doesn't fit, or `meta_row` has a second row; `Damaged(2)` where a text is no name; then what
-/// `State::of_rows` refuses the rows for. `Memory` may stand in place of any of these.
+/// `Store` if the connection is inside a transaction, or if the store fails in a call. Otherwise, in this
+/// order: `NotAnOffice` if one of the five tables of both versions or a column of it is missing, or if no
+/// row of `meta_row` has the tag of an office; `Version` if the version in such a row is a whole number
+/// other than 1 and 2 (the least of them is reported); `NotAnOffice` if such a row has version 2 and the
+/// table of locks or its column is missing; `Damaged(1)` if a value is not of its column's type, a kind is
+/// unknown, a cardinality doesn't fit a u32, or `meta_row` has a second row; `Damaged(2)` if a text is no
+/// valid name; then what `State::of_rows` refuses the rows for. `Memory` may replace any of these.
 pub fn open<S: Alter>(alloc: Global, conn: Connection<S>) -> Result<Office<S>, Unopened<S>>
     ensures ok { IfOk result (λ o. (o.is_closed ≡ false) × ((state S.Store conn).in_transaction ≡ false)
         × (HasCleanDisk (state S.Store o.conn) → ReadsState (state S.Store conn) (state S.Store o.conn) o.facts)) }

@@ -1,4 +1,4 @@
-//! What the schema of a database says of an office's tables.
+//! Whether the tables of an office are in the schema of a database, and whether they can be created in it.
 ghost use Rattle.std.specs.Prelude.{◌≡◌, ◌&&◌, not, codes, is_some, option_copied};
 ghost use Rattle.std.specs.List.{list_any, list_all};
 ghost use Rattle.sqlite_schema.specs.Names.{same_name, table_named, column_named};
@@ -12,7 +12,7 @@ use crate::stored_table::StoredTable;
 use sqlite_schema::names::same_name;
 use sqlite_schema::schema::{Schema, Table};
 
-// The place of the table of this name.
+// The index of the table of this name.
 fn table_at(schema: &Schema, name: &str) -> Option<usize>
     ensures { result ≡ table_named schema.now name.now }
 {
@@ -34,7 +34,7 @@ fn has_table(schema: &Schema, name: &str) -> bool
         .any(|table| same_name(table.name.as_slice(), name.as_bytes()))
 }
 
-// Whether a foreign key of the table names this one.
+// Whether a foreign key of the table names a table of this name.
 fn refers_to(table: &Table, name: &str) -> bool
     ensures { result ≡ refers_to name.now table.now }
 {
@@ -44,7 +44,7 @@ fn refers_to(table: &Table, name: &str) -> bool
     ))
 }
 
-// Whether a foreign key of the schema names this table.
+// Whether a foreign key of the schema names a table of this name.
 fn is_referred(schema: &Schema, name: &str) -> bool
     ensures { result ≡ is_referred schema.now name.now }
 {
@@ -55,7 +55,7 @@ fn is_referred(schema: &Schema, name: &str) -> bool
         .any(|table| refers_to(table, name))
 }
 
-// Whether no table has the name, and no foreign key names it.
+// Whether no table has the name, and no foreign key names one of this name.
 fn is_free(schema: &Schema, name: &str) -> bool
     ensures { result ≡ is_free schema.now name.now }
 {
@@ -69,7 +69,7 @@ fn are_free(schema: &Schema, tables: &[StoredTable]) -> bool
     tables.iter().all(|table| is_free(schema, table.name()))
 }
 
-// Whether a table counts its rowids.
+// Whether a table counts its rowids (AUTOINCREMENT).
 fn has_counted(schema: &Schema) -> bool
     ensures { result ≡ list_any (λ t. t.is_counted) schema.now.tables }
 {
@@ -80,22 +80,22 @@ fn has_counted(schema: &Schema) -> bool
         .any(|table| table.is_counted)
 }
 
-// Whether no table counts its rowids, or the table that counts them is there.
+// Whether no table counts its rowids, or the table that has the counts is there.
 fn may_count(schema: &Schema) -> bool
     ensures { result ≡ may_count schema.now }
 {
     !has_counted(schema) || has_table(schema, "sqlite_sequence")
 }
 
-/// Whether the tables of an office of this version can be made: none is there, no foreign key names
-/// one, and no further table would be made along with them.
+/// Whether the tables of an office of this version can be created: none is there, no foreign key names
+/// one, and no further table would be created with them.
 pub(crate) fn may_create(schema: &Schema, version: u32) -> bool
     ensures { result ≡ may_create version schema.now }
 {
     are_free(schema, StoredTable::of_version(version)) && may_count(schema)
 }
 
-/// Whether the table of locks can be made.
+/// Whether the table of locks can be created.
 pub(crate) fn may_lock(schema: &Schema) -> bool
     ensures { result ≡ may_lock schema.now }
 {
@@ -110,7 +110,7 @@ fn find_table<'a>(schema: &'a Schema, name: &str) -> Option<&'a Table>
     schema.tables.as_slice().get(at)
 }
 
-// The place of the column of this name.
+// The index of the column of this name.
 fn column_at(table: &Table, name: &str) -> Option<usize>
     ensures { result ≡ column_named table.now name.now }
 {
@@ -134,7 +134,7 @@ fn has_all(table: &Table, columns: &[&str]) -> bool
     columns.iter().all(|name| has_column(table, name))
 }
 
-// Whether the table that was found has the columns of this one.
+// Whether the table `found` has the columns of this table of an office.
 fn has_columns(found: &Table, table: StoredTable) -> bool
     ensures { result ≡ has_all found.now (names_of (places table)) }
 {
@@ -158,7 +158,7 @@ pub(crate) fn is_there(schema: &Schema, table: StoredTable) -> bool
     }
 }
 
-/// Whether each of these tables is.
+/// Whether each of these tables is there with its columns.
 pub(crate) fn are_there(schema: &Schema, tables: &[StoredTable]) -> bool
     ensures { result ≡ are_there schema.now tables.now }
 {

@@ -1,4 +1,4 @@
-//! The statements that write, with one call of the database each, inside a transaction.
+//! The statements that write, inside a transaction. Each is one call of the database.
 ghost use Rattle.std.specs.Prelude.{◌≡◌, ◌∷◌, [], false, IsTrue, OnOk};
 ghost use Rattle.rbac_sets.specs.Named.{row_of};
 ghost use Rattle.sqlite.specs.State.{HasCleanDisk, KeepsCommit, Survives};
@@ -15,17 +15,17 @@ use rbac_sets::{Change, Row};
 use sqlite::types::ValueRef;
 use sqlite::{Alter, Connection, Error, Transaction, params};
 
-/// The tag of the row that says that a file is an office.
+/// The tag of the row that marks a file as an office.
 const TAG: &str = "rbac";
 
-/// What holds of every connection outside a transaction: what it holds is what was committed.
+/// A law for proofs: an open connection outside a transaction holds what was committed.
 pub(crate) fn is_settled<S: Alter>(conn: &Connection<S>)
     ensures { (state S.Store conn.now).in_transaction ≡ false → IsTrue (state S.Store conn.now).is_open → (state S.Store conn.now).now ≡ (state S.Store conn.now).committed }
 {
     conn.is_autocommit();
 }
 
-/// Makes a table.
+/// Creates a table.
 pub(crate) fn create_table<S: Alter>(
     tx: &mut Transaction<'_, S>,
     table: StoredTable,
@@ -38,7 +38,7 @@ pub(crate) fn create_table<S: Alter>(
     tx.execute(table.create_text(), &[])
 }
 
-/// Puts the row that says which version the office has.
+/// Inserts the row of `meta_row` with this version.
 pub(crate) fn put_version<S: Alter>(
     tx: &mut Transaction<'_, S>,
     version: u32,
@@ -51,7 +51,7 @@ pub(crate) fn put_version<S: Alter>(
     tx.execute(StoredTable::Meta.put_text(), params![TAG, version])
 }
 
-/// Takes that row.
+/// Deletes that row.
 pub(crate) fn take_version<S: Alter>(
     tx: &mut Transaction<'_, S>,
     version: u32,
@@ -89,7 +89,7 @@ fn change_values<S: Alter>(
     tx.execute(change_text(change), values)
 }
 
-/// Puts or takes one row.
+/// Inserts or deletes the row of a change.
 pub(crate) fn make_change<S: Alter>(
     tx: &mut Transaction<'_, S>,
     change: &Change,

@@ -7,25 +7,25 @@ ghost use Rattle.role_tables.specs.Texts.{create_text, put_text, take_text, read
 
 use rbac_sets::Row;
 
-/// A table of an office in the file. All are STRICT, and no column of them may be NULL.
+/// A table of an office in the file. All are STRICT, and all their columns are NOT NULL.
 #[derive(Clone, Copy)]
 pub enum StoredTable {
-    /// `meta_row`: the one row that says that the file is an office, and of which version.
+    /// `meta_row`: one row, which marks the file as an office and has its version.
     Meta,
     /// `name_row`: users, roles and objects.
     Names,
-    /// `pair_row`: the relations of two names.
+    /// `pair_row`: the relations between two names.
     Pairs,
     /// `grant_row`: object, operation and role.
     Grants,
     /// `set_row`: the separation of duty sets with their cardinalities.
     Sets,
-    /// `locked_row`: the locked users. An office of version 1 hasn't it.
+    /// `locked_row`: the locked users. An office of version 1 doesn't have this table.
     Locks,
 }
 
 impl StoredTable {
-    /// The tables of an office of this version, in the order in which they are made.
+    /// The tables of an office of this version, in the order in which they are created.
     pub(crate) fn of_version(version: u32) -> &'static [StoredTable]
         ensures { result.now ≡ tables_of version }
     {
@@ -49,7 +49,7 @@ impl StoredTable {
         }
     }
 
-    /// Those of them that have rows of its state.
+    /// The tables of an office of this version that hold rows of its state.
     pub(crate) fn of_rows(version: u32) -> &'static [StoredTable]
         ensures tables { result.now ≡ row_tables version }
         ensures rows { AreOfRows result.now }
@@ -72,7 +72,7 @@ impl StoredTable {
         }
     }
 
-    /// The table in which the row stands.
+    /// The table that holds the row.
     pub(crate) fn of_row(row: &Row) -> StoredTable
         ensures { result ≡ table_of (stored row.now) }
     {
@@ -85,7 +85,6 @@ impl StoredTable {
         }
     }
 
-    /// Its name.
     pub(crate) fn name(self) -> &'static str
         ensures { result.now ≡ (making self).name }
     {
@@ -99,7 +98,7 @@ impl StoredTable {
         }
     }
 
-    /// The statement that makes it.
+    /// The statement that creates the table.
     pub(crate) fn create_text(self) -> &'static str
         ensures { result.now ≡ create_text self }
     {
@@ -125,7 +124,7 @@ impl StoredTable {
         }
     }
 
-    /// The statement that puts one row, whose values are its parameters.
+    /// The statement that inserts one row, whose values are its parameters.
     pub(crate) fn put_text(self) -> &'static str
         ensures { result.now ≡ put_text self }
     {
@@ -139,7 +138,7 @@ impl StoredTable {
         }
     }
 
-    /// The statement that takes one row, whose values are its parameters.
+    /// The statement that deletes one row, whose values are its parameters.
     pub(crate) fn take_text(self) -> &'static str
         ensures { result.now ≡ take_text self }
     {

@@ -1,4 +1,4 @@
-//! Reading the rows of tables, however they were made.
+//! Turns the values that were read of a row into a row of the office, with check 1 and check 2.
 ghost use Rattle.std.specs.Prelude.{◌≡◌, ◌⊎◌, ◌≤◌, IfSome, IfNone, IfOk, IfErr, IsTrue, true, false, pos};
 ghost use Rattle.sqlite_value.specs.Order.{column};
 ghost use Rattle.sqlite.specs.declared.types.Value.TheVariants.{Int, Text};
@@ -11,7 +11,7 @@ use sqlite::types::ValueRef;
 use std::alloc::Global;
 use std::str;
 
-// The kind from 1 to this one that stands in the column, if one does.
+// The kind in the column, if the column has one from 1 to `most`.
 fn kind_at(row: &sqlite::Row, at: usize, most: u8) -> Option<u8>
     ensures some { IfSome result (λ kind. (column row.now at ≡ Int (pos kind)) × (1 ≤ kind) × (kind ≤ most)) }
     ensures none { IfNone result (is_kind most (column row.now at) ≡ false) }
@@ -22,14 +22,14 @@ fn kind_at(row: &sqlite::Row, at: usize, most: u8) -> Option<u8>
     }
 }
 
-// Whether a text stands in the column.
+// Whether the column has a text.
 pub(crate) fn is_text_at(row: &sqlite::Row, at: usize) -> bool
     ensures { result ≡ is_text (column row.now at) }
 {
     matches!(row.get_ref(at), Ok(ValueRef::Text(_)))
 }
 
-// The name that stands in the column, where a text does.
+// The name in the column, or `Damaged(2)` if the column has no valid name.
 fn name_at(alloc: Global, row: &sqlite::Row, at: usize) -> Result<Name, Refusal>
     ensures ok { IfOk result (λ name. (column row.now at ≡ Text name) × (is_name name ≡ true)) }
     ensures err { IfErr result (λ refusal. (refusal ≡ Refusal.Memory) ⊎ ((refusal ≡ Refusal.Damaged 2) × (is_name (text_of (column row.now at)) ≡ false))) }
@@ -47,7 +47,7 @@ fn name_at(alloc: Global, row: &sqlite::Row, at: usize) -> Result<Name, Refusal>
     }
 }
 
-// The number that stands in the column, if it fits.
+// The number in the column, if it fits a u32.
 fn count_at(row: &sqlite::Row, at: usize) -> Option<u32>
     ensures some { IfSome result (λ n. column row.now at ≡ Int (pos n)) }
     ensures none { IfNone result (is_count (column row.now at) ≡ false) }

@@ -1,4 +1,5 @@
-//! The verdicts on the commands of core RBAC but for those on sessions, with the locks and the import.
+//! The verdicts on the commands of core RBAC except those on sessions, and on the commands on locks and the
+//! import.
 ghost use Rattle.std.specs.Prelude.{◌≡◌, IfOk};
 ghost use Rattle.rbac_sets.specs.declared.command.Command.TheVariants.{AddUser, DeleteUser, AddRole, DeleteRole, AddPermObj, DeletePermObj, AddPermission, DeletePermission, GrantPermission, RevokePermission, AssignUser, DeassignUser, ImportAssignments, LockUserAccount, UnlockUserAccount};
 ghost use Rattle.admin_mgr.specs.Assignment.{assign_user_refusals};
@@ -17,8 +18,7 @@ use std::alloc::{AllocError, Global};
 
 // The verdict on AddUser.
 //
-// Refused by `UserExists` where there is such a user, then by `TooMany` where there are as many users
-// as there may be.
+// Refused by `UserExists` if there is such a user, then by `TooMany` if the limit of users is reached.
 #[tactic(auto, unfolding(crate::specs::Verdict::verdict, crate::specs::Verdict::refusals))]
 pub(crate) fn judge_add_user(state: &State, user: &Name) -> Option<Refusal>
     ensures { result ≡ verdict state.now.facts (AddUser user.now) }
@@ -34,7 +34,7 @@ pub(crate) fn judge_add_user(state: &State, user: &Name) -> Option<Refusal>
 
 // The verdict on DeleteUser.
 //
-// Refused by `NoUser` where there is no such user.
+// Refused by `NoUser` if there is no such user.
 #[tactic(auto, unfolding(crate::specs::Verdict::verdict, crate::specs::Verdict::refusals))]
 pub(crate) fn judge_delete_user(state: &State, user: &Name) -> Option<Refusal>
     ensures { result ≡ verdict state.now.facts (DeleteUser user.now) }
@@ -47,8 +47,7 @@ pub(crate) fn judge_delete_user(state: &State, user: &Name) -> Option<Refusal>
 
 // The verdict on AddRole.
 //
-// Refused by `RoleExists` where there is such a role, then by `TooMany` where there are as many roles
-// as there may be.
+// Refused by `RoleExists` if there is such a role, then by `TooMany` if the limit of roles is reached.
 #[tactic(auto, unfolding(crate::specs::Verdict::verdict, crate::specs::Verdict::refusals))]
 pub(crate) fn judge_add_role(state: &State, role: &Name) -> Option<Refusal>
     ensures { result ≡ verdict state.now.facts (AddRole role.now) }
@@ -64,7 +63,7 @@ pub(crate) fn judge_add_role(state: &State, role: &Name) -> Option<Refusal>
 
 // The verdict on DeleteRole.
 //
-// Refused by `NoRole` where there is no such role, then by `RoleInUse` where the role has an immediate
+// Refused by `NoRole` if there is no such role, then by `RoleInUse` if the role has an immediate
 // inheritance or is a member of a separation of duty set.
 #[tactic(auto, unfolding(crate::specs::Verdict::verdict, crate::specs::Verdict::refusals))]
 pub(crate) fn judge_delete_role(state: &State, role: &Name) -> Option<Refusal>
@@ -89,10 +88,10 @@ fn is_in_use(state: &State, role: &Name) -> bool
         || has_second(state.dsd_members().as_slice(), role)
 }
 
-// The verdict on the making of an object.
+// The verdict on AddPermObj.
 //
-// Refused by `ObjectExists` where there is such an object, then by `TooMany` where there are as many
-// objects as there may be.
+// Refused by `ObjectExists` if there is such an object, then by `TooMany` if the limit of objects is
+// reached.
 #[tactic(auto, unfolding(crate::specs::Verdict::verdict, crate::specs::Verdict::refusals))]
 pub(crate) fn judge_add_perm_obj(state: &State, object: &Name) -> Option<Refusal>
     ensures { result ≡ verdict state.now.facts (AddPermObj object.now) }
@@ -106,10 +105,9 @@ pub(crate) fn judge_add_perm_obj(state: &State, object: &Name) -> Option<Refusal
     None
 }
 
-// The verdict on the taking of an object.
+// The verdict on DeletePermObj.
 //
-// Refused by `NoObject` where there is no such object, then by `ObjectInUse` where it has a
-// permission.
+// Refused by `NoObject` if there is no such object, then by `ObjectInUse` if it has a permission.
 #[tactic(auto, unfolding(crate::specs::Verdict::verdict, crate::specs::Verdict::refusals))]
 pub(crate) fn judge_delete_perm_obj(state: &State, object: &Name) -> Option<Refusal>
     ensures { result ≡ verdict state.now.facts (DeletePermObj object.now) }
@@ -123,10 +121,10 @@ pub(crate) fn judge_delete_perm_obj(state: &State, object: &Name) -> Option<Refu
     None
 }
 
-// The verdict on the making of a permission for an operation on an object.
+// The verdict on AddPermission.
 //
-// Refused by `NoObject` where there is no such object, then by `PermissionExists` where there is such
-// a permission, then by `TooMany` where there are as many permissions as there may be.
+// Refused by `NoObject` if there is no such object, then by `PermissionExists` if there is such a
+// permission, then by `TooMany` if the limit of permissions is reached.
 #[tactic(auto, unfolding(crate::specs::Verdict::verdict, crate::specs::Verdict::refusals))]
 pub(crate) fn judge_add_permission(
     state: &State,
@@ -147,9 +145,9 @@ pub(crate) fn judge_add_permission(
     None
 }
 
-// The verdict on the taking of a permission.
+// The verdict on DeletePermission.
 //
-// Refused by `NoObject` where there is no such object, then by `NoPermission` where there is no such
+// Refused by `NoObject` if there is no such object, then by `NoPermission` if there is no such
 // permission.
 #[tactic(auto, unfolding(crate::specs::Verdict::verdict, crate::specs::Verdict::refusals))]
 pub(crate) fn judge_delete_permission(
@@ -170,8 +168,9 @@ pub(crate) fn judge_delete_permission(
 
 // The verdict on GrantPermission.
 //
-// Refused by `NoObject`, `NoPermission`, `NoRole` where these are missing, then by `AlreadyGranted`
-// where the role has the grant, then by `TooMany` where there are as many grants as there may be.
+// Refused by `NoObject`, then `NoPermission`, then `NoRole` if there is no such object, permission or
+// role, then by `AlreadyGranted` if the permission is granted to the role, then by `TooMany` if the limit
+// of grants is reached.
 #[tactic(auto, unfolding(crate::specs::Verdict::verdict, crate::specs::Verdict::refusals))]
 pub(crate) fn judge_grant_permission(
     state: &State,
@@ -201,8 +200,8 @@ pub(crate) fn judge_grant_permission(
 
 // The verdict on RevokePermission.
 //
-// Refused by `NoObject`, `NoPermission`, `NoRole` where these are missing, then by `NotGranted` where
-// the role hasn't the grant.
+// Refused by `NoObject`, then `NoPermission`, then `NoRole` if there is no such object, permission or
+// role, then by `NotGranted` if the permission isn't granted to the role.
 #[tactic(auto, unfolding(crate::specs::Verdict::verdict, crate::specs::Verdict::refusals))]
 pub(crate) fn judge_revoke_permission(
     state: &State,
@@ -229,12 +228,11 @@ pub(crate) fn judge_revoke_permission(
 
 // The verdict on AssignUser.
 //
-// Refused by `NoUser`, `NoRole` where these are missing, then by `AlreadyAssigned` where the user is
-// assigned to the role, then by `TooMany` where there are as many assignments as there may be, then by
-// `StaticSeparation` with the first set in byte order from which the user would be authorized for as
-// many roles as its cardinality.
+// Refused by `NoUser`, then `NoRole` if there is no such user or role, then by `AlreadyAssigned` if the
+// user is assigned to the role, then by `TooMany` if the limit of assignments is reached, then by
+// `StaticSeparation` with the first static set in byte order that the user would violate.
 //
-// An error says that memory for the name of the set was refused.
+// It is an error if the allocation of the set's name failed.
 #[tactic(auto, unfolding(crate::specs::Verdict::verdict, crate::specs::Verdict::refusals, crate::specs::Assignment::assignment_refusals))]
 pub(crate) fn judge_assign_user(
     alloc: Global,
@@ -255,7 +253,7 @@ pub(crate) fn judge_assign_user(
     Ok(named)
 }
 
-// Why the user can't be assigned to the role, but for what it would violate.
+// Why the user can't be assigned to the role, without the check of static separation.
 fn refuse_assignment(state: &State, user: &Name, role: &Name) -> Option<Refusal>
     ensures { result ≡ first (assign_user_refusals state.now.facts (user.now, role.now)) }
 {
@@ -276,8 +274,8 @@ fn refuse_assignment(state: &State, user: &Name, role: &Name) -> Option<Refusal>
 
 // The verdict on DeassignUser.
 //
-// Refused by `NoUser`, `NoRole` where these are missing, then by `NotAssigned` where the user isn't
-// assigned to the role.
+// Refused by `NoUser`, then `NoRole` if there is no such user or role, then by `NotAssigned` if the user
+// isn't assigned to the role.
 #[tactic(auto, unfolding(crate::specs::Verdict::verdict, crate::specs::Verdict::refusals))]
 pub(crate) fn judge_deassign_user(state: &State, user: &Name, role: &Name) -> Option<Refusal>
     ensures { result ≡ verdict state.now.facts (DeassignUser user.now role.now) }
@@ -294,9 +292,9 @@ pub(crate) fn judge_deassign_user(state: &State, user: &Name, role: &Name) -> Op
     None
 }
 
-// The verdict on an import of assignments: its records are judged one by one only when it is made.
+// The verdict on an import of assignments. Its records are judged one by one when its plan is made.
 //
-// Refused by `TooMany` where it has more records than an import may have.
+// Refused by `TooMany` if it has more records than an import may have.
 #[tactic(auto, unfolding(crate::specs::Verdict::verdict, crate::specs::Verdict::refusals))]
 pub(crate) fn judge_import_assignments(state: &State, pairs: &Vec<(Name, Name)>) -> Option<Refusal>
     ensures { result ≡ verdict state.now.facts (ImportAssignments pairs.now) }
@@ -307,9 +305,9 @@ pub(crate) fn judge_import_assignments(state: &State, pairs: &Vec<(Name, Name)>)
     None
 }
 
-// The verdict on the locking of a user.
+// The verdict on LockUserAccount.
 //
-// Refused by `Version(1)` in version 1, then by `NoUser` where there is no such user.
+// Refused by `Version(1)` in version 1, then by `NoUser` if there is no such user.
 #[tactic(auto, unfolding(crate::specs::Verdict::verdict, crate::specs::Verdict::refusals))]
 pub(crate) fn judge_lock_user_account(state: &State, user: &Name) -> Option<Refusal>
     ensures { result ≡ verdict state.now.facts (LockUserAccount user.now) }
@@ -323,9 +321,9 @@ pub(crate) fn judge_lock_user_account(state: &State, user: &Name) -> Option<Refu
     None
 }
 
-// The verdict on the taking of a user's lock.
+// The verdict on UnlockUserAccount.
 //
-// Refused by `Version(1)` in version 1, then by `NoUser` where there is no such user.
+// Refused by `Version(1)` in version 1, then by `NoUser` if there is no such user.
 #[tactic(auto, unfolding(crate::specs::Verdict::verdict, crate::specs::Verdict::refusals))]
 pub(crate) fn judge_unlock_user_account(state: &State, user: &Name) -> Option<Refusal>
     ensures { result ≡ verdict state.now.facts (UnlockUserAccount user.now) }

@@ -18,15 +18,14 @@ use std::alloc::{AllocError, Global};
 
 // The verdict on AddInheritance.
 //
-// Refused by `NoRole` where one of the roles is missing, then by `EdgeExists` where `asc` is an
-// immediate ascendant of `desc`, then by `Cycle` where `desc` is `asc` or above it, then by `TooMany`
-// where there are as many immediate inheritances as there may be, then by `StaticSeparation` with the
-// first static set in byte order from which some user would be authorized for as many roles as its
-// cardinality, then by `DynamicSeparation` with the first dynamic set in byte order from which some
-// session would have as many roles as its cardinality.
+// Refused by `NoRole` if one of the roles doesn't exist, then by `EdgeExists` if `asc` is an immediate
+// ascendant of `desc`, then by `Cycle` if `desc` is `asc` or a senior of it, then by `TooMany` if the limit
+// of immediate inheritances is reached, then by `StaticSeparation` with the first static set in byte order
+// that some user would violate, then by `DynamicSeparation` with the first dynamic set in byte order that
+// some session would violate.
 //
-// An error says that memory was refused, for the name of the set, for the list of who is authorized
-// for `asc` or for the numbers of their roles.
+// It is an error if an allocation failed: for the name of the set, or for the check of who would violate a
+// set.
 #[tactic(auto, unfolding(crate::specs::Verdict::verdict, crate::specs::Verdict::refusals))]
 pub(crate) fn judge_add_inheritance(
     alloc: Global,
@@ -47,8 +46,8 @@ pub(crate) fn judge_add_inheritance(
     Ok(broken)
 }
 
-// Why `asc` can't become an immediate ascendant of `desc` for the first set of this kind that somebody
-// would violate.
+// The refusal that names the first set of this kind in byte order that somebody would violate if `asc`
+// became an immediate ascendant of `desc`.
 fn refuse_broken(
     alloc: Global,
     state: &State,
@@ -66,7 +65,7 @@ fn refuse_broken(
     Ok(named)
 }
 
-// Why `asc` can't become an immediate ascendant of `desc`, but for what it would violate.
+// Why `asc` can't become an immediate ascendant of `desc`, without the check of separation of duty.
 fn refuse_inheritance(state: &State, asc: &Name, desc: &Name) -> Option<Refusal>
     ensures { result ≡ first (add_inheritance_refusals state.now.facts asc.now desc.now) }
 {
@@ -90,8 +89,8 @@ fn refuse_inheritance(state: &State, asc: &Name, desc: &Name) -> Option<Refusal>
 
 // The verdict on DeleteInheritance.
 //
-// Refused by `NoRole` where one of the roles is missing, then by `NoEdge` where `asc` isn't an
-// immediate ascendant of `desc`.
+// Refused by `NoRole` if one of the roles doesn't exist, then by `NoEdge` if `asc` isn't an immediate
+// ascendant of `desc`.
 #[tactic(auto, unfolding(crate::specs::Verdict::verdict, crate::specs::Verdict::refusals))]
 pub(crate) fn judge_delete_inheritance(state: &State, asc: &Name, desc: &Name) -> Option<Refusal>
     ensures { result ≡ verdict state.now.facts (DeleteInheritance asc.now desc.now) }
@@ -110,9 +109,8 @@ pub(crate) fn judge_delete_inheritance(state: &State, asc: &Name, desc: &Name) -
 
 // The verdict on AddAscendant.
 //
-// Refused by `NoRole` where there is no role `desc`, then by `RoleExists` where there is a role `asc`,
-// then by `TooMany` where there are as many roles, then as many immediate inheritances, as there may
-// be.
+// Refused by `NoRole` if there is no role `desc`, then by `RoleExists` if there is a role `asc`, then by
+// `TooMany` if the limit of roles, and then if the limit of immediate inheritances, is reached.
 #[tactic(auto, unfolding(crate::specs::Verdict::verdict, crate::specs::Verdict::refusals))]
 pub(crate) fn judge_add_ascendant(state: &State, asc: &Name, desc: &Name) -> Option<Refusal>
     ensures { result ≡ verdict state.now.facts (AddAscendant asc.now desc.now) }
@@ -134,9 +132,8 @@ pub(crate) fn judge_add_ascendant(state: &State, asc: &Name, desc: &Name) -> Opt
 
 // The verdict on AddDescendant.
 //
-// Refused by `NoRole` where there is no role `asc`, then by `RoleExists` where there is a role `desc`,
-// then by `TooMany` where there are as many roles, then as many immediate inheritances, as there may
-// be.
+// Refused by `NoRole` if there is no role `asc`, then by `RoleExists` if there is a role `desc`, then by
+// `TooMany` if the limit of roles, and then if the limit of immediate inheritances, is reached.
 #[tactic(auto, unfolding(crate::specs::Verdict::verdict, crate::specs::Verdict::refusals))]
 pub(crate) fn judge_add_descendant(state: &State, asc: &Name, desc: &Name) -> Option<Refusal>
     ensures { result ≡ verdict state.now.facts (AddDescendant asc.now desc.now) }

@@ -8,7 +8,7 @@ use crate::separation_of_duty::SeparationOfDuty;
 use rbac_sets::{Name, Refusal};
 use std::alloc::{AllocError, Global};
 
-// A refusal by this set, if there is one.
+// The refusal that names this set, or `None` if there is no set.
 pub(crate) fn name_violated(
     alloc: Global,
     duty: SeparationOfDuty,
@@ -25,7 +25,7 @@ pub(crate) fn name_violated(
     }
 }
 
-// The same name, in memory of its own.
+// A copy of the name.
 pub(crate) fn copied(alloc: Global, name: &Name) -> Result<Name, AllocError>
     ensures { IfOk result (λ copy. copy ≡ name.now) }
 {

@@ -14,13 +14,13 @@ use std::alloc::{AllocError, Global};
 
 // The verdict on CreateSsdSet or CreateDsdSet.
 //
-// Refused by `NoRole` where one of the roles is missing, then by `SetExists` where there is such a
-// set, then by `BadCardinality` where the cardinality isn't from two to the number of roles, then by
-// `TooMany` where there are as many sets of the kind as there may be, or more roles than a set may
-// have, then by `StaticSeparation` with the set where some user is authorized for so many of the
-// roles, or by `DynamicSeparation` where some session has so many.
+// Refused by `NoRole` if one of the roles doesn't exist, then by `SetExists` if there is such a set, then
+// by `BadCardinality` if the cardinality isn't at least 2 and at most the number of roles, then by `TooMany`
+// if the limit of sets of the kind is reached, and then if there are more roles than a set may have, then
+// by `StaticSeparation` with the set if some user would violate it, or by `DynamicSeparation` if some
+// session would.
 //
-// An error says that memory for the name of a violated set was refused.
+// It is an error if the allocation of the set's name failed.
 #[tactic(auto, unfolding(crate::specs::Verdict::verdict, crate::specs::Verdict::refusals))]
 pub(crate) fn judge_create_set(
     alloc: Global,
@@ -50,12 +50,11 @@ pub(crate) fn judge_create_set(
 
 // The verdict on AddSsdRoleMember or AddDsdRoleMember.
 //
-// Refused by `NoSet`, `NoRole` where these are missing, then by `MemberExists` where the role is a
-// member of the set, then by `TooMany` where the set has as many members as it may have, then by
-// `StaticSeparation` with the set where some user is authorized for as many of its roles as its
-// cardinality, or by `DynamicSeparation` where some session has as many.
+// Refused by `NoSet`, then `NoRole` if there is no such set or role, then by `MemberExists` if the role is
+// a member of the set, then by `TooMany` if the limit of members is reached, then by `StaticSeparation` with
+// the set if some user would violate it, or by `DynamicSeparation` if some session would.
 //
-// An error says that memory for the name of a violated set was refused.
+// It is an error if the allocation of the set's name failed.
 #[tactic(auto, unfolding(crate::specs::Verdict::verdict, crate::specs::Verdict::refusals))]
 pub(crate) fn judge_add_member(
     alloc: Global,
@@ -84,9 +83,8 @@ pub(crate) fn judge_add_member(
 
 // The verdict on DeleteSsdRoleMember or DeleteDsdRoleMember.
 //
-// Refused by `NoSet`, `NoRole` where these are missing, then by `NoMember` where the role is no
-// member of the set, then by `BadCardinality` where the set has no more members than its
-// cardinality.
+// Refused by `NoSet`, then `NoRole` if there is no such set or role, then by `NoMember` if the role is no
+// member of the set, then by `BadCardinality` if the set has no more members than its cardinality.
 #[tactic(auto, unfolding(crate::specs::Verdict::verdict, crate::specs::Verdict::refusals))]
 pub(crate) fn judge_delete_member(
     state: &State,
@@ -107,11 +105,11 @@ pub(crate) fn judge_delete_member(
 
 // The verdict on SetSsdSetCardinality or SetDsdSetCardinality.
 //
-// Refused by `NoSet` where there is no such set, then by `BadCardinality` where the cardinality isn't
-// from two to the number of its roles, then by `StaticSeparation` with the set where some user is
-// authorized for so many of its roles, or by `DynamicSeparation` where some session has so many.
+// Refused by `NoSet` if there is no such set, then by `BadCardinality` if the cardinality isn't at least 2
+// and at most the number of its roles, then by `StaticSeparation` with the set if some user would violate
+// it, or by `DynamicSeparation` if some session would.
 //
-// An error says that memory for the name of a violated set was refused.
+// It is an error if the allocation of the set's name failed.
 #[tactic(auto, unfolding(crate::specs::Verdict::verdict, crate::specs::Verdict::refusals))]
 pub(crate) fn judge_set_cardinality(
     alloc: Global,
@@ -139,7 +137,7 @@ pub(crate) fn judge_set_cardinality(
 
 // The verdict on DeleteSsdSet or DeleteDsdSet.
 //
-// Refused by `NoSet` where there is no such set.
+// Refused by `NoSet` if there is no such set.
 #[tactic(auto, unfolding(crate::specs::Verdict::verdict, crate::specs::Verdict::refusals, rbac_sets::specs::Sets::any))]
 pub(crate) fn judge_delete_set(state: &State, duty: SeparationOfDuty, set: &Name) -> Option<Refusal>
     ensures { result ≡ verdict state.now.facts (delete_set duty set.now) }

@@ -20,13 +20,13 @@ use std::alloc::{AllocError, Global};
 
 // The verdict on CreateSession.
 //
-// Refused by `NoUser` and, where one of the roles is missing, by `NoRole`, then by `SessionExists`
-// where there is such a session, then by `NotAuthorized` where the user isn't authorized for one of the
-// roles, then by `UserLocked` where the user is locked, then by `TooMany` where there are as many
-// sessions as there may be, or more roles than may be activated in one, then by `DynamicSeparation`
-// with the first set in byte order from which the session would have as many roles as its cardinality.
+// Refused by `NoUser` if there is no such user, then by `NoRole` if one of the roles doesn't exist, then
+// by `SessionExists` if there is such a session, then by `NotAuthorized` if the user isn't authorized for
+// one of the roles, then by `UserLocked` if the user is locked, then by `TooMany` if the limit of sessions
+// is reached, and then if these are more roles than may be activated in one session, then by
+// `DynamicSeparation` with the first dynamic set in byte order that the session would violate.
 //
-// An error says that memory for the name of the set was refused.
+// It is an error if the allocation of the set's name failed.
 #[tactic(auto, unfolding(crate::specs::Verdict::verdict, crate::specs::Verdict::refusals))]
 pub(crate) fn judge_create_session(
     alloc: Global,
@@ -48,7 +48,7 @@ pub(crate) fn judge_create_session(
     Ok(named)
 }
 
-// Why the user can't have a new session with these roles, but for what it would violate.
+// Why the user can't have a new session with these roles, without the check of dynamic separation.
 #[tactic(auto, unfolding(rbac_sets::specs::Sets::all))]
 fn refuse_session(state: &State, user: &Name, roles: &NameSet, session: &Name) -> Option<Refusal>
     ensures { result ≡ first (create_session_refusals state.now.facts user.now (set_of name_cmp roles.now) session.now) }
@@ -94,8 +94,8 @@ fn is_authorized(state: &State, user: &Name, role: &Name) -> bool
 
 // The verdict on DeleteSession.
 //
-// Refused by `NoUser`, `NoSession` where these are missing, then by `NotOwner` where the session has
-// another user.
+// Refused by `NoUser`, then `NoSession` if there is no such user or session, then by `NotOwner` if the
+// session has another user.
 #[tactic(auto, unfolding(crate::specs::Verdict::verdict, crate::specs::Verdict::refusals))]
 pub(crate) fn judge_delete_session(state: &State, user: &Name, session: &Name) -> Option<Refusal>
     ensures { result ≡ verdict state.now.facts (DeleteSession user.now session.now) }
@@ -114,13 +114,13 @@ pub(crate) fn judge_delete_session(state: &State, user: &Name, session: &Name) -
 
 // The verdict on AddActiveRole.
 //
-// Refused by `NoUser`, `NoSession`, `NoRole` where these are missing, then by `NotOwner` where the
-// session has another user, then by `AlreadyActive` where the role was activated in it, then by
-// `NotAuthorized` where the user isn't authorized for the role, then by `TooMany` where as many roles
-// were activated as may be, then by `DynamicSeparation` with the first set in byte order from which the
-// session would have as many roles as its cardinality.
+// Refused by `NoUser`, then `NoSession`, then `NoRole` if there is no such user, session or role, then by
+// `NotOwner` if the session has another user, then by `AlreadyActive` if the role was activated in it, then
+// by `NotAuthorized` if the user isn't authorized for the role, then by `TooMany` if the limit of activated
+// roles is reached, then by `DynamicSeparation` with the first dynamic set in byte order that the session
+// would violate.
 //
-// An error says that memory for the name of the set was refused.
+// It is an error if the allocation of the set's name failed.
 #[tactic(auto, unfolding(crate::specs::Verdict::verdict, crate::specs::Verdict::refusals))]
 pub(crate) fn judge_add_active_role(
     alloc: Global,
@@ -142,7 +142,7 @@ pub(crate) fn judge_add_active_role(
     Ok(named)
 }
 
-// Why the role can't be activated in the session, but for what it would violate.
+// Why the role can't be activated in the session, without the check of dynamic separation.
 fn refuse_activation(state: &State, user: &Name, session: &Name, role: &Name) -> Option<Refusal>
     ensures { result ≡ first (add_active_role_refusals state.now.facts user.now session.now role.now) }
 {
@@ -176,8 +176,8 @@ fn refuse_activation(state: &State, user: &Name, session: &Name, role: &Name) ->
 
 // The verdict on DropActiveRole.
 //
-// Refused by `NoUser`, `NoSession`, `NoRole` where these are missing, then by `NotOwner` where the
-// session has another user, then by `NotActive` where the role wasn't activated in it.
+// Refused by `NoUser`, then `NoSession`, then `NoRole` if there is no such user, session or role, then by
+// `NotOwner` if the session has another user, then by `NotActive` if the role wasn't activated in it.
 #[tactic(auto, unfolding(crate::specs::Verdict::verdict, crate::specs::Verdict::refusals))]
 pub(crate) fn judge_drop_active_role(
     state: &State,

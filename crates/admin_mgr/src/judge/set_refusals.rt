@@ -1,4 +1,4 @@
-//! The refusals of commands on separation of duty sets, one after another.
+//! The refusals of commands on separation of duty sets.
 ghost use Rattle.std.specs.Prelude.{◌≡◌, ◌&&◌, IfOk, None, Some, cond, nat_le};
 ghost use Rattle.rbac_sets.specs.Sets.{Cardinality, Pairs, any, cardinality_cmp, len, name_cmp, pair_cmp, same_name, seconds};
 ghost use Rattle.rbac_sets.specs.SortedSet.{set_of};
@@ -31,8 +31,8 @@ pub(crate) fn member_count(members: &PairSet, set: &Name) -> usize
     members.with_first(set).len()
 }
 
-// Why there can't be a new set of these roles, but for what it would violate; `kind` is that of the
-// sets, and their members may be any.
+// Why there can't be a new set of these roles, without the check that nobody violates it. `kind` is the
+// kind of the sets; it doesn't matter which members the other sets have.
 #[tactic(auto, unfolding(rbac_sets::specs::Sets::all))]
 pub(crate) fn refuse_set(
     state: &State,
@@ -63,7 +63,7 @@ pub(crate) fn refuse_set(
     None
 }
 
-// Why a role can't become a member of a set, but for what the set would violate.
+// Why a role can't become a member of a set, without the check that nobody violates the set then.
 pub(crate) fn refuse_member(
     state: &State,
     members: &PairSet,
@@ -88,7 +88,7 @@ pub(crate) fn refuse_member(
     None
 }
 
-// Why a member can't be taken from a set.
+// Why a member can't be removed from a set.
 #[tactic(auto, unfolding(crate::specs::RbacState::cardinality_of))]
 pub(crate) fn refuse_member_taken(
     state: &State,
@@ -114,7 +114,7 @@ pub(crate) fn refuse_member_taken(
     None
 }
 
-// Why a set can't have this cardinality, but for what it would violate.
+// Why a set can't have this cardinality, without the check that nobody violates the set then.
 pub(crate) fn refuse_cardinality(
     members: &PairSet,
     cardinalities: &CountSet,
@@ -132,7 +132,7 @@ pub(crate) fn refuse_cardinality(
     None
 }
 
-// A refusal by the set of this name, unless it is kept.
+// The refusal that names this set if it is violated, that is, unless `kept`.
 pub(crate) fn refuse_violated(
     alloc: Global,
     duty: SeparationOfDuty,
@@ -148,14 +148,14 @@ pub(crate) fn refuse_violated(
     Ok(Some(duty.refusal(set)))
 }
 
-// Whether a cardinality is from two to the number of roles.
+// Whether a cardinality is at least 2 and at most the number of roles.
 pub(crate) fn is_cardinality(cardinality: u32, roles: usize) -> bool
     ensures { result ≡ (nat_le 2 cardinality && nat_le cardinality roles) }
 {
     cardinality >= 2 && cardinality as usize <= roles
 }
 
-// Whether the number, if there is one, is below the count.
+// Whether the number is less than the count; true if there is no number.
 fn is_below(number: Option<u32>, count: usize) -> bool
     ensures { result ≡ is_below number count }
 {

@@ -1,4 +1,4 @@
-//! The plans of the commands of core RBAC but for those on sessions, with the locks.
+//! The plans of the commands of core RBAC except those on sessions, and of the commands on locks.
 ghost use Rattle.std.specs.Prelude.{◌≡◌, ◌++◌, None, IfOk, IfErr, OnOk};
 ghost use Rattle.rbac_sets.specs.declared.command.Command.TheVariants.{AddUser, DeleteUser, AddRole, DeleteRole, AddPermObj, DeletePermObj, AddPermission, DeletePermission, GrantPermission, RevokePermission, AssignUser, DeassignUser, LockUserAccount, UnlockUserAccount};
 ghost use Rattle.admin_mgr.specs.Listing.{lock_rows, new_lock_rows};
@@ -26,7 +26,7 @@ pub(crate) fn plan_add_user(alloc: Global, state: &State, user: &Name) -> Result
     one_put(alloc, Row::user(user.copy(alloc)?))
 }
 
-// The plan of DeleteUser: the user goes with its lock, its assignments and its sessions.
+// The plan of DeleteUser: it removes the user, its lock, its assignments and its sessions.
 pub(crate) fn plan_delete_user(alloc: Global, state: &State, user: &Name) -> Result<Plan, Refusal>
     requires accepted { verdict state.now.facts (DeleteUser user.now) ≡ None }
     ensures planned { IfOk result (IsPlanOf state.now.facts (DeleteUser user.now)) }
@@ -57,7 +57,7 @@ pub(crate) fn plan_add_role(alloc: Global, state: &State, role: &Name) -> Result
     one_put(alloc, Row::role(role.copy(alloc)?))
 }
 
-// The plan of DeleteRole: the role goes with its assignments and grants, and sessions may end.
+// The plan of DeleteRole: it removes the role, its assignments and its grants, and sessions may end.
 pub(crate) fn plan_delete_role(alloc: Global, state: &State, role: &Name) -> Result<Plan, Refusal>
     requires accepted { verdict state.now.facts (DeleteRole role.now) ≡ None }
     ensures planned { IfOk result (IsPlanOf state.now.facts (DeleteRole role.now)) }
@@ -78,7 +78,7 @@ pub(crate) fn plan_delete_role(alloc: Global, state: &State, role: &Name) -> Res
     Ok(plain(alloc, changes))
 }
 
-// The plan for one more object.
+// The plan of AddPermObj.
 #[tactic(auto, using(crate::proofs::PlanRows::AdditionPlans::done_add_perm_obj))]
 pub(crate) fn plan_add_perm_obj(
     alloc: Global,
@@ -93,7 +93,7 @@ pub(crate) fn plan_add_perm_obj(
     one_put(alloc, Row::object(object.copy(alloc)?))
 }
 
-// The plan for one object less.
+// The plan of DeletePermObj.
 #[tactic(auto, using(crate::proofs::PlanRows::TakePlans::done_delete_perm_obj))]
 pub(crate) fn plan_delete_perm_obj(
     alloc: Global,
@@ -108,7 +108,7 @@ pub(crate) fn plan_delete_perm_obj(
     one_taken(alloc, Row::object(object.copy(alloc)?))
 }
 
-// The plan for one more permission.
+// The plan of AddPermission.
 #[tactic(auto, using(crate::proofs::PlanRows::AdditionPlans::done_add_permission))]
 pub(crate) fn plan_add_permission(
     alloc: Global,
@@ -127,7 +127,7 @@ pub(crate) fn plan_add_permission(
     )
 }
 
-// The plan for one permission less: it goes with its grants.
+// The plan of DeletePermission: it removes the permission and its grants.
 pub(crate) fn plan_delete_permission(
     alloc: Global,
     state: &State,
@@ -237,7 +237,7 @@ pub(crate) fn plan_deassign_user(
     Ok(plain(alloc, changes))
 }
 
-// The plan of a lock: the user's sessions end. A user that is locked stays so.
+// The plan of LockUserAccount: the user's sessions end. If the user is locked already, nothing changes.
 pub(crate) fn plan_lock_user_account(
     alloc: Global,
     state: &State,
@@ -254,7 +254,7 @@ pub(crate) fn plan_lock_user_account(
     Ok(plain(alloc, changes))
 }
 
-// The plan of a lock that goes. A user that is not locked stays so.
+// The plan of UnlockUserAccount. If the user isn't locked, nothing changes.
 pub(crate) fn plan_unlock_user_account(
     alloc: Global,
     state: &State,
@@ -270,7 +270,7 @@ pub(crate) fn plan_unlock_user_account(
     Ok(plain(alloc, changes))
 }
 
-// The lock of a user goes, where there is one.
+// Adds the change that takes the lock of the user, if there is one.
 fn take_lock(
     alloc: Global,
     changes: &mut Vec<Change>,
@@ -286,7 +286,7 @@ fn take_lock(
     Ok(())
 }
 
-// The lock of a user comes, where there is none.
+// Adds the change that puts the lock of the user, unless there is one.
 fn put_lock(
     alloc: Global,
     changes: &mut Vec<Change>,

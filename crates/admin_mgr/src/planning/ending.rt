@@ -15,20 +15,20 @@ use rbac_sets::{Change, Name, PairSet, Refusal, Row};
 use role_order::RoleOrder;
 use std::alloc::Global;
 
-// What a command takes that the roles of a session stand on.
+// What a command removes that the activated roles of a session depend on.
 #[derive(Clone, Copy)]
 pub(crate) enum Loss<'a> {
-    // The user itself, or its leave to have sessions.
+    // The user itself, or the right of a user to have sessions.
     User(&'a Name),
     // The assignment of a user to a role.
     Assignment(&'a Name, &'a Name),
     // The assignments to a role.
     Role(&'a Name),
-    // These pairs of the order.
+    // These pairs of the closure.
     Pairs(&'a PairSet),
 }
 
-// A session goes with the roles that were activated in it.
+// Adds the changes that take a session and the roles that were activated in it.
 pub(crate) fn take_session(
     alloc: Global,
     changes: &mut Vec<Change>,
@@ -51,7 +51,7 @@ pub(crate) fn take_session(
     )
 }
 
-// Each session that may not go on after the loss goes.
+// Adds the changes that take each session that may not go on after the loss.
 pub(crate) fn take_ended(
     alloc: Global,
     changes: &mut Vec<Change>,
@@ -83,7 +83,8 @@ fn goes_on(state: &State, loss: Loss<'_>, session: &Name, user: &Name) -> bool
     }
 }
 
-// Whether the session's user is authorized for each of its roles by another role than this.
+// Whether the session's user is authorized for each role that was activated in it, by an assignment to
+// another role than `gone`.
 fn goes_on_without_role(state: &State, session: &Name, user: &Name, gone: &Name) -> bool
     ensures { result ≡ goes_on_without_role state.now.facts gone.now (session.now, user.now) }
 {
@@ -92,7 +93,7 @@ fn goes_on_without_role(state: &State, session: &Name, user: &Name, gone: &Name)
     are_held_without_role(state.order(), held, gone, active)
 }
 
-// Whether each of the activated roles, or one above it, is held, but for one role.
+// The same, over the pairs of the user and those of the session.
 fn are_held_without_role(
     order: &RoleOrder,
     held: &[(Name, Name)],
@@ -106,7 +107,7 @@ fn are_held_without_role(
         .all(|pair| is_held_without_role(order, held, gone, &pair.1))
 }
 
-// Whether the role, or one above it, is the second part of one of the pairs, but for one role.
+// Whether the role, or a senior of it, is the role of one of the pairs, and that isn't the role `gone`.
 fn is_held_without_role(order: &RoleOrder, held: &[(Name, Name)], gone: &Name, role: &Name) -> bool
     ensures { result ≡ is_held_without_role order.now.edges held.now gone.now role.now }
 {
@@ -114,7 +115,8 @@ fn is_held_without_role(order: &RoleOrder, held: &[(Name, Name)], gone: &Name, r
         .any(|pair| !is_same(&pair.1, gone) && order.geq(&pair.1, role))
 }
 
-// Whether the session's user is authorized for each of its roles without these pairs of the order.
+// Whether the session's user is authorized for each role that was activated in it, without the lost pairs of
+// the closure.
 fn goes_on_without_pairs(state: &State, session: &Name, user: &Name, lost: &PairSet) -> bool
     ensures { result ≡ goes_on_without_pairs state.now.facts (set_of pair_cmp lost.now) (session.now, user.now) }
 {
@@ -123,7 +125,7 @@ fn goes_on_without_pairs(state: &State, session: &Name, user: &Name, lost: &Pair
     are_held_without_pairs(state.order(), held, lost, active)
 }
 
-// Whether each of the activated roles is held without the lost pairs.
+// The same, over the pairs of the user and those of the session.
 fn are_held_without_pairs(
     order: &RoleOrder,
     held: &[(Name, Name)],
@@ -137,7 +139,8 @@ fn are_held_without_pairs(
         .all(|pair| is_held_without_pairs(order, held, lost, &pair.1))
 }
 
-// Whether the role is reached from the second part of one of the pairs, but not over the lost pairs.
+// Whether the role, or a senior of it, is the role of one of the pairs, and the two are no lost pair of the
+// closure.
 fn is_held_without_pairs(
     order: &RoleOrder,
     held: &[(Name, Name)],

@@ -56,7 +56,7 @@ pub(crate) fn plan_delete_inheritance(
     Ok(with_order(alloc, changes, order))
 }
 
-// The plan of AddAscendant: the role `asc` comes with its edge.
+// The plan of AddAscendant: it adds the role `asc` and its edge.
 #[tactic(auto, using(crate::proofs::StateAfter::NewRoleLaws::add_ascendant_no_edge, crate::proofs::PlanRows::EdgeTurns::ascendant_makes_no_cycle))]
 pub(crate) fn plan_add_ascendant(
     alloc: Global,
@@ -76,7 +76,7 @@ pub(crate) fn plan_add_ascendant(
     Ok(with_order(alloc, changes, order))
 }
 
-// The plan of AddDescendant: the role `desc` comes with its edge.
+// The plan of AddDescendant: it adds the role `desc` and its edge.
 #[tactic(auto, using(crate::proofs::StateAfter::NewRoleLaws::add_descendant_no_edge, crate::proofs::PlanRows::EdgeTurns::descendant_makes_no_cycle))]
 pub(crate) fn plan_add_descendant(
     alloc: Global,
@@ -96,7 +96,7 @@ pub(crate) fn plan_add_descendant(
     Ok(with_order(alloc, changes, order))
 }
 
-// The plan of the hierarchy by which an edge comes.
+// The plan of the role hierarchy that adds an edge.
 fn order_with_edge(
     alloc: Global,
     state: &State,
@@ -111,7 +111,7 @@ fn order_with_edge(
     state.order().plan_add(alloc, asc, desc)
 }
 
-// The plan of the hierarchy by which an edge goes.
+// The plan of the role hierarchy that removes an edge.
 fn order_without_edge(
     alloc: Global,
     state: &State,
@@ -125,7 +125,7 @@ fn order_without_edge(
     state.order().plan_remove(alloc, asc, desc)
 }
 
-// An edge comes with the pairs that its plan puts into the order.
+// Adds the changes that put an edge and the pairs that its plan puts into the closure.
 fn put_edge(
     alloc: Global,
     changes: &mut Vec<Change>,
@@ -140,7 +140,7 @@ fn put_edge(
     put_pairs(alloc, changes, Row::CLOSURE_PAIR, order.puts().as_slice())
 }
 
-// An edge goes with the pairs that its plan takes from the order.
+// Adds the changes that take an edge and the pairs that its plan takes from the closure.
 fn take_edge(
     alloc: Global,
     changes: &mut Vec<Change>,

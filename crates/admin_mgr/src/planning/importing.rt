@@ -1,7 +1,7 @@
 //! The plan of an import of assignments.
 //!
-//! Its records are judged one by one, each on the state before and the pairs that were added since,
-//! so that the state is not copied.
+//! Its records are judged one by one, each on the state before the import and the pairs that were added
+//! since, so that the state is not copied.
 ghost use Rattle.std.specs.Prelude.{◌≡◌, ◌<◌, ◌&&◌, ◌++◌, map, not, nat_lt, IfOk, IfErr, OnOk, None, Some, false};
 ghost use Rattle.std.specs.Option.{option_copied};
 ghost use Rattle.rbac_sets.specs.Sets.{IsDisjoint, contains, empty, pair_cmp};
@@ -26,7 +26,8 @@ use rbac_sets::{Change, Kind, Name, PairSet, Refusal, Row};
 use role_order::RoleOrder;
 use std::alloc::{AllocError, Global};
 
-// What the records so far have come to: the pairs that were added, their rows, and what is told.
+// What the records so far have come to: the pairs that were added, the changes that put their rows, and the
+// report.
 #[derive(Drop)]
 struct Imported {
     added: PairSet,
@@ -34,7 +35,7 @@ struct Imported {
     report: Report,
 }
 
-// The rows that an import puts, in the order of its records, and what is told of it.
+// The changes that an import makes, in the order of its records, and its report.
 pub(crate) fn import(
     alloc: Global,
     state: &State,
@@ -74,7 +75,7 @@ impl Imported {
         }
     }
 
-    // Judges the record of this number, and assigns its pair or tells why not.
+    // Judges the record of this number, and assigns its pair or counts its refusal.
     fn take(
         &mut self,
         alloc: Global,
@@ -111,7 +112,7 @@ impl Imported {
         Ok(())
     }
 
-    // Tells why the record of this number was refused.
+    // Counts the refusal of the record of this number in the report.
     fn tell(&mut self, number: u32, refusal: &Refusal) -> Result<(), Refusal>
         requires few { self.old.report.already < 10000 }
         ensures ok { OnOk result (IsTold number refusal.now self.old self.new) }
@@ -126,7 +127,7 @@ impl Imported {
     }
 }
 
-// The verdict on a record where these pairs were added before.
+// The verdict on a record if these pairs were added before it.
 fn judge_record(
     alloc: Global,
     state: &State,
@@ -149,7 +150,7 @@ fn judge_record(
     Ok(named)
 }
 
-// Why the user can't be assigned to the role, but for what it would violate.
+// Why the user can't be assigned to the role, without the check of static separation.
 fn refuse_record(state: &State, added: &PairSet, user: &Name, role: &Name) -> Option<Refusal>
     requires good { IsGood (with_assignments state.now.facts (set_of pair_cmp added.now)) }
     requires apart { IsDisjoint state.now.facts.assignments (set_of pair_cmp added.now) }
@@ -174,8 +175,8 @@ fn refuse_record(state: &State, added: &PairSet, user: &Name, role: &Name) -> Op
     None
 }
 
-// The first of the sets from which what is held, before and since, and one more role reach as many
-// members as its cardinality. Only a set with a member that the role reaches is asked.
+// The first of the sets that the user with the pairs `held` and `since` violates if it gets one more role.
+// Only sets are considered that have this role or a junior of it as a member.
 fn first_with_both<'a>(
     order: &RoleOrder,
     held: &[(Name, Name)],
@@ -196,7 +197,8 @@ fn first_with_both<'a>(
     ))
 }
 
-// Whether the role reaches one of the members, and with what is held so many of them.
+// Whether one of the members is one more role or a junior of it, and the user violates the set if it gets
+// this role.
 fn has_both(
     order: &RoleOrder,
     held: &[(Name, Name)],
@@ -211,7 +213,7 @@ fn has_both(
         && reached_with_both(order, held, since, more, members) >= cardinality as usize
 }
 
-// How many of the members are reached from what is held, before or since, or from one more role.
+// How many of the members the user has if it gets one more role.
 fn reached_with_both(
     order: &RoleOrder,
     held: &[(Name, Name)],
@@ -228,7 +230,7 @@ fn reached_with_both(
         .count()
 }
 
-// Whether the role is reached from what is held, before or since.
+// Whether the user with the pairs `held` and `since` has the role.
 fn is_reached_by_either(
     order: &RoleOrder,
     held: &[(Name, Name)],

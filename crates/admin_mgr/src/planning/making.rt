@@ -1,4 +1,4 @@
-//! A plan from its changes.
+//! Plans from their changes.
 ghost use Rattle.std.specs.Prelude.{◌≡◌, ◌∷◌, [], None, Some, IfOk, IfErr};
 ghost use Rattle.rbac_sets.specs.declared.row.Change.TheVariants.{Put, Take};
 ghost use Rattle.admin_mgr.specs.Assignment.{no_tally};
@@ -11,7 +11,7 @@ use rbac_sets::{Change, Refusal, Row};
 use role_order::OrderPlan;
 use std::alloc::Global;
 
-// The plan of a command that keeps the hierarchy.
+// The plan of a command that leaves the role hierarchy as it is.
 pub(crate) fn plain(alloc: Global, changes: Vec<Change>) -> Plan
     ensures changes { result.changes.items ≡ changes.items }
     ensures report { tally_of_report result.report ≡ no_tally }
@@ -44,7 +44,7 @@ pub(crate) fn one_taken(alloc: Global, row: Row) -> Result<Plan, Refusal>
     Ok(plain(alloc, changes))
 }
 
-// The plan of a command that changes the hierarchy.
+// The plan of a command that changes the role hierarchy.
 pub(crate) fn with_order(alloc: Global, changes: Vec<Change>, order: OrderPlan) -> Plan
     ensures changes { result.changes.items ≡ changes.items }
     ensures report { tally_of_report result.report ≡ no_tally }

@@ -1,4 +1,4 @@
-//! The rows that a plan names, one after another.
+//! The changes that a plan lists, one after another.
 ghost use Rattle.std.specs.Prelude.{◌≡◌, ◌++◌, ◌∷◌, [], filter, IfOk, IfErr, OnOk};
 ghost use Rattle.std.specs.Prelude.{map as list_map};
 ghost use Rattle.rbac_sets.specs.Sets.{Bytes, Pair, Triple, same_name};
@@ -43,7 +43,7 @@ pub(crate) fn set_row(alloc: Global, kind: u8, set: &Name, cardinality: u32) -> 
     Ok(Row::SetRow(kind, set.copy(alloc)?, cardinality))
 }
 
-// One more row is put.
+// Adds the change that puts the row.
 pub(crate) fn put(changes: &mut Vec<Change>, row: Row) -> Result<(), Refusal>
     ensures ok { OnOk result (changes.new.items ≡ changes.old.items ++ Put row ∷ []) }
     ensures cause { IfErr result (λ refusal. refusal ≡ Refusal.Memory) }
@@ -52,7 +52,7 @@ pub(crate) fn put(changes: &mut Vec<Change>, row: Row) -> Result<(), Refusal>
     Ok(())
 }
 
-// One more row is taken.
+// Adds the change that takes the row.
 pub(crate) fn take(changes: &mut Vec<Change>, row: Row) -> Result<(), Refusal>
     ensures ok { OnOk result (changes.new.items ≡ changes.old.items ++ Take row ∷ []) }
     ensures cause { IfErr result (λ refusal. refusal ≡ Refusal.Memory) }
@@ -61,7 +61,7 @@ pub(crate) fn take(changes: &mut Vec<Change>, row: Row) -> Result<(), Refusal>
     Ok(())
 }
 
-// The row of each pair is taken.
+// Adds the changes that take the row of each pair.
 pub(crate) fn take_pairs(
     alloc: Global,
     changes: &mut Vec<Change>,
@@ -77,7 +77,7 @@ pub(crate) fn take_pairs(
     Ok(())
 }
 
-// The row of each pair is put.
+// Adds the changes that put the row of each pair.
 pub(crate) fn put_pairs(
     alloc: Global,
     changes: &mut Vec<Change>,
@@ -93,7 +93,7 @@ pub(crate) fn put_pairs(
     Ok(())
 }
 
-// The row of each pair with this second part is taken.
+// Adds the changes that take the row of each pair with this second part.
 pub(crate) fn take_pairs_with_second(
     alloc: Global,
     changes: &mut Vec<Change>,
@@ -112,7 +112,7 @@ pub(crate) fn take_pairs_with_second(
     Ok(())
 }
 
-// The row of the name with each of the others is put.
+// Adds the changes that put the row of the name with each of the others.
 pub(crate) fn put_paired(
     alloc: Global,
     changes: &mut Vec<Change>,
@@ -129,7 +129,7 @@ pub(crate) fn put_paired(
     Ok(())
 }
 
-// The row of each grant is taken.
+// Adds the changes that take the row of each grant.
 pub(crate) fn take_grants(
     alloc: Global,
     changes: &mut Vec<Change>,
@@ -144,7 +144,7 @@ pub(crate) fn take_grants(
     Ok(())
 }
 
-// The row of each grant to this role is taken.
+// Adds the changes that take the row of each grant to this role.
 pub(crate) fn take_grants_of_role(
     alloc: Global,
     changes: &mut Vec<Change>,

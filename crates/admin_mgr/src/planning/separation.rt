@@ -112,7 +112,7 @@ pub(crate) fn plan_set_cardinality(
     Ok(plain(alloc, changes))
 }
 
-// The plan of DeleteSsdSet or DeleteDsdSet: the set goes with its members.
+// The plan of DeleteSsdSet or DeleteDsdSet: it removes the set and its members.
 pub(crate) fn plan_delete_set(
     alloc: Global,
     state: &State,

@@ -17,7 +17,7 @@ use role_order::OrderPlan;
 use std::collections::VecDeque;
 
 impl Relations {
-    // Makes room for the rows that the changes put, but for those of the role hierarchy.
+    // Makes room for the rows that the changes put, except those of the role hierarchy.
     pub(crate) fn make_room(&mut self, changes: &[Change]) -> Result<(), Refusal>
         ensures keeps { self.new.facts ≡ self.old.facts }
         ensures room { OnOk result (HasRoom self.new.room changes.now) }
@@ -44,7 +44,7 @@ impl Relations {
         Ok(())
     }
 
-    // Makes room for what the hierarchy's plan puts.
+    // Makes room for what the plan of the role hierarchy puts.
     pub(crate) fn make_order_room(&mut self, plan: &OrderPlan) -> Result<(), Refusal>
         ensures keeps { self.new.facts ≡ self.old.facts }
         ensures sets { self.new.room ≡ self.old.room }
@@ -54,8 +54,8 @@ impl Relations {
         self.order.make_room(plan)
     }
 
-    // Makes the changes one after the other, but for the rows of the role hierarchy. Rows that go one after
-    // the other are taken together.
+    // Makes the changes one after the other, except those of rows of the role hierarchy. Rows that are taken
+    // one after the other are taken together.
     pub(crate) fn change(&mut self, changes: Vec<Change>)
         requires free { AreFree self.old.facts changes.items }
         requires room { HasRoom self.old.room changes.items }
@@ -72,7 +72,7 @@ impl Relations {
         }
     }
 
-    // Changes the edges, and with them the pairs of their order.
+    // Changes the edges, and with them their closure.
     pub(crate) fn commit_order(&mut self, plan: OrderPlan)
         requires fits { Fits self.old.facts.edges plan }
         requires room { HasRoomIn self.old (Some plan) }
@@ -81,8 +81,8 @@ impl Relations {
         self.order.commit(plan);
     }
 
-    // Takes the rows with which the changes begin, as far as a command may take many of their sets, and says how
-    // many they are. A row that goes alone is left.
+    // Takes the rows with which the changes begin, as far as a command may take many of their sets, and returns
+    // how many these are. It leaves a row that is taken alone.
     fn take_together(&mut self, changes: &[Change]) -> usize
         ensures within { result ≤ length changes.now }
         ensures facts { self.new.facts ≡ after_changes self.old.facts (take result changes.now) }
@@ -132,7 +132,7 @@ impl Relations {
         }
     }
 
-    // Puts a row that isn't there. A row of the role hierarchy is left to the hierarchy's plan.
+    // Puts a row that the sets don't have yet. Rows of the role hierarchy are left to its plan.
     #[tactic(auto, unfolding(crate::specs::Stepping::with_row, crate::specs::Rows::has_row))]
     fn put(&mut self, row: Row)
         requires free { IsFree self.old.facts (Put row) }
@@ -163,7 +163,7 @@ impl Relations {
         }
     }
 
-    // Takes a row. A row of the role hierarchy is left to the hierarchy's plan.
+    // Takes a row. Rows of the role hierarchy are left to its plan.
     #[tactic(auto, unfolding(crate::specs::Stepping::without_row), using(crate::proofs::PlanRows::RoomLaws::spends_none))]
     fn take(&mut self, row: &Row)
         ensures facts { self.new.facts ≡ without_row self.old.facts row.now }
@@ -215,7 +215,7 @@ impl Relations {
     }
 }
 
-// Passes over the first changes, as many as `count`, which are made.
+// Drops the first `count` changes, which are made already.
 fn pass(changes: &mut VecDeque<Change>, count: usize)
     requires { count ≤ length changes.old.items }
     ensures { changes.new.items ≡ drop count changes.old.items }
@@ -225,7 +225,7 @@ fn pass(changes: &mut VecDeque<Change>, count: usize)
     }
 }
 
-// How many of the changes put a row in each table, by the table's number.
+// How many of the changes put a row into each table, by the table's number.
 fn count_puts(changes: &[Change]) -> [usize; Table::COUNT]
     ensures { (number : ℕ) → number < COUNT → get_or result number 0 ≡ puts_of number changes.now }
 {
@@ -238,7 +238,7 @@ fn count_puts(changes: &[Change]) -> [usize; Table::COUNT]
     counts
 }
 
-// The table in which the change puts a row.
+// The table into which the change puts a row, if it puts one.
 fn table_put(change: &Change) -> Option<Table>
     ensures { result ≡ table_put change.now }
 {

@@ -1,4 +1,4 @@
-//! The sets that stored rows make, before anything is known of them.
+//! The sets that stored rows make, before they are checked.
 ghost use Rattle.std.specs.Prelude.{[], ◌≡◌, ◌⊎◌, ◌&&◌, not, true, false, IfOk, IfErr, OnOk};
 ghost use Rattle.std.specs.List.{list_all};
 ghost use Rattle.rbac_sets.specs.Named.{is_named};
@@ -17,7 +17,7 @@ use std::marker::Model;
 
 mod checks;
 
-// The sets and relations that rows make, and the pairs that are stored beside the edges of the role
+// The sets and relations that rows make, and the closure pairs that are stored beside the edges of the role
 // hierarchy.
 #[derive(Drop)]
 pub(crate) struct Gathered {
@@ -51,7 +51,7 @@ impl Model for Gathered {
 }
 
 impl Gathered {
-    // No row yet. It takes no memory.
+    // The sets without any row. It doesn't allocate.
     #[tactic(auto, unfolding(crate::specs::Gathered::gathered, rbac_sets::specs::Sets::from_list))]
     fn new(alloc: Global, version: u32) -> Gathered
         ensures { result ≡ gathered version [] }
@@ -76,8 +76,8 @@ impl Gathered {
         }
     }
 
-    // The sets that these rows make: each row is known to the version, and no key occurs twice.
-    // Refused by `Damaged(1)` where it isn't so.
+    // The sets that these rows make. Refused by `Damaged(1)` if the version doesn't allow a row, or two rows
+    // have the same key.
     pub(crate) fn of_rows(alloc: Global, version: u32, rows: Vec<Row>) -> Result<Gathered, Refusal>
         ensures ok { IfOk result (λ made. (made ≡ gathered version rows.items) × AreReadable version rows.items) }
         ensures named { IfOk result (λ made. list_all is_named rows.items ≡ true) }
@@ -91,7 +91,7 @@ impl Gathered {
         Ok(made)
     }
 
-    // Puts a row that is known and has a key of its own. Refused by `Damaged(1)` where it hasn't.
+    // Adds a row. Refused by `Damaged(1)` if the version doesn't allow it, or there is a row with its key.
     fn add(&mut self, row: Row) -> Result<(), Refusal>
         ensures fits { OnOk result ((is_known self.old.facts.version row && not (has_key self.old row)) ≡ true) }
         ensures put { OnOk result (self.new ≡ with_stored self.old row) }
@@ -103,8 +103,8 @@ impl Gathered {
         self.put(row)
     }
 
-    // The relations of these sets. Refused by `Damaged(5)` where the edges have a cycle, and then by
-    // `Damaged(6)` where the stored pairs aren't their closure.
+    // The relations of these sets. Refused by `Damaged(5)` if the edges have a cycle, and then by `Damaged(6)` if
+    // the stored pairs aren't their closure.
     pub(crate) fn into_relations(self, alloc: Global) -> Result<Relations, Refusal>
         ensures facts { IfOk result (λ relations. relations.facts ≡ self.facts) }
         ensures order { OnOk result (IsAcyclic self.facts.edges × IsClosure self.facts.edges self.pairs) }
@@ -150,14 +150,14 @@ impl Gathered {
         })
     }
 
-    // Whether a row is known and no row has its key.
+    // Whether the version allows the row and there is no row with its key.
     fn fits(&self, row: &Row) -> bool
         ensures { result ≡ (is_known self.now.facts.version row.now && not (has_key self.now row.now)) }
     {
         is_known(self.version, row) && !self.has_key(row)
     }
 
-    // Whether a row has this key.
+    // Whether there is a row with the key of this one.
     #[tactic(auto, unfolding(crate::specs::Gathered::has_key))]
     fn has_key(&self, row: &Row) -> bool
         ensures { result ≡ has_key self.now row.now }
@@ -185,7 +185,7 @@ impl Gathered {
         }
     }
 
-    // Puts a row of a key that is not there.
+    // Adds a row whose key is new. A row of an unknown kind is ignored.
     #[tactic(auto, unfolding(crate::specs::Stepping::with_row, crate::specs::Gathered::has_key))]
     fn put(&mut self, row: Row) -> Result<(), Refusal>
         requires { has_key self.old row ≡ false }
@@ -229,7 +229,7 @@ fn is_known(version: u32, row: &Row) -> bool
     }
 }
 
-// Puts an entry that is not there, and makes room for it.
+// Adds an entry that the set doesn't have yet, and makes room for it.
 fn put<K: Entry>(set: &mut SortedSet<K>, entry: K) -> Result<(), Refusal>
     requires { contains (set_of K.cmp set.old) entry ≡ false }
     ensures ok { OnOk result (set_of K.cmp set.new ≡ insert (set_of K.cmp set.old) entry) }

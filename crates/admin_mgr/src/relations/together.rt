@@ -1,4 +1,4 @@
-//! Rows that are taken together: what stands behind them is moved once.
+//! Rows that are taken together: the entries behind them are moved only once.
 ghost use Rattle.std.specs.Prelude.{◌≡◌, ◌≤◌, List, true, false, length, take};
 ghost use Rattle.rbac_sets.specs.declared.row.Change.{Change};
 ghost use Rattle.rbac_sets.specs.declared.row.Change.TheVariants.{Take};
@@ -8,7 +8,7 @@ ghost use Rattle.admin_mgr.specs.Together.{with_sets, HaveRoomOf};
 
 use rbac_sets::{Change, Name, Row, Taking};
 
-// The sets of which one command may take many rows, while it takes them.
+// The sets from which one command may take many rows, while it takes them.
 pub(crate) struct Together {
     pub(crate) assignments: Taking<(Name, Name)>,
     pub(crate) grants: Taking<(Name, Name, Name)>,
@@ -20,7 +20,7 @@ pub(crate) struct Together {
 
 impl Together {
     // Takes the rows with which the changes begin, as far as they are rows of these sets or of the role
-    // hierarchy, and says how many they are. Rows of the hierarchy are left to its plan.
+    // hierarchy, and returns how many these are. Rows of the role hierarchy are left to its plan.
     pub(crate) fn take_first(&mut self, changes: &[Change]) -> usize
         ensures within { result ≤ length changes.now }
         ensures taken { (S : RbacState) → with_sets S self.new ≡ after_changes (with_sets S self.old) (take result changes.now) }
@@ -35,7 +35,7 @@ impl Together {
         count
     }
 
-    // Takes the row, if it is one of these sets or of the role hierarchy, and says whether it is.
+    // Takes the row if it is one of these sets or of the role hierarchy, and returns whether it is.
     #[tactic(auto, unfolding(crate::specs::Stepping::without_row))]
     fn take(&mut self, row: &Row) -> bool
         ensures taken { result ≡ true → (S : RbacState) → with_sets S self.new ≡ without_row (with_sets S self.old) row.now }

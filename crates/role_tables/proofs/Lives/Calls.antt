@@ -27,7 +27,7 @@ one_call S event T = by event.command event.reply
     by command (Err Closed) = (λ left. absurd left, λ may. absurd may.0)
     by command (Err refusal) = (λ left. left, λ may. may)
 
--- ---- a part of the events
+-- ---- the earlier events
 
 pub earlier_are_possible : EarlierArePossible
 earlier_are_possible S [] later possible = (S, refl)
@@ -43,7 +43,7 @@ earlier_are_possible S (event ∷ earlier) later (T, left) = by event.command ev
 
 -- ---- the state so far
 
--- nothing is done by a closed office
+-- a closed office does nothing
 closed_stays_so_far : (S : RbacState) (events : List Event) → All IsClosedReply events → so_far S events ≡ S
 closed_stays_so_far S [] closed = refl
 closed_stays_so_far S (event ∷ events) closed =

@@ -1,4 +1,4 @@
--- What was taken in force stays away, over events and over lives.
+-- What was removed in force stays removed, over events and over runs.
 use Rattle.std.proofs.Common.{◌≡◌, Bool, false, List, [], ◌∷◌, ◌++◌, refl, sym, ap, subst, inl, inr}
 use Rattle.std.specs.Prelude.{◌⊎◌, ◌&&◌, Ok, Err, All}
 use Rattle.std.proofs.lemmas.List.Elements.{All-head, All-tail}
@@ -12,17 +12,17 @@ use Rattle.admin_mgr.specs.Life.{Event, IsClosedReply, Leaves, Life, OpensAfter,
 use Rattle.role_tables.proofs.Lives.Lists.{All-parts}
 use Rattle.role_tables.proofs.Lives.Induction.{event_with, by_events}
 
--- Something is away from a state. `takes` takes it, none but the commands that pass `gives` may bring it, and a state that is
--- taken into version 2 has it no more than before.
+-- `IsAway` says that something is not in a state. The command `takes` removes it, only commands that pass `gives` may add it, and
+-- a migration to version 2 doesn't add it.
 module _ (IsAway : RbacState → Type 0) (gives : Command → Bool) (takes : Command)
     (stays : (S : RbacState) (command : Command) → gives command ≡ false → IsAway S → IsAway (after S command))
     (taken : (S : RbacState) → IsAway (after S takes))
     (migrated : (S : RbacState) → IsAway S → IsAway (taken_into_version_2 S)) where
-  -- the event can't have brought it
+  -- the event can't have added it
   abbrev IsQuiet : Event → Type 0
   IsQuiet event = (took_effect event && gives event.command) ≡ false
 
-  -- it was taken by one of the events, and none behind that can have brought it
+  -- one of the events removed it, and none after that can have added it
   abbrev IsTaken : List Event → Type 0
   IsTaken [] = ⊥
   IsTaken (event ∷ events) = (((told : Tally) × (event ≡ event_with takes (Ok told))) × All IsQuiet events) ⊎ IsTaken events
@@ -31,7 +31,7 @@ module _ (IsAway : RbacState → Type 0) (gives : Command → Bool) (takes : Com
   taken_at [] told later quiet = inl ((told, refl), quiet)
   taken_at (event ∷ before) told later quiet = inr (taken_at before told later quiet)
 
-  -- it is away behind the events: one of them took it, or it was away and none can have brought it
+  -- it is away after the events: one of them removed it, or it was away and none can have added it
   abbrev IsKept : Type 0 → List Event → Type 0
   IsKept Before events = IsTaken events ⊎ (All IsQuiet events × Before)
 
@@ -52,7 +52,7 @@ module _ (IsAway : RbacState → Type 0) (gives : Command → Bool) (takes : Com
       other : Err refusal ≡ Ok told → ⊥
       other same = cc
 
-  -- where the store was refused, it was away before
+  -- if the store failed, it was away before
   away_before : (S : RbacState) (command : Command) (events : List Event) → All IsClosedReply events → IsKept (IsAway S) (event_with command (Err Store) ∷ events) →
       (gives command ≡ false) × IsAway S
   away_before S command events closed (inl (inl one)) = absurd (not_refused command Store one.0.0 one.0.1)
@@ -84,14 +84,14 @@ module _ (IsAway : RbacState → Type 0) (gives : Command → Bool) (takes : Com
   away_opening life T (inl left) kept = away_left life.start life.events T left kept
   away_opening life T (inr (M, left, first, second)) kept = subst IsAway (sym second) (migrated M (away_left life.start life.events M left kept))
 
-  -- ---- over lives
+  -- ---- over runs
 
   taken_parts : (xs ys : List Event) → IsTaken (xs ++ ys) → IsTaken ys ⊎ (All IsQuiet ys × IsTaken xs)
   taken_parts [] ys away = inl away
   taken_parts (x ∷ xs) ys (inl one) = let parts = All-parts IsQuiet xs ys one.1 in inr (parts.1, inl (one.0, parts.0))
   taken_parts (x ∷ xs) ys (inr rest) = elim (taken_parts xs ys rest) [ inl later ↦ inl later | inr both ↦ inr (both.0, inr both.1) ]
 
-  -- it was taken by the later events, or none of them can have brought it and it is away behind the earlier ones
+  -- the later events removed it, or none of them can have added it and it is away after the earlier ones
   kept_parts : (Before : Type 0) (xs ys : List Event) → IsKept Before (xs ++ ys) → IsTaken ys ⊎ (All IsQuiet ys × IsKept Before xs)
   kept_parts Before xs ys (inl away) = elim (taken_parts xs ys away) [ inl later ↦ inl later | inr both ↦ inr (both.0, inl both.1) ]
   kept_parts Before xs ys (inr (quiet, before)) = let parts = All-parts IsQuiet xs ys quiet in inr (parts.1, inr (parts.0, before))
@@ -108,7 +108,7 @@ module _ (IsAway : RbacState → Type 0) (gives : Command → Bool) (takes : Com
         | inr (quiet, here) ↦ inr (quiet, λ S opens_with. away_opening life S opens_with (elim here [ inl away ↦ inl away | inr both ↦ inr (both.0, both.1 life.start follow.0) ]))
       ])
 
-  -- it is away where it was taken in force
+  -- it is away if it was removed in force
   pub away_in_force : (opens : RbacState → Type 0) (before : List Life) (last : Life) (T : RbacState) → FollowOn opens (before ++ last ∷ []) → OpensAfter last T →
       ((earlier : List Event) × (told : Tally) × (later : List Event) × (events_of (before ++ last ∷ []) ≡ earlier ++ event_with takes (Ok told) ∷ later) × All IsQuiet later) → IsAway T
   away_in_force opens before last T follow found (earlier, told, later, are, quiet) =

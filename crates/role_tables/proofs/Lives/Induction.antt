@@ -14,8 +14,8 @@ use Rattle.admin_mgr.specs.Life.{Event, IsClosedReply, Leaves, took_effect}
 abbrev pub event_with : Command → Result Tally Refusal → Event
 event_with command reply = record { command = command; reply = reply }
 
--- A fact P of a state, events and a state that they may leave holds if it holds at a stop with no event, and each event adds
--- itself: one that was answered Ok, one that did nothing, and one where the store was refused, after which nothing is done.
+-- A fact P of a state, events and a state that they may leave holds if it holds for a crash with no event, and each further event
+-- keeps it: one that was answered Ok, one that did nothing, and one that was answered Store, after which nothing is done.
 pub by_events : (P : RbacState → List Event → RbacState → Type 0)
     → ((S : RbacState) → P S [] S)
     → ((S T : RbacState) (command : Command) (told : Tally) (events : List Event) → verdict S command ≡ None → P (after S command) events T → P S (event_with command (Ok told) ∷ events) T)

@@ -1,4 +1,4 @@
--- What holds of each element of a list holds of each of its parts.
+-- What holds of each element of a list holds of each element of its parts.
 use Rattle.std.proofs.Common.{List, [], ◌∷◌, ◌++◌}
 use Rattle.std.specs.Prelude.{All}
 use Rattle.std.proofs.lemmas.List.Elements.{All-head, All-tail, All-nil, All-cons}

@@ -1,4 +1,4 @@
--- What an opening finds: a good state, and one after a prefix of the accepted commands of the life before.
+-- What an opening gives: a good state, and the state after a prefix of the accepted commands of the run before.
 use Rattle.std.proofs.Common.{◌≡◌, Bool, cond, List, [], ◌∷◌, ◌++◌, map, refl, sym, ◌∙◌, ap, subst, inl, inr, arith}
 use Rattle.std.specs.Prelude.{◌⊎◌, filter, Option, None, is_none, Result, Ok, Err, All}
 use Rattle.std.proofs.lemmas.List.Elements.{All-head, All-tail, Contains-append_right}
@@ -19,7 +19,7 @@ use Rattle.role_tables.proofs.Lives.Known.{GoodnessLaws}
 use Rattle.role_tables.proofs.Lives.Induction.{event_with, by_events}
 use Rattle.role_tables.proofs.Lives.Calls.{so_far_left}
 
--- the life of these events from S on
+-- the run of these events from S on
 abbrev life_of : RbacState → List Event → Life
 life_of S events = record { start = S; events = events }
 
@@ -35,12 +35,12 @@ closed_does_nothing (event ∷ events) closed =
       ap (λ (reply : Result Tally Refusal). accepted (event_with event.command reply ∷ events)) is ∙ rest.1,
     )
 
--- an accepted command is the next of a run
+-- an accepted command is the next that `run` does
 run_accepted : (S : RbacState) (command : Command) (commands : List Command) → verdict S command ≡ None → run S (command ∷ commands) ≡ run (after S command) commands
 unfolding run next
 run_accepted S command commands none = ap (λ (v : Option Refusal). run (cond (is_none v) (after S command) S) commands) none
 
--- what is lost of events is lost of more
+-- what a crash may lose of events, it may lose of more events
 lost_of_more : (event : Event) (events : List Event) (lost : List Command) → MayLose events lost → MayLose (event ∷ events) lost
 lost_of_more event events [] may = tt
 lost_of_more event events (command ∷ commands) may = (Contains-append_right (event ∷ []) events _ may.0, may.1)
@@ -100,12 +100,12 @@ module _ (laws : GoodnessLaws) where
       (λ S T command refusal events nothing rest good. rest good)
       (λ S command events none closed. (λ good. good, λ good. laws.accepted S good command none))
 
-  -- what a next opening may find is good
+  -- a state that a next opening may give is good
   pub good_opening : (life : Life) → IsGood life.start → (T : RbacState) → OpensAfter life T → IsGood T
   good_opening life good T (inl left) = good_left life.start life.events T left good
   good_opening life good T (inr (M, left, first, taken)) = subst IsGood (sym taken) (laws.migrated M (good_left life.start life.events M left good) first)
 
-  -- and the state after a prefix: a state that is taken into version 2 had no locks
+  -- and it is the state after a prefix: a state that is migrated to version 2 had no locks
   prefix_opening : (life : Life) → IsGood life.start → (T : RbacState) → OpensAfter life T → IsAfterPrefix life T
   prefix_opening life good T (inl left) = prefix_left laws.version life.start life.events T left
   prefix_opening life good T (inr (M, left, first, taken)) =
@@ -123,9 +123,9 @@ module _ (laws : GoodnessLaws) where
         version = inr (elim it.version [ inl same ↦ sym same ∙ first | inr rises ↦ rises.0 ], ap (λ (X : RbacState). X.version) taken);
       }
 
-  -- ---- in a list of lives
+  -- ---- in a list of runs
 
-  -- a life of the list begins with a good state, and the lives behind it follow on
+  -- a run of the list begins with a good state, and the runs after it follow on
   life_at : (opens : RbacState → Type 0) → ((S : RbacState) → opens S → IsGood S) → (before : List Life) (life : Life) (later : List Life) →
       FollowOn opens (before ++ life ∷ later) → IsGood life.start × ((T : RbacState) × Leaves life.start life.events T) × FollowOn (OpensAfter life) later
   life_at opens good [] life later follow = (good life.start follow.0, follow.1, follow.2)
@@ -144,7 +144,7 @@ module _ (laws : GoodnessLaws) where
       let here = life_at _ first_good before life (following ∷ later) are in
       prefix_opening life here.0 following.start here.2.0
 
-  -- the state so far is one of those that a next opening may find
+  -- the state so far is one of those that a next opening may give
   pub reached_opens : (before : List Life) (last : Life) (T : RbacState) → IsReached before last T → OpensAfter last T
   reached_opens before last T reached = elim reached.is_found [
     | inl now ↦ inl (subst (Leaves last.start last.events) (sym now) (so_far_left last.start last.events (life_at _ first_good before last [] reached.are_lives).1))

@@ -1,4 +1,4 @@
--- What a deassignment and a revocation in force leave.
+-- What holds after a deassignment or a revocation in force.
 use Rattle.std.proofs.Common.{◌≡◌, Bool, false, refl, sym, ◌∙◌, ap, subst, inl, inr}
 use Rattle.std.specs.Prelude.{◌⊎◌, ◌&&◌, IsTrue, not}
 use Rattle.std.proofs.lemmas.Bool.{true≢false, and_parts, false_from_ne_true}
@@ -17,7 +17,7 @@ use Rattle.role_tables.proofs.Lives.Known.{GoodnessLaws, EffectLaws}
 use Rattle.role_tables.proofs.Lives.InForce.{away_in_force}
 use Rattle.role_tables.proofs.Lives.Openings.{reached_opens, last_is_sound}
 
--- what isn't there, and may come by what isn't done alone, isn't there afterwards
+-- what wasn't there, and could only be added by something that isn't done, isn't there afterwards
 absent : (was gives is : Bool) → (IsTrue is → IsTrue was ⊎ IsTrue gives) → gives ≡ false → was ≡ false → is ≡ false
 absent was gives is comes none away = false_from_ne_true is (λ there. elim (comes there) [
   | inl old ↦ true≢false (sym old ∙ away)
@@ -32,7 +32,7 @@ unfolding after changed end_sessions
 after_deassignment user role S = contains-remove pair_total S.assignments (user, role) (user, role)
     ∙ ap (λ b. not b && contains S.assignments (user, role)) ((tie_Decides pair_total pair_exact (user, role) (user, role)).1 refl)
 
--- an authorized user is assigned the role or one above it
+-- an authorized user is assigned to the role or to a senior of it
 assigned_above : (T : RbacState) (user role : Bytes) → IsTrue (is_authorized T user role) →
     (other : Bytes) × IsTrue (contains T.assignments (user, other)) × IsTrue (geq T.edges other role)
 unfolding authorized_users

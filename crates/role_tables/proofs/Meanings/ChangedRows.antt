@@ -1,4 +1,4 @@
--- What INSERT and DELETE make of the rows that a table holds.
+-- What INSERT and DELETE do to the rows that a table holds.
 use Rattle.std.proofs.Common.{◌≡◌, ◌≢◌, ℕ, List, [], ◌∷◌, map, filter, length, Bool, false, not, None, Some, Ok, refl, sym, ap, subst, ◌∙◌}
 use Rattle.std.specs.List.{AllByRecursion}
 use Rattle.std.specs.List.Sorted.{IsPermutation}
@@ -38,7 +38,7 @@ cells_values : (table : Table) → table.key ≡ None → (places : List Place) 
 cells_values table keyless [] r = refl
 cells_values table keyless (p ∷ ps) r = ap (λ l. column r (place_of table p.1) ∷ l) (cells_values table keyless ps r) ∙ rw keyless refl
 
--- with the rows of this table alone changed, the tables whose trees are others keep theirs
+-- each table with another tree than this keeps its rows
 abbrev pub KeepsTables : Database → Database → ℕ → Type 0
 KeepsTables old new tree = AllByRecursion (λ t. t.tree ≢ tree → new.trees t.tree ≡ old.trees t.tree) old.schema.tables
 
@@ -83,7 +83,7 @@ module _ (old new : State) (at : ℕ) (table : Table) (name : List ℕ) (named :
         others = all_weaker _ _ (λ t stays other. ap (λ (u : Trees). u t.tree) here ∙ stays other) schema.tables step.tables;
       }
 
--- the table holds the rows but this one
+-- the table holds the rows except this one
 unfoldable pub holds_less : (old new : Database) (name : List ℕ) (made : ℕ → Table) (places : List Place) (rows : List Row) (values : Row) (held : HoldsRows old name made places rows) → new.schema ≡ old.schema
     → new.trees held.tree ≡ filter (λ r. not (same_row (cells_at (made held.tree) places r) values)) (old.trees held.tree) → HoldsRows new name made places (without_row values rows)
 holds_less old new name made places rows values held schema_is is =

@@ -1,4 +1,4 @@
--- What a text means under any schema that has the table, by the parts of the resolver.
+-- What columns and tables in a text mean under any schema that has the table.
 use Rattle.std.proofs.Common.{◌≡◌, ℕ, zero, suc, ◌-◌, List, [], ◌∷◌, slice_get, nat_lt, Bool, true, false, Some, None, Ok, refl}
 use Rattle.sqlite.specs.Schema.{Schema}
 use Rattle.sqlite.specs.Table.{Table}
@@ -16,7 +16,7 @@ use Rattle.sqlite_resolve.specs.Expr.{lower_to, node, opened, passes}
 pub use Rattle.role_tables.specs.TableByName.{Place, AreIn}
 use Rattle.role_tables.proofs.Meanings.ParsedTexts.{levels, column_expr, source_of}
 
--- so many nodes can be read
+-- the budget is enough to read this number of nodes
 abbrev pub Enough : ℕ → ℕ → Type 0
 Enough zero budget = Unit {0}
 Enough (suc n) budget = (nat_lt 1 budget ≡ true) × Enough n (budget - 1)

@@ -1,4 +1,4 @@
--- What a CREATE TABLE makes, whatever other tables there are.
+-- What a CREATE TABLE creates, whatever other tables there are.
 use Rattle.std.proofs.Common.{◌≡◌, ◌⊎◌, inl, inr, ℕ, ◌==◌, ◌&&◌, not, List, [], slice_range, length, Bool, true, false, Option, None, is_some, Result, Ok, Err, refl, sym}
 use Rattle.std.proofs.lemmas.Bool.{cases_Bool}
 use Rattle.std.specs.Option.{option_or}
@@ -59,7 +59,7 @@ in_create _ P = ⊥
 abbrev DefinesAs : List Name → Table → ast.CreateTable → Type 0
 DefinesAs formats table def = (def.if_missing ≡ false) × (define.table formats def ≡ Ok table) × ((length table.computed == length table.stamps.places && not def.resolves) ≡ true)
 
--- the text is one CREATE TABLE, which makes this table
+-- the text is one CREATE TABLE, which creates this table
 abbrev pub IsCreate : List ℕ → Table → Type 0
 IsCreate sql table = in_ok (first sql) (λ p. in_create p.statement (DefinesAs p.formats table) × (slice_range sql p.start p.end ≡ sql)) × (table_defined_by sql ≡ Ok table)
 
@@ -91,7 +91,7 @@ means schema sql table text c ran = go (first sql) refl text.0
     ]
     go (Err e) is h = absurd h
 
--- Whatever the schema has beside, the table is made, empty, and the others keep their rows.
+-- whatever else the schema has, the table is created, empty, and the others keep their rows
 pub creates_among : (sql : List ℕ) (table : Table) (old new : State) (count : ℕ) → IsCreate sql table → lacks_sequence (created old.now.schema table) ≡ false → Executes sql [] old new (Ok count) → Creates old.now.schema table old new
 unfolding ExecutesIn
 creates_among sql table old new count text uncounted ran =

@@ -1,4 +1,4 @@
--- What CREATE TABLE makes, whatever the table.
+-- What CREATE TABLE creates, whatever the table.
 use Rattle.std.proofs.Common.{◌≡◌, ℕ, List, [], false, None, Ok, sym, ap, subst, ◌∙◌}
 use Rattle.sqlite.specs.Schema.{Schema}
 use Rattle.sqlite.specs.Table.{Table}

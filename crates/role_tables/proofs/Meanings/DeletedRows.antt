@@ -1,4 +1,4 @@
--- The rows that a DELETE by equal columns takes.
+-- The rows that a DELETE by equal columns deletes.
 use Rattle.std.proofs.Common.{◌≡◌, arith, ℕ, ◌+◌, ℤ, List, [], ◌∷◌, ◌++◌, map, filter, flat_map, length, Bool, true, false, not, ◌&&◌, ◌||◌, cond, Some, refl, sym, ap, subst, ◌∙◌}
 use Rattle.std.specs.List.{list_all, list_any, AllByRecursion}
 use Rattle.std.specs.List.Sorted.{IsPermutation}
@@ -97,7 +97,7 @@ none_above test x (y ∷ ys) above =
     elim (test y) as (λ b. list_any (same_rowid x) (cond b (y ∷ filter test ys) (filter test ys)) ≡ false)
     [ true ↦ ap (λ o. is_eq o || list_any (same_rowid x) (filter test ys)) above.0 ∙ none_above test x ys above.1 | false ↦ none_above test x ys above.1 ]
 
--- among the rows that pass, those of this rowid are those that are this row
+-- a row has the rowid of a row that passes exactly if it passes itself
 exactly : (test : Row → Bool) (rows : List Row) → IsTable rows → AllByRecursion (λ r. list_any (same_rowid r) (filter test rows) ≡ test r) rows
 exactly test [] keyed = tt
 exactly test (x ∷ xs) keyed = (
@@ -120,7 +120,7 @@ by_ids r [] ints = refl
 by_ids r (x ∷ xs) ints =
     ap (λ v. is_eq (value_cmp (rowid r) v) || list_any (λ id. has_rowid id r) (map (λ x. id_in (rowid x)) xs)) (sym (int_is (rowid x) ints.0)) ∙ ap (λ b. same_rowid r x || b) (by_ids r xs ints.1)
 
--- the rows whose rowids were found are taken, and no others
+-- the rows whose rowids were found are deleted, and no others
 pub taken_rows : (test : Row → Bool) (rows ids : List Row) → IsTable rows → HaveIntIds rows → IsPermutation (map (λ r. rowid r ∷ []) (filter test rows)) ids
     → without_all rows (ids_of ids) ≡ filter (λ r. not (test r)) rows
 taken_rows test rows ids keyed ints found =
@@ -130,7 +130,7 @@ taken_rows test rows ids keyed ints found =
     all_weaker _ _ (λ r same. ap not (sym (list_any-IsPermutation (λ id. has_rowid id r) _ _ numbers) ∙ by_ids r passed (all-filter (λ r. is_int (rowid r) ≡ true) test rows ints) ∙ same)) rows (exactly test rows keyed) in
     without_is (ids_of ids) rows ∙ filter_same (λ r. not (list_any (λ id. has_rowid id r) (ids_of ids))) (λ r. not (test r)) rows each
 
--- ---- the tests are that the values are these
+-- ---- the tests require these values
 
 abbrev pub AreParams : Row → ℕ → Row → Type 0
 AreParams params n [] = Unit {0}

@@ -1,4 +1,4 @@
--- DELETE by equal columns means those rows, under any schema that has the table.
+-- DELETE by equal columns means the rows with these values, under any schema that has the table.
 use Rattle.std.proofs.Common.{◌≡◌, ◌⊎◌, inl, inr, ℕ, suc, pos, negsuc, ◌+◌, ◌-◌, ◌==◌, arith, List, [], ◌∷◌, slice_get, nat_lt, Bool, true, false, Some, None, Ok, Err, refl, ◌∙◌}
 use Rattle.std.proofs.lemmas.Bool.{cases_Bool}
 use Rattle.sqlite.specs.declared.types.Value.TheVariants.{Int}
@@ -134,7 +134,7 @@ taking_query table tests = record {
 }
 
 module _ (schema : Schema) (at : ℕ) (table : Table) (got : slice_get schema.tables at ≡ Some table) (keyless : table.key ≡ None) (name : List ℕ) (known : table_named schema name ≡ Some at) where
-  -- the condition is read as these tests
+  -- the condition means these tests
   abbrev pub Tests : Expr → List Term → Type 0
   Tests e tests = (t : Term) × (s : State) × (lower (over schema at table got table.name [] false) e (fresh 2 max_budget) ≡ Ok (t, s)) × (conjuncts t ≡ tests) × (s.steps ≡ [])
 

@@ -1,4 +1,4 @@
--- No action is set off where no foreign key of the schema names the table.
+-- No action is triggered if no foreign key of the schema names the table.
 use Rattle.std.proofs.Common.{◌≡◌, ◌||◌, inl, inr, ◌==◌, List, [], ◌∷◌, length, flat_map, filter_map, Bool, true, false, Option, Some, None, refl, ◌∙◌}
 use Rattle.std.proofs.lemmas.Bool.{cases_Bool, eqb-true}
 use Rattle.std.specs.List.{list_any}
@@ -19,7 +19,7 @@ or_none : (a b : Bool) → (a || b) ≡ false → (a ≡ false) × (b ≡ false)
 or_none true b h = absurd (cc)
 or_none false b h = (refl, h)
 
--- a test that no element passes fails at each
+-- a test that no element passes fails on each
 none_passes : {A : Type 0} (p : A → Bool) (xs : List A) (x : A) → list_any p xs ≡ false → Has xs x → p x ≡ false
 none_passes p [] x none h = absurd h
 none_passes p (y ∷ ys) x none (inl here) = rw here ((or_none (p y) (list_any p ys) none).0)

@@ -1,4 +1,4 @@
--- What an INSERT of one row makes of the rows that a table holds.
+-- What an INSERT of one row does to the rows that a table holds.
 use Rattle.std.proofs.Common.{◌≡◌, inr, ℕ, ◌/◌, ℤ, List, [], ◌∷◌, map, length, true, false, None, Ok, refl, sym, ap, subst, ◌∙◌}
 use Rattle.std.specs.List.Sorted.{IsPermutation}
 use Rattle.std.proofs.lemmas.List.Sorted.{IsPermutation-map, IsPermutation-cons, IsPermutation-trans}

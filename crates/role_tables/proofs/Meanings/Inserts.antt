@@ -1,4 +1,4 @@
--- What the statements mean under any schema that has the table.
+-- What an INSERT means under any schema that has the table.
 use Rattle.std.proofs.Common.{◌≡◌, ℕ, List, [], slice_get, length, ◌+◌, ◌%◌, Some, None, Ok, refl, ap, ◌∙◌}
 use Rattle.sqlite.specs.Schema.{Schema}
 use Rattle.sqlite.specs.Table.{Table}
@@ -12,7 +12,7 @@ use Rattle.sqlite_ast.specs.declared.Conflict.TheVariants as conflict
 use Rattle.sqlite_syntax.specs.declared.statement.Parsed.{Parsed}
 use Rattle.sqlite_resolve.specs.Compile.{planned, command, insert_or_abort, insert, new_rows, timed, returning, shows, meaning}
 
--- an INSERT into a table that is found, whatever else the schema has
+-- an INSERT into a table that the schema has, whatever else it has
 module _ (schema : Schema) (at : ℕ) (table : Table) (name : List ℕ) (named : table_named schema name ≡ Some at) (got : slice_get schema.tables at ≡ Some table) where
   insert_found : (base : ℕ) (columns : List (List ℕ)) (rows : Rows) (source : Source) → new_rows schema table base columns rows ≡ Ok source → insert schema base name columns rows ≡ Ok (Insert at source)
   unfolding insert

@@ -1,4 +1,4 @@
--- The rows that a SELECT of named columns answers.
+-- The rows that a SELECT of named columns returns.
 use Rattle.std.proofs.Common.{◌≡◌, inl, inr, ℕ, ◌^◌, List, [], ◌∷◌, map, flat_map, nat_le, slice_get, length, Some, refl, sym, ap, subst, ◌∙◌}
 use Rattle.std.specs.List.Sorted.{IsPermutation}
 use Rattle.std.proofs.lemmas.Bool.{cases_Bool}
@@ -53,7 +53,7 @@ answers table places db rows a =
     let mapped = IsPermutation-map (λ (o : Output). o.1) _ _ (subst (λ k. IsPermutation k a.ordered) kept a.same) in
     subst (λ r. IsPermutation (map (cells_at table places) all) r) (sym a.shown) (subst (λ l. IsPermutation l (map (λ (o : Output). o.1) a.ordered)) (outputs table places all) mapped)
 
--- Whatever else the schema has, and however the table was made, the rows are those of the table, at the columns of these names.
+-- whatever else the schema has, and however the table was created, the rows are those of the table, at the columns of these names
 pub reads_rows : (sql name : List ℕ) (old new : State) (rows : List Row) (at : ℕ) (table : Table) (places : List Place) → IsSelect sql name (names_of places) → Enough (length places) max_budget
     → table_named old.now.schema name ≡ Some at → slice_get old.now.schema.tables at ≡ Some table → AreIn table places → Shown sql [] old new rows
     → IsPermutation (map (cells_at table places) (old.now.trees table.tree)) rows

@@ -148,7 +148,7 @@ module _ (schema : Schema) (at : ℕ) (table : Table) (got : slice_get schema.ta
     unfolding read program
     read_is = elim (cases_Bool (accepts_program schema [] (query_of draft_of) [])) [ inl typed ↦ inr (rw (query_is, typed) refl) | inr untyped ↦ inl (rw (query_is, untyped) refl) ]
 
-  -- SELECT of these columns means so, or is refused by the types
+  -- SELECT of these columns means this query, or the types refuse it
   abbrev pub Selects : List Place → Parsed → Type 0
   Selects places p = (planned schema p ≡ Err Mismatch) ⊎ ((names : List Name) × (planned schema p ≡ Ok ([], (Select (record { lets = []; body = reading_query table places }) names, None))))
 

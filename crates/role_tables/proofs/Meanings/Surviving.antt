@@ -18,6 +18,6 @@ survives_none s = survives_itself s (λ _. ⊥)
 pub survives_both : (a b c : State) → Survives a b (λ _. ⊥) → Survives b c (λ _. ⊥) → Survives a c (λ _. ⊥)
 survives_both a b c = survives_then a b c (λ _. ⊥) (λ _. ⊥) (λ _. ⊥) (λ _ db none. none) (λ _ db none. none)
 
--- the second call leaves what was committed, and so did the first
+-- two calls leave what was committed if each does
 pub keeps_both : (a b c : State) → HasCleanDisk c → Survives b c (λ _. ⊥) → (HasCleanDisk b → KeepsCommit a b) → (HasCleanDisk c → KeepsCommit b c) → KeepsCommit a c
 keeps_both a b c clean second one two = keeps_then a b c (one (omega (arith, clean, second.clean))) (two clean)

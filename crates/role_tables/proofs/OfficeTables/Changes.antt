@@ -1,4 +1,4 @@
--- What the statements make of the office's tables: one lemma each, whatever the table and whatever other tables there are.
+-- What the statements do to the office's tables: one lemma each, whatever the table and whatever other tables there are.
 use Rattle.std.proofs.Common.{IsTrue, slice_index, ◌*◌, ◌≡◌, ◌≢◌, ℕ, ◌+◌, ◌==◌, ◌/◌, if◌then◌else◌, ℤ, List, [], ◌∷◌, length, map, not, slice_get, Bool, true, false, Some, None, Ok, refl, sym, ap, subst, ◌∙◌}
 use Rattle.std.specs.List.{AllByRecursion}
 use Rattle.std.specs.List.Sorted.{IsPermutation}
@@ -52,7 +52,7 @@ code_back Locks = refl
 pub same_code : (a b : StoredTable) → (code a == code b) ≡ true → a ≡ b
 same_code a b same = sym (code_back a) ∙ ap of_code (eqb-true (code a) (code b) same) ∙ code_back b
 
--- the lengths of the names of the tables, of which those of two are equal
+-- a number of the first two characters of a name, which differs for each two tables
 abbrev mark_of : List ℕ → ℕ
 mark_of name = slice_index name 0 * 1000 + slice_index name 1
 
@@ -102,7 +102,7 @@ module _ (want : StoredTable → Bool) (old new : Database) (rows : Rows) (held 
       go k true same = subst (λ j. AllByRecursion HasNoNull (change (rows j))) (sym (same_code k kind same)) solid
       go k false other = held.solid k
 
--- ---- one row is put
+-- ---- one row is inserted
 
 values_given : (row : OfficeRow) (tree : ℕ) → let kind = table_of row in
     value_rows (stamped (made kind tree) (cells row)) (length (places kind) + 1) (length (put_terms kind) / (length (places kind) + 1)) (put_terms kind) ≡ (Null ∷ cells row) ∷ []
@@ -150,7 +150,7 @@ puts_row want row wanted old new count rows held ran =
     holds_changed want old.now new.now rows held kind wanted (λ all. cells row ∷ all) it.schema_is it.others
     (holds_more old.now new.now m.name (made kind) (places kind) (rows kind) (cells row) table it.id it.schema_is (values_shown row table.tree it.id) it.free it.rows) it.sound (no_null row, held.solid kind)
 
--- ---- one row is taken
+-- ---- one row is deleted
 
 abbrev IsFew : List Place → Type 0
 IsFew (p ∷ []) = Unit {0}

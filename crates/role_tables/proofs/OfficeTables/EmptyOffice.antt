@@ -1,4 +1,4 @@
--- From the tables that were made to an empty office.
+-- From the tables that were created to an empty office.
 use Rattle.std.proofs.Common.{◌≡◌, ◌⊎◌, inl, inr, ℕ, [], ◌∷◌, Bool, IsTrue, Ok, refl, ◌∙◌, codes}
 use Rattle.admin_mgr.specs.RbacState.{empty_state}
 use Rattle.admin_mgr.specs.Checked.{AreRowsOf}
@@ -64,7 +64,7 @@ first_rows version Grants = refl
 first_rows version Sets = refl
 first_rows version Locks = refl
 
--- an empty office stands once its tables are made and its version is put
+-- the empty state is stored once the tables are created and the row of the version is inserted
 pub office_made : (version : ℕ) → (version ≡ 1) ⊎ (version ≡ 2) → (old mid new : State) → StageAfter old mid (tables_of version) → PutsVersion version mid new → IsStage version no_table old.now no_rows → HoldsState new.now (empty_state version)
 office_made version known old mid new made put stage =
     let wanted = all_wanted version known in

@@ -3,7 +3,7 @@ use Rattle.std.proofs.Common.{◌<◌, get_or, ◌≡◌, ℕ, zero, suc, ◌+�
 use Rattle.std.specs.List.{AllByRecursion, list_any, position_from}
 use Rattle.std.proofs.lemmas.Bool.{cases_Bool, or_parts}
 
--- what is added last is found, where nothing was
+-- if nothing was found before, what is added at the end is found
 pub found_last : {A : Type 0} (p : A → Bool) (n : ℕ) (xs : List A) (x : A) → position_from p n xs ≡ None → p x ≡ true → position_from p n (xs ++ x ∷ []) ≡ Some (n + length xs)
 found_last p n [] x none last = let e : n + 0 ≡ n = omega arith in rw (last, e) refl
 found_last p n (y ∷ ys) x none last = elim (cases_Bool (p y)) [
@@ -42,7 +42,7 @@ pub any_same : {A : Type 0} (p : A → Bool) (xs : List A) (x : A) → p x ≡ f
 any_same p [] x last = rw last refl
 any_same p (y ∷ ys) x last = ap (λ b. p y || b) (any_same p ys x last)
 
--- what holds of each element holds of the one at a place
+-- what holds of each element holds of the one at an index
 pub all_at : {A : Type 0} (P : A → Type 0) (xs : List A) (i : ℕ) (d : A) → i < length xs → AllByRecursion P xs → P (get_or xs i d)
 all_at P [] i d low all = absurd (omega (arith, low))
 all_at P (x ∷ xs) zero d low all = all.0

@@ -1,4 +1,4 @@
--- A schema in which the tables can be made is the first stage of it.
+-- A schema in which the tables can be created is the first stage of creating them.
 use Rattle.std.proofs.Common.{◌≢◌, ◌≡◌, ◌⊎◌, inl, inr, ℕ, suc, ◌+◌, List, [], ◌∷◌, not, ◌&&◌, slice_get, Bool, true, false, Some, None, is_some, IsTrue, refl, ap, ◌∙◌, arith, codes}
 use Rattle.std.specs.Prelude.{nat_eq}
 use Rattle.std.specs.List.{AllByRecursion, list_any, list_all, position_from}
@@ -18,7 +18,7 @@ not_placed : {A : Type 0} (p : A → Bool) (n : ℕ) (xs : List A) → list_any 
 not_placed p n [] none = refl
 not_placed p n (x ∷ xs) none = let both = or_parts (p x) (list_any p xs) none in rw both.0 (not_placed p (n + 1) xs both.1)
 
--- what is found is there
+-- if one element passes, one is found
 placed : {A : Type 0} (p : A → Bool) (n : ℕ) (xs : List A) → list_any p xs ≡ true → (k : ℕ) × (position_from p n xs ≡ Some (n + k)) × ((x : A) × (slice_get xs k ≡ Some x))
 placed p n [] some = absurd (cc)
 placed p n (x ∷ xs) some = elim (cases_Bool (p x)) [
@@ -40,13 +40,13 @@ free_parts schema name free =
     let both = and_parts (not (list_any (λ t. same_name t.name name) schema.tables)) (not (is_referred schema name)) free in
     (not_placed (λ t. same_name t.name name) 0 schema.tables (not-true _ both.0), not-true _ both.1)
 
--- each element of a list passes a test that all pass
+-- each of five tests is passed if all are
 five_parts : (a b c d e : Bool) → (a && (b && (c && (d && (e && true))))) ≡ true → (a ≡ true) × (b ≡ true) × (c ≡ true) × (d ≡ true) × (e ≡ true)
 five_parts a b c d e all =
     let one = and_parts a _ all in let two = and_parts b _ one.1 in let three = and_parts c _ two.1 in let four = and_parts d _ three.1 in (one.0, two.0, three.0, four.0, (and_parts e true four.1).0)
 
 module _ (test : StoredTable → Bool) where
-  -- a test that all tables of a version pass is passed by each
+  -- if all tables of a version pass the test, each of them does
   pub each_of : (version : ℕ) → (version ≡ 1) ⊎ (version ≡ 2) → list_all test (tables_of version) ≡ true → (table : StoredTable) → IsTrue (is_wanted version table) → test table ≡ true
   each_of version (inl one) all table wanted = first (rw one at all) table (rw one at wanted)
     where
@@ -74,16 +74,16 @@ module _ (test : StoredTable → Bool) where
           go Sets m h = h.3
           go Locks m h = h.4
 
-  -- and all pass it where each does
+  -- and all pass it if each does
   pub all_of : (version : ℕ) → (version ≡ 1) ⊎ (version ≡ 2) → ((table : StoredTable) → IsTrue (is_wanted version table) → test table ≡ true) → list_all test (tables_of version) ≡ true
   all_of version (inl one) each = rw one (let e = rw one at each in rw (e Meta refl, e Names refl, e Pairs refl, e Grants refl, e Sets refl) refl)
   all_of version (inr two) each = rw two (let e = rw two at each in rw (e Meta refl, e Names refl, e Pairs refl, e Grants refl, e Sets refl, e Locks refl) refl)
 
--- all tables of a version, and those of them that have rows
+-- a test of all tables of a version is a test of meta_row and of those that hold rows of the state
 pub with_rows : (test : StoredTable → Bool) (version : ℕ) → list_all test (tables_of version) ≡ (test Meta && list_all test (row_tables version))
 with_rows test version = elim (cases_Bool (nat_eq version 1)) [ inl first ↦ rw first refl | inr other ↦ rw other refl ]
 
--- what holds of each table of a version but meta_row holds of those that have rows
+-- what holds of each table of a version except meta_row holds of those that hold rows of the state
 pub rows_wanted : (P : StoredTable → Type 0) (version : ℕ) → (version ≡ 1) ⊎ (version ≡ 2) → ((table : StoredTable) → IsTrue (is_wanted version table) → table ≢ Meta → P table) → AllByRecursion P (row_tables version)
 rows_wanted P version (inl one) each = rw one (let e = rw one at each in (e Names refl (λ is. cc), (e Pairs refl (λ is. cc), (e Grants refl (λ is. cc), (e Sets refl (λ is. cc), tt)))))
 rows_wanted P version (inr two) each = rw two (let e = rw two at each in (e Names refl (λ is. cc), (e Pairs refl (λ is. cc), (e Grants refl (λ is. cc), (e Sets refl (λ is. cc), (e Locks refl (λ is. cc), tt))))))

@@ -1,4 +1,4 @@
--- The texts that make the office's tables.
+-- The texts that create the office's tables.
 use Rattle.std.proofs.Common.{◌≡◌, [], length, map, true, false, Some, None, refl, sym, ap, subst, ◌∙◌, arith}
 use Rattle.std.specs.List.Sorted.{IsPermutation}
 use Rattle.std.proofs.lemmas.List.Sorted.{IsPermutation-refl}

@@ -1,4 +1,4 @@
--- One table more, and the others as they were.
+-- One more table is created, and the others stay as they were.
 use Rattle.std.proofs.Common.{◌<◌, take, get_or, ◌≡◌, ◌⊎◌, inl, inr, ℕ, ◌==◌, ◌+◌, ◌++◌, List, [], ◌∷◌, length, map, not, ◌||◌, slice_get, Bool, true, false, Option, Some, None, is_some, IsTrue, Ok, refl, sym, ap, subst, ◌∙◌, arith, codes}
 use Rattle.std.specs.List.{list_any, position_from}
 use Rattle.std.specs.Option.{option_and_then}
@@ -67,7 +67,7 @@ names_differ Locks Grants differ = refl
 names_differ Locks Sets differ = refl
 names_differ Locks Locks differ = absurd (cc)
 
--- a counter is found still
+-- the table of the rowid counts is still found
 still_counted : (schema : Schema) (table : Table) → table.is_counted ≡ false → lacks_sequence schema ≡ false → lacks_sequence (created schema table) ≡ false
 still_counted schema table plain none = elim (cases_Bool (list_any (λ t. t.is_counted) schema.tables)) [
   | inr no_counter ↦ rw (any_last (λ t. t.is_counted) schema.tables new no_counter plain) refl
@@ -86,7 +86,7 @@ still_counted schema table plain none = elim (cases_Bool (list_any (λ t. t.is_c
     go None is h = absurd (let e = rw is at h in cc)
     go (Some k) is h = rw (found_first (λ t. same_name t.name (codes "sqlite_sequence")) 0 schema.tables (new ∷ []) k is) (later k (slice_get schema.tables k) refl (rw is at h))
 
--- the table of one kind is made, and what was made stays
+-- the table of one kind is created, and those created before stay
 module _ (version : ℕ) (want : StoredTable → Bool) (rows : Rows) (kind : StoredTable) (wanted : IsTrue (is_wanted version kind)) (fresh : want kind ≡ false) (none : rows kind ≡ []) (old new : State)
     (stage : IsStage version want old.now rows) (c : Creates old.now.schema (made kind 0) old new) where
   abbrev schema : Schema

@@ -1,4 +1,4 @@
--- What the office's texts are, each found by computing.
+-- What the texts of the office's statements mean, each by computation.
 use Rattle.std.proofs.Common.{◌≡◌, inl, inr, ℕ, ◌+◌, List, [], ◌∷◌, length, false, refl}
 use Rattle.sqlite.specs.declared.types.Value.TheVariants.{Null}
 use Rattle.sqlite.specs.Schema.{Schema}
@@ -76,7 +76,7 @@ are_ours Grants = (texts _ refl, (texts _ refl, (texts _ refl, tt)))
 are_ours Sets = (integers _ refl, (texts _ refl, (integers _ refl, tt)))
 are_ours Locks = (texts _ refl, tt)
 
--- the values of the parameters, after a rowid to be chosen
+-- the parameters, after a rowid that is still to be chosen
 abbrev pub given_from : ℕ → List Place → List Term
 given_from at [] = []
 given_from at (p ∷ ps) = col 0 at ∷ given_from (at + 1) ps

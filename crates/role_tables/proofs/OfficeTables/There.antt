@@ -1,4 +1,4 @@
--- The tables and columns that a schema has are those that are found.
+-- The test of a schema for tables and columns agrees with what is found in the database.
 use Rattle.std.proofs.Common.{◌≡◌, ◌⊎◌, inl, inr, ℕ, suc, ◌+◌, List, [], ◌∷◌, map, slice_get, Bool, true, false, ◌&&◌, Option, Some, None, is_some, IsSome, IsTrue, refl, sym, ap, ◌∙◌, arith}
 use Rattle.std.specs.Option.{option_and_then, option_map}
 use Rattle.std.specs.List.{position_from}
@@ -17,7 +17,7 @@ mapped_some : {A B : Type 0} (f : A → B) (o : Option A) → is_some (option_ma
 mapped_some f None = refl
 mapped_some f (Some x) = refl
 
--- what has a place is there
+-- an element at the position that was found exists
 at_place : {A : Type 0} (p : A → Bool) (n : ℕ) (xs : List A) (m : ℕ) → position_from p n xs ≡ Some m → (k : ℕ) × (m ≡ n + k) × ((x : A) × (slice_get xs k ≡ Some x))
 at_place p n [] m is = absurd (cc)
 at_place p n (x ∷ xs) m is = elim (cases_Bool (p x)) [
@@ -55,7 +55,7 @@ some_there db kind there = there_found db kind ∙ there
 pub there_some : (db : Database) (kind : StoredTable) → IsSome (held_in db kind) → is_there db.schema kind ≡ true
 there_some db kind found = sym (there_found db kind) ∙ found
 
--- the tables of a version are there with their columns where something is found of each
+-- if the tables of a version are there with their columns, each of them is found, and otherwise one isn't
 pub all_found : (db : Database) (version : ℕ) → (version ≡ 1) ⊎ (version ≡ 2) → are_there db.schema (tables_of version) ≡ true → (table : StoredTable) → IsTrue (is_wanted version table) → IsSome (held_in db table)
 all_found db version known all table wanted = some_there db table (each_of (is_there db.schema) version known all table wanted)
 

@@ -1,4 +1,4 @@
--- What is read of the tables that are found by their names, and that reading changes nothing.
+-- What is read of tables that are looked up by their names, and that reading changes nothing.
 use Rattle.std.proofs.Common.{◌≡◌, inl, inr, ℕ, suc, List, [], ◌∷◌, length, map, slice_get, Bool, true, false, Option, Some, None, Result, Ok, Err, IfOk, refl, sym, ap, subst, ◌∙◌}
 use Rattle.std.specs.Option.{option_and_then, option_map}
 use Rattle.std.specs.List.Sorted.{IsPermutation}
@@ -115,7 +115,7 @@ module _ (kind : StoredTable) (old : State) (values : List Row) (it : IsFound ol
   pub plain : (c : Compiled) → understood old.now.schema (read_text kind) ≡ Ok c → IsPlain (understood old.now.schema (read_text kind))
   plain c is = (meant old.now.schema (read_text kind) IsThis planned c is).2.1
 
-  -- the answer is the values, in some order, and nothing is changed
+  -- the rows that are returned are these values, in some order, and nothing is changed
   pub shows_found : (new : State) (rows : List Row) → Shown (read_text kind) [] old new rows → IsPermutation values rows × IsUnchanged old new
   unfolding Shown
   shows_found new rows shown =
@@ -129,7 +129,7 @@ module _ (kind : StoredTable) (old : State) (values : List Row) (it : IsFound ol
   unfolding CommitsShowing
   never db h = never_commits (read_text kind) [] old db (plain h.0 h.1.is) h
 
-  -- a stop leaves what it could leave before
+  -- a crash leaves what it could leave before
   pub found_survives : (new : State) → Survives old new (CommitsShowing (read_text kind) [] old) → Survives old new (λ _. ⊥)
   found_survives new = survives_weaker old new _ _ (λ _ db h. never db h)
 

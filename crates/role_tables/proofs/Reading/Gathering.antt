@@ -71,7 +71,7 @@ read_so : (o : Option (List Row)) (values shown : List Row) → o ≡ Some value
 read_so o values shown is same = subst (λ o. IsRead o shown) (sym is) same
 
 module _ {S : Type 0} (g : Ghosts S) (kind : StoredTable) (old : Held S) where
-  -- the table isn't there
+  -- the table is missing
   abbrev pub Unfound : Trees → Type 0
   Unfound db = IsSome (held_in (state g old).now kind) → ⊥
 
@@ -104,7 +104,7 @@ module _ {S : Type 0} (g : Ghosts S) (kind : StoredTable) (old : Held S) where
   pub more_survives : (mid new : State) → Survives (state g old) mid Unfound → Survives mid new (λ _. ⊥) → Survives (state g old) new Unfound
   more_survives mid new = survives_then (state g old) mid new Unfound (λ _. ⊥) Unfound (λ _ db h. h) (λ _ db none. absurd none)
 
-  -- the answer has ended
+  -- all rows have been read
   pub ended : (mid new : Held S) (shown : List Row) (is : IsSome (held_in (state g old).now kind)) → IsUnchanged (state g old) (state g mid) → Shown (read_text kind) [] (state g mid) (state g new) shown
       → IsRead (held_in (state g old).now kind) shown × IsUnchanged (state g old) (state g new)
   ended mid new shown is same last =

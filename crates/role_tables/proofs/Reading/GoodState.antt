@@ -1,4 +1,4 @@
--- Tables that hold the rows of a good state are found whole and named, and are read as that state alone.
+-- Tables that have the rows of a good state pass checks 1 and 2, and are read as that state alone.
 use Rattle.std.proofs.Common.{◌≢◌, ◌≤◌, ◌≡◌, ◌⊎◌, inl, inr, ℕ, pos, ◌<◌, ◌^◌, List, [], ◌∷◌, ◌++◌, map, filter, codes, Bool, true, false, ◌&&◌, if◌then◌else◌, Option, Some, None, is_some, IsSome, IsTrue, refl, sym, ap, subst, ◌∙◌, arith}
 use Rattle.std.specs.Prelude.{nat_eq, nat_le}
 use Rattle.std.specs.List.{list_all, flat_map, AllByRecursion}
@@ -50,11 +50,11 @@ clash b yes_it no_it = absurd (let e = sym yes_it ∙ no_it in cc)
 
 -- ---- one row
 
--- the row's texts are names, and its number fits a u32
+-- the row's texts are valid names, and its number fits a u32
 abbrev IsProper : Row → Type 0
 IsProper row = IsTrue (is_named row) × (elim row as (λ _. Type 0) [ SetRow kind name n ↦ n < 2 ^ 32 | _ ↦ Unit {0} ])
 
--- the numbers of a good state are no greater than the members of a set
+-- the rows of a good state are such: no cardinality is greater than the number of members
 pub proper_row : (S : RbacState) → IsGood S → names.AreNamed S → (row : Row) → IsTrue (has_row S row) → IsProper row
 unfolding has_row
 proper_row S good named (NameRow k a) has = (named (NameRow k a) has, tt)
@@ -81,7 +81,7 @@ proper_row S good named (SetRow k a n) has = (named (SetRow k a n) has, small)
 abbrev AllProper : List Row → Type 0
 AllProper rows = AllByRecursion IsProper rows
 
--- a kind of which there is a table is one of those that the column may have
+-- a kind that has a table is one of those that the column may have
 abbrev in_range : ℕ → ℕ → Bool
 in_range most kind = nat_le 1 kind && nat_le kind most
 
@@ -357,7 +357,7 @@ module _ (found : Found) (S : RbacState) (good : IsGood S) (is_named : names.Are
   of_state : (others : List Row) → IsPermutation (rows_found found) others → AreRowsOf S others
   of_state others same = rows_of_same S has.rows others (IsPermutation-trans has.rows (rows_found found) others read_rows same) has.rows_are
 
-  -- the state is found, so nothing is refused but for want of memory
+  -- the state is found, so nothing is refused except by Memory
   is_found : IsStateFound found S
   is_found = record {
     reached = (office, known_versions, locks);
@@ -371,7 +371,7 @@ module _ (found : Found) (S : RbacState) (good : IsGood S) (is_named : names.Are
   nothing_refused : (refusal : Refusal) → RefusesFound found refusal → refusal ≡ Memory
   nothing_refused = found_refused found S is_found
 
-  -- and the state is the one
+  -- and no other state is found
   no_other : (T : RbacState) → IsStateFound found T → T ≡ S
   no_other T it =
       let ours = of_state it.rows it.same in

@@ -1,4 +1,4 @@
--- What was found is judged in its order.
+-- What was found is judged in the order of Opening.antt.
 use Rattle.std.proofs.Common.{◌≡◌, ◌⊎◌, inl, inr, ℕ, zero, suc, ℤ, List, [], ◌∷◌, ◌++◌, Bool, true, false, ◌&&◌, Option, Some, None, is_none, IsTrue, refl, sym, ap, subst, ◌∙◌, arith}
 use Rattle.std.specs.List.{Contains, list_all, list_any}
 use Rattle.std.specs.List.Sorted.{IsPermutation}
@@ -24,7 +24,7 @@ use Rattle.role_tables.proofs.OfficeTables.There.{some_there, there_some}
 pub clash : {A : Type 0} (b : Bool) → b ≡ true → b ≡ false → A
 clash b yes_it no_it = absurd (let e = sym yes_it ∙ no_it in cc)
 
--- a test that all elements pass is passed by each
+-- if all elements pass a test, each of them does
 pub passes_each : {A : Type 0} (p : A → Bool) (xs : List A) (x : A) → list_all p xs ≡ true → Contains xs x → p x ≡ true
 passes_each p [] x all (k, low, is) = absurd (omega (arith, low))
 passes_each p (y ∷ ys) x all (zero, low, is) = subst (λ z. p z ≡ true) is (and_parts (p y) (list_all p ys) all).0
@@ -79,7 +79,7 @@ module _ (db : Database) (metas : Metas) (five : HasFive (held_in db)) (so : See
     | inr second ↦ rw second.0 (five Names refl, (five Pairs refl, (five Grants refl, (five Sets refl, (some_there db Locks second.2, tt)))))
   ]
 
-  -- an office of version 2 is seen, and no other is
+  -- an office of version 2 is recognized, and no other is
   pub second_seen : (metas.is_tagged && (is_none metas.unknown && metas.is_second)) ≡ true → IsSecond found
   second_seen all =
       let one = and_parts metas.is_tagged _ all in
@@ -111,7 +111,7 @@ all_true (row ∷ rows) = all_true rows
 both_true : (a b : Bool) → a ≡ true → b ≡ true → (a && b) ≡ true
 both_true a b x y = rw (x, y) refl
 
--- a test of each table of rows is passed, where it is of each table but meta_row
+-- if meta_row and the tables with rows of the state pass a test, each table of the version does
 each_row_table : (test : StoredTable → Bool) (version : ℕ) → (version ≡ 1) ⊎ (version ≡ 2) → list_all test (row_tables version) ≡ true → test Meta ≡ true → (table : StoredTable) → IsTrue (is_wanted version table) → test table ≡ true
 each_row_table test version known all first = each_of test version known (with_rows test version ∙ both_true (test Meta) (list_all test (row_tables version)) first all)
 

@@ -1,4 +1,4 @@
--- What is seen of the rows of meta_row, and that it does not hang on their order.
+-- What is kept of the rows of meta_row, and that it doesn't depend on their order.
 use Rattle.std.proofs.Common.{◌≡◌, inl, inr, ℕ, suc, ℤ, ◌≤ℤ◌, List, [], ◌∷◌, ◌++◌, length, Bool, true, false, not, ◌&&◌, ◌||◌, Option, Some, None, IsTrue, All, refl, sym, ap, subst, ◌∙◌, arith, nat_eq}
 use Rattle.std.specs.List.{list_all, list_any, Contains}
 use Rattle.std.specs.Int.Signed.{lt_z, ≤ℤ_refl}
@@ -70,7 +70,7 @@ single_more (x ∷ xs) y =
 none_more : (xs : List Row) (y : Row) → nat_eq (length (xs ++ y ∷ [])) 0 ≡ false
 none_more xs y = ap (λ n. nat_eq n 0) (length_more xs y) ∙ differ (suc (length xs)) 0 (λ e. omega (arith, e))
 
--- ---- the least number that is no version
+-- ---- the least number that is no known version
 
 abbrev IsBelow : ℤ → ℤ → Type 0
 IsBelow n m = is_known_version m ≡ false → n ≤ℤ m
@@ -125,7 +125,7 @@ pub unknown_same : (xs ys : List ℤ) (least : Option ℤ) → IsPermutation xs 
 unknown_same xs ys None same so = sym (list_all-IsPermutation is_known_version xs ys same) ∙ so
 unknown_same xs ys (Some n) same so = record { there = Contains-permutation xs ys n same so.there; unknown = so.unknown; least = All-permutation (IsBelow n) xs ys same so.least }
 
--- ---- what is seen
+-- ---- what is kept
 
 pub sees_more : (xs : List Row) (y : Row) (a b : Metas) → Sees xs a → SeesMore y a b → Sees (xs ++ y ∷ []) b
 sees_more xs y a b so more = record {

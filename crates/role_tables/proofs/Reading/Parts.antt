@@ -70,10 +70,10 @@ part_alone w n r a b one = record {
   kept = λ whole named. let first = one.kept whole named in (first.0, subst (λ l. IsPermutation l first.0) (sym (append-nil r)) first.1, first.2);
 }
 
--- ---- one reading after another, each of which finds what it reads where W holds
+-- ---- one reading after another, each of which succeeds if W holds
 
 module _ (old mid new : State) (W V : Type 0) (Q : Found → Type 0) where
-  -- what holds of what was found holds after the first reading
+  -- what holds of what is found holds after the first reading, which changes nothing
   pub after_first : IsUnchanged old mid → Q (held_in old.now) → Q (held_in mid.now)
   after_first same holds = subst (λ (db : Database). Q (held_in db)) (sym same.0.now_is) holds
 

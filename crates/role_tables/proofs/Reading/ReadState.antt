@@ -1,4 +1,4 @@
--- The state that is read: what was seen of meta_row, then the rows, over what was found first.
+-- Reading the state: meta_row, then the other tables, of the database as it was at the start.
 use Rattle.std.proofs.Common.{◌≡◌, ◌⊎◌, inl, ℕ, [], true, ◌&&◌, Result, Ok, Err, IfOk, IfErr, IsTrue, sym, subst, arith}
 use Rattle.rbac_sets.specs.declared.refusal.Refusal.{Refusal}
 use Rattle.sqlite.specs.Effect.{Database}

@@ -1,4 +1,4 @@
--- Where a good state is found, nothing is refused but for want of memory.
+-- If a good state is found, nothing is refused except by Memory.
 use Rattle.std.proofs.Common.{◌≡◌, inl, inr, List, refl, sym, subst}
 use Rattle.std.specs.List.Sorted.{IsPermutation}
 use Rattle.std.proofs.lemmas.List.Sorted.{IsPermutation-sym, IsPermutation-trans}

@@ -38,7 +38,7 @@ refuses_no_more old S refusal good named stands (inr bad) = inl (memory_alone ol
 pub kept_as_before : (old new : State) → (IsTrue old.is_open → old.now ≡ old.committed) → (IsTrue new.is_open → new.now ≡ new.committed) → KeepsCommit old new → HoldsAsBefore old new
 kept_as_before old new settled_old settled_new kept is_open = settled_new is_open ∙ kept.committed is_open ∙ sym (settled_old (kept.was_open is_open))
 
--- a stop leaves the state that stood, or the one that the call was to lead to
+-- a crash leaves the state that was durable, or the one that the call was to lead to
 pub leaves_either : (old new : State) (S T : RbacState) → Stands old S → ((trees : Trees) → new.may_leave trees → old.may_leave trees ⊎ LeavesState T trees) → LeavesEither new S T
 leaves_either old new S T stands left trees may = elim (left trees may) [ inl before ↦ inl (stands.left trees before) | inr after ↦ inr after ]
 
@@ -46,12 +46,12 @@ leaves_either old new S T stands left trees may = elim (left trees may) [ inl be
 pub second_found : (found : Found) (S : RbacState) → IsStateFound found S → S.version ≡ 2 → IsSecond found
 second_found found S it two = (it.reached.0, it.reached.1, sym it.state.version_is ∙ two)
 
--- what an opening refuses is refused where no office of version 2 is there
+-- a migration is refused as an opening is, if no office of version 2 is there
 pub refused_first : (found : Found) (refusal : Refusal) → (IsSecond found → ⊥) → (refusal ≡ Store) ⊎ RefusesFound found refusal → RefusesMigration found refusal
 refused_first found refusal none (inl store) = inl store
 refused_first found refusal none (inr bad) = inr (inr (inr (bad, none)))
 
--- a stop leaves the state of version 1 that stood, or the same in version 2, to which the call was to lead
+-- a crash leaves the state of version 1 that was durable, or the same in version 2, to which the call was to lead
 pub leaves_either_version : (old new : State) (S : RbacState) → S.version ≡ 1 → Stands old S → ((trees : Trees) → new.may_leave trees → old.may_leave trees ⊎ LeavesState (taken_into_version_2 S) trees)
     → (trees : Trees) → new.may_leave trees → LeavesState S trees ⊎ ((S.version ≡ 1) × LeavesState (taken_into_version_2 S) trees)
 leaves_either_version old new S one stands left trees may = elim (left trees may) [ inl before ↦ inl (stands.left trees before) | inr after ↦ inr (one, after) ]

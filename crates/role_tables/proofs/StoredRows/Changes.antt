@@ -1,4 +1,4 @@
--- What a change of a row makes of the rows of the tables.
+-- What a change of a row does to the rows of the tables.
 use Rattle.std.proofs.Common.{◌≡◌, inl, inr, ℕ, ℤ, pos, ◌==◌, List, [], ◌∷◌, ◌++◌, map, filter, if◌then◌else◌, Bool, true, false, not, IsTrue, Ordering, Less, Equal, Greater, refl, sym, ap, ap₂, ◌∙◌}
 use Rattle.std.proofs.lemmas.Bool.{cases_Bool}
 use Rattle.std.proofs.lemmas.Cmp.{tied_itself}
@@ -115,7 +115,7 @@ pub cells_tell : (a b : Row) → table_of (stored a) ≡ table_of (stored b) →
 cells_tell a b table values =
     sym (row_again a) ∙ ap row_of (sym (back_again (stored a)) ∙ ap₂ read_back table values ∙ back_again (stored b)) ∙ row_again b
 
--- the tables' test of a row is the office's
+-- the tables' test for equal rows agrees with the office's
 pub same_cells : (a b : Row) → table_of (stored a) ≡ table_of (stored b) → same_row (cells_of b) (cells_of a) ≡ change.same_row a b
 same_cells a b table = elim (cases_Bool (change.same_row a b)) [
   | inl same ↦ rw same (rw (same_row-is a b same) ((Equal-is _).1 (tied_itself row_cmp_total (cells_of a))))
@@ -131,7 +131,7 @@ same_cells a b table = elim (cases_Bool (change.same_row a b)) [
 pub same_of_kind : (a b : Row) → change.same_row a b ≡ true → table_of (stored a) ≡ table_of (stored b)
 same_of_kind a b same = ap (λ r. table_of (stored r)) (sym (same_row-is a b same))
 
--- ---- what a change makes of the tables' rows
+-- ---- what a change does to the tables' rows
 
 mapped_filter : {A B : Type 0} (f : A → B) (p : A → Bool) (x : A) (xs : List A) (b : Bool) → p x ≡ b → map f (filter p (x ∷ xs)) ≡ (if b then f x ∷ map f (filter p xs) else map f (filter p xs))
 mapped_filter f p x xs true is = rw is refl

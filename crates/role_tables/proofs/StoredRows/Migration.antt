@@ -48,7 +48,7 @@ same_rows S none (GrantRow a b c) = refl
 same_rows S none (SetRow kind a n) = refl
 same_rows S none (LockedRow a) = ap (λ s. contains s a) (sym none)
 
--- of a state without locks no row is of the table of locks
+-- a state without locks has no row in the table of locks
 no_locks : (rows : List Row) → ((a : List ℕ) → is_among rows (LockedRow a) ≡ false) → map cells_of (filter (is_of Locks) rows) ≡ []
 no_locks [] none = refl
 no_locks (NameRow kind a ∷ rows) none = no_locks rows none
@@ -121,7 +121,7 @@ lock_row : (S : RbacState) (x : List ℕ) → has_row S (LockedRow x) ≡ contai
 unfolding has_row
 lock_row S x = refl
 
--- the tables hold the state in version 2 once the table of locks is made and the version is changed
+-- the tables hold the state in version 2 once the table of locks is created and the version is changed
 pub migrated : (old a b new : State) → StageAfter old a (Locks ∷ []) → TakesVersion 1 a b → PutsVersion 2 b new → (S : RbacState) → S.version ≡ 1 → IsGood S → may_lock old.now.schema ≡ true → HoldsState old.now S → HoldsState new.now (taken_into_version_2 S)
 migrated old a b new made taken put S first good may held =
     let none = good.no_locks first in

@@ -1,4 +1,4 @@
--- The trees of a database list its tables, so two databases of the same trees hold the same states.
+-- The trees of a database list its tables, so two databases with the same trees hold the same states.
 use Rattle.std.proofs.Common.{◌≡◌, ℕ, ◌+◌, pos, List, [], ◌∷◌, map, slice_get, Some, false, IsTrue, refl, sym, ap, subst, ◌∙◌, arith}
 use Rattle.std.specs.List.{AllZip, list_any, position_from}
 use Rattle.std.specs.List.Sorted.{IsPermutation}
@@ -23,7 +23,7 @@ same_text row a b one two = cc
 same_tree : (row : Row) (a b : ℕ) → rowid row ≡ Int (pos (a + 1)) → rowid row ≡ Int (pos (b + 1)) → a ≡ b
 same_tree row a b one two = let e : a + 1 ≡ b + 1 = cc in omega arith
 
--- a row of the list tells one table: its text defines it, and its rowid is the tree's number
+-- a row of the list determines one table: its text defines it, and its rowid is the tree's number
 one_table : (row : Row) (t u : Table) → IsTableRow row t → IsTableRow row u → t ≡ u
 one_table row t u a b =
     let text = same_text row a.sql b.sql a.sql_is b.sql_is in
@@ -31,7 +31,7 @@ one_table row t u a b =
     let m : a.defined.0 ≡ b.defined.0 = cc in
     a.defined.2 ∙ ap (λ (x : Table). record x { tree = t.tree }) m ∙ ap (λ k. record b.defined.0 { tree = k }) tree ∙ sym b.defined.2
 
--- and the list tells all tables, in order
+-- and the list determines all tables, in order
 pub listed_tables : (rows : List Row) (ts us : List Table) → AllZip IsTableRow rows ts → AllZip IsTableRow rows us → ts ≡ us
 listed_tables [] [] [] a b = refl
 listed_tables [] [] (u ∷ us) a b = absurd b
@@ -70,7 +70,7 @@ module _ (old new : Database) (was : IsDatabase old) (is : IsDatabase new) (same
 pub same_trees_hold_same : SameTreesHoldSame
 same_trees_hold_same S trees db left is same = holds_state left.0 db left.2.tables.sound is (sym left.1 ∙ sym same) S left.2
 
--- An open connection outside a transaction holds what was committed, and a stop leaves that alone.
+-- An open connection outside a transaction holds what was committed, and a crash leaves that alone.
 pub finds_what_was_left : (s : State) → IsLive s → (s.in_transaction ≡ false → IsTrue s.is_open → s.now ≡ s.committed) → (IsTrue s.is_open → (trees : Trees) → s.may_leave trees → trees ≡ s.committed.trees) → FindsWhatWasLeft s
 finds_what_was_left s live settled alone S trees left is_open outside same =
     let held = same_trees_hold_same S trees s.now left (live is_open).0 same in

@@ -1,4 +1,4 @@
--- What the statements of changes, run inside a transaction, make of the tables.
+-- What the statements of changes do to the tables inside a transaction.
 use Rattle.std.proofs.Common.{◌≡◌, ℕ, ◌+◌, ◌<◌, Bool, List, length, get_or, take, inl, inr, false, Ok, Err, Result, OnOk, IsTrue, refl, sym, ap, subst, ◌∙◌, arith}
 use Rattle.std.proofs.lemmas.List.Sums.{fold_more}
 use Rattle.std.proofs.lemmas.List.{take_all}
@@ -43,7 +43,7 @@ changed_tables old new (Take row) count ran version rows wanted held = holds_sam
 ok_is_no_error : {count : ℕ} {e : Error} → ◌≡◌ {A = Result ℕ Error} (Ok count) (Err e) → ⊥
 ok_is_no_error e = cc
 
--- what a statement that answered Ok made of the database
+-- what a statement that returned Ok did to the database
 pub made_inside : (old new : State) (text : List ℕ) (values : sql.Row) (r : Result ℕ Error) (Made : Type 0) → ((count : ℕ) → Executes text values old new (Ok count) → IsTrue old.is_open → new.in_transaction ≡ old.in_transaction → Made)
     → (old.in_transaction ≡ false → r ≡ Err (SqliteFailure TransactionState)) → (IsTrue old.in_transaction → ExecutesInside 0 text values old new r) → OnOk r Made
 made_inside old new text values (Err e) Made makes ended runs = tt

@@ -1,4 +1,4 @@
--- What a transaction leaves, and what the changes of a plan make of a database that holds a state.
+-- What a transaction leaves, and what the changes of a plan do to a database that holds a state.
 use Rattle.std.proofs.Common.{◌≡◌, ℕ, List, [], ◌∷◌, inl, inr, true, false, not, ◌&&◌, Ok, Err, Result, OnOk, OnErr, IfErr, IsTrue, refl, sym, ap, subst, ◌∙◌, arith}
 use Rattle.std.specs.Prelude.{nat_eq}
 use Rattle.std.proofs.lemmas.Bool.{cases_Bool, or_right, or_left, eqb-true}
@@ -46,7 +46,7 @@ module _ {S : Type 0} (g : Ghosts S) (old : Held S) (mid end : State) (Is : Data
         left = λ trees may. elim (whole.crash clean trees may) [ inl before ↦ inl before | inr none ↦ absurd none ];
       })
 
-  -- one that came to its commit
+  -- one that reached its commit
   pub transaction_ended : (r : Result (Unit {0}) Error) → HasCleanDisk end → (HasCleanDisk mid → KeepsCommit (state g (record old { in_transaction = true })) mid) → Is mid.now
       → ((trees : Trees) → IsTrue end.is_open → end.may_leave trees → trees ≡ end.committed.trees)
       → OnOk r (IsTrue mid.in_transaction × Shows mid end mid.now mid.now false × KeepsCounts mid end × (end.marks ≡ [])) → IfErr r (FailsToCommit mid end) → IsTrue mid.in_transaction
@@ -84,7 +84,7 @@ module _ {S : Type 0} (g : Ghosts S) (old : Held S) (mid end : State) (Is : Data
 abbrev IsKnown : ℕ → Row → Type 0
 IsKnown version row = IsTrue (is_wanted version (table_of (stored row)))
 
--- a good state has no row that its version has no table for
+-- each row of a good state has a table in its version
 pub known_row : (S : RbacState) → IsGood S → (row : Row) → IsTrue (has_row S row) → IsKnown S.version row
 unfolding has_row
 known_row S good (NameRow kind a) has = refl

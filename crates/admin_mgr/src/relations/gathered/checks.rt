@@ -1,4 +1,4 @@
-//! What is asked of the gathered sets before the hierarchy is made.
+//! The checks of the sets that stored rows make, before the role hierarchy is built.
 ghost use Rattle.std.specs.Prelude.{◌≡◌, ◌⊎◌, ◌||◌, ◌&&◌, nat_lt};
 ghost use Rattle.rbac_sets.specs.Sets.{Pair, Triple, all, any, contains, same_name, name_cmp, pair_cmp, triple_cmp};
 ghost use Rattle.rbac_sets.specs.SortedSet.{set_of};
@@ -11,7 +11,7 @@ use crate::lookup::{are_among, are_firsts_in, are_seconds_in, has_first};
 use crate::relations::gathered::Gathered;
 use rbac_sets::{CountSet, GrantSet, Kind, NameSet, PairSet, Refusal};
 
-// The kinds in the order in which their limits are asked.
+// The kinds whose limits are checked, in this order.
 const LIMITED: [Kind; 12] = [
     Kind::User,
     Kind::Role,
@@ -28,8 +28,8 @@ const LIMITED: [Kind; 12] = [
 ];
 
 impl Gathered {
-    // Why the sets are refused: by `TooMany` where a limit is passed, then by `Damaged(3)` where a row
-    // speaks of what isn't there, then by `Damaged(4)` where a session has two users.
+    // Why the sets are refused: by `TooMany` if a limit is exceeded, then by `Damaged(3)` if a row refers to
+    // something that doesn't exist, then by `Damaged(4)` if a session has two users.
     pub(crate) fn early_refusal(&self) -> Option<Refusal>
         requires { (self.now.facts.version ≡ 1) ⊎ (self.now.facts.version ≡ 2) }
         ensures { result ≡ early_refusal self.now }
@@ -46,7 +46,7 @@ impl Gathered {
         None
     }
 
-    // The first limit that is passed.
+    // The first kind whose limit is exceeded.
     fn first_passed(&self) -> Option<Kind>
         requires { (self.now.facts.version ≡ 1) ⊎ (self.now.facts.version ≡ 2) }
         ensures { result ≡ first_passed self.now.facts }
@@ -54,7 +54,7 @@ impl Gathered {
         LIMITED.iter().copied().find(|kind| self.is_passed(*kind))
     }
 
-    // Whether there is more of the kind than its limit.
+    // Whether the limit of the kind is exceeded.
     fn is_passed(&self, kind: Kind) -> bool
         requires { (self.now.facts.version ≡ 1) ⊎ (self.now.facts.version ≡ 2) }
         ensures { result ≡ is_passed self.now.facts kind }
@@ -80,7 +80,7 @@ impl Gathered {
         }
     }
 
-    // Whether what a row speaks of is there.
+    // Whether each user, role, object, permission, session and set that a row refers to exists.
     fn is_complete(&self) -> bool
         ensures { result ≡ is_complete self.now }
     {
@@ -90,7 +90,7 @@ impl Gathered {
             && self.are_sessions_complete()
     }
 
-    // Whether what permissions, grants, assignments and locks speak of is there.
+    // Whether what permissions, grants, assignments and locks refer to exists.
     fn is_core_complete(&self) -> bool
         ensures { result ≡ is_core_complete self.now.facts }
     {
@@ -102,7 +102,7 @@ impl Gathered {
             && are_among(&self.locked, &self.users)
     }
 
-    // Whether what the hierarchy speaks of is there.
+    // Whether the roles of edges and closure pairs exist.
     fn is_hierarchy_complete(&self) -> bool
         ensures { result ≡ is_hierarchy_complete self.now }
     {
@@ -112,7 +112,7 @@ impl Gathered {
             && are_seconds_in(&self.roles, &self.pairs)
     }
 
-    // Whether what separation of duty sets speak of is there.
+    // Whether the sets and roles of members of separation of duty sets exist.
     fn are_sets_complete(&self) -> bool
         ensures { result ≡ are_sets_complete self.now.facts }
     {
@@ -122,7 +122,7 @@ impl Gathered {
             && are_seconds_in(&self.roles, &self.dsd_members)
     }
 
-    // Whether what sessions speak of is there.
+    // Whether the users of sessions, and the sessions and roles of activated roles, exist.
     fn are_sessions_complete(&self) -> bool
         ensures { result ≡ are_sessions_complete self.now.facts }
     {
@@ -143,7 +143,7 @@ impl Gathered {
     }
 }
 
-// Whether some first name has more pairs than so many.
+// Whether more pairs than the limit begin with one name.
 #[tactic(auto, unfolding(rbac_sets::specs::Sets::any))]
 fn has_more_behind(pairs: &PairSet, limit: usize) -> bool
     ensures { result ≡ has_more_behind limit (set_of pair_cmp pairs.now) }
@@ -154,7 +154,7 @@ fn has_more_behind(pairs: &PairSet, limit: usize) -> bool
         .any(|pair| member_count(pairs, &pair.0) > limit)
 }
 
-// Whether each grant is one of a permission.
+// Whether each grant is one of a permission that exists.
 #[tactic(auto, unfolding(rbac_sets::specs::Sets::all))]
 fn have_permissions(permissions: &PairSet, grants: &GrantSet) -> bool
     ensures { result ≡ all (λ (grant : Triple). contains (set_of pair_cmp permissions.now) (grant.0, grant.1)) (set_of triple_cmp grants.now) }
@@ -165,7 +165,7 @@ fn have_permissions(permissions: &PairSet, grants: &GrantSet) -> bool
         .all(|grant| permissions.contains((&grant.0, &grant.1)))
 }
 
-// Whether each grant is one to a role.
+// Whether each grant is one to a role that exists.
 #[tactic(auto, unfolding(rbac_sets::specs::Sets::all))]
 fn have_roles(roles: &NameSet, grants: &GrantSet) -> bool
     ensures { result ≡ all (λ (grant : Triple). contains (set_of name_cmp roles.now) grant.2) (set_of triple_cmp grants.now) }
@@ -176,7 +176,7 @@ fn have_roles(roles: &NameSet, grants: &GrantSet) -> bool
         .all(|grant| roles.contains(&grant.2))
 }
 
-// Whether each member is one of a set that has a cardinality.
+// Whether each member belongs to a set that has a cardinality.
 #[tactic(auto, unfolding(rbac_sets::specs::Sets::all))]
 fn have_sets(members: &PairSet, cardinalities: &CountSet) -> bool
     ensures { result ≡ have_sets (separation_of members.now cardinalities.now) }
@@ -187,7 +187,7 @@ fn have_sets(members: &PairSet, cardinalities: &CountSet) -> bool
         .all(|member| has_set(cardinalities, &member.0))
 }
 
-// Whether each activated role is one of a session.
+// Whether each activated role belongs to a session that exists.
 #[tactic(auto, unfolding(rbac_sets::specs::Sets::all))]
 fn have_sessions(active: &PairSet, sessions: &PairSet) -> bool
     ensures { result ≡ all (λ (pair : Pair). any (λ session. same_name session.0 pair.0) (set_of pair_cmp sessions.now)) (set_of pair_cmp active.now) }

@@ -98,7 +98,7 @@ returns-in-Err-clause-named g c store =
     let planned : IsPlanOf S c.args.command.now c.in_ok-plan.plan = subst (λ S. IsPlanOf S c.args.command.now c.in_ok-plan.plan) facts c.in_ok-plan.ensures.planned in
     named_turns S (after S c.args.command.now) c.in_ok-plan.plan.changes.items planned.leads.rows (subst AreNamed facts c.self.invariant.2) c.is_named.ensures
 
--- ---- one event more of the run
+-- ---- the run with one event added
 
 pub returns-in_err-plan-clause-run : goal.returns-in_err-plan-clause-run
 returns-in_err-plan-clause-run g c =
