@@ -23,7 +23,7 @@ returns-in-Ok-clause-stopped g c one =
 
 -- An allocation failed before anything was chosen.
 pub returns-in-Err-Memory-clause-told : goal.returns-in-Err-Memory-clause-told
-returns-in-Err-Memory-clause-told g c _ = (Refused Memory, (no_memory_line, tt, c.tell_no_memory.ensures))
+returns-in-Err-Memory-clause-told g c _ = (Refused Memory, (no_memory_line, tt, c.report_no_memory.ensures))
 
 pub returns-in-Err-Fault-clause-told : goal.returns-in-Err-Fault-clause-told
 returns-in-Err-Fault-clause-told g c stopped = (Refused Memory, (no_memory_line, tt, c.explain.ensures.told stopped))
