@@ -29,15 +29,3 @@ if_err-join (Err e) P Q Z one other step = step e one other
 pub if_err-three : {T E : Type 0} (r : Result T E) (P Q R Z : E → Type 0) → IfErr r P → IfErr r Q → IfErr r R → ((e : E) → P e → Q e → R e → Z e) → IfErr r Z
 if_err-three (Ok t) P Q R Z one two three step = tt
 if_err-three (Err e) P Q R Z one two three step = step e one two three
-<<<<<<< HEAD
-=======
-
--- what follows from a fact of a value, and of an error
-pub if_ok-then : {T E : Type 0} (r : Result T E) (P Q : T → Type 0) → IfOk r P → ((t : T) → P t → Q t) → IfOk r Q
-if_ok-then (Ok t) P Q holds step = step t holds
-if_ok-then (Err e) P Q holds step = tt
-
-pub if_err-then : {T E : Type 0} (r : Result T E) (P Q : E → Type 0) → IfErr r P → ((e : E) → P e → Q e) → IfErr r Q
-if_err-then (Ok t) P Q holds step = tt
-if_err-then (Err e) P Q holds step = step e holds
->>>>>>> main

@@ -40,14 +40,7 @@ module _ {S : Type 0} (shown : Held S → State) where
   open_then statuses status open_before open_now =
       list_any-append is_closing statuses (status ∷ []) ∙ ap (λ b. b || (is_closing status || false)) open_before ∙ or_none (is_closing status) ∙ open_now
 
-<<<<<<< HEAD
-  -- ---- the run goes on
-=======
-  pub weaker : (limit : ℕ) (All More : Type 0) (old new : Opened S) → (More → All) → AreServedUpTo shown limit All old new → AreServedUpTo shown limit More old new
-  weaker limit All More old new step it = record { statuses = it.statuses; served = it.served; within = it.within; ends = it.ends; all = λ more. it.all (step more) }
-
   -- ---- the run continues
->>>>>>> main
 
   pub same_continues : (old new : Opened S) → new ≡ old → Continues shown old new
   same_continues old new same = subst (Continues shown old) (sym same) (record { clean = λ clean. clean; runs = same_run shown old })
