@@ -2,10 +2,10 @@
 # Fails each allocation of a test in turn. Whichever it is, the test has to pass. One is of `admin_mgr`: it runs
 # commands on a state, and if an allocation fails compares the state with the one before, runs other commands, and
 # then the same one again. Two are of `role_wire`: lines are replayed and a request is served on an office in memory.
-# They are in the crates `memory_calls` and `office_calls`.
+# They are in the crates `memory_tests` and `office_tests`.
 
 # The built tests of the crates, which `rt ci` leaves there, are the programs.
-RBAC_PROGRAM=$(dirname "$0")/../crates/memory_calls/out/memory_calls_tests
+RBAC_PROGRAM=$(dirname "$0")/../crates/memory_tests/out/memory_calls_tests
 . "$(dirname "$0")/common"
 
 # More allocations than a test makes.
@@ -39,8 +39,8 @@ refuse_each() {
 
 make_shim
 # The commands, and what is shown of the state between them, make some 800 allocations.
-refuse_each memory_calls state::refused::refused_memory_changes_nothing 700
+refuse_each memory_tests state::refused::refused_memory_changes_nothing 700
 # Most allocations are for the office.
-refuse_each office_calls refused::refused_memory_stops_a_replay 700
-refuse_each office_calls refused::refused_memory_is_told_or_stops_a_request 700
+refuse_each office_tests refused::refused_memory_stops_a_replay 700
+refuse_each office_tests refused::failed_allocations_are_answered_or_stop_a_request 700
 finish

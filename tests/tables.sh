@@ -4,7 +4,7 @@
 # tables.sh [-- WORD]      with WORD those that have it in their names
 
 folder=tables
-crates='rbac_sets role_order order_table admin_mgr review_mgr role_tables'
+crates='rbac_sets role_order order_matrix admin_mgr review_mgr role_tables'
 libraries='sqlite sqlite_disk'
 readers='office/answers office/asking office/beginnings office/script office/showing office/drawn/drawing'
 . "$(dirname "$0")/trying"

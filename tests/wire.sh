@@ -5,7 +5,7 @@
 # wire.sh [-- WORD]      with WORD those that have it in their names
 
 folder=wire
-crates='rbac_sets role_order order_table admin_mgr review_mgr role_tables role_csv role_json role_http role_wire'
+crates='rbac_sets role_order order_matrix admin_mgr review_mgr role_tables role_csv role_json role_http role_wire'
 libraries='sqlite sqlite_disk'
 readers='office/answers office/asking office/beginnings office/narrow office/script office/showing tables/files
     tables/offices'

@@ -192,12 +192,12 @@ impl Office {
         }
         let of_user = |user: &String| with_first(&self.assignments, user);
         let users = self.users.iter().map(of_user);
-        if let Some(set) = self.first_broken(Separation::Static, users, asc, desc) {
+        if let Some(set) = self.first_violated(Separation::Static, users, asc, desc) {
             return Some(StaticSeparation(set.clone()));
         }
         let of_session = |session: &Pair| with_first(&self.active, &session.0);
         let sessions = self.sessions.iter().map(of_session);
-        let violated = self.first_broken(Separation::Dynamic, sessions, asc, desc);
+        let violated = self.first_violated(Separation::Dynamic, sessions, asc, desc);
         violated.map(|set| DynamicSeparation(set.clone()))
     }
 
@@ -212,7 +212,7 @@ impl Office {
     }
 
     /// The first set that one of these holders of roles would violate with `desc` below `asc`.
-    fn first_broken<'a>(
+    fn first_violated<'a>(
         &'a self,
         kind: Separation,
         holders: impl Iterator<Item = &'a [Pair]>,
@@ -236,12 +236,12 @@ impl Office {
             numbers
         };
         let runs: Vec<Vec<usize>> = holders.iter().map(with_desc).collect();
-        let is_broken = |set: &str, cardinality: u32| {
+        let is_violated = |set: &str, cardinality: u32| {
             let members = second_numbers(&self.roles, self.members(kind, set));
             members.iter().any(|member| table.geq(desc, *member))
                 && !table.keep_below(&runs, &members, cardinality)
         };
-        sets.iter().find(|(set, cardinality)| is_broken(set, *cardinality)).map(|entry| &entry.0)
+        sets.iter().find(|(set, cardinality)| is_violated(set, *cardinality)).map(|entry| &entry.0)
     }
 
     fn refuse_as(kind: Separation, set: &str) -> Refusal {

@@ -31,7 +31,7 @@ fn are_seconds_in(names: &[String], pairs: &[Pair]) -> bool {
     pairs.iter().all(|pair| has_name(names, &pair.1))
 }
 
-fn has_more_behind(pairs: &[Pair], limit: usize) -> bool {
+fn has_more_with_first(pairs: &[Pair], limit: usize) -> bool {
     pairs.iter().any(|pair| with_first(pairs, &pair.0).len() > limit)
 }
 
@@ -126,10 +126,10 @@ impl Office {
             self.edges.len() > limit::EDGES => Unfit::TooMany("edge"),
             statics.cardinalities.len() > limit::SETS => Unfit::TooMany("ssdSet"),
             dynamics.cardinalities.len() > limit::SETS => Unfit::TooMany("dsdSet"),
-            has_more_behind(&statics.members, limit::MEMBERS)
-                || has_more_behind(&dynamics.members, limit::MEMBERS) => Unfit::TooMany("member"),
+            has_more_with_first(&statics.members, limit::MEMBERS)
+                || has_more_with_first(&dynamics.members, limit::MEMBERS) => Unfit::TooMany("member"),
             self.sessions.len() > limit::SESSIONS => Unfit::TooMany("session"),
-            has_more_behind(&self.active, limit::ACTIVE_ROLES) => Unfit::TooMany("activeRole"),
+            has_more_with_first(&self.active, limit::ACTIVE_ROLES) => Unfit::TooMany("activeRole"),
         }
     }
 

@@ -147,7 +147,7 @@ def definitions_beside(path, name, rule):
 
 def check_openings(bench):
     """Each refusal of an opening has its row, and each check."""
-    path = CRATES / "role_tables/specs/Opening.antt"
+    path = CRATES / "role_tables/specs/OpeningChecks.antt"
     names = re.findall(r"^is_opening_refusal \(?(\w+).*= true", path.read_text(encoding="utf-8"), re.M)
     codes = {name: str(code) for code, (name, _) in sources.refusals().items()}
     wanted = {codes[name] for name in names} - {codes["Damaged"]}

@@ -16,7 +16,7 @@ REPLYING = [
     "role_http/src/answer.rt",
     "role_http/src/judge.rt",
     "role_http/src/status.rt",
-    "role_wire/src/made.rt",
+    "role_wire/src/prepared_reply.rt",
     "role_wire/src/serving.rt",
 ]
 

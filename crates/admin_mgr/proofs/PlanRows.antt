@@ -19,6 +19,6 @@ pub mod SeparationTurns
 pub mod SetCommandTurns
 pub mod SetRows
 pub mod StepLaws
-pub mod TakePlans
-pub mod TakenTogether
+pub mod RemovalPlans
+pub mod RemovedTogether
 pub mod TurnLaws

@@ -16,4 +16,4 @@ pub mod SessionLaws
 pub mod SetCommandLaws
 pub mod SetRowLaws
 pub mod SoundSetLaws
-pub mod TakeLaws
+pub mod RemovalLaws

@@ -1,6 +1,6 @@
 pub mod AskedLaws
-pub mod BreakLaws
-pub mod HeldLaws
+pub mod SetCommandViolations
+pub mod AuthorizationLaws
 pub mod InheritLaws
 pub mod KeepLaws
 pub mod NumberLaws

@@ -161,9 +161,9 @@ audit_may_not_be_activated : verdict at_the_till (AddActiveRole ann s1 audit) �
 unfolding at_the_till chief_of_both ann audit cash chief till s1 refusals verdict after changed least_violated is_kept_dynamically authorized_users seconds geq end_sessions may_go_on
 audit_may_not_be_activated = simp written
 
-audit_may_not_come_below_cash : verdict at_the_till (AddInheritance cash audit) ≡ Some (DynamicSeparation till)
+cash_may_not_inherit_audit : verdict at_the_till (AddInheritance cash audit) ≡ Some (DynamicSeparation till)
 unfolding at_the_till chief_of_both ann audit cash chief till s1 refusals verdict after changed least_violated is_kept_dynamically is_kept_statically authorized_users seconds geq end_sessions may_go_on
-audit_may_not_come_below_cash = simp written
+cash_may_not_inherit_audit = simp written
 
 -- a session ends with the last assignment that authorized one of its roles
 taken : RbacState

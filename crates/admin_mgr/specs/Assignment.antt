@@ -8,7 +8,7 @@ use Rattle.rbac_sets.specs.declared.refusal.Refusal.{Refusal}
 use Rattle.rbac_sets.specs.declared.refusal.Refusal.TheVariants.{NoUser, NoRole, AlreadyAssigned}
 use Rattle.admin_mgr.specs.RbacState.{RbacState, active_roles}
 use Rattle.admin_mgr.specs.Authorization.{is_authorized}
-use Rattle.admin_mgr.specs.Refusing.{refuse_if, refuse_unless, first, too_many, breaks_static}
+use Rattle.admin_mgr.specs.Refusals.{refuse_if, refuse_unless, first, too_many, violates_static}
 
 -- the session's user exists, is not locked, and is authorized for each role that was activated in the session
 unfoldable pub may_go_on : RbacState → Pair → Bool
@@ -36,7 +36,7 @@ assign_user_refusals S (user, role) =
 
 -- static separation is judged last, on the state after the assignment
 unfoldable pub assignment_refusals : RbacState → Pair → List (Option Refusal)
-assignment_refusals S pair = assign_user_refusals S pair ++ breaks_static (after_assignment S pair) ∷ []
+assignment_refusals S pair = assign_user_refusals S pair ++ violates_static (after_assignment S pair) ∷ []
 
 unfoldable pub assignment_verdict : RbacState → Pair → Option Refusal
 assignment_verdict S pair = first (assignment_refusals S pair)

@@ -7,7 +7,7 @@ use Rattle.rbac_sets.specs.declared.refusal.Refusal.{Refusal}
 use Rattle.admin_mgr.specs.RbacState.{RbacState}
 use Rattle.admin_mgr.specs.After.{after}
 use Rattle.admin_mgr.specs.Verdict.{verdict}
-use Rattle.admin_mgr.specs.Life.{assigns, grants_to}
+use Rattle.admin_mgr.specs.OfficeRun.{assigns, grants_to}
 
 -- a command may be refused so: by a code from 2 to 32, by 37 UserLocked, or by 51 Version
 abbrev pub refuses_commands : Refusal → Bool

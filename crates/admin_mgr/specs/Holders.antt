@@ -7,7 +7,7 @@ use Rattle.admin_mgr.specs.declared.holders.Runs.TheVariants.{OfUsers, OfSession
 use Rattle.admin_mgr.specs.declared.separation_of_duty.SeparationOfDuty.{SeparationOfDuty}
 use Rattle.admin_mgr.specs.declared.separation_of_duty.SeparationOfDuty.TheVariants.{Static, Dynamic}
 use Rattle.admin_mgr.specs.RbacState.{RbacState}
-use Rattle.admin_mgr.specs.Held.{run_of}
+use Rattle.admin_mgr.specs.private.HolderRoles.{run_of}
 
 -- for each user its assignments, or for each session its activated roles, as pairs (holder, role)
 abbrev pub runs_of : SeparationOfDuty → RbacState → List (List Pair)

@@ -5,7 +5,7 @@ use Rattle.rbac_sets.specs.declared.row.Change.{Change}
 use Rattle.rbac_sets.specs.declared.row.Change.TheVariants.{Put, Take}
 use Rattle.admin_mgr.specs.RbacState.{RbacState}
 use Rattle.admin_mgr.specs.Changes.{same_row, Turns}
-use Rattle.admin_mgr.specs.Checked.{AreRowsOf}
+use Rattle.admin_mgr.specs.RowChecks.{AreRowsOf}
 
 -- the rows after one change
 abbrev pub rows_by : List Row → Change → List Row

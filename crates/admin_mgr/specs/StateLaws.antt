@@ -4,8 +4,8 @@ use Rattle.rbac_sets.specs.declared.row.Row.{Row}
 use Rattle.admin_mgr.specs.RbacState.{RbacState, empty_state}
 use Rattle.admin_mgr.specs.Rows.{has_row}
 use Rattle.admin_mgr.specs.Good.{IsGood}
-use Rattle.admin_mgr.specs.Life.{taken_into_version_2}
-use Rattle.admin_mgr.specs.Checked.{AreReadable, AreRowsOf}
+use Rattle.admin_mgr.specs.OfficeRun.{migrated_to_version_2}
+use Rattle.admin_mgr.specs.RowChecks.{AreReadable, AreRowsOf}
 
 -- the empty state of either version is good
 abbrev pub EmptyIsGood : Type 0
@@ -17,7 +17,7 @@ EmptyHasNoRow = (version : ℕ) (row : Row) → has_row (empty_state version) ro
 
 -- a good state of version 1 that is migrated to version 2 is good
 abbrev pub MigratedIsGood : Type 0
-MigratedIsGood = (S : RbacState) → IsGood S → S.version ≡ 1 → IsGood (taken_into_version_2 S)
+MigratedIsGood = (S : RbacState) → IsGood S → S.version ≡ 1 → IsGood (migrated_to_version_2 S)
 
 -- each row of a good state is one that its version allows, and no two rows have the same key
 abbrev pub GoodRowsAreReadable : Type 0

@@ -12,7 +12,7 @@ use Rattle.rbac_sets.specs.declared.refusal.Refusal.TheVariants.{NoUser, UserExi
 use Rattle.role_order.specs.Order.{geq}
 use Rattle.admin_mgr.specs.RbacState.{RbacState, Separation, members_of, has_set, cardinality_of, is_below, has_session, active_roles}
 use Rattle.admin_mgr.specs.Authorization.{is_authorized}
-use Rattle.admin_mgr.specs.Refusing.{refuse_if, refuse_unless, first, too_many, breaks_static, breaks_dynamic}
+use Rattle.admin_mgr.specs.Refusals.{refuse_if, refuse_unless, first, too_many, violates_static, violates_dynamic}
 use Rattle.admin_mgr.specs.Assignment.{assignment_refusals}
 use Rattle.admin_mgr.specs.After.{after}
 
@@ -160,29 +160,29 @@ refusals S (RevokePermission object operation role) =
 refusals S (AssignUser user role) = assignment_refusals S (user, role)
 refusals S (DeassignUser user role) = wants_user S user ∷ wants_role S role ∷ refuse_unless (contains S.assignments (user, role)) NotAssigned ∷ []
 refusals S (AddInheritance asc desc) =
-    add_inheritance_refusals S asc desc ++ breaks_static (after S (AddInheritance asc desc)) ∷ breaks_dynamic (after S (AddInheritance asc desc)) ∷ []
+    add_inheritance_refusals S asc desc ++ violates_static (after S (AddInheritance asc desc)) ∷ violates_dynamic (after S (AddInheritance asc desc)) ∷ []
 refusals S (DeleteInheritance asc desc) = wants_role S asc ∷ wants_role S desc ∷ refuse_unless (contains S.edges (asc, desc)) NoEdge ∷ []
 refusals S (AddAscendant asc desc) = wants_role S desc ∷ wants_new_role S asc ∷ too_many S Role (len S.roles + 1) ∷ too_many S Edge (len S.edges + 1) ∷ []
 refusals S (AddDescendant asc desc) = wants_role S asc ∷ wants_new_role S desc ∷ too_many S Role (len S.roles + 1) ∷ too_many S Edge (len S.edges + 1) ∷ []
 refusals S (CreateSsdSet name roles cardinality) =
-    create_set_refusals S S.ssd SsdSet name (set_of name_cmp roles) cardinality ++ breaks_static (after S (CreateSsdSet name roles cardinality)) ∷ []
-refusals S (AddSsdRoleMember name role) = add_member_refusals S S.ssd name role ++ breaks_static (after S (AddSsdRoleMember name role)) ∷ []
+    create_set_refusals S S.ssd SsdSet name (set_of name_cmp roles) cardinality ++ violates_static (after S (CreateSsdSet name roles cardinality)) ∷ []
+refusals S (AddSsdRoleMember name role) = add_member_refusals S S.ssd name role ++ violates_static (after S (AddSsdRoleMember name role)) ∷ []
 refusals S (DeleteSsdRoleMember name role) = delete_member_refusals S S.ssd name role
 refusals S (SetSsdSetCardinality name cardinality) =
-    set_cardinality_refusals S.ssd name cardinality ++ breaks_static (after S (SetSsdSetCardinality name cardinality)) ∷ []
+    set_cardinality_refusals S.ssd name cardinality ++ violates_static (after S (SetSsdSetCardinality name cardinality)) ∷ []
 refusals S (DeleteSsdSet name) = refuse_unless (has_set S.ssd name) NoSet ∷ []
 refusals S (CreateDsdSet name roles cardinality) =
-    create_set_refusals S S.dsd DsdSet name (set_of name_cmp roles) cardinality ++ breaks_dynamic (after S (CreateDsdSet name roles cardinality)) ∷ []
-refusals S (AddDsdRoleMember name role) = add_member_refusals S S.dsd name role ++ breaks_dynamic (after S (AddDsdRoleMember name role)) ∷ []
+    create_set_refusals S S.dsd DsdSet name (set_of name_cmp roles) cardinality ++ violates_dynamic (after S (CreateDsdSet name roles cardinality)) ∷ []
+refusals S (AddDsdRoleMember name role) = add_member_refusals S S.dsd name role ++ violates_dynamic (after S (AddDsdRoleMember name role)) ∷ []
 refusals S (DeleteDsdRoleMember name role) = delete_member_refusals S S.dsd name role
 refusals S (SetDsdSetCardinality name cardinality) =
-    set_cardinality_refusals S.dsd name cardinality ++ breaks_dynamic (after S (SetDsdSetCardinality name cardinality)) ∷ []
+    set_cardinality_refusals S.dsd name cardinality ++ violates_dynamic (after S (SetDsdSetCardinality name cardinality)) ∷ []
 refusals S (DeleteDsdSet name) = refuse_unless (has_set S.dsd name) NoSet ∷ []
 refusals S (CreateSession user roles session) =
-    create_session_refusals S user (set_of name_cmp roles) session ++ breaks_dynamic (after S (CreateSession user roles session)) ∷ []
+    create_session_refusals S user (set_of name_cmp roles) session ++ violates_dynamic (after S (CreateSession user roles session)) ∷ []
 refusals S (DeleteSession user session) = wants_user S user ∷ wants_session S session ∷ wants_owner S session user ∷ []
 refusals S (AddActiveRole user session role) =
-    add_active_role_refusals S user session role ++ breaks_dynamic (after S (AddActiveRole user session role)) ∷ []
+    add_active_role_refusals S user session role ++ violates_dynamic (after S (AddActiveRole user session role)) ∷ []
 refusals S (DropActiveRole user session role) =
     wants_user S user
     ∷ wants_session S session

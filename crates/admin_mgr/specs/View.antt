@@ -4,11 +4,11 @@ use Rattle.rbac_sets.specs.Sets.{name_cmp, pair_cmp, triple_cmp}
 use Rattle.rbac_sets.specs.SortedSet.{set_of}
 use Rattle.rbac_sets.specs.Table.{number_of}
 use Rattle.rbac_sets.specs.declared.table.Table.TheVariants.{Users, Roles, Objects, Permissions, Assignments, StaticMembers, DynamicMembers, Sessions, ActivatedRoles, Grants, StaticCardinalities, DynamicCardinalities, Locks}
-use Rattle.admin_mgr.specs.Kept.{Kept, separation_of}
+use Rattle.admin_mgr.specs.StateWithRoom.{StateWithRoom, separation_of}
 use Rattle.admin_mgr.specs.declared.relations.Relations.TheInside.{Inside}
 
 -- the state, and the room of each set by the number of its table; the role hierarchy has its own two numbers
-abbrev pub view_of : Inside → Kept
+abbrev pub view_of : Inside → StateWithRoom
 view_of a = record {
   facts = record {
     version = a.version;

@@ -2,20 +2,20 @@
 ghost use Rattle.std.specs.Prelude.{◌≡◌, not, ◌&&◌, map, nat_le, IsTrue, IfOk, IfErr};
 ghost use Rattle.std.specs.List.{list_all};
 ghost use Rattle.rbac_sets.specs.Sets.{Pair, all, members};
-ghost use Rattle.order_table.specs.Table.{table_of};
+ghost use Rattle.order_matrix.specs.Table.{table_of};
 ghost use Rattle.admin_mgr.specs.RbacState.{active_roles};
 ghost use Rattle.admin_mgr.specs.Authorization.{is_authorized};
-ghost use Rattle.admin_mgr.specs.Held.{is_reached};
+ghost use Rattle.admin_mgr.specs.private.HolderRoles.{is_reached};
 ghost use Rattle.admin_mgr.specs.Holders.{runs_of};
-ghost use Rattle.admin_mgr.specs.Kept.{separation_of};
-ghost use Rattle.admin_mgr.specs.Tested.{late_refusal, are_kept, are_roles_there, has_cardinalities, have_authorized_users, have_unlocked_users};
+ghost use Rattle.admin_mgr.specs.StateWithRoom.{separation_of};
+ghost use Rattle.admin_mgr.specs.private.CheckTests.{late_refusal, are_kept, are_roles_there, has_cardinalities, have_authorized_users, have_unlocked_users};
 
 use crate::held::is_reached;
 use crate::judge::set_refusals::{is_cardinality, member_count};
 use crate::numbered::{keep_all, run_numbers};
 use crate::relations::Relations;
 use crate::separation_of_duty::SeparationOfDuty;
-use order_table::OrderTable;
+use order_matrix::OrderMatrix;
 use rbac_sets::{CountSet, Name, PairSet, Refusal};
 use role_order::RoleOrder;
 use std::alloc::{AllocError, Global};
@@ -37,7 +37,7 @@ pub(crate) fn late_refusal(alloc: Global, relations: &Relations) -> Result<Optio
     if !have_authorized_users(relations) {
         return Ok(Some(Refusal::Damaged(8)));
     }
-    let table = OrderTable::new(alloc, relations.order(), relations.roles().as_slice())?;
+    let table = OrderMatrix::new(alloc, relations.order(), relations.roles().as_slice())?;
     if !are_kept(alloc, relations, SeparationOfDuty::Static, &table)? {
         return Ok(Some(Refusal::Damaged(9)));
     }
@@ -100,7 +100,7 @@ fn are_kept(
     alloc: Global,
     relations: &Relations,
     duty: SeparationOfDuty,
-    table: &OrderTable,
+    table: &OrderMatrix,
 ) -> Result<bool, Refusal>
     requires there { IsTrue (are_roles_there relations.now.facts) }
     requires table { table.now ≡ table_of relations.now.facts.edges (members relations.now.facts.roles) }

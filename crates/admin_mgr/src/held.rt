@@ -4,7 +4,7 @@ ghost use Rattle.std.specs.Prelude.{◌≡◌, ◌&&◌, ◌||◌, not, nat_lt};
 ghost use Rattle.std.specs.Option.{option_copied};
 ghost use Rattle.rbac_sets.specs.Sets.{pair_cmp};
 ghost use Rattle.rbac_sets.specs.SortedSet.{set_of};
-ghost use Rattle.admin_mgr.specs.Held.{is_reached, reached_roles, reached_members, reached_with, is_reached_from, reached_from, is_touched, find_from, find_in};
+ghost use Rattle.admin_mgr.specs.private.HolderRoles.{is_reached, reached_roles, reached_members, reached_with, is_reached_from, reached_from, is_touched, find_with_all, find_with_one};
 
 use rbac_sets::{Name, PairSet};
 use role_order::RoleOrder;
@@ -86,7 +86,7 @@ pub(crate) fn first_with_all<'a>(
     members: &PairSet,
     cardinalities: &'a [(Name, u32)],
 ) -> Option<&'a (Name, u32)>
-    ensures { option_copied result ≡ find_from order.now.edges roles.now (set_of pair_cmp members.now) cardinalities.now }
+    ensures { option_copied result ≡ find_with_all order.now.edges roles.now (set_of pair_cmp members.now) cardinalities.now }
 {
     cardinalities.iter().find(|entry| has_all(order, roles, members.with_first(&entry.0), entry.1))
 }
@@ -107,7 +107,7 @@ pub(crate) fn first_with_one<'a>(
     members: &PairSet,
     cardinalities: &'a [(Name, u32)],
 ) -> Option<&'a (Name, u32)>
-    ensures { option_copied result ≡ find_in order.now.edges held.now more.now (set_of pair_cmp members.now) cardinalities.now }
+    ensures { option_copied result ≡ find_with_one order.now.edges held.now more.now (set_of pair_cmp members.now) cardinalities.now }
 {
     cardinalities.iter().find(|entry| has_with(
         order,

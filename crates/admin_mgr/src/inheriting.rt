@@ -8,22 +8,22 @@ ghost use Rattle.std.specs.List.{list_all, list_any};
 ghost use Rattle.std.specs.Option.{option_copied};
 ghost use Rattle.rbac_sets.specs.Sets.{Cardinality, Pair, all, contains, members, pair_cmp};
 ghost use Rattle.rbac_sets.specs.SortedSet.{set_of};
-ghost use Rattle.admin_mgr.specs.Held.{find_broken, is_reached, is_touched, run_of};
+ghost use Rattle.admin_mgr.specs.private.HolderRoles.{find_violated, is_reached, is_touched, run_of};
 ghost use Rattle.admin_mgr.specs.Holders.{runs_of};
-ghost use Rattle.admin_mgr.specs.SeparationOfDuty.{sets_of};
+ghost use Rattle.admin_mgr.specs.private.SeparationOfDuty.{sets_of};
 
 use crate::held::{is_reached, is_touched};
-use crate::numbered::{first_broken_by, run_numbers};
+use crate::numbered::{first_violated_by, run_numbers};
 use crate::separation_of_duty::SeparationOfDuty;
 use crate::state::State;
-use order_table::{OrderTable, number};
+use order_matrix::{OrderMatrix, number};
 use rbac_sets::{Name, PairSet, Refusal};
 use role_order::RoleOrder;
 use std::alloc::{AllocError, Global};
 
 // The first set of this kind in byte order that a user or session that has `asc` would violate if it got
 // `desc` as well. Only sets are considered that have `desc` or a junior of it as a member.
-pub(crate) fn first_broken<'a>(
+pub(crate) fn first_violated<'a>(
     alloc: Global,
     state: &'a State,
     duty: SeparationOfDuty,
@@ -31,18 +31,18 @@ pub(crate) fn first_broken<'a>(
     desc: &Name,
 ) -> Result<Option<&'a (Name, u32)>, AllocError>
     requires { IsTrue (contains state.now.facts.roles desc.now) }
-    ensures { IfOk result (λ found. option_copied found ≡ find_broken state.now.facts.edges
+    ensures { IfOk result (λ found. option_copied found ≡ find_violated state.now.facts.edges
         (filter (λ held. is_reached state.now.facts.edges held asc.now) (runs_of duty state.now.facts)) desc.now
         (sets_of duty state.now.facts).members (members (sets_of duty state.now.facts).cardinalities)) }
 {
-    state.is_good();
+    state.recall_good();
     let members = duty.members(state);
     let sets = duty.cardinalities(state).as_slice();
     if !touches_some(state.order(), desc, members, sets) {
         return Ok(None);
     }
-    let runs = who_reach(alloc, state, duty, asc)?;
-    match find_broken(alloc, state, &runs, desc, members, sets) {
+    let runs = runs_with_role(alloc, state, duty, asc)?;
+    match find_violated(alloc, state, &runs, desc, members, sets) {
         Ok(found) => Ok(found),
         Err(_) => Err(AllocError),
     }
@@ -50,7 +50,7 @@ pub(crate) fn first_broken<'a>(
 
 // The assignments of each user who is authorized for the role, or the activated roles of each session that
 // has the role.
-fn who_reach<'a>(
+fn runs_with_role<'a>(
     alloc: Global,
     state: &'a State,
     duty: SeparationOfDuty,
@@ -73,7 +73,7 @@ fn touches_some(order: &RoleOrder, role: &Name, members: &PairSet, sets: &[(Name
 // The first of the sets that the holder of one of these runs violates if it gets one more role. Only sets
 // are considered that have this role or a junior of it as a member. The reachability matrix is built only if
 // there is a run.
-fn find_broken<'a>(
+fn find_violated<'a>(
     alloc: Global,
     state: &State,
     runs: &[&[(Name, Name)]],
@@ -84,15 +84,15 @@ fn find_broken<'a>(
     requires runs { IsTrue (list_all (λ run. list_all (λ (pair : Pair). contains state.now.facts.roles pair.1) run.now) runs.now) }
     requires more { IsTrue (contains state.now.facts.roles more.now) }
     requires members { IsTrue (all (λ (pair : Pair). contains state.now.facts.roles pair.1) (set_of pair_cmp members.now)) }
-    ensures { IfOk result (λ found. option_copied found ≡ find_broken state.now.facts.edges (list_map (λ run. run.now) runs.entry.now) more.now (set_of pair_cmp members.now) sets.now) }
+    ensures { IfOk result (λ found. option_copied found ≡ find_violated state.now.facts.edges (list_map (λ run. run.now) runs.entry.now) more.now (set_of pair_cmp members.now) sets.now) }
 {
     if runs.is_empty() {
         return Ok(None);
     }
     let roles = state.roles().as_slice();
-    let table = OrderTable::new(alloc, state.order(), roles)?;
+    let table = OrderMatrix::new(alloc, state.order(), roles)?;
     let more = number(roles, more);
     let numbers = run_numbers(alloc, roles, runs, &[more])?;
-    let found = first_broken_by(alloc, &table, roles, &numbers, more, members, sets)?;
+    let found = first_violated_by(alloc, &table, roles, &numbers, more, members, sets)?;
     Ok(found)
 }

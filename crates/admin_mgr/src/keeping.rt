@@ -3,9 +3,9 @@
 ghost use Rattle.std.specs.Prelude.{◌≡◌, ◌+◌, ◌||◌, not, nat_lt, IsTrue, false};
 ghost use Rattle.rbac_sets.specs.Sets.{contains, insert, name_cmp};
 ghost use Rattle.rbac_sets.specs.SortedSet.{set_of};
-ghost use Rattle.admin_mgr.specs.Held.{is_reached, reached_members};
+ghost use Rattle.admin_mgr.specs.private.HolderRoles.{is_reached, reached_members};
 ghost use Rattle.admin_mgr.specs.RbacState.{members_of};
-ghost use Rattle.admin_mgr.specs.SeparationOfDuty.{is_kept, sets_of};
+ghost use Rattle.admin_mgr.specs.private.SeparationOfDuty.{is_kept, sets_of};
 
 use crate::held::{is_reached, reached_members, reached_roles};
 use crate::relations::Relations;
@@ -40,7 +40,7 @@ pub(crate) fn keeps_set(
     requires there { IsTrue (contains (sets_of duty state.now.facts).cardinalities (set.now, before)) }
     ensures { result ≡ is_kept duty state.now.facts (members_of (sets_of duty state.now.facts) set.now) cardinality }
 {
-    state.is_good();
+    state.recall_good();
     if cardinality >= before {
         return true;
     }
@@ -75,7 +75,7 @@ pub(crate) fn keeps_with(
     requires absent { contains (sets_of duty state.now.facts).members (set.now, role.now) ≡ false }
     ensures { result ≡ is_kept duty state.now.facts (insert (members_of (sets_of duty state.now.facts) set.now) role.now) cardinality }
 {
-    state.is_good();
+    state.recall_good();
     let order = state.order();
     let members = duty.members(state).with_first(set);
     duty.runs(state.relations()).all(|held| is_below_with(order, held, role, members, cardinality))

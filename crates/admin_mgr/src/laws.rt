@@ -1,9 +1,9 @@
 //! What holds of the sets and relations, however they are stored.
 ghost use Rattle.admin_mgr.specs.Laws.{SubsetForm, RowsDetermine, AcceptedIsGood, StaticTest, DynamicTest, AuthorizedRolesAreThere, SessionRolesAreThere, ImportTwice};
-ghost use Rattle.admin_mgr.specs.Asked.{CommandsGoByAsked};
-ghost use Rattle.admin_mgr.specs.Checked.{GoodRowsAreRead};
+ghost use Rattle.admin_mgr.specs.CommandContent.{CommandsDependOnContent};
+ghost use Rattle.admin_mgr.specs.RowChecks.{GoodRowsAreRead};
 ghost use Rattle.admin_mgr.specs.CommandLaws.{VerdictsRefuseCommands, AssignedByCommand, GrantedByCommand, VersionStays};
-ghost use Rattle.admin_mgr.specs.Named.{NamedTurns};
+ghost use Rattle.admin_mgr.specs.StateNames.{NamedTurns};
 ghost use Rattle.admin_mgr.specs.RowsAfter.{RowsFollow};
 ghost use Rattle.admin_mgr.specs.StateLaws.{EmptyIsGood, EmptyHasNoRow, MigratedIsGood, GoodRowsAreReadable};
 
@@ -90,7 +90,7 @@ pub fn named_turns()
 /// The verdict on a command, the state after it and its report depend only on what it asks for, and not on
 /// the room that its sets and its list have.
 pub fn commands_go_by_asked()
-    ensures { CommandsGoByAsked }
+    ensures { CommandsDependOnContent }
 {}
 
 /// The code of a refusal by a verdict is from 2 to 32, 37 UserLocked or 51 Version, and so never 40 Memory,

@@ -1,6 +1,6 @@
 //! The limits of a state's version.
 ghost use Rattle.std.specs.Prelude.{◌≡◌, ◌+◌};
-ghost use Rattle.admin_mgr.specs.Refusing.{is_too_many};
+ghost use Rattle.admin_mgr.specs.Refusals.{is_too_many};
 
 use crate::state::State;
 use rbac_sets::Kind;

@@ -4,7 +4,7 @@ ghost use Rattle.std.specs.List.{list_any, list_all};
 ghost use Rattle.std.specs.Option.{option_map};
 ghost use Rattle.rbac_sets.specs.Sets.{Pair, Cardinality, name_cmp, pair_cmp, cardinality_cmp, any, all, contains, members, same_name};
 ghost use Rattle.rbac_sets.specs.SortedSet.{set_of};
-ghost use Rattle.admin_mgr.specs.Tested.{are_firsts_in, are_seconds_in};
+ghost use Rattle.admin_mgr.specs.private.CheckTests.{are_firsts_in, are_seconds_in};
 
 use rbac_sets::{CountSet, Name, NameSet, PairSet};
 

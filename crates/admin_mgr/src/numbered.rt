@@ -10,10 +10,10 @@ ghost use Rattle.std.specs.List.Sorted.{IsStrictlySortedBy};
 ghost use Rattle.std.specs.Option.{option_copied};
 ghost use Rattle.rbac_sets.specs.Sets.{name_cmp, pair_cmp};
 ghost use Rattle.rbac_sets.specs.SortedSet.{set_of};
-ghost use Rattle.order_table.specs.Table.{entry, numbers_of};
-ghost use Rattle.admin_mgr.specs.Numbers.{count_reached, first_broken_by, keep_all};
+ghost use Rattle.order_matrix.specs.Table.{entry, numbers_of};
+ghost use Rattle.admin_mgr.specs.private.NumberedSeparation.{count_reached, first_violated_by, keep_all};
 
-use order_table::{OrderTable, second_numbers};
+use order_matrix::{OrderMatrix, second_numbers};
 use rbac_sets::{Name, PairSet, Refusal};
 use std::alloc::Global;
 
@@ -54,7 +54,7 @@ fn numbers_with(
 }
 
 // How many of the members are one of these roles, or a junior of one.
-fn reached(table: &OrderTable, run: &[usize], members: &[usize]) -> usize
+fn reached(table: &OrderMatrix, run: &[usize], members: &[usize]) -> usize
     ensures { result ≡ count_reached table.now run.now members.now }
 {
     members
@@ -64,7 +64,7 @@ fn reached(table: &OrderTable, run: &[usize], members: &[usize]) -> usize
 }
 
 // Whether none of the runs violates the set of these members and this cardinality.
-fn keep_below(table: &OrderTable, runs: &[Vec<usize>], members: &[usize], cardinality: u32) -> bool
+fn keep_below(table: &OrderMatrix, runs: &[Vec<usize>], members: &[usize], cardinality: u32) -> bool
     ensures { result ≡ list_all (λ run. nat_lt (count_reached table.now run.items members.now) cardinality) runs.now }
 {
     runs.iter()
@@ -72,15 +72,15 @@ fn keep_below(table: &OrderTable, runs: &[Vec<usize>], members: &[usize], cardin
 }
 
 // Whether one of the members is this role, or a junior of it.
-fn touches(table: &OrderTable, role: usize, members: &[usize]) -> bool
+fn touches(table: &OrderMatrix, role: usize, members: &[usize]) -> bool
     ensures { result ≡ list_any (λ member. entry table.now role member) members.now }
 {
     members.iter().any(|member| table.geq(role, *member))
 }
 
 // Whether one of the members is this role or a junior of it, and one of the runs violates the set.
-fn break_by(
-    table: &OrderTable,
+fn is_violated_by(
+    table: &OrderMatrix,
     runs: &[Vec<usize>],
     role: usize,
     members: &[usize],
@@ -95,7 +95,7 @@ fn break_by(
 // Whether none of the runs violates any of the sets.
 pub(crate) fn keep_all(
     alloc: Global,
-    table: &OrderTable,
+    table: &OrderMatrix,
     roles: &[Name],
     runs: &[Vec<usize>],
     members: &PairSet,
@@ -116,9 +116,9 @@ pub(crate) fn keep_all(
 
 // The first of the sets that one of the runs violates. Only sets are considered that have this role or a
 // junior of it as a member.
-pub(crate) fn first_broken_by<'a>(
+pub(crate) fn first_violated_by<'a>(
     alloc: Global,
-    table: &OrderTable,
+    table: &OrderMatrix,
     roles: &[Name],
     runs: &[Vec<usize>],
     role: usize,
@@ -126,12 +126,12 @@ pub(crate) fn first_broken_by<'a>(
     sets: &'a [(Name, u32)],
 ) -> Result<Option<&'a (Name, u32)>, Refusal>
     requires { IsStrictlySortedBy name_cmp roles.now }
-    ensures ok { IfOk result (λ found. option_copied found ≡ first_broken_by table.now roles.now (list_map (λ run. run.items) runs.now) role (set_of pair_cmp members.now) sets.now) }
+    ensures ok { IfOk result (λ found. option_copied found ≡ first_violated_by table.now roles.now (list_map (λ run. run.items) runs.now) role (set_of pair_cmp members.now) sets.now) }
     ensures cause { IfErr result (λ refusal. refusal ≡ Refusal.Memory) }
 {
     for set in sets {
         let members = second_numbers(alloc, roles, members.with_first(&set.0))?;
-        if break_by(table, runs, role, &members, set.1) {
+        if is_violated_by(table, runs, role, &members, set.1) {
             return Ok(Some(set));
         }
     }

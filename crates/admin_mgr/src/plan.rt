@@ -38,11 +38,11 @@ impl Plan {
     }
 
     /// Each name in the plan's rows is valid, which holds of every plan. It doesn't allocate.
-    pub fn is_named(&self)
+    pub fn recall_names(&self)
         ensures { are_named self.now.changes.items ≡ true }
     {
         for change in self.changes() {
-            change.is_named();
+            change.recall_names();
         }
     }
 

@@ -5,7 +5,7 @@
 //! copied.
 ghost use Rattle.std.specs.Prelude.{◌≡◌, ◌⊎◌, Some, None, IfOk, IfErr};
 ghost use Rattle.admin_mgr.specs.Verdict.{verdict};
-ghost use Rattle.admin_mgr.specs.Planned.{IsPlanOf};
+ghost use Rattle.admin_mgr.specs.PlanEffect.{IsPlanOf};
 
 use crate::judge::judge;
 use crate::plan::Plan;

@@ -9,9 +9,9 @@ use role_order::RoleOrder;
 use std::alloc::Global;
 use std::marker::Model;
 
+mod bulk_removal;
 mod changing;
 pub(crate) mod gathered;
-mod together;
 
 // The sets and relations of core RBAC, of the role hierarchy and of separation of duty. Between the changes of
 // one command they need not be good.
@@ -37,11 +37,11 @@ pub(crate) struct Relations {
 }
 
 impl Model for Relations {
-    ghost use Rattle.admin_mgr.specs.Kept.{Kept, coded_kept};
+    ghost use Rattle.admin_mgr.specs.StateWithRoom.{StateWithRoom, coded_state_with_room};
 
-    ghost Value = { Kept };
+    ghost Value = { StateWithRoom };
 
-    ghost coded = { coded_kept };
+    ghost coded = { coded_state_with_room };
 
     ghost use Rattle.admin_mgr.specs.View.{view_of};
 

@@ -4,7 +4,7 @@ ghost use Rattle.rbac_sets.specs.Sets.{cardinality_cmp, pair_cmp};
 ghost use Rattle.rbac_sets.specs.SortedSet.{set_of};
 ghost use Rattle.admin_mgr.specs.Holders.{runs_left, runs_of};
 ghost use Rattle.admin_mgr.specs.RbacState.{cardinality_of};
-ghost use Rattle.admin_mgr.specs.SeparationOfDuty.{cardinality_rows, kind_of, member_rows, refusal_of, sets_of};
+ghost use Rattle.admin_mgr.specs.private.SeparationOfDuty.{cardinality_rows, kind_of, member_rows, refusal_of, sets_of};
 
 use crate::holders::Runs;
 use crate::relations::Relations;

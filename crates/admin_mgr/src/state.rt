@@ -4,16 +4,16 @@ ghost use Rattle.rbac_sets.specs.Sets.{name_cmp, pair_cmp, triple_cmp, cardinali
 ghost use Rattle.rbac_sets.specs.SortedSet.{set_of};
 ghost use Rattle.admin_mgr.specs.RbacState.{RbacState, empty_state, cardinality_of};
 ghost use Rattle.admin_mgr.specs.Good.{IsGood};
-ghost use Rattle.admin_mgr.specs.Named.{AreNamed};
-ghost use Rattle.admin_mgr.specs.Life.{taken_into_version_2};
-ghost use Rattle.admin_mgr.specs.Checked.{IsStateOf, RefusesRows};
-ghost use Rattle.admin_mgr.specs.Planned.{LeadsTo, HasRoomFor};
+ghost use Rattle.admin_mgr.specs.StateNames.{AreNamed};
+ghost use Rattle.admin_mgr.specs.OfficeRun.{migrated_to_version_2};
+ghost use Rattle.admin_mgr.specs.RowChecks.{IsStateOf, RefusesRows};
+ghost use Rattle.admin_mgr.specs.PlanEffect.{LeadsTo, HasRoomFor};
 
 use crate::checking::late_refusal;
 use crate::lookup::number_of;
 use crate::plan::{Plan, Report};
 use crate::relations::Relations;
-use crate::relations::gathered::Gathered;
+use crate::relations::gathered::StoredSets;
 use rbac_sets::{CountSet, GrantSet, Name, NameSet, PairSet, Refusal, Row};
 use role_order::RoleOrder;
 use std::alloc::Global;
@@ -31,13 +31,13 @@ pub struct State {
 }
 
 impl Model for State {
-    ghost use Rattle.admin_mgr.specs.Kept.{Kept, coded_kept};
+    ghost use Rattle.admin_mgr.specs.StateWithRoom.{StateWithRoom, coded_state_with_room};
     ghost use Rattle.admin_mgr.specs.Good.{IsGood};
-    ghost use Rattle.admin_mgr.specs.Named.{AreNamed};
+    ghost use Rattle.admin_mgr.specs.StateNames.{AreNamed};
 
-    ghost Value = { Kept };
+    ghost Value = { StateWithRoom };
 
-    ghost coded = { coded_kept };
+    ghost coded = { coded_state_with_room };
 
     ghost view = { λ state. state.relations };
 
@@ -80,7 +80,7 @@ impl State {
         ensures ok { IfOk result (λ state. IsStateOf version rows.items state.facts) }
         ensures err { IfErr result (λ refusal. RefusesRows version rows.items refusal) }
     {
-        let made = Gathered::of_rows(alloc, version, rows)?;
+        let made = StoredSets::of_rows(alloc, version, rows)?;
         if let Some(refusal) = made.early_refusal() {
             drop(made);
             return Err(refusal);
@@ -103,7 +103,7 @@ impl State {
     /// locked. It doesn't allocate and can't fail: no limit of version 2 is lower.
     pub fn migrated(self) -> State
         requires { self.facts.version ≡ 1 }
-        ensures { result.facts ≡ taken_into_version_2 self.facts }
+        ensures { result.facts ≡ migrated_to_version_2 self.facts }
     {
         let State { relations } = self;
         let relations = relations.into_version_2();
@@ -120,7 +120,7 @@ impl State {
     /// The state is good: the invariant of the type, as a fact about one state.
     ///
     /// Like the functions of `laws` it does nothing when it runs. Code calls it if its proof needs the fact.
-    pub fn is_good(&self)
+    pub fn recall_good(&self)
         ensures { IsGood self.now.facts }
     {
         let _ = &self.relations;
@@ -128,7 +128,7 @@ impl State {
 
     /// Each name in the state's rows is valid, by the invariant of the type. Like `is_good` it does nothing
     /// when it runs.
-    pub fn is_named(&self)
+    pub fn recall_names(&self)
         ensures { AreNamed self.now.facts }
     {
         let _ = &self.relations;
@@ -294,7 +294,7 @@ impl State {
         ensures state { (T : RbacState) → LeadsTo self.old.facts plan T → self.new.facts ≡ T }
         ensures report { result ≡ plan.report }
     {
-        plan.is_named();
+        plan.recall_names();
         let Plan {
             changes,
             report,

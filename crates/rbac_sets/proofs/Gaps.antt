@@ -12,7 +12,7 @@ use Rattle.std.proofs.lemmas.List.{take-append-drop, take_more_set, take-set-le,
 use Rattle.std.proofs.lemmas.List.Folds.{list_any-append}
 use Rattle.std.proofs.lemmas.Map.Keys.{Less-from_sorted}
 use Rattle.rbac_sets.specs.Sets.{contains, remove, from_list}
-use Rattle.rbac_sets.specs.Taking.{around, StandsFirst, IsNotBelow, IsPassed}
+use Rattle.rbac_sets.specs.SetRemoval.{around, IsFirst, IsNotBelow, IsPassed}
 use Rattle.rbac_sets.proofs.SetLaws.{contains-from_list}
 use Rattle.rbac_sets.proofs.InOrder.{all_front, all_map, none_passes, less_of, sorted_without, sorted_back, from_list-without, remove_absent}
 
@@ -76,7 +76,7 @@ module _ {K : Type 0} {R : K → K → Ordering} (o : IsTotalOrder R) where
   )
 
   -- the first item behind the gap is the one to remove
-  pub taken_first : IsAntisymmetric R → (l r : List K) (x : K) → IsStrictlySortedBy R (l ++ r) → StandsFirst R x r
+  pub taken_first : IsAntisymmetric R → (l r : List K) (x : K) → IsStrictlySortedBy R (l ++ r) → IsFirst R x r
       → (0 < length r) × IsStrictlySortedBy R (l ++ drop 1 r) × (contains (from_list {R = R} (l ++ r)) x ≡ true) × (from_list {R = R} (l ++ drop 1 r) ≡ remove (from_list {R = R} (l ++ r)) x)
   taken_first exact l [] x s first = absurd first
   taken_first exact l (y ∷ r) x s first = (
@@ -88,14 +88,14 @@ module _ {K : Type 0} {R : K → K → Ordering} (o : IsTotalOrder R) where
   )
 
   -- an item that is greater than all before the gap, and less than all behind it, isn't there
-  pub taken_none : IsAntisymmetric R → (l r : List K) (x : K) → IsStrictlySortedBy R (l ++ r) → AllByRecursion (λ y. R y x ≡ Less) l → IsNotBelow R x r → (StandsFirst R x r → ⊥)
+  pub taken_none : IsAntisymmetric R → (l r : List K) (x : K) → IsStrictlySortedBy R (l ++ r) → AllByRecursion (λ y. R y x ≡ Less) l → IsNotBelow R x r → (IsFirst R x r → ⊥)
       → (contains (from_list {R = R} (l ++ r)) x ≡ false) × (from_list {R = R} (l ++ r) ≡ remove (from_list {R = R} (l ++ r)) x)
   taken_none exact l r x s below from other = (absent, remove_absent o (from_list {R = R} (l ++ r)) x exact absent)
     where
       more : (y : K) → R y x ≡ Greater → eq_by_cmp R x y ≡ false
       more y e = ap is_eq (o.antisymm x y ∙ ap ordering_reverse e)
 
-      behind : (t : List K) → IsStrictlySortedBy R (l ++ t) → IsNotBelow R x t → (StandsFirst R x t → ⊥) → AllByRecursion (λ y. R y x ≡ Greater) t
+      behind : (t : List K) → IsStrictlySortedBy R (l ++ t) → IsNotBelow R x t → (IsFirst R x t → ⊥) → AllByRecursion (λ y. R y x ≡ Greater) t
       behind [] sorted not_less not_tied = tt
       behind (y ∷ t) sorted not_less not_tied = (
         high,

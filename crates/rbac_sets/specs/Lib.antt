@@ -1,11 +1,11 @@
-pub mod Asked
+pub mod CommandContent
 pub mod Kind
 pub mod Name
 pub mod NameOrder
 pub mod Named
 pub mod Refusal
+pub mod SetRemoval
 pub mod Sets
 pub mod SortedSet
 pub mod Stream
 pub mod Table
-pub mod Taking

@@ -27,8 +27,8 @@ abbrev pub left_in_memory : MemorySource → List ℕ
 left_in_memory source = source.bytes.now
 
 -- the bytes that were written
-abbrev pub held_in_memory : MemorySink → List ℕ
-held_in_memory sink = sink.bytes.items
+abbrev pub written_in_memory : MemorySink → List ℕ
+written_in_memory sink = sink.bytes.items
 
 -- how many writes failed
 abbrev pub failed_in_memory : MemorySink → ℕ

@@ -33,7 +33,7 @@ pub use sink::{MemorySink, Sink, Writer, write_all};
 pub use sorted_set::{Entry, Prefix, Probe, SortedSet, place};
 pub use source::{Fault, MemorySource, Reader, Source};
 pub use table::Table;
-pub use taking::Taking;
+pub use taking::SetRemoval;
 
 pub mod command;
 pub mod kind;

@@ -187,7 +187,7 @@ impl Row {
     }
 
     /// Recalls, for a proof, that each name of the row is valid. It has no effect.
-    pub fn is_named(&self)
+    pub fn recall_names(&self)
         ensures { is_named self.now ≡ true }
     {
         match self {
@@ -218,11 +218,11 @@ pub enum Change {
 
 impl Change {
     /// Recalls, for a proof, that each name of the row is valid. It has no effect.
-    pub fn is_named(&self)
+    pub fn recall_names(&self)
         ensures { is_named (row_of self.now) ≡ true }
     {
         match self {
-            Change::Put(row) | Change::Take(row) => row.is_named(),
+            Change::Put(row) | Change::Take(row) => row.recall_names(),
         }
     }
 }

@@ -1,7 +1,7 @@
 //! Sinks for bytes.
 ghost use Rattle.std.specs.Prelude.{◌≡◌, ◌≤◌, ◌⊎◌, ℕ, List, [], ◌++◌, Option, length, IfOk, OnOk, OnErr};
 ghost use Rattle.std.specs.Io.KnownBytes.{Appends, WriteAppends};
-ghost use Rattle.rbac_sets.specs.Stream.{failures_after, idle_after, HasRisen, held_in_memory, failed_in_memory, writer_of, failed_writes};
+ghost use Rattle.rbac_sets.specs.Stream.{failures_after, idle_after, HasRisen, written_in_memory, failed_in_memory, writer_of, failed_writes};
 
 use crate::source::Fault;
 use std::alloc::Global;
@@ -46,7 +46,7 @@ pub struct MemorySink {
 impl MemorySink {
     /// A sink without bytes. It doesn't allocate yet.
     pub fn new(alloc: Global) -> MemorySink
-        ensures bytes { held_in_memory result ≡ [] }
+        ensures bytes { written_in_memory result ≡ [] }
         ensures failures { failed_in_memory result ≡ 0 }
     {
         MemorySink {
@@ -57,7 +57,7 @@ impl MemorySink {
 
     /// The bytes that were written.
     pub fn as_slice(&self) -> &[u8]
-        ensures { result.now ≡ held_in_memory self.now }
+        ensures { result.now ≡ written_in_memory self.now }
     {
         &self.bytes
     }
@@ -65,9 +65,9 @@ impl MemorySink {
 
 impl Sink for MemorySink {
     ghost use Rattle.std.specs.Prelude.{Some};
-    ghost use Rattle.rbac_sets.specs.Stream.{held_in_memory, failed_in_memory};
+    ghost use Rattle.rbac_sets.specs.Stream.{written_in_memory, failed_in_memory};
 
-    ghost written = { λ s. Some (held_in_memory s) };
+    ghost written = { λ s. Some (written_in_memory s) };
 
     ghost failed = { λ s. failed_in_memory s };
 

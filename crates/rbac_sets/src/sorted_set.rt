@@ -11,7 +11,7 @@ ghost use Rattle.rbac_sets.specs.Sets.{IsDisjoint, empty, contains, insert, remo
 ghost use Rattle.rbac_sets.specs.SortedSet.{set_of};
 
 use crate::refusal::Refusal;
-use crate::taking::Taking;
+use crate::taking::SetRemoval;
 use std::alloc::Global;
 use std::cmp::Ordering;
 use std::collections::VecDeque;
@@ -231,13 +231,13 @@ impl<K: Entry> SortedSet<K> {
 
     /// Starts the removal of entries one after another: returns the set from which they are removed, and
     /// leaves an empty set here. It doesn't allocate.
-    pub fn start_taking(&mut self) -> Taking<K>
+    pub fn start_removal(&mut self) -> SetRemoval<K>
         ensures taking { set_of K.cmp result ≡ set_of K.cmp self.old }
         ensures room { self.old.room ≤ result.room }
         ensures left { set_of K.cmp self.new ≡ empty }
     {
         let nothing = Vec::new(*self.entries.allocator());
-        Taking::new(mem::replace(&mut self.entries, nothing))
+        SetRemoval::new(mem::replace(&mut self.entries, nothing))
     }
 
     // The set of these sorted entries.

@@ -5,7 +5,7 @@ ghost use Rattle.std.specs.List.Sorted.{IsStrictlySortedBy};
 ghost use Rattle.std.specs.declared.cmp.Ordering.TheVariants.{Less};
 ghost use Rattle.rbac_sets.specs.Sets.{contains, remove};
 ghost use Rattle.rbac_sets.specs.SortedSet.{set_of};
-ghost use Rattle.rbac_sets.specs.Taking.{around, IsPassed, StandsFirst};
+ghost use Rattle.rbac_sets.specs.SetRemoval.{around, IsPassed, IsFirst};
 
 use crate::sorted_set::{Entry, Probe, SortedSet};
 use std::marker::Model;
@@ -13,22 +13,22 @@ use std::marker::Model;
 /// A set from which entries are removed, one after another.
 ///
 /// If they are removed in their order, each remaining entry is moved at most once, and those behind
-/// the last removed entry only at the end. `SortedSet::start_taking` starts the removal, and
+/// the last removed entry only at the end. `SortedSet::start_removal` starts the removal, and
 /// `into_set` returns the set. Nothing is allocated. In contracts the value is the remaining
 /// entries, in their order, and the room for more; `set_of` is the set of these entries.
 #[derive(Drop)]
-pub struct Taking<K: Entry> {
+pub struct SetRemoval<K: Entry> {
     // The entries before `start` and those from `end` on remain. The entries between them were removed.
     entries: Vec<K>,
     start: usize,
     end: usize,
 }
 
-impl<K: Entry> Model for Taking<K> {
+impl<K: Entry> Model for SetRemoval<K> {
     ghost use Rattle.std.specs.Prelude.{◌≤◌, ◌-◌, vec_len, vec_capacity};
     ghost use Rattle.std.specs.List.Sorted.{IsStrictlySortedBy};
     ghost use Rattle.rbac_sets.specs.SortedSet.{Stored, stored_code};
-    ghost use Rattle.rbac_sets.specs.Taking.{around};
+    ghost use Rattle.rbac_sets.specs.SetRemoval.{around};
 
     ghost Value = { Stored K };
 
@@ -39,14 +39,14 @@ impl<K: Entry> Model for Taking<K> {
     ghost invariant = { λ t. (t.start ≤ t.end) × (t.end ≤ vec_len t.entries) × IsStrictlySortedBy K.cmp (around t.start t.end t.entries.items) };
 }
 
-impl<K: Entry> Taking<K> {
+impl<K: Entry> SetRemoval<K> {
     /// Starts the removal from these entries, which are in their order.
-    pub(crate) fn new(entries: Vec<K>) -> Taking<K>
+    pub(crate) fn new(entries: Vec<K>) -> SetRemoval<K>
         requires { IsStrictlySortedBy K.cmp entries.items }
         ensures entries { result.in_order ≡ entries.items }
         ensures room { vec_len entries + result.room ≡ vec_capacity entries }
     {
-        Taking {
+        SetRemoval {
             entries,
             start: 0,
             end: 0,
@@ -74,7 +74,7 @@ impl<K: Entry> Taking<K> {
         ensures left { set_of K.cmp result ≡ set_of K.cmp self }
         ensures room { self.room ≤ result.room }
     {
-        let Taking {
+        let SetRemoval {
             mut entries,
             start,
             end,
@@ -97,7 +97,7 @@ fn are_before<K: Entry, P: Probe<K>>(entries: &[K], probe: P) -> bool
 
 // Whether the first of the entries is the one that `probe` looks for.
 fn is_first<K: Entry, P: Probe<K>>(entries: &[K], probe: P) -> bool
-    ensures { IsTrue result ↔ StandsFirst K.cmp (P.entry probe) entries.now }
+    ensures { IsTrue result ↔ IsFirst K.cmp (P.entry probe) entries.now }
 {
     match entries.first() {
         Some(first) => probe.compare(first).is_eq(),

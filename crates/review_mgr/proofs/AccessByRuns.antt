@@ -12,8 +12,8 @@ use Rattle.rbac_sets.proofs.Lists.{any_filter}
 use Rattle.admin_mgr.specs.RbacState.{RbacState, has_session}
 use Rattle.admin_mgr.specs.Authorization.{session_roles, is_session_role, has_access}
 use Rattle.admin_mgr.specs.Good.{IsGood}
-use Rattle.admin_mgr.specs.Held.{run_of, is_reached}
-use Rattle.admin_mgr.proofs.Verdicts.HeldLaws.{session_reached}
+use Rattle.admin_mgr.specs.private.HolderRoles.{run_of, is_reached}
+use Rattle.admin_mgr.proofs.Verdicts.AuthorizationLaws.{session_reached}
 use Rattle.review_mgr.specs.Questions.{has_operation}
 use Rattle.review_mgr.specs.Review.{permission_of, is_grant_of}
 

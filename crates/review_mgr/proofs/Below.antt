@@ -20,8 +20,8 @@ use Rattle.role_order.proofs.Members.{same_or_other}
 use Rattle.admin_mgr.specs.RbacState.{RbacState}
 use Rattle.admin_mgr.specs.Authorization.{authorized_roles, session_roles, is_authorized, is_session_role}
 use Rattle.admin_mgr.specs.Good.{IsGood, IsWellFormed}
-use Rattle.admin_mgr.specs.Held.{run_of, is_reached}
-use Rattle.admin_mgr.proofs.Verdicts.HeldLaws.{authorized_reached, session_reached}
+use Rattle.admin_mgr.specs.private.HolderRoles.{run_of, is_reached}
+use Rattle.admin_mgr.proofs.Verdicts.AuthorizationLaws.{authorized_reached, session_reached}
 
 -- ---- a loop over a list
 

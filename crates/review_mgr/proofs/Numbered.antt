@@ -12,13 +12,13 @@ use Rattle.rbac_sets.proofs.SetLaws.{contains-retain, same_members, seconds-Deci
 use Rattle.rbac_sets.proofs.Members.{count-len}
 use Rattle.rbac_sets.proofs.Lists.{count_map}
 use Rattle.role_order.specs.Order.{HasPair, Geq, IsClosure, geq, seniors, juniors}
-use Rattle.role_order.specs.Runs.{run_of}
+use Rattle.role_order.specs.private.Runs.{run_of}
 use Rattle.role_order.proofs.Leading.{first_step}
 use Rattle.role_order.proofs.Deciding.{geq-Decides, at_or_above-are, juniors-same, not_own_senior}
 use Rattle.role_order.proofs.Runs.{run-count}
-use Rattle.order_table.specs.Table.{Table, count_above, number_in, table_of}
-use Rattle.order_table.proofs.Roles.{number, placed}
-use Rattle.review_mgr.specs.Numbering.{assigned_runs, granted_runs, grant_numbers}
+use Rattle.order_matrix.specs.Table.{Table, count_above, number_in, table_of}
+use Rattle.order_matrix.proofs.Roles.{number, placed}
+use Rattle.review_mgr.specs.private.Numbering.{assigned_runs, granted_runs, grant_numbers}
 use Rattle.review_mgr.proofs.Counts.{count-numbers, count-runs}
 
 -- ---- the matrix and the numbers of roles

@@ -9,8 +9,8 @@ use Rattle.role_order.proofs.Runs.{any_seconds}
 use Rattle.admin_mgr.specs.RbacState.{RbacState}
 use Rattle.admin_mgr.specs.Authorization.{session_roles, is_session_role}
 use Rattle.admin_mgr.specs.Good.{IsGood}
-use Rattle.admin_mgr.specs.Held.{run_of, is_reached}
-use Rattle.admin_mgr.proofs.Verdicts.HeldLaws.{session_reached}
+use Rattle.admin_mgr.specs.private.HolderRoles.{run_of, is_reached}
+use Rattle.admin_mgr.proofs.Verdicts.AuthorizationLaws.{session_reached}
 use Rattle.review_mgr.specs.Review.{permission_of, assigned_roles, user_permissions, session_permissions}
 
 -- the permissions that are granted to the role of one of these pairs or to a junior of one

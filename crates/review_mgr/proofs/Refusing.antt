@@ -3,7 +3,7 @@ use Rattle.std.proofs.Common.{◌≡◌, Bool, true, false, List, [], ◌∷◌,
 use Rattle.std.specs.List.{AllByRecursion}
 use Rattle.rbac_sets.specs.declared.refusal.Refusal.{Refusal}
 use Rattle.admin_mgr.specs.RbacState.{RbacState}
-use Rattle.admin_mgr.specs.Refusing.{refuse_unless, first}
+use Rattle.admin_mgr.specs.Refusals.{refuse_unless, first}
 use Rattle.review_mgr.specs.Questions.{refusals, refused}
 use Rattle.review_mgr.specs.QuestionLaws.{refuses_questions, RefusalsOfQuestions}
 use Rattle.review_mgr.specs.declared.query.Query.{Query}

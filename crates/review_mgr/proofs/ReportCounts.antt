@@ -4,14 +4,14 @@ use Rattle.std.specs.Prelude.{IsTrue, count_by, nat_eq}
 use Rattle.std.specs.List.{list_any}
 use Rattle.rbac_sets.specs.Sets.{Bytes, Triple, contains, count, len, members, same_name, firsts}
 use Rattle.role_order.specs.Order.{geq, seniors}
-use Rattle.order_table.specs.Table.{count_above, entry, number_in}
+use Rattle.order_matrix.specs.Table.{count_above, entry, number_in}
 use Rattle.admin_mgr.specs.RbacState.{RbacState}
 use Rattle.admin_mgr.specs.Good.{IsGood}
 use Rattle.admin_mgr.specs.Authorization.{authorized_permissions, authorized_users}
-use Rattle.review_mgr.specs.Numbering.{IsNumbering}
+use Rattle.review_mgr.specs.private.Numbering.{IsNumbering}
 use Rattle.review_mgr.specs.Review.{assigned_users}
 use Rattle.review_mgr.specs.declared.report.numbering.Numbers.{Numbers}
-use Rattle.order_table.proofs.Roles.{same-number, entry-number}
+use Rattle.order_matrix.proofs.Roles.{same-number, entry-number}
 use Rattle.review_mgr.proofs.Numbered.{count_above-seniors, count-assigned_runs, count-granted_runs, count-granted}
 
 module _ (S : RbacState) (good : IsGood S) (numbers : Numbers) (is : IsNumbering S numbers) (role : Bytes) (here : IsTrue (contains S.roles role)) (number : ℕ) (number_is : number ≡ number_in (members S.roles) role) where

@@ -12,10 +12,10 @@ use Rattle.rbac_sets.specs.Sets.{Bytes, Pair, Pairs, Triple, Triples, name_cmp, 
 use Rattle.rbac_sets.specs.NameOrder.{name_total, name_exact, pair_total, pair_exact}
 use Rattle.rbac_sets.proofs.SetLaws.{tie_Decides}
 use Rattle.role_order.specs.Order.{IsClosure}
-use Rattle.role_order.specs.Checked.{second_cmp}
-use Rattle.admin_mgr.specs.Held.{run_of, is_reached}
+use Rattle.role_order.specs.private.Checked.{second_cmp}
+use Rattle.admin_mgr.specs.private.HolderRoles.{run_of, is_reached}
 use Rattle.rbac_sets.proofs.Members.{members-rise}
-use Rattle.review_mgr.specs.Meeting.{third_cmp, may_have, meets}
+use Rattle.review_mgr.specs.private.Intersection.{third_cmp, may_have, meets}
 use Rattle.review_mgr.specs.Review.{permission_of, is_grant_of}
 use Rattle.review_mgr.proofs.Below.{below-are}
 

@@ -11,28 +11,28 @@ use Rattle.review_mgr.specs.declared.query.Answer.TheVariants as answers
 
 -- an answer, regardless of its place in memory
 pub data Told : Type 0 where
-  NamesTold : List Bytes → Told
-  PermissionsTold : List Pair → Told
-  CountTold : Option ℕ → Told
-  AccessTold : Bool → Told
+  NamesContent : List Bytes → Told
+  PermissionsContent : List Pair → Told
+  CountContent : Option ℕ → Told
+  AccessContent : Bool → Told
 
 -- the content of an answer
 abbrev pub told : Answer → Told
-told (answers.Names names) = NamesTold names.items
-told (answers.Permissions permissions) = PermissionsTold permissions.items
-told (answers.Count number) = CountTold (Some number)
-told (answers.Access access) = AccessTold access
+told (answers.Names names) = NamesContent names.items
+told (answers.Permissions permissions) = PermissionsContent permissions.items
+told (answers.Count number) = CountContent (Some number)
+told (answers.Access access) = AccessContent access
 
 -- the members in byte order
 abbrev pub names_told : Names → Told
-names_told names = NamesTold (members names)
+names_told names = NamesContent (members names)
 
 abbrev pub permissions_told : Pairs → Told
-permissions_told permissions = PermissionsTold (members permissions)
+permissions_told permissions = PermissionsContent (members permissions)
 
 -- the content of the answer to each question
 unfoldable pub value : RbacState → Query → Told
-value S (CheckAccess session operation object) = AccessTold (has_access S session operation object)
+value S (CheckAccess session operation object) = AccessContent (has_access S session operation object)
 value S (AssignedUsers role) = names_told (assigned_users S role)
 value S (AssignedRoles user) = names_told (assigned_roles S user)
 value S (AuthorizedUsers role) = names_told (authorized_users S role)
@@ -45,8 +45,8 @@ value S (RoleOperationsOnObject role object) = names_told (role_operations_on_ob
 value S (UserOperationsOnObject user object) = names_told (user_operations_on_object S user object)
 value S SsdRoleSets = names_told (role_sets S.ssd)
 value S (SsdRoleSetRoles name) = names_told (members_of S.ssd name)
-value S (SsdRoleSetCardinality name) = CountTold (cardinality_of S.ssd name)
+value S (SsdRoleSetCardinality name) = CountContent (cardinality_of S.ssd name)
 value S DsdRoleSets = names_told (role_sets S.dsd)
 value S (DsdRoleSetRoles name) = names_told (members_of S.dsd name)
-value S (DsdRoleSetCardinality name) = CountTold (cardinality_of S.dsd name)
+value S (DsdRoleSetCardinality name) = CountContent (cardinality_of S.dsd name)
 value S (PermissionRoles object operation) = names_told (permission_roles S object operation)

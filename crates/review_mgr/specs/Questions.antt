@@ -4,7 +4,7 @@ use Rattle.rbac_sets.specs.Sets.{Bytes, Pair, any, same_name}
 use Rattle.rbac_sets.specs.declared.refusal.Refusal.{Refusal}
 use Rattle.rbac_sets.specs.declared.refusal.Refusal.TheVariants.{NoOperation, NoSet}
 use Rattle.admin_mgr.specs.RbacState.{RbacState, Separation, has_set}
-use Rattle.admin_mgr.specs.Refusing.{refuse_unless, first}
+use Rattle.admin_mgr.specs.Refusals.{refuse_unless, first}
 use Rattle.admin_mgr.specs.Verdict.{wants_user, wants_role, wants_object, wants_permission, wants_session}
 use Rattle.review_mgr.specs.declared.query.Query.{Query}
 use Rattle.review_mgr.specs.declared.query.Query.TheVariants.{CheckAccess, AssignedUsers, AssignedRoles, AuthorizedUsers, AuthorizedRoles, RolePermissions, UserPermissions, SessionRoles, SessionPermissions, RoleOperationsOnObject, UserOperationsOnObject, SsdRoleSets, SsdRoleSetRoles, SsdRoleSetCardinality, DsdRoleSets, DsdRoleSetRoles, DsdRoleSetCardinality, PermissionRoles}

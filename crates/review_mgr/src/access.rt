@@ -2,14 +2,14 @@
 ghost use Rattle.std.specs.Prelude.{◌≡◌, Some, None, filter, IfOk, IfErr};
 ghost use Rattle.rbac_sets.specs.Sets.{contains, members};
 ghost use Rattle.admin_mgr.specs.Authorization.{has_access};
-ghost use Rattle.admin_mgr.specs.Held.{run_of};
+ghost use Rattle.admin_mgr.specs.private.HolderRoles.{run_of};
 ghost use Rattle.admin_mgr.specs.RbacState.{has_session};
 ghost use Rattle.review_mgr.specs.declared.query.Query.TheVariants.{CheckAccess};
 ghost use Rattle.review_mgr.specs.Questions.{has_operation, refused};
 ghost use Rattle.review_mgr.specs.Review.{is_grant_of};
 
+use crate::intersection::is_granted;
 use crate::lookup::{activated_in, has_operation, has_session};
-use crate::meeting::is_granted;
 use admin_mgr::State;
 use rbac_sets::{Name, Refusal};
 
@@ -63,7 +63,7 @@ fn is_session(state: &State, session: &Name, activated: &[(Name, Name)]) -> bool
     requires { activated.now ≡ run_of state.now.facts.active session.now }
     ensures { result ≡ has_session state.now.facts session.now }
 {
-    state.is_good();
+    state.recall_good();
     !activated.is_empty() || has_session(state, session)
 }
 
@@ -72,7 +72,7 @@ fn is_object(state: &State, operation: &Name, object: &Name, granted: &[(Name, N
     requires { granted.now ≡ filter (is_grant_of object.now operation.now) (members state.now.facts.grants) }
     ensures { result ≡ contains state.now.facts.objects object.now }
 {
-    state.is_good();
+    state.recall_good();
     !granted.is_empty() || state.objects().contains(object)
 }
 
@@ -86,7 +86,7 @@ fn is_operation(
     requires { granted.now ≡ filter (is_grant_of object.now operation.now) (members state.now.facts.grants) }
     ensures { result ≡ has_operation state.now.facts operation.now }
 {
-    state.is_good();
+    state.recall_good();
     !granted.is_empty() || has_operation(state, object, operation)
 }
 
@@ -104,6 +104,6 @@ fn has_access(
     requires granted { granted.now ≡ filter (is_grant_of object.now operation.now) (members state.now.facts.grants) }
     ensures { result ≡ has_access state.now.facts session.now operation.now object.now }
 {
-    state.is_good();
+    state.recall_good();
     is_granted(state.order(), activated, granted)
 }

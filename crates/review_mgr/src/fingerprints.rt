@@ -3,7 +3,7 @@
 ghost use Rattle.std.specs.Prelude.{◌≡◌, true};
 ghost use Rattle.std.specs.List.{All};
 ghost use Rattle.rbac_sets.specs.Sets.{Triple};
-ghost use Rattle.review_mgr.specs.Meeting.{may_have};
+ghost use Rattle.review_mgr.specs.private.Intersection.{may_have};
 
 use rbac_sets::{FINGERPRINTS, Name};
 

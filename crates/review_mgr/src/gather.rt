@@ -6,7 +6,7 @@ ghost use Rattle.std.specs.List.Sorted.{IsStrictlySortedBy};
 ghost use Rattle.rbac_sets.specs.Sets.{Bytes, Cardinality, Pair, Triple, cardinality_cmp, contains, firsts, from_list, image, insert, members, name_cmp, pair_cmp, retain, same_name, seconds, triple_cmp};
 ghost use Rattle.rbac_sets.specs.SortedSet.{set_of};
 ghost use Rattle.role_order.specs.Order.{geq};
-ghost use Rattle.admin_mgr.specs.Held.{is_reached};
+ghost use Rattle.admin_mgr.specs.private.HolderRoles.{is_reached};
 ghost use Rattle.review_mgr.specs.Review.{is_grant_of, permission_of};
 
 use crate::lookup::{is_reached, is_same};

@@ -4,7 +4,7 @@ ghost use Rattle.std.specs.List.{list_any};
 ghost use Rattle.rbac_sets.specs.Sets.{Pair, any, pair_cmp, same_name};
 ghost use Rattle.rbac_sets.specs.SortedSet.{set_of};
 ghost use Rattle.admin_mgr.specs.RbacState.{has_session, has_set};
-ghost use Rattle.admin_mgr.specs.Held.{is_reached, run_of};
+ghost use Rattle.admin_mgr.specs.private.HolderRoles.{is_reached, run_of};
 ghost use Rattle.review_mgr.specs.Questions.{has_operation};
 
 use admin_mgr::State;

@@ -4,16 +4,16 @@ ghost use Rattle.std.specs.Io.KnownBytes.{Appends};
 ghost use Rattle.rbac_sets.specs.Sets.{Triple, contains, count, len, members, same_name};
 ghost use Rattle.rbac_sets.specs.Stream.{HasRisen};
 ghost use Rattle.role_order.specs.Order.{juniors, seniors};
-ghost use Rattle.order_table.specs.Table.{number_in};
+ghost use Rattle.order_matrix.specs.Table.{number_in};
 ghost use Rattle.admin_mgr.specs.Authorization.{authorized_permissions, authorized_users};
-ghost use Rattle.review_mgr.specs.Numbering.{IsNumbering};
+ghost use Rattle.review_mgr.specs.private.Numbering.{IsNumbering};
 ghost use Rattle.review_mgr.specs.Report.{column, counts_of, line_of, report};
 ghost use Rattle.review_mgr.specs.Review.{assigned_users};
 
 use admin_mgr::State;
 use counting::{count_number, count_runs_above, count_runs_below, count_runs_with};
 use numbering::Numbers;
-use order_table::number;
+use order_matrix::number;
 use rbac_sets::{Fault, Name, Refusal, Sink, write_all};
 use std::alloc::Global;
 
@@ -45,7 +45,7 @@ fn count_assigned(state: &State, numbers: &Numbers, role: &Name) -> u64
     requires role { IsTrue (contains state.now.facts.roles role.now) }
     ensures { result ≡ len (assigned_users state.now.facts role.now) }
 {
-    state.is_good();
+    state.recall_good();
     count_runs_with(&numbers.assigned, number_of(state, role))
 }
 
@@ -55,7 +55,7 @@ fn count_authorized(state: &State, numbers: &Numbers, role: &Name) -> u64
     requires role { IsTrue (contains state.now.facts.roles role.now) }
     ensures { result ≡ len (authorized_users state.now.facts role.now) }
 {
-    state.is_good();
+    state.recall_good();
     count_runs_above(&numbers.table, &numbers.assigned, number_of(state, role))
 }
 
@@ -65,7 +65,7 @@ fn count_granted(state: &State, numbers: &Numbers, role: &Name) -> u64
     requires role { IsTrue (contains state.now.facts.roles role.now) }
     ensures { result ≡ count (λ (grant : Triple). same_name grant.2 role.now) state.now.facts.grants }
 {
-    state.is_good();
+    state.recall_good();
     count_number(&numbers.grants, number_of(state, role))
 }
 
@@ -75,7 +75,7 @@ fn count_permitted(state: &State, numbers: &Numbers, role: &Name) -> u64
     requires role { IsTrue (contains state.now.facts.roles role.now) }
     ensures { result ≡ len (authorized_permissions state.now.facts role.now) }
 {
-    state.is_good();
+    state.recall_good();
     count_runs_below(&numbers.table, &numbers.granted, number_of(state, role))
 }
 
@@ -92,7 +92,7 @@ fn count_seniors(state: &State, numbers: &Numbers, role: &Name) -> u64
     requires role { IsTrue (contains state.now.facts.roles role.now) }
     ensures { result ≡ len (seniors state.now.facts.edges role.now) }
 {
-    state.is_good();
+    state.recall_good();
     let above = numbers.table.count_above(number_of(state, role));
     (above - 1) as u64
 }

@@ -9,12 +9,12 @@ use Rattle.sqlite_disk.specs.declared.Disk.{Ghosts}
 use Rattle.admin_mgr.specs.RbacState.{RbacState}
 use Rattle.rbac_sets.specs.declared.refusal.Refusal.{Refusal}
 use Rattle.rbac_sets.specs.declared.refusal.Refusal.TheVariants.{Store}
-use Rattle.role_tables.specs.Found.{held_in}
-use Rattle.role_tables.specs.Office.{Opened}
-use Rattle.role_tables.specs.Opening.{IsMemoryOrStore, RefusesFound}
+use Rattle.role_tables.specs.TableContents.{contents_of}
+use Rattle.role_tables.specs.Office.{OfficeModel}
+use Rattle.role_tables.specs.OpeningChecks.{IsMemoryOrStore, RefusesContents}
 use Rattle.role_tables.specs.Runs.{IsInRun}
-use Rattle.role_tables.specs.Standing.{HoldsAsBefore, LeavesOnly, WhateverStands}
-use Rattle.role_cli.specs.Done.{IsDone, is_in_memory}
+use Rattle.role_tables.specs.Durability.{HoldsAsBefore, LeavesOnly, WhateverIsDurable}
+use Rattle.role_cli.specs.ProgramOutcome.{IsDone, is_memory_replay}
 use Rattle.role_cli.specs.Work.{Begins, DoesOverSome, IsUnopened, StartsWell}
 use Rattle.role_cli.specs.declared.choice.Choice.{Choice}
 use Rattle.role_cli.specs.declared.choice.Choice.TheVariants as choice
@@ -31,7 +31,7 @@ module _ (chosen : Choice) (never_makes : (x : String Global) → chosen ≡ cho
       go (choice.Migrate x) makes migrates = absurd (migrates x refl)
       go _ makes migrates = tt
 
-  pub begins_open : {C : Type 0} (shown : Held C → State) (before : State) (office : Opened C) → WhateverStands before (λ S. IsInRun shown S [] office) → Begins shown chosen before office
+  pub begins_open : {C : Type 0} (shown : Held C → State) (before : State) (office : OfficeModel C) → WhateverIsDurable before (λ S. IsInRun shown S [] office) → Begins shown chosen before office
   begins_open shown before office runs = go chosen never_makes never_migrates
     where
       go : (c : Choice) → ((x : String Global) → c ≡ choice.Init x → ⊥) → ((x : String Global) → c ≡ choice.Migrate x → ⊥) → Begins shown c before office
@@ -40,7 +40,7 @@ module _ (chosen : Choice) (never_makes : (x : String Global) → chosen ≡ cho
       go _ makes migrates = runs
 
   pub unopened_open : {C : Type 0} (shown : Held C → State) (before : State) (refusal : Refusal) (after : State)
-      → (refusal ≡ Store) ⊎ RefusesFound (held_in before.now) refusal → HoldsAsBefore before after → WhateverStands before (λ S. IsMemoryOrStore refusal × LeavesOnly after S) → IsUnopened shown chosen before refusal after
+      → (refusal ≡ Store) ⊎ RefusesContents (contents_of before.now) refusal → HoldsAsBefore before after → WhateverIsDurable before (λ S. IsMemoryOrStore refusal × LeavesOnly after S) → IsUnopened shown chosen before refusal after
   unopened_open shown before refusal after why holds leaves = go chosen never_makes never_migrates
     where
       go : (c : Choice) → ((x : String Global) → c ≡ choice.Init x → ⊥) → ((x : String Global) → c ≡ choice.Migrate x → ⊥) → IsUnopened shown c before refusal after
@@ -49,7 +49,7 @@ module _ (chosen : Choice) (never_makes : (x : String Global) → chosen ≡ cho
       go _ makes migrates = (why, holds, leaves)
 
 -- what was done over an office in a file was done
-pub of_file : (in_memory : Ghosts MemoryFile) {F : Type 0} (on_disk : Ghosts F) (chosen : Choice) (remaining now_remaining written now_written : Option (List ℕ)) → is_in_memory chosen ≡ false
+pub of_file : (in_memory : Ghosts MemoryFile) {F : Type 0} (on_disk : Ghosts F) (chosen : Choice) (remaining now_remaining written now_written : Option (List ℕ)) → is_memory_replay chosen ≡ false
     → DoesOverSome (state (over_files {g = on_disk})) chosen remaining now_remaining written now_written → IsDone in_memory on_disk chosen remaining now_remaining written now_written
 of_file in_memory on_disk (choice.Replay place.Memory) _ _ _ _ is_not done = absurd (true≢false is_not)
 of_file in_memory on_disk (choice.Replay (place.File f)) _ _ _ _ is_not done = done

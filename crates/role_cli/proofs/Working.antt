@@ -4,18 +4,18 @@ use Rattle.std.specs.Prelude.{OnOk, IfErr}
 use Rattle.std.specs.Io.KnownBytes.{Appends}
 use Rattle.sqlite.specs.Held.{Held}
 use Rattle.sqlite.specs.State.{State}
-use Rattle.rbac_sets.specs.Asked.{Import}
+use Rattle.rbac_sets.specs.CommandContent.{Import}
 use Rattle.rbac_sets.specs.Sets.{Pair}
 use Rattle.rbac_sets.specs.declared.refusal.Refusal.{Refusal}
 use Rattle.rbac_sets.proofs.Known.{Appends-none}
-use Rattle.role_json.specs.Requested.{Change}
-use Rattle.role_tables.specs.Office.{Opened}
-use Rattle.role_wire.specs.Keeping.{Continues}
-use Rattle.role_wire.specs.Performing.{Declines, Performs}
-use Rattle.role_wire.specs.Replaying.{IsHalted, LeavesNext}
+use Rattle.role_json.specs.RequestContent.{Change}
+use Rattle.role_tables.specs.Office.{OfficeModel}
+use Rattle.role_wire.specs.Continuation.{Continues}
+use Rattle.role_wire.specs.OfficeRequest.{Declines, Performs}
+use Rattle.role_wire.specs.OfficeReplay.{IsHalted, LeavesNext}
 use Rattle.role_wire.specs.declared.lines.Cause.{Cause}
 use Rattle.role_wire.specs.declared.lines.Cause.TheVariants as cause
-use Rattle.role_cli.specs.Serving.{AllServed, Serves}
+use Rattle.role_cli.specs.ServedConnections.{AllServed, Serves}
 use Rattle.role_cli.specs.Work.{FailsToImport, FailsToServe, Imports, WritesPart, listening_line}
 use Rattle.role_cli.specs.declared.failure.Failure.{Failure}
 use Rattle.role_cli.proofs.Served.{breaks_continues, reaches_continues, same_continues, server_continues}
@@ -29,7 +29,7 @@ pub writes_no_line : (line : List ℕ) (written : Option (List ℕ)) → WritesP
 writes_no_line line written = ([], line ++ 10 ∷ [], refl, omega (arith, length-append line (10 ∷ [])), Appends-none written)
 
 module _ {S : Type 0} (shown : Held S → State) where
-  next_continues : (why : Cause) (old new : Opened S) (done : List (List ℕ)) (line part : List ℕ) → LeavesNext shown why old done line part new → Continues shown old new
+  next_continues : (why : Cause) (old new : OfficeModel S) (done : List (List ℕ)) (line part : List ℕ) → LeavesNext shown why old done line part new → Continues shown old new
   next_continues cause.Write old new done line part (reaches, _) = reaches_continues shown old new _ reaches
   next_continues cause.Store old new done line part (_, breaks, _) = breaks_continues shown old new _ _ breaks
   next_continues cause.Memory old new done line part (inl reaches, _) = reaches_continues shown old new _ reaches
@@ -38,33 +38,33 @@ module _ {S : Type 0} (shown : Held S → State) where
   next_continues (cause.Line number) old new done line part none = absurd none
   next_continues cause.Closed old new done line part none = absurd none
 
-  pub halt_continues : (old new : Opened S) (taken : List ℕ) (at_end : Type 0) (written now_written : Option (List ℕ)) (why : Cause) (answered : ℕ)
+  pub halt_continues : (old new : OfficeModel S) (taken : List ℕ) (at_end : Type 0) (written now_written : Option (List ℕ)) (why : Cause) (answered : ℕ)
       → IsHalted shown old new taken at_end written now_written why answered → Continues shown old new
   halt_continues old new taken at_end written now_written why answered it = elim it.left [
     | inl (line, _, leaves) ↦ next_continues why old new it.done line it.part leaves
     | inr (_, reaches, _) ↦ reaches_continues shown old new _ reaches
   ]
 
-  performs_continues : (old new : Opened S) (pairs : List Pair) (line : List ℕ) → Performs shown old (Change (Import pairs)) line new → Continues shown old new
+  performs_continues : (old new : OfficeModel S) (pairs : List Pair) (line : List ℕ) → Performs shown old (Change (Import pairs)) line new → Continues shown old new
   performs_continues old new pairs line performs = reaches_continues shown old new _ performs.reaches
 
-  declines_continues : (old new : Opened S) (pairs : List Pair) (refusal : Refusal) → Declines shown old (Change (Import pairs)) refusal new → Continues shown old new
+  declines_continues : (old new : OfficeModel S) (pairs : List Pair) (refusal : Refusal) → Declines shown old (Change (Import pairs)) refusal new → Continues shown old new
   declines_continues old new pairs refusal (inl (_, same)) = same_continues shown old new same
   declines_continues old new pairs refusal (inr (inl (_, at))) = breaks_continues shown old new _ _ at.breaks
   declines_continues old new pairs refusal (inr (inr (inl (_, _, same)))) = same_continues shown old new same
   declines_continues old new pairs refusal (inr (inr (inr (_, _, same)))) = same_continues shown old new same
 
-  failed_import_continues : (old new : Opened S) (failure : Failure) (written now_written : Option (List ℕ)) → FailsToImport shown old failure written now_written new → Continues shown old new
+  failed_import_continues : (old new : OfficeModel S) (failure : Failure) (written now_written : Option (List ℕ)) → FailsToImport shown old failure written now_written new → Continues shown old new
   failed_import_continues old new failure written now_written (inl (_, same, _)) = same_continues shown old new same
   failed_import_continues old new failure written now_written (inr (text, pairs, refusal, _, _, inl (declines, _))) = declines_continues old new pairs refusal declines
   failed_import_continues old new failure written now_written (inr (text, pairs, refusal, _, _, inr (_, (line, performs, _)))) = performs_continues old new pairs line performs
 
-  pub import_continues : (old new : Opened S) (written now_written : Option (List ℕ)) (result : Result (Unit {0}) Failure)
+  pub import_continues : (old new : OfficeModel S) (written now_written : Option (List ℕ)) (result : Result (Unit {0}) Failure)
       → OnOk result (Imports shown old written now_written new) → IfErr result (λ failure. FailsToImport shown old failure written now_written new) → Continues shown old new
   import_continues old new written now_written (Ok done) (text, pairs, line, _, performs, _) failed = performs_continues old new pairs line performs
   import_continues old new written now_written (Err failure) done failed = failed_import_continues old new failure written now_written failed
 
-  pub serve_continues : (limit port : ℕ) (old new : Opened S) (written now_written : Option (List ℕ)) (result : Result (Unit {0}) Failure)
+  pub serve_continues : (limit port : ℕ) (old new : OfficeModel S) (written now_written : Option (List ℕ)) (result : Result (Unit {0}) Failure)
       → OnOk result (Appends written now_written (listening_line port) × Serves shown (AllServed limit) old new)
       → IfErr result (λ failure. FailsToServe shown port limit old failure written now_written new)
       → Continues shown old new

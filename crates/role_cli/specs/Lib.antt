@@ -1,8 +1,8 @@
-pub mod Choosing
+pub mod ArgumentChoice
 pub mod CommandLine
-pub mod Done
-pub mod InMemory
-pub mod OnFile
-pub mod Serving
-pub mod Telling
+pub mod ErrorOutput
+pub mod FileWork
+pub mod MemoryReplay
+pub mod ProgramOutcome
+pub mod ServedConnections
 pub mod Work

@@ -4,32 +4,32 @@ use Rattle.std.specs.Fmt.{decimal}
 use Rattle.std.specs.Io.KnownBytes.{Appends, Consumes, IsAtEnd}
 use Rattle.sqlite.specs.Held.{Held}
 use Rattle.sqlite.specs.State.{State}
-use Rattle.rbac_sets.specs.Asked.{Import}
+use Rattle.rbac_sets.specs.CommandContent.{Import}
 use Rattle.rbac_sets.specs.Sets.{Pair}
 use Rattle.rbac_sets.specs.declared.refusal.Refusal.{Refusal}
 use Rattle.rbac_sets.specs.declared.refusal.Refusal.TheVariants.{Memory, Store}
 use Rattle.admin_mgr.specs.RbacState.{RbacState, empty_state}
 use Rattle.admin_mgr.specs.Good.{IsGood}
-use Rattle.admin_mgr.specs.Life.{taken_into_version_2}
-use Rattle.admin_mgr.specs.Named.{AreNamed}
+use Rattle.admin_mgr.specs.OfficeRun.{migrated_to_version_2}
+use Rattle.admin_mgr.specs.StateNames.{AreNamed}
 use Rattle.review_mgr.specs.Report.{report}
 use Rattle.role_csv.specs.Assignments.{assignments}
 use Rattle.role_csv.specs.Export.{exported}
-use Rattle.role_json.specs.Requested.{Change}
-use Rattle.role_tables.specs.Creating.{MayCreate}
-use Rattle.role_tables.specs.Found.{held_in}
-use Rattle.role_tables.specs.Migrating.{LeavesEitherVersion, RefusesMigration, StaysRefused}
-use Rattle.role_tables.specs.Office.{Opened}
-use Rattle.role_tables.specs.Opening.{IsMemoryOrStore, RefusesFound}
+use Rattle.role_json.specs.RequestContent.{Change}
+use Rattle.role_tables.specs.Creation.{MayCreate}
+use Rattle.role_tables.specs.TableContents.{contents_of}
+use Rattle.role_tables.specs.Migration.{LeavesEitherVersion, RefusesMigration, StaysRefused}
+use Rattle.role_tables.specs.Office.{OfficeModel}
+use Rattle.role_tables.specs.OpeningChecks.{IsMemoryOrStore, RefusesContents}
 use Rattle.role_tables.specs.Runs.{IsInRun}
-use Rattle.role_tables.specs.Standing.{HoldsAsBefore, LeavesBeforeOr, LeavesOnly, WhateverStands}
-use Rattle.role_wire.specs.Keeping.{Continues, Reaches}
+use Rattle.role_tables.specs.Durability.{HoldsAsBefore, LeavesBeforeOr, LeavesOnly, WhateverIsDurable}
+use Rattle.role_wire.specs.Continuation.{Continues, ReachesState}
 use Rattle.role_wire.specs.Lines.{line_feed}
 use Rattle.role_wire.specs.Outcome.{after_lines, asking_lines}
-use Rattle.role_wire.specs.Performing.{Declines, Performs}
-use Rattle.role_wire.specs.Replaying.{IsAnswered, IsHalted}
+use Rattle.role_wire.specs.OfficeRequest.{Declines, Performs}
+use Rattle.role_wire.specs.OfficeReplay.{IsAnswered, IsHalted}
 use Rattle.role_wire.specs.declared.lines.Cause.TheVariants.{Read}
-use Rattle.role_cli.specs.Serving.{AllServed, EndsBy, Serves}
+use Rattle.role_cli.specs.ServedConnections.{AllServed, EndsBy, Serves}
 use Rattle.role_cli.specs.declared.choice.Choice.{Choice}
 use Rattle.role_cli.specs.declared.choice.Choice.TheVariants as choice
 use Rattle.role_cli.specs.declared.failure.Failure.{Failure}
@@ -66,13 +66,13 @@ module _ {C : Type 0} (shown : Held C → State) where
   -- ---- an import
 
   -- the pairs of a text were imported, and the answer was written as a line
-  abbrev pub Imports : Opened C → Option (List ℕ) → Option (List ℕ) → Opened C → Type 0
+  abbrev pub Imports : OfficeModel C → Option (List ℕ) → Option (List ℕ) → OfficeModel C → Type 0
   Imports old written now_written new = (text : List ℕ) × (pairs : List Pair) × (line : List ℕ)
       × (assignments text ≡ Ok pairs) × Performs shown old (Change (Import pairs)) line new × Appends written now_written (line ++ line_feed ∷ [])
 
   -- the file was not read or its text was refused, which changes nothing; or the office refused to import its pairs; or it
   -- imported them, and the answer line was not written whole
-  abbrev pub FailsToImport : Opened C → Failure → Option (List ℕ) → Option (List ℕ) → Opened C → Type 0
+  abbrev pub FailsToImport : OfficeModel C → Failure → Option (List ℕ) → Option (List ℕ) → OfficeModel C → Type 0
   FailsToImport old failure written now_written new =
       ((IsUnread failure ⊎ ((text : List ℕ) × (refusal : Refusal) × (failure ≡ Refused refusal) × RefusesText text refusal)) × (new ≡ old) × Appends written now_written [])
       ⊎ ((text : List ℕ) × (pairs : List Pair) × (refusal : Refusal) × (assignments text ≡ Ok pairs) × (failure ≡ Refused refusal)
@@ -83,7 +83,7 @@ module _ {C : Type 0} (shown : Held C → State) where
 
   -- It could not listen, or the line that says so could not be allocated or written whole, which changes nothing; or the line was
   -- written, and this failure ended it before all connections were served.
-  abbrev pub FailsToServe : (port limit : ℕ) → Opened C → Failure → Option (List ℕ) → Option (List ℕ) → Opened C → Type 0
+  abbrev pub FailsToServe : (port limit : ℕ) → OfficeModel C → Failure → Option (List ℕ) → Option (List ℕ) → OfficeModel C → Type 0
   FailsToServe port limit old failure written now_written new =
       (((failure ≡ NotListening) ⊎ (failure ≡ Refused Memory)) × (new ≡ old) × (now_written ≡ written))
       ⊎ (((failure ≡ Refused Store) × (new ≡ old) × WritesPart (listening_line port) written now_written)
@@ -92,12 +92,12 @@ module _ {C : Type 0} (shown : Held C → State) where
   -- ---- any subcommand
 
   -- The work was done over an open office: what was read of the source, what was written to the output, and the office after it.
-  abbrev pub Does : Choice → Opened C → (remaining now_remaining written now_written : Option (List ℕ)) → Opened C → Type 0
+  abbrev pub Does : Choice → OfficeModel C → (remaining now_remaining written now_written : Option (List ℕ)) → OfficeModel C → Type 0
   Does (choice.Init _) old remaining now_remaining written now_written new = (now_written ≡ written) × (new ≡ old)
   Does (choice.Migrate _) old remaining now_remaining written now_written new = (now_written ≡ written) × (new ≡ old)
   Does (choice.Replay _) old remaining now_remaining written now_written new =
       (input : List ℕ) × Consumes remaining now_remaining input × IsAtEnd now_remaining
-      × ((answered : ℕ) × IsAnswered old.facts input written now_written answered) × Reaches shown old (after_lines old.facts (asking_lines input)) new
+      × ((answered : ℕ) × IsAnswered old.facts input written now_written answered) × ReachesState shown old (after_lines old.facts (asking_lines input)) new
   Does (choice.Serve _ port limit) old remaining now_remaining written now_written new =
       Appends written now_written (listening_line port) × Serves shown (AllServed limit) old new
   Does (choice.Import _ _) old remaining now_remaining written now_written new = Imports old written now_written new
@@ -106,7 +106,7 @@ module _ {C : Type 0} (shown : Held C → State) where
   Does (choice.Check _) old remaining now_remaining written now_written new = Appends written now_written (codes "good\n") × (new ≡ old)
 
   -- The work failed over an open office.
-  abbrev pub Fails : Choice → Failure → Opened C → (remaining now_remaining written now_written : Option (List ℕ)) → Opened C → Type 0
+  abbrev pub Fails : Choice → Failure → OfficeModel C → (remaining now_remaining written now_written : Option (List ℕ)) → OfficeModel C → Type 0
   Fails (choice.Init _) failure old remaining now_remaining written now_written new = ⊥
   Fails (choice.Migrate _) failure old remaining now_remaining written now_written new = ⊥
   Fails (choice.Replay _) (Stopped stop) old remaining now_remaining written now_written new =
@@ -122,23 +122,23 @@ module _ {C : Type 0} (shown : Held C → State) where
 
   -- The office begins a run over what the connection held: a new office if one could be created, a migrated one, or the one whose
   -- state was stored.
-  abbrev pub Begins : Choice → State → Opened C → Type 0
+  abbrev pub Begins : Choice → State → OfficeModel C → Type 0
   Begins (choice.Init _) before office = MayCreate 2 before × IsInRun shown (empty_state 2) [] office
-  Begins (choice.Migrate _) before office = WhateverStands before (λ S. (S.version ≡ 1) × IsInRun shown (taken_into_version_2 S) [] office)
-  Begins _ before office = WhateverStands before (λ S. IsInRun shown S [] office)
+  Begins (choice.Migrate _) before office = WhateverIsDurable before (λ S. (S.version ≡ 1) × IsInRun shown (migrated_to_version_2 S) [] office)
+  Begins _ before office = WhateverIsDurable before (λ S. IsInRun shown S [] office)
 
   -- No office was created, migrated or opened: why, what the connection holds now, and what a crash would leave.
   abbrev pub IsUnopened : Choice → State → Refusal → State → Type 0
   IsUnopened (choice.Init _) before refusal after = (refusal ≡ Store) × HoldsAsBefore before after × LeavesBeforeOr before after (empty_state 2)
-  IsUnopened (choice.Migrate _) before refusal after = RefusesMigration (held_in before.now) refusal × StaysRefused before after refusal × LeavesEitherVersion before after
+  IsUnopened (choice.Migrate _) before refusal after = RefusesMigration (contents_of before.now) refusal × StaysRefused before after refusal × LeavesEitherVersion before after
   IsUnopened _ before refusal after =
-      ((refusal ≡ Store) ⊎ RefusesFound (held_in before.now) refusal) × HoldsAsBefore before after × WhateverStands before (λ S. IsMemoryOrStore refusal × LeavesOnly after S)
+      ((refusal ≡ Store) ⊎ RefusesContents (contents_of before.now) refusal) × HoldsAsBefore before after × WhateverIsDurable before (λ S. IsMemoryOrStore refusal × LeavesOnly after S)
 
   -- Work that led from the first office to the last: the first began a run over what the connection held, the last continues it,
   -- and its connection was handed back.
-  pub record Works (chosen : Choice) (before : State) (Work : Opened C → Opened C → Type 0) (handed_back : Held C) : Type 0 where
-    pub first : Opened C
-    pub last : Opened C
+  pub record Works (chosen : Choice) (before : State) (Work : OfficeModel C → OfficeModel C → Type 0) (handed_back : Held C) : Type 0 where
+    pub first : OfficeModel C
+    pub last : OfficeModel C
     pub is_open : first.is_closed ≡ false
     pub begins : Begins chosen before first
     pub work : Work first last
@@ -153,5 +153,5 @@ module _ {C : Type 0} (shown : Held C → State) where
 
   -- the work was done over an office of some good state, whatever the disk returned
   abbrev pub DoesOverSome : Choice → (remaining now_remaining written now_written : Option (List ℕ)) → Type 0
-  DoesOverSome chosen remaining now_remaining written now_written = (first last : Opened C) × (first.is_closed ≡ false)
+  DoesOverSome chosen remaining now_remaining written now_written = (first last : OfficeModel C) × (first.is_closed ≡ false)
       × IsGood first.facts × AreNamed first.facts × StartsWell chosen first.facts × Does chosen first remaining now_remaining written now_written last

@@ -11,7 +11,8 @@ use std::alloc::{AllocError, Global};
 const VERSION: &str = "1.0.0";
 
 /// What the program is for, at the top of its help.
-const ABOUT: &str = "Keeps users, roles, permissions and sessions in one file, and answers access questions";
+const ABOUT: &str =
+    "Keeps users, roles, permissions and sessions in one file, and answers access questions";
 
 /// The end of the program's help.
 const EXAMPLES: &str = "\
@@ -159,7 +160,11 @@ fn first_six<'a>(alloc: Global) -> Result<Command<'a>, AllocError>
 {
     let import = import_command(alloc)?;
     let export = file_command(alloc, "export", "Write the assignments as CSV")?;
-    let report = file_command(alloc, "report", "Write how many users and permissions each role has")?;
+    let report = file_command(
+        alloc,
+        "report",
+        "Write how many users and permissions each role has",
+    )?;
     let rbac = first_three(alloc)?;
     rbac.subcommand(import)?
         .subcommand(export)?
@@ -171,7 +176,11 @@ pub(crate) fn program_command<'a>(alloc: Global) -> Result<Command<'a>, AllocErr
     ensures { IfOk result (λ c. app_of c ≡ program) }
 {
     let check = file_command(alloc, "check", "Check that the file holds a good office")?;
-    let migrate = file_command(alloc, "migrate", "Migrate an office of version 1 to version 2")?;
+    let migrate = file_command(
+        alloc,
+        "migrate",
+        "Migrate an office of version 1 to version 2",
+    )?;
     let rbac = first_six(alloc)?;
     rbac.subcommand(check)?.subcommand(migrate)
 }

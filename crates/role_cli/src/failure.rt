@@ -1,7 +1,7 @@
 //! Why the program failed, and the line that reports it.
 ghost use Rattle.std.specs.Prelude.{⊤, ◌⊎◌};
 ghost use Rattle.rbac_sets.specs.Stream.{HasRisen};
-ghost use Rattle.role_cli.specs.Telling.{IsLineOf, SaysSome, Says, no_memory_line};
+ghost use Rattle.role_cli.specs.ErrorOutput.{IsLineOf, SaysSome, Says, no_memory_line};
 
 use rbac_sets::{Refusal, Sink, write_all};
 use role_wire::{Stop, Verdict, answer_text};

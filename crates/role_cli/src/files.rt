@@ -6,7 +6,7 @@ ghost use Rattle.sqlite.specs.Start.{FindsIn};
 ghost use Rattle.sqlite.specs.State.{HasCleanDisk};
 ghost use Rattle.sqlite.specs.WalFiles.{image_at};
 ghost use Rattle.role_wire.specs.Replay.{most_reads};
-ghost use Rattle.role_cli.specs.OnFile.{WorksOnFiles};
+ghost use Rattle.role_cli.specs.FileWork.{WorksOnFiles};
 ghost use Rattle.role_cli.specs.Work.{Does, DoesOverSome, FailsOn, Works, reads_input};
 
 use crate::choice::Choice;

@@ -4,11 +4,11 @@ ghost use Rattle.clap.specs.Words.{kind_of, subcommand_of, takes};
 ghost use Rattle.rbac_sets.specs.Stream.{HasRisen};
 ghost use Rattle.role_wire.specs.Replay.{IsAtBound, most_reads};
 ghost use Rattle.role_cli.specs.CommandLine.{program};
-ghost use Rattle.role_cli.specs.Done.{IsDone, is_in_memory};
-ghost use Rattle.role_cli.specs.Telling.{IsLineOf, Says, SaysSome, no_memory_line};
+ghost use Rattle.role_cli.specs.ProgramOutcome.{IsDone, is_memory_replay};
+ghost use Rattle.role_cli.specs.ErrorOutput.{IsLineOf, Says, SaysSome, no_memory_line};
 ghost use Rattle.role_cli.specs.Work.{reads_input};
-ghost use Rattle.role_cli.specs.Choosing.{AsksHelp, Chooses, IsHelp, ReplaysBothOrNeither};
-ghost use Rattle.role_cli.specs.InMemory.{FailsInMemory, IsCaused};
+ghost use Rattle.role_cli.specs.ArgumentChoice.{AsksHelp, Chooses, IsHelp, ReplaysBothOrNeither};
+ghost use Rattle.role_cli.specs.MemoryReplay.{FailsInMemory, IsCaused};
 ghost use Rattle.role_cli.specs.declared.choice.Choice.{Choice};
 
 use crate::choice::{Choice, Place, Unchosen, choose};
@@ -51,12 +51,12 @@ pub fn run<R: Source, W: Sink, E: Sink>(
     ensures refused { result ≡ 2 → (source.new ≡ source.old) × (out.new ≡ out.old) }
     ensures unchosen { result ≡ 2 → (takes program (map (λ s. s.now) words.entry.now) ≡ false) ⊎ ReplaysBothOrNeither (subcommand_of program (map (λ s. s.now) words.entry.now)) }
     ensures stopped { result ≡ 1 → ((source.new ≡ source.old) × (out.new ≡ out.old))
-        ⊎ ((choice : Choice) × Chooses (subcommand_of program (map (λ s. s.now) words.entry.now)) choice × (reads_input choice ≡ false → source.new ≡ source.old) × (is_in_memory choice ≡ true → (failure : Failure)
+        ⊎ ((choice : Choice) × Chooses (subcommand_of program (map (λ s. s.now) words.entry.now)) choice × (reads_input choice ≡ false → source.new ≡ source.old) × (is_memory_replay choice ≡ true → (failure : Failure)
         × FailsInMemory ⟦<MemoryFile as Disk>⟧ failure ((source.new ≡ source.old) × (out.new ≡ out.old)) (R.remaining source.old) (R.remaining source.new) (W.written out.old) (W.written out.new)
         × IsCaused failure
         (HasRisen (W.failed out.old) (W.failed out.new) ⊎ HasRisen (W.idle out.old) (W.idle out.new))
         (HasRisen (R.failed source.old) (R.failed source.new) ⊎ IsAtBound (R.reads source.old) (R.reads source.new)))) }
-    ensures told { result ≡ 1 → (failure : Failure) × SaysSome (IsLineOf failure) (E.written err.old) (E.written err.new)
+    ensures reported { result ≡ 1 → (failure : Failure) × SaysSome (IsLineOf failure) (E.written err.old) (E.written err.new)
         (HasRisen (E.failed err.old) (E.failed err.new) ⊎ HasRisen (E.idle err.old) (E.idle err.new)) }
     ensures silent { result ≡ 0 → err.new ≡ err.old }
     ensures reads { R.reads source.new ≤ R.reads source.old + most_reads }
@@ -83,9 +83,9 @@ fn done<R: Source, W: Sink>(
     out: &mut W,
 ) -> Result<(), Failure>
     ensures done { OnOk result (IsDone ⟦<MemoryFile as Disk>⟧ ⟦<File as Disk>⟧ choice.now (R.remaining source.old) (R.remaining source.new) (W.written out.old) (W.written out.new)) }
-    ensures stopped { is_in_memory choice.now ≡ true → IfErr result (λ failure. FailsInMemory ⟦<MemoryFile as Disk>⟧ failure ((source.new ≡ source.old) × (out.new ≡ out.old))
+    ensures stopped { is_memory_replay choice.now ≡ true → IfErr result (λ failure. FailsInMemory ⟦<MemoryFile as Disk>⟧ failure ((source.new ≡ source.old) × (out.new ≡ out.old))
         (R.remaining source.old) (R.remaining source.new) (W.written out.old) (W.written out.new)) }
-    ensures caused { is_in_memory choice.now ≡ true → IfErr result (λ failure. IsCaused failure
+    ensures caused { is_memory_replay choice.now ≡ true → IfErr result (λ failure. IsCaused failure
         (HasRisen (W.failed out.old) (W.failed out.new) ⊎ HasRisen (W.idle out.old) (W.idle out.new))
         (HasRisen (R.failed source.old) (R.failed source.new) ⊎ IsAtBound (R.reads source.old) (R.reads source.new))) }
     ensures unread { reads_input choice.now ≡ false → source.new ≡ source.old }
@@ -112,7 +112,7 @@ fn status_of<E: Sink>(alloc: Global, done: Result<(), Failure>, err: &mut E) -> 
     ensures done { (result ≡ 0) ↔ IsOk done }
     ensures stopped { result ≡ 1 → IsErr done }
     ensures status { (result ≡ 0) ⊎ (result ≡ 1) }
-    ensures told { result ≡ 1 → (failure : Failure) × SaysSome (IsLineOf failure) (E.written err.old) (E.written err.new)
+    ensures reported { result ≡ 1 → (failure : Failure) × SaysSome (IsLineOf failure) (E.written err.old) (E.written err.new)
         (HasRisen (E.failed err.old) (E.failed err.new) ⊎ HasRisen (E.idle err.old) (E.idle err.new)) }
     ensures silent { result ≡ 0 → err.new ≡ err.old }
 {
@@ -130,7 +130,7 @@ fn explain<W: Sink, E: Sink>(alloc: Global, error: &clap::Error, out: &mut W, er
     ensures status { (result ≡ 0) ⊎ ((result ≡ 1) ⊎ (result ≡ 2)) }
     ensures help { result ≡ 0 → IsHelp (kind_of error.now) }
     ensures refused { (result ≡ 2) ⊎ (result ≡ 1) → out.new ≡ out.old }
-    ensures told { result ≡ 1 → Says no_memory_line (E.written err.old) (E.written err.new) (HasRisen (E.failed err.old) (E.failed err.new) ⊎ HasRisen (E.idle err.old) (E.idle err.new)) }
+    ensures reported { result ≡ 1 → Says no_memory_line (E.written err.old) (E.written err.new) (HasRisen (E.failed err.old) (E.failed err.new) ⊎ HasRisen (E.idle err.old) (E.idle err.new)) }
     ensures silent { result ≡ 0 → err.new ≡ err.old }
 {
     let Ok(text) = format!(in alloc; "{error}") else {

@@ -4,8 +4,8 @@ ghost use Rattle.std.specs.Io.KnownBytes.{Appends};
 ghost use Rattle.sqlite.specs.Held.{state};
 ghost use Rattle.rbac_sets.specs.Stream.{HasRisen};
 ghost use Rattle.role_http.specs.Route.{routes};
-ghost use Rattle.role_cli.specs.Serving.{AllServed, EndsBy, IsServed, Serves};
-ghost use Rattle.role_cli.specs.Telling.{IsLineOf, SaysSome};
+ghost use Rattle.role_cli.specs.ServedConnections.{AllServed, EndsBy, IsServed, Serves};
+ghost use Rattle.role_cli.specs.ErrorOutput.{IsLineOf, SaysSome};
 ghost use Rattle.role_cli.specs.Work.{FailsToServe, WritesPart, listening_line};
 ghost use Rattle.role_cli.specs.declared.failure.Failure.{Failure};
 

@@ -3,17 +3,17 @@ ghost use Rattle.std.specs.Prelude.{◌≡◌, ◌⊎◌, ◌≤◌, ◌+◌, �
 ghost use Rattle.std.specs.Io.KnownBytes.{Appends};
 ghost use Rattle.sqlite.specs.Held.{state};
 ghost use Rattle.sqlite.specs.State.{HasCleanDisk};
-ghost use Rattle.rbac_sets.specs.Asked.{Import, asked_of};
+ghost use Rattle.rbac_sets.specs.CommandContent.{Import, content_of};
 ghost use Rattle.rbac_sets.specs.Sets.{Pair};
-ghost use Rattle.admin_mgr.specs.Planned.{tally_of_report};
+ghost use Rattle.admin_mgr.specs.PlanEffect.{tally_of_report};
 ghost use Rattle.review_mgr.specs.Report.{report};
 ghost use Rattle.role_csv.specs.Assignments.{assignments};
 ghost use Rattle.role_csv.specs.Export.{exported};
 ghost use Rattle.role_json.specs.Answer.{import_text};
-ghost use Rattle.role_json.specs.Requested.{Change};
-ghost use Rattle.role_tables.specs.Standing.{ForgetsNoFault};
-ghost use Rattle.role_wire.specs.Keeping.{Continues};
-ghost use Rattle.role_wire.specs.Performing.{Declines, Performs};
+ghost use Rattle.role_json.specs.RequestContent.{Change};
+ghost use Rattle.role_tables.specs.Durability.{ForgetsNoFault};
+ghost use Rattle.role_wire.specs.Continuation.{Continues};
+ghost use Rattle.role_wire.specs.OfficeRequest.{Declines, Performs};
 ghost use Rattle.role_wire.specs.Replay.{most_reads};
 ghost use Rattle.role_cli.specs.Work.{Begins, Does, DoesOverSome, Fails, FailsOn, FailsToImport, Imports, IsUnopened, IsUnread, RefusesText, StartsWell, Works, WritesPart, reads_input};
 
@@ -68,7 +68,7 @@ pub fn run_on_connection<S: Alter, R: Source, W: Sink>(
 {
     match office_of(rt.alloc(), conn, choice) {
         Ok(mut office) => {
-            office.is_good();
+            office.recall_good();
             let done = run_on_office(rt, &mut office, choice, source, out);
             (done, office.into_connection())
         }
@@ -222,10 +222,10 @@ fn import_pairs<S: Alter>(
     office: &mut Office<S>,
     command: &Command,
 ) -> Result<String, Refusal>
-    requires { (pairs : List Pair) × (asked_of command.now ≡ Import pairs) }
-    ensures ok { IfOk result (λ line. (answer : List ℕ) × Performs (state S.Store) office.old (Change (asked_of command.now)) answer office.new × (string_bytes line ≡ answer ++ (10 ∷ []))) }
-    ensures err { IfErr result (λ refusal. Declines (state S.Store) office.old (Change (asked_of command.now)) refusal office.new
-        ⊎ ((refusal ≡ Refusal.Memory) × ((answer : List ℕ) × Performs (state S.Store) office.old (Change (asked_of command.now)) answer office.new))) }
+    requires { (pairs : List Pair) × (content_of command.now ≡ Import pairs) }
+    ensures ok { IfOk result (λ line. (answer : List ℕ) × Performs (state S.Store) office.old (Change (content_of command.now)) answer office.new × (string_bytes line ≡ answer ++ (10 ∷ []))) }
+    ensures err { IfErr result (λ refusal. Declines (state S.Store) office.old (Change (content_of command.now)) refusal office.new
+        ⊎ ((refusal ≡ Refusal.Memory) × ((answer : List ℕ) × Performs (state S.Store) office.old (Change (content_of command.now)) answer office.new))) }
 {
     let report = office.apply(alloc, command)?;
     import_line(alloc, report)

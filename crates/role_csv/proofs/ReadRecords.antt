@@ -14,11 +14,11 @@ use Rattle.rbac_sets.specs.Sets.{Bytes}
 use Rattle.role_csv.specs.Records.{Fields, HasRead, TextReader, records_of}
 
 -- reading a record consumes a byte, or the text is at its end
-abbrev TakesByte : Bytes → Read → Type 0
-TakesByte bytes read = (length read.2 < length bytes) ⊎ ((read.2 ≡ []) × (read.1 ≡ state.StartRecord))
+abbrev ConsumesByte : Bytes → Read → Type 0
+ConsumesByte bytes read = (length read.2 < length bytes) ⊎ ((read.2 ≡ []) × (read.1 ≡ state.StartRecord))
 
 next_record-takes : (cfg : Config) (s : State) (fields : Fields) (field bytes : Bytes) (read : Read)
-    → next_record cfg s fields field bytes ≡ Some read → TakesByte bytes read
+    → next_record cfg s fields field bytes ≡ Some read → ConsumesByte bytes read
 unfolding next_record
 next_record-takes cfg s fields field [] read e =
     elim (cases_Bool (ends_at_end s)) [

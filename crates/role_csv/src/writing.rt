@@ -3,7 +3,7 @@ ghost use Rattle.std.specs.Prelude.{◌≡◌, ◌⊎◌, ◌++◌, ◌≤◌, �
 ghost use Rattle.std.specs.Io.KnownBytes.{Appends};
 ghost use Rattle.csv.specs.Writing.{default_writer, fields_written, has_written, writer_setup};
 ghost use Rattle.rbac_sets.specs.Stream.{HasRisen};
-ghost use Rattle.role_csv.specs.Export.{export, exported, held_by, line_of};
+ghost use Rattle.role_csv.specs.Export.{export, exported, writer_bytes, line_of};
 
 use admin_mgr::State;
 use csv::{Writer, WriterBuilder};
@@ -62,7 +62,7 @@ fn write_pair(writer: &mut Writer<Vec<u8>>, user: &str, role: &str) -> Result<()
     ensures ended { OnOk result (fields_written writer.new ≡ 0) }
     ensures clean { OnOk result (has_written writer.new ≡ false) }
     ensures plain { OnOk result (writer_setup writer.new ≡ default_writer) }
-    ensures text { OnOk result (Appends (held_by writer.old) (held_by writer.new) (line_of (user.now, role.now))) }
+    ensures text { OnOk result (Appends (writer_bytes writer.old) (writer_bytes writer.new) (line_of (user.now, role.now))) }
     ensures cause { IfErr result (λ refusal. refusal ≡ Refusal.Memory) }
 {
     match writer.write_fields(&[user.as_bytes(), role.as_bytes()]) {

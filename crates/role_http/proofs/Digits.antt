@@ -7,7 +7,7 @@ use Rattle.std.specs.Str.Parse.{digits_value, digits_value_after}
 use Rattle.std.proofs.Math.Seq.{drop-cons}
 use Rattle.std.proofs.lemmas.Bool.{cases_Bool, and_parts, true≢false}
 use Rattle.std.proofs.lemmas.List.Folds.{list_all_at}
-use Rattle.role_http.specs.Judging.{is_length, length_of}
+use Rattle.role_http.specs.HeadChecks.{is_length, length_of}
 
 -- more digits don't denote a smaller number
 after_le : (n : ℕ) (digits : List ℕ) → n ≤ digits_value_after 10 n digits

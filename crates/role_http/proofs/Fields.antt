@@ -6,7 +6,7 @@ use Rattle.std.proofs.lemmas.List.{drop_all}
 use Rattle.std.proofs.Math.Seq.{drop-cons}
 use Rattle.httparse.specs.Spans.{header_bytes, span_bytes}
 use Rattle.httparse.specs.declared.spans.HeaderSpan.{HeaderSpan}
-use Rattle.role_http.specs.Judging.{Field, agrees, has_field, is_length, one_length, values_of}
+use Rattle.role_http.specs.HeadChecks.{Field, agrees, has_field, is_length, one_length, values_of}
 
 -- the fields from the i-th on
 abbrev pub rest_of : List ℕ → List HeaderSpan → ℕ → List Field

@@ -8,9 +8,9 @@ use Rattle.httparse.specs.Ascii.{space}
 use Rattle.httparse.specs.Grammar.{LineEnd, crlf, lf, print_end, print_blank, print_version, print_field, RequestHead, print_request, ReadsRequest, HasNoRequest}
 use Rattle.httparse.proofs.GrammarLemmas.{ReadsRequest-append, request_unique}
 use Rattle.rbac_sets.proofs.Known.{Consumes-kept, Consumes-more, Consumes-no_more}
-use Rattle.role_http.specs.Answered.{with_left}
-use Rattle.role_http.specs.Head.{HasHead, IsInHead, TakesHead, longest_head}
-use Rattle.role_http.specs.Judging.{judged_head}
+use Rattle.role_http.specs.HeadAnswer.{with_left}
+use Rattle.role_http.specs.Head.{HasHead, IsInHead, ConsumesHead, longest_head}
+use Rattle.role_http.specs.HeadChecks.{judged_head}
 use Rattle.role_http.specs.Laws.{AnswersAreOfHeads, HeadsAreUnique, RefusedHaveNoHead}
 
 -- ---- the last byte of a head
@@ -91,19 +91,19 @@ in_head bytes last none one later head rest reads =
     omega (arith, past, one, length-append bytes last)
 
 -- they were read
-pub TakesHead-all : (old new : Option (List ℕ)) (bytes : List ℕ) → HasNoRequest bytes → length bytes ≤ longest_head → Consumes old new bytes → TakesHead old new bytes
-TakesHead-all old new bytes none short all = (all, rw (append-nil bytes) at (in_head bytes [] none (omega arith)), short)
+pub ConsumesHead-all : (old new : Option (List ℕ)) (bytes : List ℕ) → HasNoRequest bytes → length bytes ≤ longest_head → Consumes old new bytes → ConsumesHead old new bytes
+ConsumesHead-all old new bytes none short all = (all, rw (append-nil bytes) at (in_head bytes [] none (omega arith)), short)
 
 -- they were read, and then nothing
-pub TakesHead-kept : (old between new : Option (List ℕ)) (bytes : List ℕ) → HasNoRequest bytes → length bytes ≤ longest_head → Consumes old between bytes
-    → Keeps between new → TakesHead old new bytes
-TakesHead-kept old between new bytes none short before kept =
-    TakesHead-all old new bytes none short (Consumes-no_more old between new bytes before (Consumes-kept between new kept))
+pub ConsumesHead-kept : (old between new : Option (List ℕ)) (bytes : List ℕ) → HasNoRequest bytes → length bytes ≤ longest_head → Consumes old between bytes
+    → Keeps between new → ConsumesHead old new bytes
+ConsumesHead-kept old between new bytes none short before kept =
+    ConsumesHead-all old new bytes none short (Consumes-no_more old between new bytes before (Consumes-kept between new kept))
 
 -- one more byte was read
-pub TakesHead-more : (old between new : Option (List ℕ)) (bytes : List ℕ) (byte : ℕ) → HasNoRequest bytes → length bytes < longest_head → Consumes old between bytes
-    → Consumes between new (byte ∷ []) → TakesHead old new (bytes ++ byte ∷ [])
-TakesHead-more old between new bytes byte none short before more =
+pub ConsumesHead-more : (old between new : Option (List ℕ)) (bytes : List ℕ) (byte : ℕ) → HasNoRequest bytes → length bytes < longest_head → Consumes old between bytes
+    → Consumes between new (byte ∷ []) → ConsumesHead old new (bytes ++ byte ∷ [])
+ConsumesHead-more old between new bytes byte none short before more =
     (Consumes-more old between new bytes (byte ∷ []) before more, in_head bytes (byte ∷ []) none (omega arith), rw (length-append bytes (byte ∷ [])) (omega (arith, short)))
 
 -- ---- laws

@@ -2,4 +2,4 @@ pub mod Digits
 pub mod Failing
 pub mod Fields
 pub mod Heads
-pub mod Routing
+pub mod RouteLookup

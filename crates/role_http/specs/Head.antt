@@ -21,5 +21,5 @@ IsInHead taken = (later : List ℕ) (head : RequestHead) (rest : List ℕ) → R
 
 -- these bytes were read from a source that had the remaining bytes `old` before and has `new` after: none past a head, and no
 -- more than a head may have
-abbrev pub TakesHead : Option (List ℕ) → Option (List ℕ) → List ℕ → Type 0
-TakesHead old new taken = Consumes old new taken × IsInHead taken × (length taken ≤ longest_head)
+abbrev pub ConsumesHead : Option (List ℕ) → Option (List ℕ) → List ℕ → Type 0
+ConsumesHead old new taken = Consumes old new taken × IsInHead taken × (length taken ≤ longest_head)

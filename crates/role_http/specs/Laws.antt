@@ -2,9 +2,9 @@
 use Rattle.std.specs.Prelude.{◌≡◌, ℕ, List, Option, Result}
 use Rattle.httparse.specs.Grammar.{RequestHead, print_request}
 use Rattle.role_json.specs.declared.function.Function.{Function}
-use Rattle.role_http.specs.Answered.{Answers, RefusesBytes, with_left}
+use Rattle.role_http.specs.HeadAnswer.{Answers, RefusesBytes, with_left}
 use Rattle.role_http.specs.Head.{HasHead}
-use Rattle.role_http.specs.Judging.{judged_head}
+use Rattle.role_http.specs.HeadChecks.{judged_head}
 
 -- bytes determine their head and what follows it
 abbrev pub HeadsAreUnique : Type 0

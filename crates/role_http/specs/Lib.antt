@@ -1,9 +1,9 @@
-pub mod Answered
 pub mod Head
-pub mod HeadEnd
-pub mod Judging
+pub mod HeadAnswer
+pub mod HeadChecks
 pub mod Laws
 pub mod Pieces
 pub mod ReplyBytes
 pub mod Route
 pub mod Status
+pub mod private

@@ -3,12 +3,12 @@ ghost use Rattle.std.specs.Prelude.{◌≡◌, ◌≤◌, ℕ, List, IfErr, IfOk
 ghost use Rattle.httparse.specs.Grammar.{RequestHead};
 ghost use Rattle.httparse.specs.Spans.{IsRequestAt, IsRequestWithin};
 ghost use Rattle.rbac_sets.specs.Stream.{HasRisen};
-ghost use Rattle.role_http.specs.Answered.{Answers};
-ghost use Rattle.role_http.specs.Head.{TakesHead};
-ghost use Rattle.role_http.specs.Judging.{judged_head};
+ghost use Rattle.role_http.specs.HeadAnswer.{Answers};
+ghost use Rattle.role_http.specs.Head.{ConsumesHead};
+ghost use Rattle.role_http.specs.HeadChecks.{judged_head};
 ghost use Rattle.role_http.specs.Route.{routes};
 
-use crate::Unread;
+use crate::ReadError;
 use crate::head::{HeadEnd, MOST_FIELDS, read_head};
 use crate::judge::judge_head;
 use crate::route::function_of;
@@ -44,13 +44,13 @@ pub fn answer_head<R: Source>(
     alloc: Global,
     router: &Router<()>,
     source: &mut R,
-) -> Result<Result<(Function, u32), StatusCode>, Unread>
+) -> Result<Result<(Function, u32), StatusCode>, ReadError>
     requires route { router.now ≡ routes }
-    ensures answers { IfOk result (λ answer. (taken : List ℕ) × TakesHead (R.remaining source.old) (R.remaining source.new) taken × Answers taken (R.remaining source.new) answer) }
-    ensures stops { OnErr result ((taken : List ℕ) × TakesHead (R.remaining source.old) (R.remaining source.new) taken) }
+    ensures answers { IfOk result (λ answer. (taken : List ℕ) × ConsumesHead (R.remaining source.old) (R.remaining source.new) taken × Answers taken (R.remaining source.new) answer) }
+    ensures stops { OnErr result ((taken : List ℕ) × ConsumesHead (R.remaining source.old) (R.remaining source.new) taken) }
     ensures steady { OnOk result (R.failed source.new ≡ R.failed source.old) }
-    ensures fault { IfErr result (λ why. why ≡ Unread.Fault → HasRisen (R.failed source.old) (R.failed source.new)) }
-    ensures memory { IfErr result (λ why. why ≡ Unread.Memory → R.failed source.new ≡ R.failed source.old) }
+    ensures fault { IfErr result (λ why. why ≡ ReadError.Fault → HasRisen (R.failed source.old) (R.failed source.new)) }
+    ensures memory { IfErr result (λ why. why ≡ ReadError.Memory → R.failed source.new ≡ R.failed source.old) }
 {
     let mut bytes = Vec::new(alloc);
     let mut headers = [EMPTY_HEADER_SPAN; MOST_FIELDS];

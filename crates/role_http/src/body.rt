@@ -3,7 +3,7 @@ ghost use Rattle.std.specs.Prelude.{◌≡◌, ◌≤◌, ◌<◌, ℕ, List, le
 ghost use Rattle.std.specs.Io.KnownBytes.{Consumes, IsAtEnd};
 ghost use Rattle.rbac_sets.specs.Stream.{HasRisen};
 
-use crate::Unread;
+use crate::ReadError;
 use rbac_sets::Source;
 use std::alloc::Global;
 
@@ -17,14 +17,18 @@ const PIECE: usize = 8192;
 ///
 /// `Fault` if a read of the source failed, and `Memory` if allocation failed. At most `count` bytes were
 /// read then.
-pub fn read_bytes<R: Source>(alloc: Global, source: &mut R, count: usize) -> Result<Vec<u8>, Unread>
+pub fn read_bytes<R: Source>(
+    alloc: Global,
+    source: &mut R,
+    count: usize,
+) -> Result<Vec<u8>, ReadError>
     ensures reads { IfOk result (λ bytes. Consumes (R.remaining source.old) (R.remaining source.new) bytes.items) }
     ensures within { IfOk result (λ bytes. length bytes.items ≤ count) }
     ensures end { IfOk result (λ bytes. length bytes.items < count → IsAtEnd (R.remaining source.new)) }
     ensures stops { OnErr result ((taken : List ℕ) × Consumes (R.remaining source.old) (R.remaining source.new) taken × (length taken ≤ count)) }
     ensures steady { OnOk result (R.failed source.new ≡ R.failed source.old) }
-    ensures fault { IfErr result (λ why. why ≡ Unread.Fault → HasRisen (R.failed source.old) (R.failed source.new)) }
-    ensures memory { IfErr result (λ why. why ≡ Unread.Memory → R.failed source.new ≡ R.failed source.old) }
+    ensures fault { IfErr result (λ why. why ≡ ReadError.Fault → HasRisen (R.failed source.old) (R.failed source.new)) }
+    ensures memory { IfErr result (λ why. why ≡ ReadError.Memory → R.failed source.new ≡ R.failed source.old) }
 {
     let mut piece = [0u8; PIECE];
     let mut bytes = Vec::new(alloc);

@@ -2,10 +2,10 @@
 ghost use Rattle.std.specs.Prelude.{◌≡◌, ◌∷◌, [], ℕ, List, IfErr, IfOk, OnErr, OnOk, length, MatchOption};
 ghost use Rattle.std.specs.Io.KnownBytes.{Consumes, IsAtEnd, Keeps};
 ghost use Rattle.rbac_sets.specs.Stream.{HasRisen};
-ghost use Rattle.role_http.specs.Head.{TakesHead};
-ghost use Rattle.role_http.specs.HeadEnd.{EndsHead, IsWholeWithin};
+ghost use Rattle.role_http.specs.Head.{ConsumesHead};
+ghost use Rattle.role_http.specs.private.HeadEnd.{EndsHead, IsWholeWithin};
 
-use crate::Unread;
+use crate::ReadError;
 use httparse::spans::{HeaderSpan, RequestSpans, parse_request};
 use httparse::{Error, Status};
 use rbac_sets::{Fault, Source};
@@ -36,16 +36,16 @@ pub fn read_head<R: Source>(
     source: &mut R,
     bytes: &mut Vec<u8>,
     headers: &mut [HeaderSpan],
-) -> Result<HeadEnd, Unread>
+) -> Result<HeadEnd, ReadError>
     requires { bytes.old.items ≡ [] }
     ensures ends { IfOk result (EndsHead bytes.new.items headers.new (R.remaining source.new)) }
     ensures within { IfOk result (IsWholeWithin bytes.new.items headers.new) }
-    ensures takes { OnOk result (TakesHead (R.remaining source.old) (R.remaining source.new) bytes.new.items) }
+    ensures takes { OnOk result (ConsumesHead (R.remaining source.old) (R.remaining source.new) bytes.new.items) }
     ensures room { length headers.new ≡ length headers.old }
-    ensures stops { OnErr result ((taken : List ℕ) × TakesHead (R.remaining source.old) (R.remaining source.new) taken) }
+    ensures stops { OnErr result ((taken : List ℕ) × ConsumesHead (R.remaining source.old) (R.remaining source.new) taken) }
     ensures steady { OnOk result (R.failed source.new ≡ R.failed source.old) }
-    ensures fault { IfErr result (λ why. why ≡ Unread.Fault → HasRisen (R.failed source.old) (R.failed source.new)) }
-    ensures memory { IfErr result (λ why. why ≡ Unread.Memory → R.failed source.new ≡ R.failed source.old) }
+    ensures fault { IfErr result (λ why. why ≡ ReadError.Fault → HasRisen (R.failed source.old) (R.failed source.new)) }
+    ensures memory { IfErr result (λ why. why ≡ ReadError.Memory → R.failed source.new ≡ R.failed source.old) }
 {
     for _ in 0..MOST_BYTES {
         let Some(byte) = next_byte(source)? else {

@@ -6,7 +6,7 @@ ghost use Rattle.std.specs.Str.{bytes_eq, str_eq_ignore_ascii_case};
 ghost use Rattle.httparse.specs.Grammar.{RequestHead};
 ghost use Rattle.httparse.specs.Spans.{IsHeaderWithin, IsRequestAt, IsRequestWithin, header_bytes};
 ghost use Rattle.role_http.specs.Route.{function_in};
-ghost use Rattle.role_http.specs.Judging.{agrees, has_field, is_length, judged, judged_head, length_of, most_bytes_of, one_length, values_of};
+ghost use Rattle.role_http.specs.HeadChecks.{agrees, has_field, is_length, judged, judged_head, length_of, most_bytes_of, one_length, values_of};
 
 use http::{Method, StatusCode};
 use httparse::spans::{HeaderSpan, RequestSpans};

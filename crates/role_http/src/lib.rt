@@ -9,7 +9,7 @@ pub use body::read_bytes;
 pub use reply::write_reply;
 pub use route::one_route;
 pub use status::{refused_body, status_of};
-pub use unread::Unread;
+pub use unread::ReadError;
 
 pub mod answer;
 pub mod body;

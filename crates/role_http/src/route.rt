@@ -43,7 +43,7 @@ pub(crate) fn function_of(router: &Router<()>, target: &[u8]) -> Option<Function
 }
 
 // The bytes as text, or `None` if they aren't UTF-8.
-#[tactic(auto, using(crate::proofs::Routing::utf8_steps))]
+#[tactic(auto, using(crate::proofs::RouteLookup::utf8_steps))]
 fn text(bytes: &[u8]) -> Option<&str>
     ensures some { IfSome result (λ text. (text.now ≡ bytes.entry.now) × (is_utf8 bytes.entry.now ≡ true)) }
     ensures none { IfNone result (is_utf8 bytes.entry.now ≡ false) }

@@ -5,7 +5,7 @@ use Rattle.std.specs.Prelude.{Result, ◌||◌, codes, if◌then◌else◌, is_s
 use Rattle.std.specs.List.{list_all}
 use Rattle.serde_json.specs.Data.{Data}
 use Rattle.serde_json.specs.Find.{as_object}
-use Rattle.rbac_sets.specs.Asked.{Asked, Import}
+use Rattle.rbac_sets.specs.CommandContent.{CommandContent, Import}
 use Rattle.rbac_sets.specs.Name.{is_name}
 use Rattle.rbac_sets.specs.Sets.{Bytes, Pair}
 use Rattle.rbac_sets.specs.declared.refusal.Refusal.{Refusal}
@@ -15,12 +15,12 @@ use Rattle.role_csv.specs.Assignments.{assignments}
 use Rattle.role_csv.specs.TextLaws.{refuses_texts}
 use Rattle.role_csv.proofs.Refusing.{refusals_of_texts}
 use Rattle.role_json.specs.Commands.{command_to, hierarchy_command_to, separation_command_to, session_command_to}
-use Rattle.role_json.specs.Fields.{access_at, activation_at, assignment_at, cardinality_at, grant_at, inheritance_at, limit_at, member_at, name, name_at, name_set, names_at, new_session_at, new_session_keys, owned_session_at, permission_at, roles_at, separation_at, separation_keys, text_at, texts_at_three, three_at, three_names}
+use Rattle.role_json.specs.Fields.{access_at, activation_at, assignment_at, cardinality_at, grant_at, inheritance_at, set_cardinality_at, member_at, name, name_at, name_set, names_at, new_session_at, new_session_keys, owned_session_at, permission_at, roles_at, separation_at, separation_keys, text_at, three_texts_at, three_names_at, three_names}
 use Rattle.role_json.specs.Function.{function_named, takes_csv}
 use Rattle.role_json.specs.Queries.{query_to, separation_query_to}
 use Rattle.role_json.specs.Request.{an_object, body_request, body_to, command_or, json_body, json_of, request, request_to}
 use Rattle.role_json.specs.RequestLaws.{refuses_arguments, refuses_bodies, refuses_requests, RefusalsOfBodies, RefusalsOfLines, RefusalsOfNamedBodies, CallsNothing, UnknownCallsNothing}
-use Rattle.role_json.specs.Requested.{Requested, Change}
+use Rattle.role_json.specs.RequestContent.{RequestContent, Change}
 use Rattle.role_json.specs.Steps.{◌>>=◌, or_refuse}
 use Rattle.role_json.specs.declared.function.Function.{Function}
 use Rattle.role_json.specs.declared.function.Function.TheVariants.{AddUser, DeleteUser, AddRole, DeleteRole, AddPermObj, DeletePermObj, AddPermission, DeletePermission, GrantPermission, RevokePermission, AssignUser, DeassignUser, AddInheritance, DeleteInheritance, AddAscendant, AddDescendant, CreateSsdSet, AddSsdRoleMember, DeleteSsdRoleMember, SetSsdSetCardinality, DeleteSsdSet, CreateDsdSet, AddDsdRoleMember, DeleteDsdRoleMember, SetDsdSetCardinality, DeleteDsdSet, CreateSession, DeleteSession, AddActiveRole, DropActiveRole, LockUserAccount, UnlockUserAccount, ImportAssignments, CheckAccess, AssignedUsers, AssignedRoles, AuthorizedUsers, AuthorizedRoles, RolePermissions, UserPermissions, SessionRoles, SessionPermissions, RoleOperationsOnObject, UserOperationsOnObject, SsdRoleSets, SsdRoleSetRoles, SsdRoleSetCardinality, DsdRoleSets, DsdRoleSetRoles, DsdRoleSetCardinality, PermissionRoles}
@@ -39,8 +39,8 @@ Gives may (Ok None) = ⊥
 Gives may (Err refusal) = may refusal ≡ true
 
 -- a refusal that is returned is of this kind
-told_so : {A : Type 0} (may : Refusal → Bool) (result : Result A Refusal) (refusal : Refusal) → Tells may result → result ≡ Err refusal → may refusal ≡ true
-told_so may result refusal told is = subst (Tells may) is told
+refusal_allowed : {A : Type 0} (may : Refusal → Bool) (result : Result A Refusal) (refusal : Refusal) → Tells may result → result ≡ Err refusal → may refusal ≡ true
+refusal_allowed may result refusal told is = subst (Tells may) is told
 
 -- a wider kind
 wider : {A : Type 0} (narrow wide : Refusal → Bool) (result : Result A Refusal) → ((refusal : Refusal) → narrow refusal ≡ true → wide refusal ≡ true) → Tells narrow result → Tells wide result
@@ -108,8 +108,8 @@ module _ (may : Refusal → Bool) where
     names_told first second value =
         next _ _ (text_told first value) (λ a. next _ _ (text_told second value) (λ b. next _ _ (named_told a) (λ x. next _ _ (named_told b) (λ y. tt))))
 
-    three_texts_told : (first second third : Bytes) (value : Data) → Tells may (texts_at_three first second third value)
-    unfolding texts_at_three
+    three_texts_told : (first second third : Bytes) (value : Data) → Tells may (three_texts_at first second third value)
+    unfolding three_texts_at
     three_texts_told first second third value =
         next _ _ (text_told first value) (λ a. next _ _ (text_told second value) (λ b. next _ _ (text_told third value) (λ c. tt)))
 
@@ -117,8 +117,8 @@ module _ (may : Refusal → Bool) where
     unfolding three_names
     three_names_told a b c = next _ _ (named_told a) (λ x. next _ _ (named_told b) (λ y. next _ _ (named_told c) (λ z. tt)))
 
-    three_told : (first second third : Bytes) (value : Data) → Tells may (three_at first second third value)
-    unfolding three_at
+    three_told : (first second third : Bytes) (value : Data) → Tells may (three_names_at first second third value)
+    unfolding three_names_at
     three_told first second third value = next _ _ (three_texts_told first second third value) (λ texts. three_names_told texts.0 texts.1 texts.2)
 
     separation_told : (value : Data) → Tells may (separation_at value)
@@ -127,9 +127,9 @@ module _ (may : Refusal → Bool) where
         next _ _ (next _ _ (text_told _ value) (λ set. next _ _ (roles_told value) (λ roles. next _ _ (count_told value) (λ count. tt))))
         (λ keys. next _ _ (named_told keys.0) (λ set. next _ _ (set_told keys.1) (λ roles. tt)))
 
-    limit_told : (value : Data) → Tells may (limit_at value)
-    unfolding limit_at
-    limit_told value = next _ _ (text_told _ value) (λ text. next _ _ (count_told value) (λ count. next _ _ (named_told text) (λ set. tt)))
+    set_cardinality_told : (value : Data) → Tells may (set_cardinality_at value)
+    unfolding set_cardinality_at
+    set_cardinality_told value = next _ _ (text_told _ value) (λ text. next _ _ (count_told value) (λ count. next _ _ (named_told text) (λ set. tt)))
 
     new_session_told : (value : Data) → Tells may (new_session_at value)
     unfolding new_session_at new_session_keys
@@ -144,7 +144,7 @@ module _ (may : Refusal → Bool) where
     unfolding request_to
     by_command called value gives = by (command_to called value) gives
       where
-        by : (asked : Result (Option Asked) Refusal) → Gives may asked → Tells may (asked >>= command_or (query_to called value))
+        by : (asked : Result (Option CommandContent) Refusal) → Gives may asked → Tells may (asked >>= command_or (query_to called value))
         by (Ok (Some command)) gives = tt
         by (Ok None) gives = absurd gives
         by (Err refusal) gives = gives
@@ -181,12 +181,12 @@ module _ (may : Refusal → Bool) where
     call_told CreateSsdSet value plain = by_command _ _ (then_some _ _ (separation_told value))
     call_told AddSsdRoleMember value plain = by_command _ _ (then_some _ _ (names_told _ _ value))
     call_told DeleteSsdRoleMember value plain = by_command _ _ (then_some _ _ (names_told _ _ value))
-    call_told SetSsdSetCardinality value plain = by_command _ _ (then_some _ _ (limit_told value))
+    call_told SetSsdSetCardinality value plain = by_command _ _ (then_some _ _ (set_cardinality_told value))
     call_told DeleteSsdSet value plain = by_command _ _ (then_some _ _ (name_told _ value))
     call_told CreateDsdSet value plain = by_command _ _ (then_some _ _ (separation_told value))
     call_told AddDsdRoleMember value plain = by_command _ _ (then_some _ _ (names_told _ _ value))
     call_told DeleteDsdRoleMember value plain = by_command _ _ (then_some _ _ (names_told _ _ value))
-    call_told SetDsdSetCardinality value plain = by_command _ _ (then_some _ _ (limit_told value))
+    call_told SetDsdSetCardinality value plain = by_command _ _ (then_some _ _ (set_cardinality_told value))
     call_told DeleteDsdSet value plain = by_command _ _ (then_some _ _ (name_told _ value))
     call_told CreateSession value plain = by_command _ _ (then_some _ _ (new_session_told value))
     call_told DeleteSession value plain = by_command _ _ (then_some _ _ (names_told _ _ value))
@@ -286,20 +286,20 @@ named_body_told function body =
 -- ---- the laws
 
 pub refusals_of_lines : RefusalsOfLines
-refusals_of_lines line refusal is = told_so refuses_requests (request line) refusal (line_told line) is
+refusals_of_lines line refusal is = refusal_allowed refuses_requests (request line) refusal (line_told line) is
 
 pub refusals_of_named_bodies : RefusalsOfNamedBodies
-refusals_of_named_bodies function body refusal is = told_so refuses_requests (body_request function body) refusal (named_body_told function body) is
+refusals_of_named_bodies function body refusal is = refusal_allowed refuses_requests (body_request function body) refusal (named_body_told function body) is
 
 pub refusals_of_bodies : RefusalsOfBodies
-refusals_of_bodies called body refusal is = told_so (refuses_bodies called) (body_to called body) refusal (body_told called body) is
+refusals_of_bodies called body refusal is = refusal_allowed (refuses_bodies called) (body_to called body) refusal (body_told called body) is
 
 -- a refusal for arguments or a text is not `UnknownFunction`
 known : {A : Type 0} (result : Result A Refusal) (refusal : Refusal) → Tells refuses_calls result → result ≡ Err refusal → refusal ≡ UnknownFunction → ⊥
-known result refusal told is unknown = let no : refuses_calls UnknownFunction ≡ true = told_so refuses_calls result UnknownFunction told (is ∙ ap Err unknown) in absurd (cc no)
+known result refusal told is unknown = let no : refuses_calls UnknownFunction ≡ true = refusal_allowed refuses_calls result UnknownFunction told (is ∙ ap Err unknown) in absurd (cc no)
 
 -- a call of the function, if there is one
-abbrev calls : Data → Option Function → Result Requested Refusal
+abbrev calls : Data → Option Function → Result RequestContent Refusal
 calls value found = or_refuse UnknownFunction found >>= λ called. request_to called value
 
 module _ (line : List ℕ) where

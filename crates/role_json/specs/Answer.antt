@@ -9,8 +9,8 @@ use Rattle.rbac_sets.specs.Refusal.{code_of, name_of}
 use Rattle.rbac_sets.specs.declared.refusal.Refusal.{Refusal}
 use Rattle.rbac_sets.specs.declared.refusal.Refusal.TheVariants.{StaticSeparation, DynamicSeparation, TooMany, BadCsv, Version, Damaged}
 use Rattle.admin_mgr.specs.Assignment.{Tally}
-use Rattle.admin_mgr.specs.Planned.{tally_of_report}
-use Rattle.review_mgr.specs.Answering.{Told, NamesTold, PermissionsTold, CountTold, AccessTold, told}
+use Rattle.admin_mgr.specs.PlanEffect.{tally_of_report}
+use Rattle.review_mgr.specs.Answering.{Told, NamesContent, PermissionsContent, CountContent, AccessContent, told}
 use Rattle.role_json.specs.declared.answer.Verdict.{Verdict}
 use Rattle.role_json.specs.declared.answer.Verdict.TheVariants as verdict
 
@@ -51,10 +51,10 @@ count_data None = null
 
 -- the value of the answer to a question
 unfoldable pub value_data : Told → Data
-value_data (NamesTold names) = array (texts_of names)
-value_data (PermissionsTold permissions) = array (pairs_of permissions)
-value_data (CountTold count) = count_data count
-value_data (AccessTold access) = boolean access
+value_data (NamesContent names) = array (texts_of names)
+value_data (PermissionsContent permissions) = array (pairs_of permissions)
+value_data (CountContent count) = count_data count
+value_data (AccessContent access) = boolean access
 
 -- the answer to a command that was done
 abbrev pub done_data : Data

@@ -52,8 +52,8 @@ names_at first second value = do
   Ok (x, y)
 
 -- the texts at three keys
-unfoldable pub texts_at_three : Bytes → Bytes → Bytes → Data → Result (Bytes × Bytes × Bytes) Refusal
-texts_at_three first second third value = do
+unfoldable pub three_texts_at : Bytes → Bytes → Bytes → Data → Result (Bytes × Bytes × Bytes) Refusal
+three_texts_at first second third value = do
   a ← text_at first value
   b ← text_at second value
   c ← text_at third value
@@ -68,8 +68,8 @@ three_names a b c = do
   Ok (x, y, z)
 
 -- the names at three keys
-unfoldable pub three_at : Bytes → Bytes → Bytes → Data → Result (Bytes × Bytes × Bytes) Refusal
-three_at first second third value = texts_at_three first second third value >>= λ texts. three_names texts.0 texts.1 texts.2
+unfoldable pub three_names_at : Bytes → Bytes → Bytes → Data → Result (Bytes × Bytes × Bytes) Refusal
+three_names_at first second third value = three_texts_at first second third value >>= λ texts. three_names texts.0 texts.1 texts.2
 
 -- a permission: its object and its operation
 unfoldable pub permission_at : Data → Result (Bytes × Bytes) Refusal
@@ -93,15 +93,15 @@ owned_session_at value = names_at (codes "user") (codes "session") value
 
 -- a grant: the object and the operation of the permission, and the role
 unfoldable pub grant_at : Data → Result (Bytes × Bytes × Bytes) Refusal
-grant_at value = three_at (codes "object") (codes "operation") (codes "role") value
+grant_at value = three_names_at (codes "object") (codes "operation") (codes "role") value
 
 -- a role in a session: the user that owns the session, the session and the role
 unfoldable pub activation_at : Data → Result (Bytes × Bytes × Bytes) Refusal
-activation_at value = three_at (codes "user") (codes "session") (codes "role") value
+activation_at value = three_names_at (codes "user") (codes "session") (codes "role") value
 
 -- an access check: the session, the operation and the object
 unfoldable pub access_at : Data → Result (Bytes × Bytes × Bytes) Refusal
-access_at value = three_at (codes "session") (codes "operation") (codes "object") value
+access_at value = three_names_at (codes "session") (codes "operation") (codes "object") value
 
 -- the arguments of a new separation of duty set, with its name and its roles still as texts
 unfoldable pub separation_keys : Data → Result (Bytes × List Bytes × ℕ) Refusal
@@ -120,8 +120,8 @@ separation_at value = do
   Ok (set, roles, keys.2)
 
 -- a separation of duty set and its new cardinality
-unfoldable pub limit_at : Data → Result (Bytes × ℕ) Refusal
-limit_at value = do
+unfoldable pub set_cardinality_at : Data → Result (Bytes × ℕ) Refusal
+set_cardinality_at value = do
   text ← text_at (codes "set") value
   cardinality ← cardinality_at value
   set ← name text

@@ -4,6 +4,6 @@ pub mod Fields
 pub mod Function
 pub mod Queries
 pub mod Request
+pub mod RequestContent
 pub mod RequestLaws
-pub mod Requested
 pub mod Steps

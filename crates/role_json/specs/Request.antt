@@ -4,7 +4,7 @@ use Rattle.std.specs.Str.{is_utf8}
 use Rattle.serde_json.specs.Data.{Data}
 use Rattle.serde_json.specs.Find.{as_object}
 use Rattle.serde_json.specs.Read.{read}
-use Rattle.rbac_sets.specs.Asked.{Asked, Import}
+use Rattle.rbac_sets.specs.CommandContent.{CommandContent, Import}
 use Rattle.rbac_sets.specs.declared.refusal.Refusal.{Refusal}
 use Rattle.rbac_sets.specs.declared.refusal.Refusal.TheVariants.{BadRequest, UnknownFunction}
 use Rattle.review_mgr.specs.declared.query.Query.{Query}
@@ -13,7 +13,7 @@ use Rattle.role_json.specs.Commands.{command_to}
 use Rattle.role_json.specs.Fields.{text_at}
 use Rattle.role_json.specs.Function.{function_named, takes_csv}
 use Rattle.role_json.specs.Queries.{query_to}
-use Rattle.role_json.specs.Requested.{Requested, Change, Ask}
+use Rattle.role_json.specs.RequestContent.{RequestContent, Change, Ask}
 use Rattle.role_json.specs.Steps.{◌>>=◌, or_refuse}
 use Rattle.role_json.specs.declared.function.Function.{Function}
 
@@ -27,16 +27,16 @@ unfoldable pub json_of : List ℕ → Result Data Refusal
 json_of line = or_refuse BadRequest (if nat_le (length line) longest_line && is_utf8 line then read line else None)
 
 -- the command if there is one, otherwise the question; each function is one of the two
-abbrev pub command_or : Result (Option Query) Refusal → Option Asked → Result Requested Refusal
+abbrev pub command_or : Result (Option Query) Refusal → Option CommandContent → Result RequestContent Refusal
 command_or query (Some command) = Ok (Change command)
 command_or query None = query >>= λ asked. or_refuse UnknownFunction (option_map Ask asked)
 
 -- what a call of a function asks for with the arguments in `value`
-unfoldable pub request_to : Function → Data → Result Requested Refusal
+unfoldable pub request_to : Function → Data → Result RequestContent Refusal
 request_to called value = command_to called value >>= command_or (query_to called value)
 
 -- what a line asks for
-unfoldable pub request : List ℕ → Result Requested Refusal
+unfoldable pub request : List ℕ → Result RequestContent Refusal
 request line = do
   value ← json_of line
   name ← text_at (codes "fn") value
@@ -52,11 +52,11 @@ abbrev pub an_object : Data → Result Data Refusal
 an_object value = if is_some (as_object value) then Ok value else Err BadRequest
 
 -- what a call of a function asks for with a body. The arguments must be in an object, even if the function has none
-unfoldable pub body_to : Function → List ℕ → Result Requested Refusal
+unfoldable pub body_to : Function → List ℕ → Result RequestContent Refusal
 body_to called body =
     if takes_csv called then assignments body >>= (λ pairs. Ok (Change (Import pairs)))
     else json_of (json_body body) >>= (λ value. an_object value >>= request_to called)
 
 -- what a call of the function with this name asks for with a body
-unfoldable pub body_request : List ℕ → List ℕ → Result Requested Refusal
+unfoldable pub body_request : List ℕ → List ℕ → Result RequestContent Refusal
 body_request function body = or_refuse UnknownFunction (function_named function) >>= λ called. body_to called body

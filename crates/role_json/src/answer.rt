@@ -2,7 +2,7 @@
 ghost use Rattle.std.specs.Prelude.{◌≡◌, IfOk, IfErr, option_map, string_bytes};
 ghost use Rattle.serde_json.specs.Data.{array};
 ghost use Rattle.serde_json.specs.View.{view};
-ghost use Rattle.admin_mgr.specs.Planned.{tally_of_report};
+ghost use Rattle.admin_mgr.specs.PlanEffect.{tally_of_report};
 ghost use Rattle.review_mgr.specs.Answering.{told};
 ghost use Rattle.role_json.specs.Answer.{data_of, pair_data, pairs_of, part_of, record_data, records_of, refusal_data, report_data, text_of, texts_of, value_data, with_value};
 
@@ -42,7 +42,7 @@ pub enum Verdict {
 /// # Errors
 ///
 /// `Memory` if allocation failed.
-#[tactic(auto, using(crate::proofs::JsonWriting::text_of_steps))]
+#[tactic(auto, using(crate::proofs::AnswerValues::text_of_steps))]
 pub fn answer_text(alloc: Global, verdict: &Verdict) -> Result<String, Refusal>
     ensures ok { IfOk result (λ text. string_bytes text ≡ text_of verdict.now) }
     ensures cause { IfErr result (λ refusal. refusal ≡ Refusal.Memory) }
@@ -60,7 +60,7 @@ fn verdict_value(alloc: Global, verdict: &Verdict) -> Result<Value, AllocError>
     match verdict {
         Verdict::Done => json!(in alloc; {"ok": true}),
         Verdict::Imported(report) => with_value(alloc, report_value(alloc, report)?),
-        Verdict::Told(answer) => with_value(alloc, told_value(alloc, answer)?),
+        Verdict::Told(answer) => with_value(alloc, answer_value(alloc, answer)?),
         Verdict::Refused(refusal) => refusal_value(alloc, refusal),
     }
 }
@@ -74,7 +74,7 @@ fn with_value(alloc: Global, value: Value) -> Result<Value, AllocError>
 
 // The JSON value of an answer to a question.
 #[tactic(auto, unfolding(crate::specs::Answer::value_data))]
-fn told_value(alloc: Global, answer: &Answer) -> Result<Value, AllocError>
+fn answer_value(alloc: Global, answer: &Answer) -> Result<Value, AllocError>
     ensures { IfOk result (λ value. view value ≡ value_data (told answer.now)) }
 {
     match answer {
@@ -86,7 +86,7 @@ fn told_value(alloc: Global, answer: &Answer) -> Result<Value, AllocError>
 }
 
 // A list of names as a JSON value.
-#[tactic(auto, using(crate::proofs::JsonWriting::texts_of_steps))]
+#[tactic(auto, using(crate::proofs::AnswerValues::texts_of_steps))]
 fn names_value(alloc: Global, names: &[Name]) -> Result<Value, AllocError>
     ensures { IfOk result (λ value. view value ≡ array (texts_of names.now)) }
 {
@@ -99,7 +99,7 @@ fn names_value(alloc: Global, names: &[Name]) -> Result<Value, AllocError>
 }
 
 // A list of pairs of names as a JSON value.
-#[tactic(auto, using(crate::proofs::JsonWriting::pairs_of_steps))]
+#[tactic(auto, using(crate::proofs::AnswerValues::pairs_of_steps))]
 fn pairs_value(alloc: Global, pairs: &[(Name, Name)]) -> Result<Value, AllocError>
     ensures { IfOk result (λ value. view value ≡ array (pairs_of pairs.now)) }
 {
@@ -129,7 +129,7 @@ fn report_value(alloc: Global, report: &Report) -> Result<Value, AllocError>
 }
 
 // The refused records as a JSON value.
-#[tactic(auto, using(crate::proofs::JsonWriting::records_of_steps))]
+#[tactic(auto, using(crate::proofs::AnswerValues::records_of_steps))]
 fn records_value(alloc: Global, records: &[(u32, u32)]) -> Result<Value, AllocError>
     ensures { IfOk result (λ value. view value ≡ array (records_of records.now)) }
 {

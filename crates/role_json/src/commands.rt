@@ -1,12 +1,12 @@
 //! The commands that a call may ask for.
 ghost use Rattle.std.specs.Prelude.{◌≡◌, ◌⊎◌, Ok, Err, IfOk, IfErr, option_map};
 ghost use Rattle.serde_json.specs.View.{view};
-ghost use Rattle.rbac_sets.specs.Asked.{asked_of};
+ghost use Rattle.rbac_sets.specs.CommandContent.{content_of};
 ghost use Rattle.role_json.specs.Commands.{command_to, hierarchy_command_to, separation_command_to, session_command_to};
 
 use crate::fields::{
-    activation_at, assignment_at, grant_at, inheritance_at, limit_at, member_at, name_at,
-    new_session_at, owned_session_at, permission_at, separation_at, text_at,
+    activation_at, assignment_at, grant_at, inheritance_at, member_at, name_at, new_session_at,
+    owned_session_at, permission_at, separation_at, set_cardinality_at, text_at,
 };
 use crate::function::Function;
 use rbac_sets::{Command, Refusal};
@@ -16,13 +16,13 @@ use std::alloc::Global;
 
 // The command that a call asks for with the arguments in `value`, or `None` if its function is not a command. This
 // function reads those on users, roles, objects, permissions and grants, and the functions that it calls the others.
-#[tactic(auto, unfolding(crate::specs::Commands::command_to, rbac_sets::specs::Asked::asked_of))]
+#[tactic(auto, unfolding(crate::specs::Commands::command_to, rbac_sets::specs::CommandContent::content_of))]
 pub(crate) fn command_to(
     alloc: Global,
     function: Function,
     value: &Value,
 ) -> Result<Option<Command>, Refusal>
-    ensures ok { IfOk result (λ command. command_to function (view value.now) ≡ Ok (option_map asked_of command)) }
+    ensures ok { IfOk result (λ command. command_to function (view value.now) ≡ Ok (option_map content_of command)) }
     ensures err { IfErr result (λ refusal. (refusal ≡ Refusal.Memory) ⊎ (command_to function (view value.now) ≡ Err refusal)) }
 {
     match function {
@@ -100,13 +100,13 @@ pub(crate) fn command_to(
 }
 
 // The command on the role hierarchy, on a separation of duty set or on a session that a call asks for, or `None`.
-#[tactic(auto, unfolding(crate::specs::Commands::hierarchy_command_to, rbac_sets::specs::Asked::asked_of))]
+#[tactic(auto, unfolding(crate::specs::Commands::hierarchy_command_to, rbac_sets::specs::CommandContent::content_of))]
 fn hierarchy_command_to(
     alloc: Global,
     function: Function,
     value: &Value,
 ) -> Result<Option<Command>, Refusal>
-    ensures ok { IfOk result (λ command. hierarchy_command_to function (view value.now) ≡ Ok (option_map asked_of command)) }
+    ensures ok { IfOk result (λ command. hierarchy_command_to function (view value.now) ≡ Ok (option_map content_of command)) }
     ensures err { IfErr result (λ refusal. (refusal ≡ Refusal.Memory) ⊎ (hierarchy_command_to function (view value.now) ≡ Err refusal)) }
 {
     match function {
@@ -131,13 +131,13 @@ fn hierarchy_command_to(
 }
 
 // The command on a separation of duty set or on a session that a call asks for, or `None`.
-#[tactic(auto, unfolding(crate::specs::Commands::separation_command_to, rbac_sets::specs::Asked::asked_of))]
+#[tactic(auto, unfolding(crate::specs::Commands::separation_command_to, rbac_sets::specs::CommandContent::content_of))]
 fn separation_command_to(
     alloc: Global,
     function: Function,
     value: &Value,
 ) -> Result<Option<Command>, Refusal>
-    ensures ok { IfOk result (λ command. separation_command_to function (view value.now) ≡ Ok (option_map asked_of command)) }
+    ensures ok { IfOk result (λ command. separation_command_to function (view value.now) ≡ Ok (option_map content_of command)) }
     ensures err { IfErr result (λ refusal. (refusal ≡ Refusal.Memory) ⊎ (separation_command_to function (view value.now) ≡ Err refusal)) }
 {
     match function {
@@ -158,7 +158,7 @@ fn separation_command_to(
             Ok(Some(Command::DeleteSsdRoleMember { set, role }))
         }
         Function::SetSsdSetCardinality => {
-            let (set, cardinality) = limit_at(alloc, value)?;
+            let (set, cardinality) = set_cardinality_at(alloc, value)?;
             Ok(Some(Command::SetSsdSetCardinality { set, cardinality }))
         }
         Function::DeleteSsdSet => {
@@ -182,7 +182,7 @@ fn separation_command_to(
             Ok(Some(Command::DeleteDsdRoleMember { set, role }))
         }
         Function::SetDsdSetCardinality => {
-            let (set, cardinality) = limit_at(alloc, value)?;
+            let (set, cardinality) = set_cardinality_at(alloc, value)?;
             Ok(Some(Command::SetDsdSetCardinality { set, cardinality }))
         }
         Function::DeleteDsdSet => {
@@ -194,13 +194,13 @@ fn separation_command_to(
 }
 
 // The command on a session that a call asks for, or `None`.
-#[tactic(auto, unfolding(crate::specs::Commands::session_command_to, rbac_sets::specs::Asked::asked_of))]
+#[tactic(auto, unfolding(crate::specs::Commands::session_command_to, rbac_sets::specs::CommandContent::content_of))]
 fn session_command_to(
     alloc: Global,
     function: Function,
     value: &Value,
 ) -> Result<Option<Command>, Refusal>
-    ensures ok { IfOk result (λ command. session_command_to function (view value.now) ≡ Ok (option_map asked_of command)) }
+    ensures ok { IfOk result (λ command. session_command_to function (view value.now) ≡ Ok (option_map content_of command)) }
     ensures err { IfErr result (λ refusal. (refusal ≡ Refusal.Memory) ⊎ (session_command_to function (view value.now) ≡ Err refusal)) }
 {
     match function {

@@ -5,7 +5,7 @@ ghost use Rattle.std.specs.Prelude.{◌≡◌, ◌⊎◌, Ok, Err, Some, None, I
 ghost use Rattle.serde_json.specs.View.{view, items_view};
 ghost use Rattle.rbac_sets.specs.Sets.{name_cmp};
 ghost use Rattle.rbac_sets.specs.SortedSet.{set_of};
-ghost use Rattle.role_json.specs.Fields.{access_at, activation_at, assignment_at, cardinality_at, grant_at, inheritance_at, limit_at, member_at, name, name_at, name_set, names_at, new_session_at, new_session_keys, owned_session_at, permission_at, roles_at, separation_at, separation_keys, text_at, texts_at_three, texts_in, three_at, three_names};
+ghost use Rattle.role_json.specs.Fields.{access_at, activation_at, assignment_at, cardinality_at, grant_at, inheritance_at, set_cardinality_at, member_at, name, name_at, name_set, names_at, new_session_at, new_session_keys, owned_session_at, permission_at, roles_at, separation_at, separation_keys, text_at, three_texts_at, texts_in, three_names_at, three_names};
 
 use rbac_sets::{Name, NameSet, Refusal};
 use serde_json::Value;
@@ -40,7 +40,7 @@ fn cardinality_at(value: &Value) -> Result<u32, Refusal>
 }
 
 // The texts in a list of values, which must all be texts.
-#[tactic(auto, using(crate::proofs::TextReading::texts_steps))]
+#[tactic(auto, using(crate::proofs::TextLists::texts_steps))]
 fn text_items<'v>(alloc: Global, values: &'v [Value]) -> Result<Vec<&'v str>, Refusal>
     ensures ok { IfOk result (λ texts. texts_in (items_view values.entry.now) ≡ Some (map (λ text. text.now) texts.items)) }
     ensures err { IfErr result (λ refusal. (refusal ≡ Refusal.Memory) ⊎ ((refusal ≡ Refusal.BadRequest) × (texts_in (items_view values.entry.now) ≡ None))) }
@@ -78,7 +78,7 @@ fn checked_name(alloc: Global, text: &str) -> Result<Name, Refusal>
 
 // The set of the names with these texts. The texts are sorted first, so that each name is inserted at
 // the end of the set and no other name is moved.
-#[tactic(auto, using(crate::proofs::NameReading::sorted_steps))]
+#[tactic(auto, using(crate::proofs::NameSets::sorted_steps))]
 fn checked_set(alloc: Global, mut texts: Vec<&str>) -> Result<NameSet, Refusal>
     ensures ok { IfOk result (λ set. name_set (map (λ text. text.now) texts.entry.items) ≡ Ok (set_of name_cmp set)) }
     ensures err { IfErr result (λ refusal. (refusal ≡ Refusal.Memory) ⊎ (name_set (map (λ text. text.now) texts.entry.items) ≡ Err refusal)) }
@@ -88,7 +88,7 @@ fn checked_set(alloc: Global, mut texts: Vec<&str>) -> Result<NameSet, Refusal>
 }
 
 // The set of the names with these texts, inserted one after another.
-#[tactic(auto, using(crate::proofs::NameReading::name_set_steps))]
+#[tactic(auto, using(crate::proofs::NameSets::name_set_steps))]
 fn set_of_names(alloc: Global, texts: &[&str]) -> Result<NameSet, Refusal>
     ensures ok { IfOk result (λ set. name_set (map (λ text. text.now) texts.now) ≡ Ok (set_of name_cmp set)) }
     ensures err { IfErr result (λ refusal. (refusal ≡ Refusal.Memory) ⊎ (name_set (map (λ text. text.now) texts.now) ≡ Err refusal)) }
@@ -133,15 +133,15 @@ pub(crate) fn names_at(
 }
 
 // The texts at three keys.
-#[tactic(auto, unfolding(crate::specs::Fields::texts_at_three))]
-fn texts_at_three<'v>(
+#[tactic(auto, unfolding(crate::specs::Fields::three_texts_at))]
+fn three_texts_at<'v>(
     value: &'v Value,
     first: &str,
     second: &str,
     third: &str,
 ) -> Result<(&'v str, &'v str, &'v str), Refusal>
-    ensures ok { IfOk result (λ texts. texts_at_three first.now second.now third.now (view value.entry.now) ≡ Ok (texts.0.now, texts.1.now, texts.2.now)) }
-    ensures err { IfErr result (λ refusal. texts_at_three first.now second.now third.now (view value.entry.now) ≡ Err refusal) }
+    ensures ok { IfOk result (λ texts. three_texts_at first.now second.now third.now (view value.entry.now) ≡ Ok (texts.0.now, texts.1.now, texts.2.now)) }
+    ensures err { IfErr result (λ refusal. three_texts_at first.now second.now third.now (view value.entry.now) ≡ Err refusal) }
 {
     let first = text_at(value, first)?;
     let second = text_at(value, second)?;
@@ -167,18 +167,18 @@ fn three_names(
 }
 
 // The names at three keys.
-#[tactic(auto, unfolding(crate::specs::Fields::three_at))]
-fn three_at(
+#[tactic(auto, unfolding(crate::specs::Fields::three_names_at))]
+fn three_names_at(
     alloc: Global,
     value: &Value,
     first: &str,
     second: &str,
     third: &str,
 ) -> Result<(Name, Name, Name), Refusal>
-    ensures ok { IfOk result (λ names. three_at first.now second.now third.now (view value.now) ≡ Ok names) }
-    ensures err { IfErr result (λ refusal. (refusal ≡ Refusal.Memory) ⊎ (three_at first.now second.now third.now (view value.now) ≡ Err refusal)) }
+    ensures ok { IfOk result (λ names. three_names_at first.now second.now third.now (view value.now) ≡ Ok names) }
+    ensures err { IfErr result (λ refusal. (refusal ≡ Refusal.Memory) ⊎ (three_names_at first.now second.now third.now (view value.now) ≡ Err refusal)) }
 {
-    let (first, second, third) = texts_at_three(value, first, second, third)?;
+    let (first, second, third) = three_texts_at(value, first, second, third)?;
     three_names(alloc, first, second, third)
 }
 
@@ -233,7 +233,7 @@ pub(crate) fn grant_at(alloc: Global, value: &Value) -> Result<(Name, Name, Name
     ensures ok { IfOk result (λ names. grant_at (view value.now) ≡ Ok names) }
     ensures err { IfErr result (λ refusal. (refusal ≡ Refusal.Memory) ⊎ (grant_at (view value.now) ≡ Err refusal)) }
 {
-    three_at(alloc, value, "object", "operation", "role")
+    three_names_at(alloc, value, "object", "operation", "role")
 }
 
 // The user that owns a session, the session, and the role that is activated or deactivated in it.
@@ -242,7 +242,7 @@ pub(crate) fn activation_at(alloc: Global, value: &Value) -> Result<(Name, Name,
     ensures ok { IfOk result (λ names. activation_at (view value.now) ≡ Ok names) }
     ensures err { IfErr result (λ refusal. (refusal ≡ Refusal.Memory) ⊎ (activation_at (view value.now) ≡ Err refusal)) }
 {
-    three_at(alloc, value, "user", "session", "role")
+    three_names_at(alloc, value, "user", "session", "role")
 }
 
 // The session, the operation and the object of an access check.
@@ -251,7 +251,7 @@ pub(crate) fn access_at(alloc: Global, value: &Value) -> Result<(Name, Name, Nam
     ensures ok { IfOk result (λ names. access_at (view value.now) ≡ Ok names) }
     ensures err { IfErr result (λ refusal. (refusal ≡ Refusal.Memory) ⊎ (access_at (view value.now) ≡ Err refusal)) }
 {
-    three_at(alloc, value, "session", "operation", "object")
+    three_names_at(alloc, value, "session", "operation", "object")
 }
 
 // The arguments of a new separation of duty set, with its name and its roles still as texts.
@@ -282,10 +282,10 @@ pub(crate) fn separation_at(alloc: Global, value: &Value) -> Result<(Name, NameS
 }
 
 // A separation of duty set and its new cardinality.
-#[tactic(auto, unfolding(crate::specs::Fields::limit_at))]
-pub(crate) fn limit_at(alloc: Global, value: &Value) -> Result<(Name, u32), Refusal>
-    ensures ok { IfOk result (λ made. limit_at (view value.now) ≡ Ok made) }
-    ensures err { IfErr result (λ refusal. (refusal ≡ Refusal.Memory) ⊎ (limit_at (view value.now) ≡ Err refusal)) }
+#[tactic(auto, unfolding(crate::specs::Fields::set_cardinality_at))]
+pub(crate) fn set_cardinality_at(alloc: Global, value: &Value) -> Result<(Name, u32), Refusal>
+    ensures ok { IfOk result (λ made. set_cardinality_at (view value.now) ≡ Ok made) }
+    ensures err { IfErr result (λ refusal. (refusal ≡ Refusal.Memory) ⊎ (set_cardinality_at (view value.now) ≡ Err refusal)) }
 {
     let set = text_at(value, "set")?;
     let cardinality = cardinality_at(value)?;

@@ -2,7 +2,7 @@
 ghost use Rattle.std.specs.Prelude.{◌≡◌, ◌⊎◌, Ok, Err, IfOk, IfErr};
 ghost use Rattle.serde_json.specs.View.{view};
 ghost use Rattle.role_json.specs.Request.{body_request, body_to, json_of, request, request_to};
-ghost use Rattle.role_json.specs.Requested.{requested};
+ghost use Rattle.role_json.specs.RequestContent.{requested};
 
 use crate::commands::command_to;
 use crate::fields::text_at;
@@ -92,7 +92,7 @@ pub fn read_body(alloc: Global, function: &str, body: &[u8]) -> Result<Request, 
 /// - `BadName` if a text that names something is not a valid name.
 ///
 /// `Memory` if allocation failed before the body was judged; the same body may be read again.
-#[tactic(auto, unfolding(crate::specs::Request::body_to, rbac_sets::specs::Asked::asked_of))]
+#[tactic(auto, unfolding(crate::specs::Request::body_to, rbac_sets::specs::CommandContent::content_of))]
 pub fn body_to(alloc: Global, called: Function, body: &[u8]) -> Result<Request, Refusal>
     ensures ok { IfOk result (λ read. body_to called body.now ≡ Ok (requested read)) }
     ensures err { IfErr result (λ refusal. (refusal ≡ Refusal.Memory) ⊎ (body_to called body.now ≡ Err refusal)) }
@@ -129,7 +129,7 @@ fn request_to(alloc: Global, called: Function, value: &Value) -> Result<Request,
 }
 
 // The JSON value of a line.
-#[tactic(auto, using(crate::proofs::JsonReading::json_of_steps))]
+#[tactic(auto, using(crate::proofs::JsonValues::json_of_steps))]
 fn json(alloc: Global, line: &[u8]) -> Result<Value, Refusal>
     ensures ok { IfOk result (λ value. json_of line.now ≡ Ok (view value)) }
     ensures err { IfErr result (λ refusal. (refusal ≡ Refusal.Memory) ⊎ (json_of line.now ≡ Err refusal)) }

@@ -11,7 +11,7 @@ use Rattle.rbac_sets.specs.NameOrder.{name_total, name_exact, pair_total}
 use Rattle.rbac_sets.proofs.SetLaws.{contains-insert-Decides, members-empty}
 use Rattle.rbac_sets.proofs.Members.{len-members, len-insert-le}
 use Rattle.role_order.specs.Order.{HasPair}
-use Rattle.role_order.specs.Checked.{second_cmp, LeadsOn}
+use Rattle.role_order.specs.private.Checked.{second_cmp, LeadsOn}
 use Rattle.role_order.proofs.Members.{Contains-take_more, passed_below, pair_parts, AddsPair-insert}
 
 less_before_tie : (o : Ordering) → ordering_then o Equal ≡ Less → o ≡ Less

@@ -10,7 +10,7 @@ use Rattle.rbac_sets.specs.NameOrder.{name_total, name_exact}
 use Rattle.rbac_sets.proofs.SetLaws.{seconds-Decides, contains-insert-Decides}
 use Rattle.rbac_sets.proofs.Members.{len-subset}
 use Rattle.role_order.specs.Order.{HasPair, Geq, IsAcyclic, IsClosure}
-use Rattle.role_order.specs.Removal.{junior_count, AreJuniorsFirst}
+use Rattle.role_order.specs.private.Removal.{junior_count, AreJuniorsFirst}
 use Rattle.role_order.proofs.Leading.{Leads-trans}
 
 -- a new member makes a set larger by one

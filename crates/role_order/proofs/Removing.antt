@@ -9,7 +9,7 @@ use Rattle.rbac_sets.specs.NameOrder.{name_total, name_exact}
 use Rattle.rbac_sets.proofs.SetLaws.{tie_Decides}
 use Rattle.role_order.specs.Order.{HasPair, step, Geq, IsClosure, IsGained}
 use Rattle.role_order.specs.Laws.{CrossesAt}
-use Rattle.role_order.specs.Removal.{HasWay, AreSuspects, AreLost}
+use Rattle.role_order.specs.private.Removal.{HasPath, AreSuspects, AreLost}
 use Rattle.role_order.proofs.Members.{AddsPair, TakesPair, TakesPair-remove, HasPair-none, HasPair-union, same_or_other}
 use Rattle.role_order.proofs.Leading.{Leads-from_eq, Leads-trans, Leads-once, Leads-mono, first_step}
 use Rattle.role_order.proofs.Closing.{no_way_back, crosses}
@@ -59,10 +59,10 @@ module _ (left pairs : Pairs) (above : List Bytes) (below : Names) (s : AreSuspe
       no_way_back s.edges s.acyclic s.asc s.desc s.edge (Leads-trans ((s.at_or_below q).0 d) (Leads-trans (Leads-from_eq (sym e)) ((s.at_or_above p).0 u)))
 
   -- the test of a suspect whose juniors among the suspects are done
-  HasWay-is : (takes : Pairs) (done : List Bytes) (a b : Bytes)
+  HasPath-is : (takes : Pairs) (done : List Bytes) (a b : Bytes)
       → Contains above a → IsTrue (contains below b) → ((z : Bytes) → Contains above z → HasPair pairs a z → Contains done z)
-      → RowsLost left done below takes → HasWay left pairs takes a b ↔ Geq left a b
-  HasWay-is takes done a b in_above in_below before rows = (
+      → RowsLost left done below takes → HasPath left pairs takes a b ↔ Geq left a b
+  HasPath-is takes done a b in_above in_below before rows = (
     λ w. step w.1 (elim w.2 [
       | inl e ↦ Leads-from_eq e
       | inr k ↦ elim (geq_or_not left w.0 b) [
@@ -92,7 +92,7 @@ module _ (left pairs : Pairs) (above : List Bytes) (below : Names) (s : AreSuspe
   pub RowsLost-more : (takes lost takes' : Pairs) (done done' : List Bytes) (a : Bytes)
       → Contains above a → ((z : Bytes) → Contains above z → HasPair pairs a z → Contains done z)
       → ((x : Bytes) → Contains done' x ↔ (Contains done x ⊎ (x ≡ a)))
-      → ((x y : Bytes) → HasPair lost x y ↔ ((x ≡ a) × (IsTrue (contains below y) × (HasWay left pairs takes a y → ⊥))))
+      → ((x y : Bytes) → HasPair lost x y ↔ ((x ≡ a) × (IsTrue (contains below y) × (HasPath left pairs takes a y → ⊥))))
       → takes' ≡ union takes lost → RowsLost left done below takes → RowsLost left done' below takes'
   RowsLost-more takes lost takes' done done' a in_above before adds row both rows p q =
       let united = subst (λ (t : Pairs). HasPair t p q ↔ (HasPair takes p q ⊎ HasPair lost p q)) (sym both) (HasPair-union takes lost p q) in (
@@ -100,13 +100,13 @@ module _ (left pairs : Pairs) (above : List Bytes) (below : Names) (s : AreSuspe
           | inl o ↦ let k = (rows p q).0 o in ((adds p).1 (inl k.0), k.1)
           | inr r ↦
               let k = (row p q).0 r in
-              ((adds p).1 (inr k.0), (k.1.0, λ l. k.1.1 ((HasWay-is takes done a q in_above k.1.0 before rows).1 (subst (λ (x : Bytes). Geq left x q) k.0 l))))
+              ((adds p).1 (inr k.0), (k.1.0, λ l. k.1.1 ((HasPath-is takes done a q in_above k.1.0 before rows).1 (subst (λ (x : Bytes). Geq left x q) k.0 l))))
         ],
         λ h. elim ((adds p).0 h.0) [
           | inl d ↦ united.1 (inl ((rows p q).1 (d, h.1)))
           | inr same ↦ united.1 (inr ((row p q).1 (
             same,
-            (h.1.0, λ w. h.1.1 (subst (λ (x : Bytes). Geq left x q) (sym same) ((HasWay-is takes done a q in_above h.1.0 before rows).0 w))),
+            (h.1.0, λ w. h.1.1 (subst (λ (x : Bytes). Geq left x q) (sym same) ((HasPath-is takes done a q in_above h.1.0 before rows).0 w))),
           )))
         ],
       )

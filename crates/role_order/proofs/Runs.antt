@@ -18,9 +18,9 @@ use Rattle.rbac_sets.proofs.SetLaws.{tie_Decides, contains-retain}
 use Rattle.rbac_sets.proofs.Members.{members-retain, members-rise, len-members}
 use Rattle.rbac_sets.proofs.InOrder.{members-sorted}
 use Rattle.rbac_sets.proofs.Lists.{any_map, count_map}
-use Rattle.role_order.specs.Checked.{second_cmp, is_next, HasSecondsOf}
-use Rattle.role_order.specs.Removal.{junior_count}
-use Rattle.role_order.specs.Runs.{run_of}
+use Rattle.role_order.specs.private.Checked.{second_cmp, is_next, HasSecondsOf}
+use Rattle.role_order.specs.private.Removal.{junior_count}
+use Rattle.role_order.specs.private.Runs.{run_of}
 use Rattle.role_order.proofs.Members.{Contains-members}
 
 -- ---- lists by their first element

@@ -5,8 +5,8 @@ use Rattle.rbac_sets.specs.NameOrder.{pair_total, pair_exact}
 use Rattle.rbac_sets.proofs.SetLaws.{from_members}
 use Rattle.rbac_sets.proofs.Members.{len-members, a_member}
 use Rattle.role_order.specs.Order.{HasPair, here, step, Geq, IsAcyclic, IsClosure}
-use Rattle.role_order.specs.Checked.{IsClosedUnder, LeadsOn, AllLeadOn}
-use Rattle.role_order.specs.Removal.{junior_count}
+use Rattle.role_order.specs.private.Checked.{IsClosedUnder, LeadsOn, AllLeadOn}
+use Rattle.role_order.specs.private.Removal.{junior_count}
 use Rattle.role_order.proofs.Members.{AddsPair-insert, HasPair-none, same_or_other}
 use Rattle.role_order.proofs.Leading.{Leads-from_eq, Leads-trans, Leads-once, Leads-mono, first_step, last_step}
 use Rattle.role_order.proofs.Closing.{no_way_back, IsAcyclic-none, IsAcyclic-subset}

@@ -1,6 +1,4 @@
-pub mod Checked
 pub mod Laws
 pub mod Order
 pub mod Planned
-pub mod Removal
-pub mod Runs
+pub mod private

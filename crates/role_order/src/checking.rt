@@ -4,7 +4,7 @@ ghost use Rattle.std.specs.List.Sorted.{IsStrictlySortedBy};
 ghost use Rattle.rbac_sets.specs.Sets.{Bytes, Pair, pair_cmp, len};
 ghost use Rattle.rbac_sets.specs.SortedSet.{set_of};
 ghost use Rattle.role_order.specs.Order.{HasPair, IsAcyclic, IsClosure};
-ghost use Rattle.role_order.specs.Checked.{second_cmp, is_next, HasSecondsOf, HasFirstStep, HasRowOf, LeadsOn, AllLeadOn};
+ghost use Rattle.role_order.specs.private.Checked.{second_cmp, is_next, HasSecondsOf, HasFirstStep, HasRowOf, LeadsOn, AllLeadOn};
 
 use crate::building::push;
 use crate::naming::{is_geq, is_same, run};

@@ -9,7 +9,7 @@ use std::marker::Model;
 use std::mem;
 
 // How many recent pairs are kept apart at most when more are added.
-const MOST_APART: usize = 16_384;
+const MOST_RECENT: usize = 16_384;
 
 // The lost pairs found so far. Recent ones are kept in a second set, so that the pairs of one more role are
 // merged with few others, and not with all.
@@ -67,7 +67,7 @@ impl LostPairs {
         ensures keeps { self.new ≡ self.old }
         ensures cause { IfErr result (λ refusal. refusal ≡ Refusal.Memory) }
     {
-        if self.latest.len() <= MOST_APART {
+        if self.latest.len() <= MOST_RECENT {
             return Ok(());
         }
         self.earlier.reserve(self.latest.len())?;

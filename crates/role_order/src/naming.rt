@@ -4,8 +4,8 @@ ghost use Rattle.std.specs.List.Sorted.{IsStrictlySortedBy};
 ghost use Rattle.rbac_sets.specs.Sets.{Pair, pair_cmp, contains};
 ghost use Rattle.rbac_sets.specs.SortedSet.{set_of};
 ghost use Rattle.role_order.specs.Order.{HasPair};
-ghost use Rattle.role_order.specs.Checked.{second_cmp};
-ghost use Rattle.role_order.specs.Removal.{junior_count};
+ghost use Rattle.role_order.specs.private.Checked.{second_cmp};
+ghost use Rattle.role_order.specs.private.Removal.{junior_count};
 
 use rbac_sets::{Name, PairSet};
 

@@ -5,7 +5,7 @@ ghost use Rattle.rbac_sets.specs.Sets.{Bytes, name_cmp, pair_cmp, empty, contain
 ghost use Rattle.rbac_sets.specs.SortedSet.{set_of};
 ghost use Rattle.role_order.specs.Order.{HasPair, Geq, geq, IsAcyclic, IsClosure, seniors, juniors};
 ghost use Rattle.role_order.specs.Planned.{changed, Fits, IsPlanOf, HasRoom};
-ghost use Rattle.role_order.specs.Removal.{AreJuniorsFirst};
+ghost use Rattle.role_order.specs.private.Removal.{AreJuniorsFirst};
 
 use crate::building::{crossed_pairs, firsts_of, seconds_of};
 use crate::checking::{has_cycle, is_closed_under};

@@ -5,7 +5,7 @@ ghost use Rattle.std.specs.List.Sorted.{IsNonDecreasingBy};
 ghost use Rattle.rbac_sets.specs.Sets.{Bytes, name_cmp, pair_cmp, contains, members, same_name};
 ghost use Rattle.rbac_sets.specs.SortedSet.{set_of};
 ghost use Rattle.role_order.specs.Order.{HasPair};
-ghost use Rattle.role_order.specs.Removal.{HasWay, AreSuspects, AreLost, junior_count};
+ghost use Rattle.role_order.specs.private.Removal.{HasPath, AreSuspects, AreLost, junior_count};
 
 use crate::building::push;
 use crate::lost::LostPairs;
@@ -21,8 +21,8 @@ fn goes_on(pairs: &PairSet, takes: &LostPairs, z: &Name, b: &Name) -> bool
 }
 
 // Whether one of the remaining edges leads from `a` to `b`, or to a name with a pair to `b` that is not in `takes`.
-fn has_way(left: &PairSet, pairs: &PairSet, takes: &LostPairs, a: &Name, b: &Name) -> bool
-    ensures { IsTrue result ↔ HasWay (set_of pair_cmp left.now) (set_of pair_cmp pairs.now) takes.now a.now b.now }
+fn has_path(left: &PairSet, pairs: &PairSet, takes: &LostPairs, a: &Name, b: &Name) -> bool
+    ensures { IsTrue result ↔ HasPath (set_of pair_cmp left.now) (set_of pair_cmp pairs.now) takes.now a.now b.now }
 {
     for edge in run(left, a) {
         if goes_on(pairs, takes, &edge.1, b) {
@@ -43,12 +43,12 @@ fn lost_in_row(
 ) -> Result<PairSet, Refusal>
     ensures lost { IfOk result (λ lost. (x y : Bytes) → HasPair (set_of pair_cmp lost) x y
         ↔ ((x ≡ a.now) × (IsTrue (contains (set_of name_cmp below.now) y)
-        × (HasWay (set_of pair_cmp left.now) (set_of pair_cmp pairs.now) takes.now a.now y → ⊥)))) }
+        × (HasPath (set_of pair_cmp left.now) (set_of pair_cmp pairs.now) takes.now a.now y → ⊥)))) }
     ensures cause { IfErr result (λ refusal. refusal ≡ Refusal.Memory) }
 {
     let mut lost = PairSet::new(alloc);
     for b in below.as_slice() {
-        if !has_way(left, pairs, takes, a, b) {
+        if !has_path(left, pairs, takes, a, b) {
             push(&mut lost, (a.copy(alloc)?, b.copy(alloc)?))?;
         }
     }

@@ -14,14 +14,14 @@ use Rattle.admin_mgr.specs.CommandLaws.{refuses_commands}
 use Rattle.admin_mgr.specs.Verdict.{verdict}
 use Rattle.admin_mgr.specs.After.{after}
 use Rattle.admin_mgr.specs.Run.{tally}
-use Rattle.admin_mgr.specs.Life.{IsClosedReply, Leaves}
-use Rattle.admin_mgr.specs.Planned.{tally_of_report}
+use Rattle.admin_mgr.specs.OfficeRun.{IsClosedReply, Leaves}
+use Rattle.admin_mgr.specs.PlanEffect.{tally_of_report}
 use Rattle.admin_mgr.proofs.Verdicts.RefusingLaws.{verdicts_refuse_commands}
-use Rattle.role_tables.specs.Office.{Opened, Answers, event_of}
-use Rattle.role_tables.specs.Standing.{Stands, LeavesEither, LeavesAsIn}
+use Rattle.role_tables.specs.Office.{OfficeModel, Answers, event_of}
+use Rattle.role_tables.specs.Durability.{IsDurable, LeavesEither, LeavesByEvents}
 
 -- a refusal of the plan is an answer that changes nothing
-pub plan_refused : {S : Type 0} (old : Opened S) (command : Command) (refusal : Refusal) → (refusal ≡ Memory) ⊎ (verdict old.facts command ≡ Some refusal) → Answers old command (Err refusal) old
+pub plan_refused : {S : Type 0} (old : OfficeModel S) (command : Command) (refusal : Refusal) → (refusal ≡ Memory) ⊎ (verdict old.facts command ≡ Some refusal) → Answers old command (Err refusal) old
 plan_refused old command refusal (inl wanting) = subst (λ r. Answers old command (Err r) old) (sym wanting) refl
 plan_refused old command refusal (inr told) = go refusal (verdicts_refuse_commands old.facts command refusal told) told
   where
@@ -32,8 +32,8 @@ plan_refused old command refusal (inr told) = go refusal (verdicts_refuse_comman
     go _ judged is = (is, refl)
 
 -- if nothing was changed, a crash leaves the state
-pub leaves_unchanged : {S : Type 0} (g : Ghosts S) (old : Opened S) (command : Command) (refusal : Refusal) → (refusal ≡ Memory) ⊎ (verdict old.facts command ≡ Some refusal) → Stands (state g old.conn) old.facts
-    → LeavesAsIn (state g old.conn) old.facts (event_of command (Err refusal) ∷ [])
+pub leaves_unchanged : {S : Type 0} (g : Ghosts S) (old : OfficeModel S) (command : Command) (refusal : Refusal) → (refusal ≡ Memory) ⊎ (verdict old.facts command ≡ Some refusal) → IsDurable (state g old.conn) old.facts
+    → LeavesByEvents (state g old.conn) old.facts (event_of command (Err refusal) ∷ [])
 leaves_unchanged g old command refusal cause stands trees may = (old.facts, possible refusal cause, stands.left trees may)
   where
     plain : (r : Refusal) → refuses_commands r ≡ true → verdict old.facts command ≡ Some r → Leaves old.facts (event_of command (Err r) ∷ []) old.facts
@@ -47,12 +47,12 @@ leaves_unchanged g old command refusal cause stands trees may = (old.facts, poss
     possible r (inr told) = plain r (verdicts_refuse_commands old.facts command r told) told
 
 -- if the command was done, a crash leaves the state after it
-pub leaves_done : (new : State) (S : RbacState) (command : Command) (report : Report) → verdict S command ≡ None → tally_of_report report ≡ tally S command → Stands new (after S command) → LeavesAsIn new S (event_of command (Ok report) ∷ [])
+pub leaves_done : (new : State) (S : RbacState) (command : Command) (report : Report) → verdict S command ≡ None → tally_of_report report ≡ tally S command → IsDurable new (after S command) → LeavesByEvents new S (event_of command (Ok report) ∷ [])
 leaves_done new S command report accepted told stands trees may = (after S command, (accepted, told, refl), stands.left trees may)
 
 -- if the store failed in a call, a crash leaves the state before or after
-pub leaves_stopped : (new : State) (S : RbacState) (command : Command) → verdict S command ≡ None → LeavesEither new S (after S command) → LeavesAsIn new S (event_of command (Err Store) ∷ [])
-leaves_stopped new S command accepted either trees may = elim (either trees may) [
+pub leaves_failed : (new : State) (S : RbacState) (command : Command) → verdict S command ≡ None → LeavesEither new S (after S command) → LeavesByEvents new S (event_of command (Err Store) ∷ [])
+leaves_failed new S command accepted either trees may = elim (either trees may) [
   | inl before ↦ (S, (accepted, none_follows, inl refl), before)
   | inr done ↦ (after S command, (accepted, none_follows, inr refl), done)
 ]

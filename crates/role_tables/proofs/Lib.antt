@@ -4,4 +4,4 @@ mod OfficeTables
 mod Reading
 mod Runs
 mod StoredRows
-pub mod Lives
+pub mod OfficeHistory

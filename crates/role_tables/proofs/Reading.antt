@@ -6,5 +6,5 @@ pub mod Parts
 pub mod Judging
 pub mod ReadState
 pub mod GoodState
-pub mod Standing
+pub mod Durability
 pub mod Refused

@@ -13,29 +13,29 @@ use Rattle.rbac_sets.specs.declared.refusal.Refusal.TheVariants.{Memory, Store, 
 use Rattle.admin_mgr.specs.RbacState.{RbacState}
 use Rattle.admin_mgr.specs.Assignment.{Tally}
 use Rattle.admin_mgr.specs.After.{after}
-use Rattle.admin_mgr.specs.Life.{Event, Leaves, Life, FollowOn, OpensAfter}
-use Rattle.admin_mgr.specs.Named.{AreNamed}
+use Rattle.admin_mgr.specs.OfficeRun.{Event, Leaves, OfficeRun, AreSuccessiveRuns, OpensAfter}
+use Rattle.admin_mgr.specs.StateNames.{AreNamed}
 use Rattle.admin_mgr.specs.Verdict.{verdict}
 use Rattle.admin_mgr.specs.declared.plan.Report.{Report}
-use Rattle.role_tables.specs.Lives.{so_far, MayAnswer, LeavesAt, LastIsSound, closes, is_closed_by}
-use Rattle.role_tables.specs.Office.{Opened, Answers, event_of}
+use Rattle.role_tables.specs.OfficeHistory.{so_far, MayAnswer, LeavesAt, LastIsSound, closes, is_closed_by}
+use Rattle.role_tables.specs.Office.{OfficeModel, Answers, event_of}
 use Rattle.role_tables.specs.Runs.{IsInRun, GoesOnBy, RecoversRun, run_of}
-use Rattle.role_tables.specs.Standing.{ForgetsNoFault, FindsWhatWasLeft, HoldsAsBefore, Stands, LeavesAsIn}
+use Rattle.role_tables.specs.Durability.{ForgetsNoFault, HoldsWhatWasLeft, HoldsAsBefore, IsDurable, LeavesByEvents}
 use Rattle.role_tables.specs.StoredState.{HoldsState}
 use Rattle.role_tables.proofs.Events.{plan_refused, leaves_unchanged, leaves_done}
-use Rattle.role_tables.proofs.Lives.Calls.{one_call, closed_stays, open_goes_on, so_far_goes_on, so_far_left}
-use Rattle.role_tables.proofs.Lives.Induction.{event_with}
+use Rattle.role_tables.proofs.OfficeHistory.Calls.{one_call, closed_stays, open_goes_on, so_far_goes_on, so_far_left}
+use Rattle.role_tables.proofs.OfficeHistory.Induction.{event_with}
 
 -- ---- the beginning
 
 module _ {S : Type 0} (shown : Held S → State) where
   -- an office that was opened begins a run
-  pub begins : (office : Opened S) (start : RbacState) → office.facts ≡ start → office.is_closed ≡ false → AreNamed start → (HasCleanDisk (shown office.conn) → Stands (shown office.conn) start) → IsInRun shown start [] office
-  begins office start facts works named stands = record {
+  pub begins : (office : OfficeModel S) (start : RbacState) → office.facts ≡ start → office.is_closed ≡ false → AreNamed start → (HasCleanDisk (shown office.conn) → IsDurable (shown office.conn) start) → IsInRun shown start [] office
+  begins office start facts works named durable = record {
     possible = (start, refl);
     state = facts;
     closed = works;
-    stands = λ clean _. subst (Stands (shown office.conn)) (sym facts) (stands clean);
+    durable = λ clean _. subst (IsDurable (shown office.conn)) (sym facts) (stands clean);
     held = λ clean is_open. subst (HoldsState (shown office.conn).now) (sym facts) (stands clean).held;
     left = λ clean trees may. (start, refl, (stands clean).left trees may);
     names = λ T left. subst AreNamed (sym left) named;
@@ -61,7 +61,7 @@ closed_by_more : (events : List Event) (event : Event) → is_closed_by (events 
 closed_by_more events event = list_any-append closes events (event ∷ []) ∙ ap (λ b. is_closed_by events || b) (or_none (closes event))
 
 -- what is known of one call of an office
-pub record IsCall {S : Type 0} (shown : Held S → State) (old : Opened S) (event : Event) (new : Opened S) : Type 0 where
+pub record IsCall {S : Type 0} (shown : Held S → State) (old : OfficeModel S) (event : Event) (new : OfficeModel S) : Type 0 where
   pub clean : ForgetsNoFault (shown old.conn) (shown new.conn)
   -- a closed office
   pub stays : old.is_closed ≡ true → (event.reply ≡ Err Closed) × (new ≡ old)
@@ -69,12 +69,12 @@ pub record IsCall {S : Type 0} (shown : Held S → State) (old : Opened S) (even
   pub may : old.is_closed ≡ false → MayAnswer old.facts event
   pub state : old.is_closed ≡ false → new.facts ≡ so_far old.facts (event ∷ [])
   pub closed : old.is_closed ≡ false → new.is_closed ≡ closes event
-  pub stands : old.is_closed ≡ false → HasCleanDisk (shown new.conn) → Stands (shown old.conn) old.facts → new.is_closed ≡ false → Stands (shown new.conn) new.facts
-  pub held : old.is_closed ≡ false → HasCleanDisk (shown new.conn) → Stands (shown old.conn) old.facts → IsTrue (shown new.conn).is_open → HoldsState (shown new.conn).now new.facts
-  pub left : old.is_closed ≡ false → HasCleanDisk (shown new.conn) → Stands (shown old.conn) old.facts → LeavesAsIn (shown new.conn) old.facts (event ∷ [])
+  pub durable : old.is_closed ≡ false → HasCleanDisk (shown new.conn) → IsDurable (shown old.conn) old.facts → new.is_closed ≡ false → IsDurable (shown new.conn) new.facts
+  pub held : old.is_closed ≡ false → HasCleanDisk (shown new.conn) → IsDurable (shown old.conn) old.facts → IsTrue (shown new.conn).is_open → HoldsState (shown new.conn).now new.facts
+  pub left : old.is_closed ≡ false → HasCleanDisk (shown new.conn) → IsDurable (shown old.conn) old.facts → LeavesByEvents (shown new.conn) old.facts (event ∷ [])
   pub names : old.is_closed ≡ false → AreNamed old.facts → (T : RbacState) → LeavesAt old.facts event T → AreNamed T
 
-module _ {S : Type 0} (shown : Held S → State) (old : Opened S) (event : Event) (new : Opened S) (call : IsCall shown old event new) (start : RbacState) (events : List Event) (run : IsInRun shown start events old) where
+module _ {S : Type 0} (shown : Held S → State) (old : OfficeModel S) (event : Event) (new : OfficeModel S) (call : IsCall shown old event new) (start : RbacState) (events : List Event) (run : IsInRun shown start events old) where
   -- of an open office
   module _ (works : old.is_closed ≡ false) where
     open_so_far : is_closed_by events ≡ false
@@ -92,9 +92,9 @@ module _ {S : Type 0} (shown : Held S → State) (old : Opened S) (event : Event
       possible = (so_far old.facts (event ∷ []), with_last (so_far old.facts (event ∷ [])) (left_so_far old.facts event (call.may works)));
       state = call.state works ∙ ap (λ M. so_far M (event ∷ [])) run.state ∙ sym (so_far_goes_on start events (event ∷ []));
       closed = call.closed works ∙ sym (closed_by_more events event ∙ ap (λ b. b || closes event) open_so_far);
-      stands = λ clean. call.stands works clean (run.stands (call.clean clean) works);
-      held = λ clean. call.held works clean (run.stands (call.clean clean) works);
-      left = λ clean trees may. (let (T, left, leaves) = call.left works clean (run.stands (call.clean clean) works) trees may in (T, with_last T left, leaves));
+      durable = λ clean. call.durable works clean (run.durable (call.clean clean) works);
+      held = λ clean. call.held works clean (run.durable (call.clean clean) works);
+      left = λ clean trees may. (let (T, left, leaves) = call.left works clean (run.durable (call.clean clean) works) trees may in (T, with_last T left, leaves));
       names = λ T left. call.names works named T ((one_call old.facts event T).0 (last_of T left)).1;
     }
       where
@@ -117,7 +117,7 @@ module _ {S : Type 0} (shown : Held S → State) (old : Opened S) (event : Event
       possible = (run.possible.0, stays_left run.possible.0 run.possible.1);
       state = run.state ∙ sym (so_far_goes_on start events (event ∷ []) ∙ ap (λ (reply : Result Tally Refusal). so_far (so_far start events) (event_with event.command reply ∷ [])) answered);
       closed = shut ∙ sym (closed_by_more events event ∙ ap (λ b. b || closes event) closed_so_far);
-      stands = λ clean works. absurd (true≢false (sym shut ∙ works));
+      durable = λ clean works. absurd (true≢false (sym shut ∙ works));
       held = run.held;
       left = λ clean trees may. (let (T, left, leaves) = run.left clean trees may in (T, stays_left T left, leaves));
       names = λ T left. run.names T ((closed_stays start events event T closed_so_far).0 left).0;
@@ -130,21 +130,21 @@ module _ {S : Type 0} (shown : Held S → State) (old : Opened S) (event : Event
   ]
 
 -- a call adds one event to whatever run the office is in
-pub goes_on : {S : Type 0} (shown : Held S → State) (old : Opened S) (event : Event) (new : Opened S) → IsCall shown old event new → GoesOnBy shown old event new
+pub goes_on : {S : Type 0} (shown : Held S → State) (old : OfficeModel S) (event : Event) (new : OfficeModel S) → IsCall shown old event new → GoesOnBy shown old event new
 goes_on shown old event new call start events run = goes_on_by shown old event new call start events run
 
 -- ---- the calls of an office
 
 module _ {S : Type 0} (g : Ghosts S) where
   -- of a closed one
-  pub closed_call : (office : Opened S) (command : Command) → office.is_closed ≡ true → IsCall (state g) office (event_of command (Err Closed)) office
+  pub closed_call : (office : OfficeModel S) (command : Command) → office.is_closed ≡ true → IsCall (state g) office (event_of command (Err Closed)) office
   closed_call office command shut = record {
     clean = λ clean. clean;
     stays = λ _. (refl, refl);
     may = λ works. none works;
     state = λ works. none works;
     closed = λ works. none works;
-    stands = λ works. none works;
+    durable = λ works. none works;
     held = λ works. none works;
     left = λ works. none works;
     names = λ works. none works;
@@ -154,7 +154,7 @@ module _ {S : Type 0} (g : Ghosts S) where
       none works = absurd (true≢false (sym shut ∙ works))
 
   -- a command that was refused
-  pub refused_call : (office : Opened S) (command : Command) (refusal : Refusal) → office.is_closed ≡ false → (refusal ≡ Memory) ⊎ (verdict office.facts command ≡ Some refusal)
+  pub refused_call : (office : OfficeModel S) (command : Command) (refusal : Refusal) → office.is_closed ≡ false → (refusal ≡ Memory) ⊎ (verdict office.facts command ≡ Some refusal)
       → IsCall (state g) office (event_of command (Err refusal)) office
   refused_call office command refusal works cause =
       let known = by refusal (plan_refused office command refusal cause) in
@@ -164,7 +164,7 @@ module _ {S : Type 0} (g : Ghosts S) where
         may = λ _. known.0;
         state = λ _. refl;
         closed = λ _. works ∙ sym known.1;
-        stands = λ _ clean stands _. stands;
+        durable = λ _ clean stands _. stands;
         held = λ _ clean stands _. stands.held;
         left = λ _ clean stands. leaves_unchanged g office command refusal cause stands;
         names = λ _ named T left. subst AreNamed (sym (known.2 T left)) named;
@@ -178,32 +178,32 @@ module _ {S : Type 0} (g : Ghosts S) where
       by _ answers = (answers.0, refl, λ T is. is)
 
   -- one that was done
-  pub done_call : (old new : Opened S) (command : Command) (report : Report) → old.is_closed ≡ false → ForgetsNoFault (state g old.conn) (state g new.conn) → Answers old command (Ok report) new
-      → (HasCleanDisk (state g new.conn) → Stands (state g old.conn) old.facts → Stands (state g new.conn) (after old.facts command)) → AreNamed new.facts → IsCall (state g) old (event_of command (Ok report)) new
+  pub done_call : (old new : OfficeModel S) (command : Command) (report : Report) → old.is_closed ≡ false → ForgetsNoFault (state g old.conn) (state g new.conn) → Answers old command (Ok report) new
+      → (HasCleanDisk (state g new.conn) → IsDurable (state g old.conn) old.facts → IsDurable (state g new.conn) (after old.facts command)) → AreNamed new.facts → IsCall (state g) old (event_of command (Ok report)) new
   done_call old new command report works clean answers stands named = record {
     clean = clean;
     stays = λ shut. absurd (true≢false (sym shut ∙ works));
     may = λ _. (answers.0, answers.1);
     state = λ _. answers.2;
     closed = λ _. answers.3;
-    stands = λ _ is_clean stood _. subst (Stands (state g new.conn)) (sym answers.2) (stands is_clean stood);
+    durable = λ _ is_clean stood _. subst (IsDurable (state g new.conn)) (sym answers.2) (stands is_clean stood);
     held = λ _ is_clean stood _. subst (HoldsState (state g new.conn).now) (sym answers.2) (stands is_clean stood).held;
     left = λ _ is_clean stood. leaves_done (state g new.conn) old.facts command report answers.0 answers.1 (stands is_clean stood);
     names = λ _ _ T left. subst AreNamed (answers.2 ∙ sym left) named;
   }
 
   -- one for which the store failed
-  pub stopped_call : (old new : Opened S) (command : Command) → old.is_closed ≡ false → ForgetsNoFault (state g old.conn) (state g new.conn) → Answers old command (Err Store) new
-      → (HasCleanDisk (state g new.conn) → Stands (state g old.conn) old.facts → HoldsAsBefore (state g old.conn) (state g new.conn))
-      → (HasCleanDisk (state g new.conn) → Stands (state g old.conn) old.facts → LeavesAsIn (state g new.conn) old.facts (event_of command (Err Store) ∷ []))
+  pub failed_call : (old new : OfficeModel S) (command : Command) → old.is_closed ≡ false → ForgetsNoFault (state g old.conn) (state g new.conn) → Answers old command (Err Store) new
+      → (HasCleanDisk (state g new.conn) → IsDurable (state g old.conn) old.facts → HoldsAsBefore (state g old.conn) (state g new.conn))
+      → (HasCleanDisk (state g new.conn) → IsDurable (state g old.conn) old.facts → LeavesByEvents (state g new.conn) old.facts (event_of command (Err Store) ∷ []))
       → AreNamed (after old.facts command) → IsCall (state g) old (event_of command (Err Store)) new
-  stopped_call old new command works clean answers undone left named = record {
+  failed_call old new command works clean answers undone left named = record {
     clean = clean;
     stays = λ shut. absurd (true≢false (sym shut ∙ works));
     may = λ _. answers.0;
     state = λ _. answers.2;
     closed = λ _. answers.1;
-    stands = λ _ is_clean stood is_open. absurd (true≢false (sym answers.1 ∙ is_open));
+    durable = λ _ is_clean stood is_open. absurd (true≢false (sym answers.1 ∙ is_open));
     held = λ _ is_clean stood is_open. subst (HoldsState (state g new.conn).now) (sym answers.2) (subst (λ (db : Database). HoldsState db old.facts) (sym (undone is_clean stood is_open)) stood.held);
     left = λ _ is_clean stood. left is_clean stood;
     names = λ _ was T leaves. elim leaves [ inl same ↦ subst AreNamed (sym same) was | inr done ↦ subst AreNamed (sym done) named ];
@@ -212,15 +212,15 @@ module _ {S : Type 0} (g : Ghosts S) where
 -- ---- after a crash
 
 -- one run more
-one_more : (opens : RbacState → Type 0) (before : List Life) (last next : Life) → FollowOn opens (before ++ last ∷ []) → OpensAfter last next.start → ((T : RbacState) × Leaves next.start next.events T)
-    → FollowOn opens (before ++ last ∷ next ∷ [])
+one_more : (opens : RbacState → Type 0) (before : List OfficeRun) (last next : OfficeRun) → AreSuccessiveRuns opens (before ++ last ∷ []) → OpensAfter last next.start → ((T : RbacState) × Leaves next.start next.events T)
+    → AreSuccessiveRuns opens (before ++ last ∷ next ∷ [])
 one_more opens [] last next lives found possible = (lives.0, lives.1, (found, possible, tt))
 one_more opens (first ∷ before) last next lives found possible = (lives.0, lives.1, one_more (OpensAfter first) before last next lives.2 found possible)
 
-pub recovers_run : {S : Type 0} (shown : Held S → State) (next : State) → FindsWhatWasLeft next → LastIsSound → RecoversRun shown next
+pub recovers_run : {S : Type 0} (shown : Held S → State) (next : State) → HoldsWhatWasLeft next → LastIsSound → RecoversRun shown next
 recovers_run shown next finds sound before start events office trees lives run clean may is_open outside same =
     let (T, left, leaves) = run.left clean trees may in
-    let good = sound before (run_of start events) T (record { are_lives = lives; is_found = inr (inl left) }) in (
+    let good = sound before (run_of start events) T (record { are_runs = lives; is_found = inr (inl left) }) in (
       T,
       finds T trees leaves is_open outside same,
       good.0,

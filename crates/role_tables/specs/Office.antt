@@ -12,22 +12,22 @@ use Rattle.admin_mgr.specs.RbacState.{RbacState, coded_state}
 use Rattle.admin_mgr.specs.Run.{tally}
 use Rattle.admin_mgr.specs.After.{after}
 use Rattle.admin_mgr.specs.Verdict.{verdict}
-use Rattle.admin_mgr.specs.Life.{Event}
-use Rattle.admin_mgr.specs.Planned.{tally_of_report}
-use Rattle.role_tables.specs.Standing.{Stands}
+use Rattle.admin_mgr.specs.OfficeRun.{Event}
+use Rattle.admin_mgr.specs.PlanEffect.{tally_of_report}
+use Rattle.role_tables.specs.Durability.{IsDurable}
 
 -- an office: its connection, its state, and whether the store has failed in a call
-pub record Opened (S : Type 0) : Type 0 where
+pub record OfficeModel (S : Type 0) : Type 0 where
   pub conn : Held S
   pub facts : RbacState
   pub is_closed : Bool
 
-abbrev pub coded_opened : {S : Type 0} → Coded S → Coded (Opened S)
-coded_opened {S} store =
+abbrev pub coded_office : {S : Type 0} → Coded S → Coded (OfficeModel S)
+coded_office {S} store =
     code_by (Held S × (RbacState × Bool)) (coded× (held_code store) (coded× coded_state coded_bool)) (λ o. (o.conn, (o.facts, o.is_closed))) (λ p. record { conn = p.0; facts = p.1.0; is_closed = p.1.1 }) (λ _. refl)
 
 -- what an open office answers to a command, and the office after it
-abbrev pub Answers : {S : Type 0} → Opened S → Command → Result Report Refusal → Opened S → Type 0
+abbrev pub Answers : {S : Type 0} → OfficeModel S → Command → Result Report Refusal → OfficeModel S → Type 0
 Answers old command (Ok report) new = (verdict old.facts command ≡ None) × (tally_of_report report ≡ tally old.facts command) × (new.facts ≡ after old.facts command) × (new.is_closed ≡ false)
 Answers old command (Err Memory) new = new ≡ old
 Answers old command (Err Store) new = (verdict old.facts command ≡ None) × (new.is_closed ≡ true) × (new.facts ≡ old.facts)
@@ -40,5 +40,5 @@ event_of command (Ok report) = record { command = command; reply = Ok (tally_of_
 event_of command (Err refusal) = record { command = command; reply = Err refusal }
 
 -- it is true if the office was open, its state was durable, and the disk returned what was written
-abbrev pub WhereItStood : {S : Type 0} → Ghosts S → Opened S → Opened S → Type 0 → Type 0
-WhereItStood store old new Is = old.is_closed ≡ false → HasCleanDisk (state store new.conn) → Stands (state store old.conn) old.facts → Is
+abbrev pub IfWasDurable : {S : Type 0} → Ghosts S → OfficeModel S → OfficeModel S → Type 0 → Type 0
+IfWasDurable store old new Is = old.is_closed ≡ false → HasCleanDisk (state store new.conn) → IsDurable (state store old.conn) old.facts → Is

@@ -5,7 +5,7 @@ use Rattle.rbac_sets.specs.declared.row.Row.TheVariants.{NameRow, PairRow, Grant
 use Rattle.sqlite.specs.Order as sql
 use Rattle.sqlite.specs.Effect.{Database}
 use Rattle.admin_mgr.specs.RbacState.{RbacState}
-use Rattle.admin_mgr.specs.Checked.{AreRowsOf}
+use Rattle.admin_mgr.specs.RowChecks.{AreRowsOf}
 use Rattle.role_tables.specs.OfficeTables.{StoredTable, Meta, Rows, code, OfficeRow, meta_row, name_row, pair_row, grant_row, set_row, locked_row, table_of, cells, is_wanted, HoldsTables}
 
 -- the row as a table has it

@@ -3,14 +3,14 @@ ghost use Rattle.std.specs.Prelude.{◌≡◌, ◌⊎◌, ◌&&◌, [], false, t
 ghost use Rattle.admin_mgr.specs.RbacState.{empty_state};
 ghost use Rattle.sqlite.specs.State.{HasCleanDisk, KeepsCommit, Survives};
 ghost use Rattle.sqlite.specs.Held.{state};
-ghost use Rattle.role_tables.specs.Creating.{IsFirstStage, MakesOffice, MayCreate, StageAfter};
+ghost use Rattle.role_tables.specs.Creation.{IsFirstStage, CreatesOffice, MayCreate, StageAfter};
 ghost use Rattle.role_tables.specs.Runs.{IsInRun};
-ghost use Rattle.role_tables.specs.Standing.{ForgetsNoFault, HoldsAsBefore, LeavesBeforeOr, TransactsTo};
+ghost use Rattle.role_tables.specs.Durability.{ForgetsNoFault, HoldsAsBefore, LeavesBeforeOr, TransactsTo};
 
 use crate::office::Office;
 use crate::opening::Unopened;
 use crate::schema::may_create;
-use crate::statements::{create_table, is_settled, put_version};
+use crate::statements::{create_table, insert_version, is_settled};
 use crate::stored_table::StoredTable;
 use admin_mgr::State;
 use rbac_sets::Refusal;
@@ -41,20 +41,20 @@ fn create_office<S: Alter>(conn: &mut Connection<S>, version: u32) -> Result<(),
     is_settled(conn);
     let mut tx = conn.transaction();
     create_tables(&mut tx, StoredTable::of_version(version))?;
-    put_version(&mut tx, version)?;
+    insert_version(&mut tx, version)?;
     tx.commit()
 }
 
 // Creates an empty office with this state.
 fn create_with<S: Alter>(conn: Connection<S>, first: State) -> Result<Office<S>, Unopened<S>>
     requires empty { first.facts ≡ empty_state first.facts.version }
-    ensures ok { IfOk result (λ o. (o.facts ≡ first.facts) × (o.is_closed ≡ false) × MakesOffice (state S.Store conn) (state S.Store o.conn) first.facts) }
+    ensures ok { IfOk result (λ o. (o.facts ≡ first.facts) × (o.is_closed ≡ false) × CreatesOffice (state S.Store conn) (state S.Store o.conn) first.facts) }
     ensures clean { MatchResult result (λ o. ForgetsNoFault (state S.Store conn) (state S.Store o.conn)) (λ u. ForgetsNoFault (state S.Store conn) (state S.Store u.conn)) }
     ensures run { IfOk result (λ o. IsInRun (state S.Store) first.facts [] o) }
     ensures err { IfErr result (λ u. u.refusal ≡ Refusal.Store) }
     ensures untouched { IfErr result (λ u. (MayCreate first.facts.version (state S.Store conn) → ⊥) → u.conn ≡ conn) }
     ensures undone { IfErr result (λ u. HasCleanDisk (state S.Store u.conn) → HoldsAsBefore (state S.Store conn) (state S.Store u.conn)) }
-    ensures stop { IfErr result (λ u. HasCleanDisk (state S.Store u.conn) → LeavesBeforeOr (state S.Store conn) (state S.Store u.conn) first.facts) }
+    ensures crash { IfErr result (λ u. HasCleanDisk (state S.Store u.conn) → LeavesBeforeOr (state S.Store conn) (state S.Store u.conn) first.facts) }
 {
     let mut conn = conn;
     let version = first.version();
@@ -85,13 +85,13 @@ fn create_with<S: Alter>(conn: Connection<S>, first: State) -> Result<Office<S>,
 /// `sqlite_sequence` for the counts; or if the store fails in a call. The connection is handed back with
 /// what it held before. A crash then leaves what it could leave before, or the new office.
 pub fn create<S: Alter>(alloc: Global, conn: Connection<S>) -> Result<Office<S>, Unopened<S>>
-    ensures ok { IfOk result (λ o. (o.facts ≡ empty_state 2) × (o.is_closed ≡ false) × MakesOffice (state S.Store conn) (state S.Store o.conn) (empty_state 2)) }
+    ensures ok { IfOk result (λ o. (o.facts ≡ empty_state 2) × (o.is_closed ≡ false) × CreatesOffice (state S.Store conn) (state S.Store o.conn) (empty_state 2)) }
     ensures clean { MatchResult result (λ o. ForgetsNoFault (state S.Store conn) (state S.Store o.conn)) (λ u. ForgetsNoFault (state S.Store conn) (state S.Store u.conn)) }
     ensures run { IfOk result (λ o. IsInRun (state S.Store) (empty_state 2) [] o) }
     ensures err { IfErr result (λ u. u.refusal ≡ Refusal.Store) }
     ensures untouched { IfErr result (λ u. (MayCreate 2 (state S.Store conn) → ⊥) → u.conn ≡ conn) }
     ensures undone { IfErr result (λ u. HasCleanDisk (state S.Store u.conn) → HoldsAsBefore (state S.Store conn) (state S.Store u.conn)) }
-    ensures stop { IfErr result (λ u. HasCleanDisk (state S.Store u.conn) → LeavesBeforeOr (state S.Store conn) (state S.Store u.conn) (empty_state 2)) }
+    ensures crash { IfErr result (λ u. HasCleanDisk (state S.Store u.conn) → LeavesBeforeOr (state S.Store conn) (state S.Store u.conn) (empty_state 2)) }
 {
     create_with(conn, State::empty(alloc))
 }
@@ -102,13 +102,13 @@ pub fn create<S: Alter>(alloc: Global, conn: Connection<S>) -> Result<Office<S>,
 ///
 /// As `create`, except that a table of locks may be there: an office of version 1 has none.
 pub fn create_v1<S: Alter>(alloc: Global, conn: Connection<S>) -> Result<Office<S>, Unopened<S>>
-    ensures ok { IfOk result (λ o. (o.facts ≡ empty_state 1) × (o.is_closed ≡ false) × MakesOffice (state S.Store conn) (state S.Store o.conn) (empty_state 1)) }
+    ensures ok { IfOk result (λ o. (o.facts ≡ empty_state 1) × (o.is_closed ≡ false) × CreatesOffice (state S.Store conn) (state S.Store o.conn) (empty_state 1)) }
     ensures clean { MatchResult result (λ o. ForgetsNoFault (state S.Store conn) (state S.Store o.conn)) (λ u. ForgetsNoFault (state S.Store conn) (state S.Store u.conn)) }
     ensures run { IfOk result (λ o. IsInRun (state S.Store) (empty_state 1) [] o) }
     ensures err { IfErr result (λ u. u.refusal ≡ Refusal.Store) }
     ensures untouched { IfErr result (λ u. (MayCreate 1 (state S.Store conn) → ⊥) → u.conn ≡ conn) }
     ensures undone { IfErr result (λ u. HasCleanDisk (state S.Store u.conn) → HoldsAsBefore (state S.Store conn) (state S.Store u.conn)) }
-    ensures stop { IfErr result (λ u. HasCleanDisk (state S.Store u.conn) → LeavesBeforeOr (state S.Store conn) (state S.Store u.conn) (empty_state 1)) }
+    ensures crash { IfErr result (λ u. HasCleanDisk (state S.Store u.conn) → LeavesBeforeOr (state S.Store conn) (state S.Store u.conn) (empty_state 1)) }
 {
     create_with(conn, State::empty_v1(alloc))
 }

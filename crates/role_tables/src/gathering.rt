@@ -2,10 +2,10 @@
 ghost use Rattle.std.specs.Prelude.{◌≡◌, ◌⊎◌, ◌∷◌, [], false, true, IsSome, IsTrue, IfOk, IfErr, OnOk};
 ghost use Rattle.sqlite.specs.State.{HasCleanDisk, KeepsCommit, Survives};
 ghost use Rattle.sqlite.specs.Held.{state};
-ghost use Rattle.role_tables.specs.Texts.{read_text};
-ghost use Rattle.role_tables.specs.Found.{is_whole, has_names, row_in, RefusesRow, HasTable};
-ghost use Rattle.role_tables.specs.Gathering.{IsOfRows, Gathers, ReadsTable};
-ghost use Rattle.role_tables.specs.Opening.{IsMemoryOrStore};
+ghost use Rattle.role_tables.specs.private.Texts.{read_text};
+ghost use Rattle.role_tables.specs.TableContents.{is_well_typed, has_names, row_in, RefusesRow, HasTable};
+ghost use Rattle.role_tables.specs.private.GatheredRows.{IsOfRows, Gathers, ReadsTable};
+ghost use Rattle.role_tables.specs.OpeningChecks.{IsMemoryOrStore};
 
 use crate::stored_table::StoredTable;
 use crate::values::{grant_of, lock_of, name_of, pair_of, set_of};
@@ -17,14 +17,14 @@ use std::alloc::Global;
 #[derive(Drop)]
 pub(crate) struct Gathering {
     pub(crate) rows: Vec<Row>,
-    pub(crate) is_whole: bool,
+    pub(crate) is_well_typed: bool,
     pub(crate) is_named: bool,
 }
 
 // The row that has these values.
 fn row_of(alloc: Global, table: StoredTable, row: &sqlite::Row) -> Result<Row, Refusal>
     requires { IsOfRows table }
-    ensures ok { IfOk result (λ made. (made ≡ row_in table row.now) × IsTrue (is_whole table row.now) × IsTrue (has_names table row.now)) }
+    ensures ok { IfOk result (λ made. (made ≡ row_in table row.now) × IsTrue (is_well_typed table row.now) × IsTrue (has_names table row.now)) }
     ensures err { IfErr result (RefusesRow table row.now) }
 {
     match table {
@@ -50,13 +50,13 @@ fn gather_row(
 {
     match row_of(alloc, table, row) {
         Ok(made) => {
-            if into.is_whole && into.is_named {
+            if into.is_well_typed && into.is_named {
                 into.rows.push(made)?;
             }
             Ok(())
         }
         Err(Refusal::Damaged(1)) => {
-            into.is_whole = false;
+            into.is_well_typed = false;
             Ok(())
         }
         Err(Refusal::Damaged(_)) => {

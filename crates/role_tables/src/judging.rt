@@ -2,13 +2,13 @@
 ghost use Rattle.std.specs.Prelude.{◌≡◌, ◌⊎◌, ◌&&◌, [], false, true, IsTrue, IfOk, IfErr, OnOk};
 ghost use Rattle.sqlite.specs.State.{HasCleanDisk, IsUnchanged, KeepsCommit, Survives};
 ghost use Rattle.sqlite.specs.Held.{state};
-ghost use Rattle.admin_mgr.specs.Checked.{IsStateOf};
-ghost use Rattle.role_tables.specs.Found.{held_in};
-ghost use Rattle.role_tables.specs.Migrating.{RefusesMigration};
-ghost use Rattle.role_tables.specs.Opening.{is_opening_refusal, HasFive, IsMemoryOrStore, IsSecond, ReadsState, RefusesFound, RefusesMetas};
-ghost use Rattle.role_tables.specs.MetaRows.{SeesMetas};
-ghost use Rattle.role_tables.specs.Standing.{HoldsAsBefore};
-ghost use Rattle.role_tables.specs.Gathering.{AreOfRows, ReadsTables, HasTables, IsVersionSeen, RefusesVersion, RefusesGathering};
+ghost use Rattle.admin_mgr.specs.RowChecks.{IsStateOf};
+ghost use Rattle.role_tables.specs.TableContents.{contents_of};
+ghost use Rattle.role_tables.specs.Migration.{RefusesMigration};
+ghost use Rattle.role_tables.specs.OpeningChecks.{is_opening_refusal, HasCommonTables, IsMemoryOrStore, IsOfVersion2, ReadsState, RefusesContents, RefusesMetas};
+ghost use Rattle.role_tables.specs.private.MetaRows.{SeesMetas};
+ghost use Rattle.role_tables.specs.Durability.{HoldsAsBefore};
+ghost use Rattle.role_tables.specs.private.GatheredRows.{AreOfRows, ReadsTables, HasTables, IsVersionSeen, RefusesVersion, RefusesGathering};
 
 use crate::gathering::{Gathering, read_table};
 use crate::meta_rows::{Metas, read_metas};
@@ -23,9 +23,9 @@ use std::alloc::Global;
 
 // Reads `meta_row`, if the five tables of both versions are there.
 fn find_metas<S: Alter>(conn: &mut Connection<S>) -> Result<Metas, Refusal>
-    ensures five { IfOk result (λ _. HasFive (held_in (state S.Store conn.old).now)) }
+    ensures five { IfOk result (λ _. HasCommonTables (contents_of (state S.Store conn.old).now)) }
     ensures seen { HasCleanDisk (state S.Store conn.new) → IfOk result (SeesMetas (state S.Store conn.old) (state S.Store conn.new)) }
-    ensures refused { IfErr result (RefusesMetas (held_in (state S.Store conn.old).now)) }
+    ensures refused { IfErr result (RefusesMetas (contents_of (state S.Store conn.old).now)) }
     ensures mode { conn.old.in_transaction ≡ false → conn.new.in_transaction ≡ false }
     ensures kept { HasCleanDisk (state S.Store conn.new) → KeepsCommit (state S.Store conn.old) (state S.Store conn.new) }
     ensures survives { Survives (state S.Store conn.old) (state S.Store conn.new) (λ _. ⊥) }
@@ -47,7 +47,7 @@ fn judge_version(metas: &Metas, schema: &Schema) -> Result<u32, Refusal>
     if let Some(version) = metas.unknown {
         return Err(Refusal::Version(version));
     }
-    if !metas.is_second {
+    if !metas.has_version_2 {
         return Ok(1);
     }
     if !is_there(schema, StoredTable::Locks) {
@@ -57,9 +57,9 @@ fn judge_version(metas: &Metas, schema: &Schema) -> Result<u32, Refusal>
 }
 
 /// Refuses an office of version 2.
-pub(crate) fn refuse_second<S: Alter>(conn: &mut Connection<S>) -> Result<(), Refusal>
-    ensures passed { HasCleanDisk (state S.Store conn.new) → OnOk result ((IsSecond (held_in (state S.Store conn.old).now) → ⊥) × IsUnchanged (state S.Store conn.old) (state S.Store conn.new)) }
-    ensures err { HasCleanDisk (state S.Store conn.new) → IfErr result (RefusesMigration (held_in (state S.Store conn.old).now)) }
+pub(crate) fn refuse_v2<S: Alter>(conn: &mut Connection<S>) -> Result<(), Refusal>
+    ensures passed { HasCleanDisk (state S.Store conn.new) → OnOk result ((IsOfVersion2 (contents_of (state S.Store conn.old).now) → ⊥) × IsUnchanged (state S.Store conn.old) (state S.Store conn.new)) }
+    ensures err { HasCleanDisk (state S.Store conn.new) → IfErr result (RefusesMigration (contents_of (state S.Store conn.old).now)) }
     ensures refusal { IfErr result (λ refusal. IsTrue (is_opening_refusal refusal)) }
     ensures mode { conn.old.in_transaction ≡ false → conn.new.in_transaction ≡ false }
     ensures undone { conn.old.in_transaction ≡ false → HasCleanDisk (state S.Store conn.new) → HoldsAsBefore (state S.Store conn.old) (state S.Store conn.new) }
@@ -69,7 +69,7 @@ pub(crate) fn refuse_second<S: Alter>(conn: &mut Connection<S>) -> Result<(), Re
     let found = find_metas(conn);
     is_settled(conn);
     let metas = found?;
-    if metas.names_second() {
+    if metas.is_of_version_2() {
         return Err(Refusal::Version(2));
     }
     Ok(())
@@ -77,13 +77,13 @@ pub(crate) fn refuse_second<S: Alter>(conn: &mut Connection<S>) -> Result<(), Re
 
 // No row yet. Check 1 includes the rows of `meta_row`.
 fn first_gathering(alloc: Global, metas: &Metas) -> Gathering
-    ensures whole { result.is_whole ≡ (metas.now.is_whole && metas.now.is_one) }
+    ensures whole { result.is_well_typed ≡ (metas.now.is_well_typed && metas.now.is_one) }
     ensures named { result.is_named ≡ true }
     ensures empty { result.rows.items ≡ [] }
 {
     Gathering {
         rows: Vec::new(alloc),
-        is_whole: metas.is_whole && metas.is_one,
+        is_well_typed: metas.is_well_typed && metas.is_one,
         is_named: true,
     }
 }
@@ -112,11 +112,11 @@ fn read_tables<S: Alter>(
 // The state that the gathered rows make.
 fn judge_rows(alloc: Global, version: u32, all: Gathering) -> Result<State, Refusal>
     requires { (version ≡ 1) ⊎ (version ≡ 2) }
-    ensures ok { IfOk result (λ made. IsTrue all.is_whole × IsTrue all.is_named × IsStateOf version all.rows.items made.facts) }
+    ensures ok { IfOk result (λ made. IsTrue all.is_well_typed × IsTrue all.is_named × IsStateOf version all.rows.items made.facts) }
     ensures err { IfErr result (RefusesGathering version all) }
     ensures refusal { IfErr result (λ refusal. IsTrue (is_opening_refusal refusal)) }
 {
-    if !all.is_whole {
+    if !all.is_well_typed {
         return Err(Refusal::Damaged(1));
     }
     if !all.is_named {
@@ -128,7 +128,7 @@ fn judge_rows(alloc: Global, version: u32, all: Gathering) -> Result<State, Refu
 // Reads the state that the database holds, and commits nothing.
 fn find_state<S: Alter>(alloc: Global, conn: &mut Connection<S>) -> Result<State, Refusal>
     ensures ok { HasCleanDisk (state S.Store conn.new) → IfOk result (λ made. ReadsState (state S.Store conn.old) (state S.Store conn.new) made.facts) }
-    ensures err { HasCleanDisk (state S.Store conn.new) → IfErr result (λ refusal. (refusal ≡ Refusal.Store) ⊎ RefusesFound (held_in (state S.Store conn.old).now) refusal) }
+    ensures err { HasCleanDisk (state S.Store conn.new) → IfErr result (λ refusal. (refusal ≡ Refusal.Store) ⊎ RefusesContents (contents_of (state S.Store conn.old).now) refusal) }
     ensures refusal { IfErr result (λ refusal. IsTrue (is_opening_refusal refusal)) }
     ensures mode { conn.old.in_transaction ≡ false → conn.new.in_transaction ≡ false }
     ensures kept { HasCleanDisk (state S.Store conn.new) → KeepsCommit (state S.Store conn.old) (state S.Store conn.new) }
@@ -147,7 +147,7 @@ pub(crate) fn read_state<S: Alter>(
     conn: &mut Connection<S>,
 ) -> Result<State, Refusal>
     ensures ok { HasCleanDisk (state S.Store conn.new) → IfOk result (λ made. ReadsState (state S.Store conn.old) (state S.Store conn.new) made.facts) }
-    ensures err { HasCleanDisk (state S.Store conn.new) → IfErr result (λ refusal. (refusal ≡ Refusal.Store) ⊎ RefusesFound (held_in (state S.Store conn.old).now) refusal) }
+    ensures err { HasCleanDisk (state S.Store conn.new) → IfErr result (λ refusal. (refusal ≡ Refusal.Store) ⊎ RefusesContents (contents_of (state S.Store conn.old).now) refusal) }
     ensures refusal { IfErr result (λ refusal. IsTrue (is_opening_refusal refusal)) }
     ensures mode { conn.old.in_transaction ≡ false → conn.new.in_transaction ≡ false }
     ensures undone { conn.old.in_transaction ≡ false → HasCleanDisk (state S.Store conn.new) → HoldsAsBefore (state S.Store conn.old) (state S.Store conn.new) }

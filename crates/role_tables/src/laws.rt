@@ -2,11 +2,11 @@
 //! that an opening is refused; and that the next connection holds what a crash left. The headline theorem,
 //! with the steps of its argument, is the last law, `recovers`.
 ghost use Rattle.sqlite.specs.Held.{state};
-ghost use Rattle.role_tables.specs.Lives.{OpeningsAreGood, OpeningsFollow, LastIsSound, DeassignedStays, RevokedStays};
-ghost use Rattle.role_tables.specs.Lives.{OneCall, EarlierArePossible, SoFarIsLeft, OpenLeavesSoFar, OpenGoesOn, ClosedStays, SoFarGoesOn};
-ghost use Rattle.role_tables.specs.Opening.{FoundAlone, GoodRowsAreFound, RefusedFindNone};
+ghost use Rattle.role_tables.specs.OfficeHistory.{OpeningsAreGood, OpeningsFollow, LastIsSound, DeassignedStays, RevokedStays};
+ghost use Rattle.role_tables.specs.OfficeHistory.{OneCall, EarlierArePossible, SoFarIsLeft, OpenLeavesSoFar, OpenGoesOn, ClosedStays, SoFarGoesOn};
+ghost use Rattle.role_tables.specs.OpeningChecks.{StateIsUnique, GoodContentsAreRead, RefusedHaveNoState};
 ghost use Rattle.role_tables.specs.Runs.{RecoversRun};
-ghost use Rattle.role_tables.specs.Standing.{FindsWhatWasLeft, SameTreesHoldSame};
+ghost use Rattle.role_tables.specs.Durability.{HoldsWhatWasLeft, SameTreesHoldSame};
 
 use admin_mgr::laws::{accepted_good, effects, empty_states, migrated_good};
 use sqlite::{Alter, Connection};
@@ -51,9 +51,9 @@ pub fn calls()
 /// and `meta_row` the one row of the version, these rows are refused by `Memory` at most, and no other
 /// state is read from them.
 pub fn refused_openings()
-    ensures none { RefusedFindNone }
-    ensures good { GoodRowsAreFound }
-    ensures alone { FoundAlone }
+    ensures none { RefusedHaveNoState }
+    ensures good { GoodContentsAreRead }
+    ensures alone { StateIsUnique }
 {}
 
 /// The trees of a database alone determine the states that it holds: two databases with the same trees,
@@ -67,7 +67,7 @@ pub fn same_trees()
 /// So if the state is good and its texts are valid names, `open` gives it there while the disk returns
 /// what was written, or is refused by `Memory` or `Store`.
 pub fn reopened<S: Alter>(conn: &Connection<S>)
-    ensures { FindsWhatWasLeft (state S.Store conn.now) }
+    ensures { HoldsWhatWasLeft (state S.Store conn.now) }
 {
     conn.is_autocommit();
     conn.schema();

@@ -4,9 +4,9 @@ ghost use Rattle.sqlite_value.specs.Order.{column};
 ghost use Rattle.sqlite.specs.State.{HasCleanDisk, KeepsCommit, Survives};
 ghost use Rattle.sqlite.specs.Held.{state};
 ghost use Rattle.role_tables.specs.OfficeTables.{Meta};
-ghost use Rattle.role_tables.specs.Found.{is_whole, is_whole_number, HasTable};
-ghost use Rattle.role_tables.specs.Opening.{is_tagged, version_at, is_known_version, IsMemoryOrStore};
-ghost use Rattle.role_tables.specs.MetaRows.{lesser, SeesMore, SeesMetas};
+ghost use Rattle.role_tables.specs.TableContents.{is_well_typed, is_whole_number, HasTable};
+ghost use Rattle.role_tables.specs.OpeningChecks.{is_tagged, version_at, is_known_version, IsMemoryOrStore};
+ghost use Rattle.role_tables.specs.private.MetaRows.{lesser, SeesMore, SeesMetas};
 
 use crate::values::is_text_at;
 use rbac_sets::Refusal;
@@ -19,17 +19,17 @@ pub(crate) struct Metas {
     pub(crate) is_tagged: bool,
     pub(crate) unknown: Option<i64>,
     pub(crate) is_second: bool,
-    pub(crate) is_whole: bool,
+    pub(crate) is_well_typed: bool,
     pub(crate) is_one: bool,
     is_empty: bool,
 }
 
 impl Metas {
     /// Whether the rows are those of an office of version 2.
-    pub(crate) fn names_second(&self) -> bool
-        ensures { result ≡ (self.now.is_tagged && (is_none self.now.unknown && self.now.is_second)) }
+    pub(crate) fn is_of_version_2(&self) -> bool
+        ensures { result ≡ (self.now.is_tagged && (is_none self.now.unknown && self.now.has_version_2)) }
     {
-        self.is_tagged && self.unknown.is_none() && self.is_second
+        self.is_tagged && self.unknown.is_none() && self.has_version_2
     }
 }
 
@@ -64,8 +64,8 @@ fn is_number_at(row: &sqlite::Row, at: usize) -> bool
 }
 
 // Whether the values are of their columns' types.
-fn is_whole_meta(row: &sqlite::Row) -> bool
-    ensures { result ≡ is_whole Meta row.now }
+fn is_well_typed_meta(row: &sqlite::Row) -> bool
+    ensures { result ≡ is_well_typed Meta row.now }
 {
     is_text_at(row, 0) && is_number_at(row, 1)
 }
@@ -99,8 +99,8 @@ fn see(row: &sqlite::Row, into: &mut Metas)
     let version = version_at(row);
     into.is_tagged = into.is_tagged || is_tagged(row);
     into.unknown = lesser(into.unknown, version);
-    into.is_second = into.is_second || version == Some(2);
-    into.is_whole = into.is_whole && is_whole_meta(row);
+    into.has_version_2 = into.has_version_2 || version == Some(2);
+    into.is_well_typed = into.is_well_typed && is_well_typed_meta(row);
     into.is_one = into.is_empty;
     into.is_empty = false;
 }
@@ -117,7 +117,7 @@ pub(crate) fn read_metas<S: Alter>(conn: &mut Connection<S>) -> Result<Metas, Re
         is_tagged: false,
         unknown: None,
         is_second: false,
-        is_whole: true,
+        is_well_typed: true,
         is_one: false,
         is_empty: true,
     };

@@ -2,18 +2,18 @@
 ghost use Rattle.std.specs.Prelude.{◌≡◌, ◌≢◌, [], false, true, IsTrue, IfErr, IfOk, MatchResult};
 ghost use Rattle.sqlite.specs.State.{HasCleanDisk, KeepsCommit, Survives};
 ghost use Rattle.sqlite.specs.Held.{state};
-ghost use Rattle.admin_mgr.specs.Life.{taken_into_version_2};
-ghost use Rattle.role_tables.specs.Found.{held_in};
-ghost use Rattle.role_tables.specs.Migrating.{IsMigratedFrom, LeavesEitherVersion, MigratesTables, Moves, RefusesMigration, StaysRefused};
-ghost use Rattle.role_tables.specs.Opening.{is_opening_refusal, IsSecond};
+ghost use Rattle.admin_mgr.specs.OfficeRun.{migrated_to_version_2};
+ghost use Rattle.role_tables.specs.TableContents.{contents_of};
+ghost use Rattle.role_tables.specs.Migration.{IsMigratedFrom, LeavesEitherVersion, MigratesTables, MigratesDurably, RefusesMigration, StaysRefused};
+ghost use Rattle.role_tables.specs.OpeningChecks.{is_opening_refusal, IsOfVersion2};
 ghost use Rattle.role_tables.specs.Runs.{IsInRun};
-ghost use Rattle.role_tables.specs.Standing.{ForgetsNoFault, HoldsAsBefore, WhateverStands};
+ghost use Rattle.role_tables.specs.Durability.{ForgetsNoFault, HoldsAsBefore, WhateverIsDurable};
 
-use crate::judging::{read_state, refuse_second};
+use crate::judging::{read_state, refuse_v2};
 use crate::office::Office;
 use crate::opening::Unopened;
 use crate::schema::may_lock;
-use crate::statements::{create_table, is_settled, put_version, take_version};
+use crate::statements::{create_table, delete_version, insert_version, is_settled};
 use crate::stored_table::StoredTable;
 use admin_mgr::State;
 use rbac_sets::Refusal;
@@ -30,25 +30,25 @@ fn migrate_tables<S: Alter>(conn: &mut Connection<S>) -> Result<(), Error>
     is_settled(conn);
     let mut tx = conn.transaction();
     create_table(&mut tx, StoredTable::Locks)?;
-    take_version(&mut tx, 1)?;
-    put_version(&mut tx, 2)?;
+    delete_version(&mut tx, 1)?;
+    insert_version(&mut tx, 2)?;
     tx.commit()
 }
 
 // Reads an office that is not of version 2, and migrates it to version 2.
-fn migrate_first<S: Alter>(alloc: Global, conn: &mut Connection<S>) -> Result<State, Refusal>
+fn migrate_v1<S: Alter>(alloc: Global, conn: &mut Connection<S>) -> Result<State, Refusal>
     requires { conn.old.in_transaction ≡ false }
     ensures ended { conn.new.in_transaction ≡ false }
     ensures clean { ForgetsNoFault (state S.Store conn.old) (state S.Store conn.new) }
     ensures found { HasCleanDisk (state S.Store conn.new) → IfOk result (λ made. IsMigratedFrom (state S.Store conn.old).now made.facts) }
-    ensures err { HasCleanDisk (state S.Store conn.new) → (IsSecond (held_in (state S.Store conn.old).now) → ⊥) → IfErr result (RefusesMigration (held_in (state S.Store conn.old).now)) }
+    ensures err { HasCleanDisk (state S.Store conn.new) → (IsOfVersion2 (contents_of (state S.Store conn.old).now) → ⊥) → IfErr result (RefusesMigration (contents_of (state S.Store conn.old).now)) }
     ensures undone { HasCleanDisk (state S.Store conn.new) → IfErr result (λ refusal. refusal ≢ Refusal.Store → HoldsAsBefore (state S.Store conn.old) (state S.Store conn.new)) }
-    ensures moved { HasCleanDisk (state S.Store conn.new) → IfOk result (λ made. Moves (state S.Store conn.old) (state S.Store conn.new) made.facts) }
+    ensures moved { HasCleanDisk (state S.Store conn.new) → IfOk result (λ made. MigratesDurably (state S.Store conn.old) (state S.Store conn.new) made.facts) }
     ensures unmoved { HasCleanDisk (state S.Store conn.new) → IfErr result (StaysRefused (state S.Store conn.old) (state S.Store conn.new)) }
     ensures survives { IfErr result (λ refusal. refusal ≢ Refusal.Store → Survives (state S.Store conn.old) (state S.Store conn.new) (λ _. ⊥)) }
     ensures version { IfOk result (λ made. made.facts.version ≡ 2) }
     ensures refusal { IfErr result (λ refusal. IsTrue (is_opening_refusal refusal)) }
-    ensures stop { HasCleanDisk (state S.Store conn.new) → LeavesEitherVersion (state S.Store conn.old) (state S.Store conn.new) }
+    ensures crash { HasCleanDisk (state S.Store conn.new) → LeavesEitherVersion (state S.Store conn.old) (state S.Store conn.new) }
 {
     let first = read_state(alloc, conn)?;
     if first.version() != 1 {
@@ -69,17 +69,17 @@ fn migrate_state<S: Alter>(alloc: Global, conn: &mut Connection<S>) -> Result<St
     ensures ended { conn.new.in_transaction ≡ false }
     ensures clean { ForgetsNoFault (state S.Store conn.old) (state S.Store conn.new) }
     ensures found { HasCleanDisk (state S.Store conn.new) → IfOk result (λ made. IsMigratedFrom (state S.Store conn.old).now made.facts) }
-    ensures err { HasCleanDisk (state S.Store conn.new) → IfErr result (RefusesMigration (held_in (state S.Store conn.old).now)) }
+    ensures err { HasCleanDisk (state S.Store conn.new) → IfErr result (RefusesMigration (contents_of (state S.Store conn.old).now)) }
     ensures undone { HasCleanDisk (state S.Store conn.new) → IfErr result (λ refusal. refusal ≢ Refusal.Store → HoldsAsBefore (state S.Store conn.old) (state S.Store conn.new)) }
-    ensures moved { HasCleanDisk (state S.Store conn.new) → IfOk result (λ made. Moves (state S.Store conn.old) (state S.Store conn.new) made.facts) }
+    ensures moved { HasCleanDisk (state S.Store conn.new) → IfOk result (λ made. MigratesDurably (state S.Store conn.old) (state S.Store conn.new) made.facts) }
     ensures unmoved { HasCleanDisk (state S.Store conn.new) → IfErr result (StaysRefused (state S.Store conn.old) (state S.Store conn.new)) }
     ensures survives { IfErr result (λ refusal. refusal ≢ Refusal.Store → Survives (state S.Store conn.old) (state S.Store conn.new) (λ _. ⊥)) }
     ensures version { IfOk result (λ made. made.facts.version ≡ 2) }
     ensures refusal { IfErr result (λ refusal. IsTrue (is_opening_refusal refusal)) }
-    ensures stop { HasCleanDisk (state S.Store conn.new) → LeavesEitherVersion (state S.Store conn.old) (state S.Store conn.new) }
+    ensures crash { HasCleanDisk (state S.Store conn.new) → LeavesEitherVersion (state S.Store conn.old) (state S.Store conn.new) }
 {
-    refuse_second(conn)?;
-    migrate_first(alloc, conn)
+    refuse_v2(conn)?;
+    migrate_v1(alloc, conn)
 }
 
 /// Migrates the office of version 1 that the tables of a connection outside a transaction hold to version
@@ -100,15 +100,15 @@ pub fn migrate<S: Alter>(alloc: Global, conn: Connection<S>) -> Result<Office<S>
         × (HasCleanDisk (state S.Store o.conn) → IsMigratedFrom (state S.Store conn).now o.facts)) }
     ensures version { IfOk result (λ o. o.facts.version ≡ 2) }
     ensures refusal { IfErr result (λ u. IsTrue (is_opening_refusal u.refusal)) }
-    ensures err { IfErr result (λ u. HasCleanDisk (state S.Store u.conn) → RefusesMigration (held_in (state S.Store conn).now) u.refusal) }
+    ensures err { IfErr result (λ u. HasCleanDisk (state S.Store u.conn) → RefusesMigration (contents_of (state S.Store conn).now) u.refusal) }
     ensures inside { IfErr result (λ u. (state S.Store conn).in_transaction ≡ true → (u.refusal ≡ Refusal.Store) × (u.conn ≡ conn)) }
     ensures undone { IfErr result (λ u. HasCleanDisk (state S.Store u.conn) → u.refusal ≢ Refusal.Store → HoldsAsBefore (state S.Store conn) (state S.Store u.conn)) }
-    ensures moved { IfOk result (λ o. HasCleanDisk (state S.Store o.conn) → Moves (state S.Store conn) (state S.Store o.conn) o.facts) }
+    ensures moved { IfOk result (λ o. HasCleanDisk (state S.Store o.conn) → MigratesDurably (state S.Store conn) (state S.Store o.conn) o.facts) }
     ensures clean { MatchResult result (λ o. ForgetsNoFault (state S.Store conn) (state S.Store o.conn)) (λ u. ForgetsNoFault (state S.Store conn) (state S.Store u.conn)) }
-    ensures run { IfOk result (λ o. HasCleanDisk (state S.Store o.conn) → WhateverStands (state S.Store conn) (λ before. IsInRun (state S.Store) (taken_into_version_2 before) [] o)) }
+    ensures run { IfOk result (λ o. HasCleanDisk (state S.Store o.conn) → WhateverIsDurable (state S.Store conn) (λ before. IsInRun (state S.Store) (migrated_to_version_2 before) [] o)) }
     ensures unmoved { IfErr result (λ u. HasCleanDisk (state S.Store u.conn) → StaysRefused (state S.Store conn) (state S.Store u.conn) u.refusal) }
     ensures survives { IfErr result (λ u. u.refusal ≢ Refusal.Store → Survives (state S.Store conn) (state S.Store u.conn) (λ _. ⊥)) }
-    ensures stop { IfErr result (λ u. HasCleanDisk (state S.Store u.conn) → LeavesEitherVersion (state S.Store conn) (state S.Store u.conn)) }
+    ensures crash { IfErr result (λ u. HasCleanDisk (state S.Store u.conn) → LeavesEitherVersion (state S.Store conn) (state S.Store u.conn)) }
 {
     let mut conn = conn;
     if !conn.is_autocommit() {

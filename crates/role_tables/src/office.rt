@@ -3,10 +3,10 @@ ghost use Rattle.std.specs.Prelude.{◌≡◌, ◌∷◌, [], false, IsTrue, is_
 ghost use Rattle.sqlite.specs.Held.{state};
 ghost use Rattle.admin_mgr.specs.After.{after};
 ghost use Rattle.admin_mgr.specs.Good.{IsGood};
-ghost use Rattle.admin_mgr.specs.Named.{AreNamed};
-ghost use Rattle.role_tables.specs.Office.{Answers, WhereItStood, event_of};
+ghost use Rattle.admin_mgr.specs.StateNames.{AreNamed};
+ghost use Rattle.role_tables.specs.Office.{Answers, IfWasDurable, event_of};
 ghost use Rattle.role_tables.specs.Runs.{GoesOnBy};
-ghost use Rattle.role_tables.specs.Standing.{ForgetsNoFault, HoldsAsBefore, LeavesAsIn, Stands};
+ghost use Rattle.role_tables.specs.Durability.{ForgetsNoFault, HoldsAsBefore, LeavesByEvents, IsDurable};
 
 use crate::writing::write_changes;
 use admin_mgr::{Report, State};
@@ -30,12 +30,12 @@ pub struct Office<S: Alter> {
 impl<S: Alter> Model for Office<S> {
     ghost use Rattle.std.specs.Prelude.{◌≡◌, false};
     ghost use Rattle.admin_mgr.specs.Good.{IsGood};
-    ghost use Rattle.admin_mgr.specs.Named.{AreNamed};
-    ghost use Rattle.role_tables.specs.Office.{Opened, coded_opened};
+    ghost use Rattle.admin_mgr.specs.StateNames.{AreNamed};
+    ghost use Rattle.role_tables.specs.Office.{OfficeModel, coded_office};
 
-    ghost Value = { Opened S };
+    ghost Value = { OfficeModel S };
 
-    ghost coded = { coded_opened S.code };
+    ghost coded = { coded_office S.code };
 
     ghost view = { λ o. record { conn = o.conn; facts = o.state.facts; is_closed = o.is_closed } };
 
@@ -48,8 +48,8 @@ impl<S: Alter> Office<S> {
         requires { conn.in_transaction ≡ false }
         ensures { (result.conn ≡ conn) × (result.facts ≡ state.facts) × (result.is_closed ≡ false) }
     {
-        state.is_good();
-        state.is_named();
+        state.recall_good();
+        state.recall_names();
         Office {
             conn,
             state,
@@ -74,9 +74,9 @@ impl<S: Alter> Office<S> {
         ensures closed { IsTrue self.old.is_closed → (result ≡ Err Refusal.Closed) × (self.new ≡ self.old) }
         ensures answers { self.old.is_closed ≡ false → Answers self.old command.now result self.new }
         ensures clean { ForgetsNoFault (state S.Store self.old.conn) (state S.Store self.new.conn) }
-        ensures done { WhereItStood S.Store self.old self.new (OnOk result (Stands (state S.Store self.new.conn) (after self.old.facts command.now))) }
-        ensures undone { WhereItStood S.Store self.old self.new (IfErr result (λ _. HoldsAsBefore (state S.Store self.old.conn) (state S.Store self.new.conn))) }
-        ensures stop { WhereItStood S.Store self.old self.new (LeavesAsIn (state S.Store self.new.conn) self.old.facts (event_of command.now result ∷ [])) }
+        ensures done { IfWasDurable S.Store self.old self.new (OnOk result (IsDurable (state S.Store self.new.conn) (after self.old.facts command.now))) }
+        ensures undone { IfWasDurable S.Store self.old self.new (IfErr result (λ _. HoldsAsBefore (state S.Store self.old.conn) (state S.Store self.new.conn))) }
+        ensures crash { IfWasDurable S.Store self.old self.new (LeavesByEvents (state S.Store self.new.conn) self.old.facts (event_of command.now result ∷ [])) }
 
         // So the texts of each state that a crash may leave are valid names, as the next opening requires.
         ensures named { result ≡ Err Refusal.Store → AreNamed (after self.old.facts command.now) }
@@ -88,13 +88,13 @@ impl<S: Alter> Office<S> {
             return Err(Refusal::Closed);
         }
         let plan = self.state.plan(alloc, command)?;
-        plan.is_named();
+        plan.recall_names();
         self.state.make_room(&plan)?;
         match write_changes(&mut self.conn, plan.changes()) {
             Ok(()) => {
                 let report = self.state.commit(plan);
-                self.state.is_good();
-                self.state.is_named();
+                self.state.recall_good();
+                self.state.recall_names();
                 Ok(report)
             }
             Err(_) => {
@@ -111,7 +111,7 @@ impl<S: Alter> Office<S> {
     /// `Closed` if the office is closed.
     pub fn state(&self) -> Result<&State, Refusal>
         ensures open { self.now.is_closed ≡ false → IfOk result (λ s. s.now.facts ≡ self.now.facts) }
-        ensures told { is_err result ≡ self.now.is_closed }
+        ensures refused { is_err result ≡ self.now.is_closed }
         ensures cause { IfErr result (λ refusal. refusal ≡ Refusal.Closed) }
     {
         if self.is_closed {
@@ -122,12 +122,12 @@ impl<S: Alter> Office<S> {
 
     /// The law of the type, for one office, closed or not: its state is good, and its names are valid.
     ///
-    /// Like `State::is_good` it does nothing and returns nothing when it runs.
-    pub fn is_good(&self)
+    /// Like `State::recall_good` it does nothing and returns nothing when it runs.
+    pub fn recall_good(&self)
         ensures { IsGood self.now.facts × AreNamed self.now.facts }
     {
-        self.state.is_good();
-        self.state.is_named();
+        self.state.recall_good();
+        self.state.recall_names();
     }
 
     /// Whether the store has failed in a call, so that the office is closed. It doesn't allocate.

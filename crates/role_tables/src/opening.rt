@@ -2,10 +2,10 @@
 ghost use Rattle.std.specs.Prelude.{◌≡◌, ◌⊎◌, [], false, true, IfErr, IfOk, IsTrue, MatchResult};
 ghost use Rattle.sqlite.specs.State.{HasCleanDisk, Survives};
 ghost use Rattle.sqlite.specs.Held.{state};
-ghost use Rattle.role_tables.specs.Found.{held_in};
-ghost use Rattle.role_tables.specs.Opening.{is_opening_refusal, IsMemoryOrStore, ReadsState, RefusesFound};
+ghost use Rattle.role_tables.specs.TableContents.{contents_of};
+ghost use Rattle.role_tables.specs.OpeningChecks.{is_opening_refusal, IsMemoryOrStore, ReadsState, RefusesContents};
 ghost use Rattle.role_tables.specs.Runs.{IsInRun};
-ghost use Rattle.role_tables.specs.Standing.{HoldsAsBefore, LeavesOnly, Stands, WhateverStands};
+ghost use Rattle.role_tables.specs.Durability.{HoldsAsBefore, LeavesOnly, IsDurable, WhateverIsDurable};
 
 use crate::judging::read_state;
 use crate::office::Office;
@@ -40,13 +40,13 @@ pub fn open<S: Alter>(alloc: Global, conn: Connection<S>) -> Result<Office<S>, U
     ensures ok { IfOk result (λ o. (o.is_closed ≡ false) × ((state S.Store conn).in_transaction ≡ false)
         × (HasCleanDisk (state S.Store o.conn) → ReadsState (state S.Store conn) (state S.Store o.conn) o.facts)) }
     ensures refusal { IfErr result (λ u. IsTrue (is_opening_refusal u.refusal)) }
-    ensures err { IfErr result (λ u. HasCleanDisk (state S.Store u.conn) → (u.refusal ≡ Refusal.Store) ⊎ RefusesFound (held_in (state S.Store conn).now) u.refusal) }
+    ensures err { IfErr result (λ u. HasCleanDisk (state S.Store u.conn) → (u.refusal ≡ Refusal.Store) ⊎ RefusesContents (contents_of (state S.Store conn).now) u.refusal) }
     ensures inside { IfErr result (λ u. (state S.Store conn).in_transaction ≡ true → (u.refusal ≡ Refusal.Store) × (u.conn ≡ conn)) }
     ensures undone { IfErr result (λ u. HasCleanDisk (state S.Store u.conn) → HoldsAsBefore (state S.Store conn) (state S.Store u.conn)) }
     ensures survives { MatchResult result (λ o. Survives (state S.Store conn) (state S.Store o.conn) (λ _. ⊥)) (λ u. Survives (state S.Store conn) (state S.Store u.conn) (λ _. ⊥)) }
-    ensures again { IfOk result (λ o. HasCleanDisk (state S.Store o.conn) → WhateverStands (state S.Store conn) (λ before. (o.facts ≡ before) × Stands (state S.Store o.conn) before)) }
-    ensures run { IfOk result (λ o. HasCleanDisk (state S.Store o.conn) → WhateverStands (state S.Store conn) (λ before. IsInRun (state S.Store) before [] o)) }
-    ensures refused { IfErr result (λ u. HasCleanDisk (state S.Store u.conn) → WhateverStands (state S.Store conn) (λ before. IsMemoryOrStore u.refusal × LeavesOnly (state S.Store u.conn) before)) }
+    ensures again { IfOk result (λ o. HasCleanDisk (state S.Store o.conn) → WhateverIsDurable (state S.Store conn) (λ before. (o.facts ≡ before) × IsDurable (state S.Store o.conn) before)) }
+    ensures run { IfOk result (λ o. HasCleanDisk (state S.Store o.conn) → WhateverIsDurable (state S.Store conn) (λ before. IsInRun (state S.Store) before [] o)) }
+    ensures refused { IfErr result (λ u. HasCleanDisk (state S.Store u.conn) → WhateverIsDurable (state S.Store conn) (λ before. IsMemoryOrStore u.refusal × LeavesOnly (state S.Store u.conn) before)) }
 {
     let mut conn = conn;
     if !conn.is_autocommit() {

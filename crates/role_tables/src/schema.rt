@@ -2,9 +2,9 @@
 ghost use Rattle.std.specs.Prelude.{◌≡◌, ◌&&◌, not, codes, is_some, option_copied};
 ghost use Rattle.std.specs.List.{list_any, list_all};
 ghost use Rattle.sqlite_schema.specs.Names.{same_name, table_named, column_named};
-ghost use Rattle.role_tables.specs.Found.{find_table};
-ghost use Rattle.role_tables.specs.InSchema.{is_free, are_free, may_create, may_count, has_all, is_there, are_there};
-ghost use Rattle.role_tables.specs.Migrating.{may_lock};
+ghost use Rattle.role_tables.specs.TableContents.{find_table};
+ghost use Rattle.role_tables.specs.SchemaTests.{is_free, are_free, may_create, may_count, has_all, is_there, are_there};
+ghost use Rattle.role_tables.specs.Migration.{may_lock};
 ghost use Rattle.role_tables.specs.OfficeTables.{places};
 ghost use Rattle.role_tables.specs.TableByName.{names_of, refers_to, is_referred};
 

@@ -4,11 +4,11 @@ ghost use Rattle.rbac_sets.specs.Named.{row_of};
 ghost use Rattle.sqlite.specs.State.{HasCleanDisk, KeepsCommit, Survives};
 ghost use Rattle.sqlite.specs.Held.{state};
 ghost use Rattle.sqlite.specs.Values.{bound};
-ghost use Rattle.role_tables.specs.Creating.{StageAfter, PutsVersion};
-ghost use Rattle.role_tables.specs.Migrating.{TakesVersion};
+ghost use Rattle.role_tables.specs.Creation.{StageAfter, InsertsVersion};
+ghost use Rattle.role_tables.specs.Migration.{DeletesVersion};
 ghost use Rattle.role_tables.specs.StoredState.{cells_of};
-ghost use Rattle.role_tables.specs.Texts.{change_text};
-ghost use Rattle.role_tables.specs.Writing.{ChangesTables};
+ghost use Rattle.role_tables.specs.private.Texts.{change_text};
+ghost use Rattle.role_tables.specs.private.TableChanges.{ChangesTables};
 
 use crate::stored_table::StoredTable;
 use rbac_sets::{Change, Row};
@@ -39,29 +39,29 @@ pub(crate) fn create_table<S: Alter>(
 }
 
 /// Inserts the row of `meta_row` with this version.
-pub(crate) fn put_version<S: Alter>(
+pub(crate) fn insert_version<S: Alter>(
     tx: &mut Transaction<'_, S>,
     version: u32,
 ) -> Result<usize, Error>
     ensures same_reference { tx.new.conn.ghost_name ≡ tx.old.conn.ghost_name }
-    ensures put { HasCleanDisk (state S.Store tx.new.conn.now) → OnOk result (PutsVersion version (state S.Store tx.old.conn.now) (state S.Store tx.new.conn.now)) }
+    ensures put { HasCleanDisk (state S.Store tx.new.conn.now) → OnOk result (InsertsVersion version (state S.Store tx.old.conn.now) (state S.Store tx.new.conn.now)) }
     ensures kept { HasCleanDisk (state S.Store tx.new.conn.now) → KeepsCommit (state S.Store tx.old.conn.now) (state S.Store tx.new.conn.now) }
     ensures survives { Survives (state S.Store tx.old.conn.now) (state S.Store tx.new.conn.now) (λ _. ⊥) }
 {
-    tx.execute(StoredTable::Meta.put_text(), params![TAG, version])
+    tx.execute(StoredTable::Meta.insert_text(), params![TAG, version])
 }
 
 /// Deletes that row.
-pub(crate) fn take_version<S: Alter>(
+pub(crate) fn delete_version<S: Alter>(
     tx: &mut Transaction<'_, S>,
     version: u32,
 ) -> Result<usize, Error>
     ensures same_reference { tx.new.conn.ghost_name ≡ tx.old.conn.ghost_name }
-    ensures taken { HasCleanDisk (state S.Store tx.new.conn.now) → OnOk result (TakesVersion version (state S.Store tx.old.conn.now) (state S.Store tx.new.conn.now)) }
+    ensures taken { HasCleanDisk (state S.Store tx.new.conn.now) → OnOk result (DeletesVersion version (state S.Store tx.old.conn.now) (state S.Store tx.new.conn.now)) }
     ensures kept { HasCleanDisk (state S.Store tx.new.conn.now) → KeepsCommit (state S.Store tx.old.conn.now) (state S.Store tx.new.conn.now) }
     ensures survives { Survives (state S.Store tx.old.conn.now) (state S.Store tx.new.conn.now) (λ _. ⊥) }
 {
-    tx.execute(StoredTable::Meta.take_text(), params![TAG, version])
+    tx.execute(StoredTable::Meta.delete_text(), params![TAG, version])
 }
 
 // The statement that makes a change.
@@ -69,8 +69,8 @@ fn change_text(change: &Change) -> &'static str
     ensures { result.now ≡ change_text change.now }
 {
     match change {
-        Change::Put(row) => StoredTable::of_row(row).put_text(),
-        Change::Take(row) => StoredTable::of_row(row).take_text(),
+        Change::Put(row) => StoredTable::of_row(row).insert_text(),
+        Change::Take(row) => StoredTable::of_row(row).delete_text(),
     }
 }
 

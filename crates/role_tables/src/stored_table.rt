@@ -1,9 +1,9 @@
 //! The tables in which an office is stored, and the statements on them.
 ghost use Rattle.std.specs.Prelude.{◌≡◌};
 ghost use Rattle.role_tables.specs.OfficeTables.{making, row_tables, table_of, tables_of};
-ghost use Rattle.role_tables.specs.Gathering.{AreOfRows};
+ghost use Rattle.role_tables.specs.private.GatheredRows.{AreOfRows};
 ghost use Rattle.role_tables.specs.StoredState.{stored};
-ghost use Rattle.role_tables.specs.Texts.{create_text, put_text, take_text, read_text};
+ghost use Rattle.role_tables.specs.private.Texts.{create_text, insert_text, delete_text, read_text};
 
 use rbac_sets::Row;
 
@@ -125,8 +125,8 @@ impl StoredTable {
     }
 
     /// The statement that inserts one row, whose values are its parameters.
-    pub(crate) fn put_text(self) -> &'static str
-        ensures { result.now ≡ put_text self }
+    pub(crate) fn insert_text(self) -> &'static str
+        ensures { result.now ≡ insert_text self }
     {
         match self {
             StoredTable::Meta => "INSERT INTO meta_row (tag, version) VALUES (?1, ?2)",
@@ -139,8 +139,8 @@ impl StoredTable {
     }
 
     /// The statement that deletes one row, whose values are its parameters.
-    pub(crate) fn take_text(self) -> &'static str
-        ensures { result.now ≡ take_text self }
+    pub(crate) fn delete_text(self) -> &'static str
+        ensures { result.now ≡ delete_text self }
     {
         match self {
             StoredTable::Meta => "DELETE FROM meta_row WHERE tag = ?1 AND version = ?2",

@@ -3,7 +3,7 @@ ghost use Rattle.std.specs.Prelude.{◌≡◌, ◌⊎◌, ◌≤◌, IfSome, IfN
 ghost use Rattle.sqlite_value.specs.Order.{column};
 ghost use Rattle.sqlite.specs.declared.types.Value.TheVariants.{Int, Text};
 ghost use Rattle.rbac_sets.specs.Name.{is_name};
-ghost use Rattle.role_tables.specs.Found.{is_text, is_kind, is_count, is_whole, has_names, row_in, text_of, RefusesRow};
+ghost use Rattle.role_tables.specs.TableContents.{is_text, is_kind, is_count, is_well_typed, has_names, row_in, text_of, RefusesRow};
 ghost use Rattle.role_tables.specs.OfficeTables.{Names, Pairs, Grants, Sets, Locks};
 
 use rbac_sets::{Name, Refusal, Row};
@@ -62,7 +62,7 @@ fn count_at(row: &sqlite::Row, at: usize) -> Option<u32>
 
 /// The row of a name.
 pub(crate) fn name_of(alloc: Global, row: &sqlite::Row) -> Result<Row, Refusal>
-    ensures ok { IfOk result (λ made. (made ≡ row_in Names row.now) × IsTrue (is_whole Names row.now) × IsTrue (has_names Names row.now)) }
+    ensures ok { IfOk result (λ made. (made ≡ row_in Names row.now) × IsTrue (is_well_typed Names row.now) × IsTrue (has_names Names row.now)) }
     ensures err { IfErr result (RefusesRow Names row.now) }
 {
     let Some(kind) = kind_at(row, 0, 3) else {
@@ -77,7 +77,7 @@ pub(crate) fn name_of(alloc: Global, row: &sqlite::Row) -> Result<Row, Refusal>
 
 /// The row of a pair.
 pub(crate) fn pair_of(alloc: Global, row: &sqlite::Row) -> Result<Row, Refusal>
-    ensures ok { IfOk result (λ made. (made ≡ row_in Pairs row.now) × IsTrue (is_whole Pairs row.now) × IsTrue (has_names Pairs row.now)) }
+    ensures ok { IfOk result (λ made. (made ≡ row_in Pairs row.now) × IsTrue (is_well_typed Pairs row.now) × IsTrue (has_names Pairs row.now)) }
     ensures err { IfErr result (RefusesRow Pairs row.now) }
 {
     let Some(kind) = kind_at(row, 0, 8) else {
@@ -93,7 +93,7 @@ pub(crate) fn pair_of(alloc: Global, row: &sqlite::Row) -> Result<Row, Refusal>
 
 /// The row of a grant.
 pub(crate) fn grant_of(alloc: Global, row: &sqlite::Row) -> Result<Row, Refusal>
-    ensures ok { IfOk result (λ made. (made ≡ row_in Grants row.now) × IsTrue (is_whole Grants row.now) × IsTrue (has_names Grants row.now)) }
+    ensures ok { IfOk result (λ made. (made ≡ row_in Grants row.now) × IsTrue (is_well_typed Grants row.now) × IsTrue (has_names Grants row.now)) }
     ensures err { IfErr result (RefusesRow Grants row.now) }
 {
     if !is_text_at(row, 0) || !is_text_at(row, 1) || !is_text_at(row, 2) {
@@ -107,7 +107,7 @@ pub(crate) fn grant_of(alloc: Global, row: &sqlite::Row) -> Result<Row, Refusal>
 
 /// The row of a set.
 pub(crate) fn set_of(alloc: Global, row: &sqlite::Row) -> Result<Row, Refusal>
-    ensures ok { IfOk result (λ made. (made ≡ row_in Sets row.now) × IsTrue (is_whole Sets row.now) × IsTrue (has_names Sets row.now)) }
+    ensures ok { IfOk result (λ made. (made ≡ row_in Sets row.now) × IsTrue (is_well_typed Sets row.now) × IsTrue (has_names Sets row.now)) }
     ensures err { IfErr result (RefusesRow Sets row.now) }
 {
     let Some(kind) = kind_at(row, 0, 2) else {
@@ -125,7 +125,7 @@ pub(crate) fn set_of(alloc: Global, row: &sqlite::Row) -> Result<Row, Refusal>
 
 /// The row of a lock.
 pub(crate) fn lock_of(alloc: Global, row: &sqlite::Row) -> Result<Row, Refusal>
-    ensures ok { IfOk result (λ made. (made ≡ row_in Locks row.now) × IsTrue (is_whole Locks row.now) × IsTrue (has_names Locks row.now)) }
+    ensures ok { IfOk result (λ made. (made ≡ row_in Locks row.now) × IsTrue (is_well_typed Locks row.now) × IsTrue (has_names Locks row.now)) }
     ensures err { IfErr result (RefusesRow Locks row.now) }
 {
     if !is_text_at(row, 0) {

@@ -2,8 +2,8 @@
 ghost use Rattle.std.specs.Prelude.{◌≡◌, false, OnOk};
 ghost use Rattle.sqlite.specs.State.{HasCleanDisk, KeepsCommit, Survives};
 ghost use Rattle.sqlite.specs.Held.{state};
-ghost use Rattle.role_tables.specs.Standing.{ForgetsNoFault};
-ghost use Rattle.role_tables.specs.Writing.{ChangesAll, WritesChanges};
+ghost use Rattle.role_tables.specs.Durability.{ForgetsNoFault};
+ghost use Rattle.role_tables.specs.private.TableChanges.{ChangesAll, WritesChanges};
 
 use crate::statements::{is_settled, make_change};
 use rbac_sets::Change;

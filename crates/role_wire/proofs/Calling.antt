@@ -8,15 +8,15 @@ use Rattle.sqlite.specs.State.{State}
 use Rattle.rbac_sets.specs.declared.refusal.Refusal.TheVariants.{BadRequest}
 use Rattle.role_json.specs.Request.{body_to}
 use Rattle.role_json.specs.declared.function.Function.{Function}
-use Rattle.role_http.specs.Answered.{with_left}
+use Rattle.role_http.specs.HeadAnswer.{with_left}
 use Rattle.role_http.specs.Status.{head_body}
-use Rattle.role_tables.specs.Office.{Opened}
-use Rattle.role_wire.specs.Made.{bytes_in}
+use Rattle.role_tables.specs.Office.{OfficeModel}
+use Rattle.role_wire.specs.private.PreparedReply.{bytes_in}
 use Rattle.role_wire.specs.Reply.{called_for}
-use Rattle.role_wire.specs.Serving.{ComesOf, IsRead}
-use Rattle.role_wire.specs.declared.made.Made.{Made}
+use Rattle.role_wire.specs.ServedRequest.{AnswersBody, IsReadAs}
+use Rattle.role_wire.specs.declared.prepared_reply.PreparedReply.{PreparedReply}
 use Rattle.role_wire.proofs.Performed.{stays}
-use Rattle.role_wire.proofs.Telling.{asks_nothing}
+use Rattle.role_wire.proofs.HttpAnswers.{asks_nothing}
 
 -- ---- bytes that were read, and those that are left
 
@@ -49,11 +49,11 @@ taken_within taken left count within = omega (arith, within, length-take count (
 
 module _ {S : Type 0} (shown : Held S → State) where
   -- the reply to a short body
-  pub short_told : (office : Opened S) (taken : List ℕ) (left : Option (List ℕ)) (called : Function) (count : ℕ) (made : Made) → length taken < count → IsAtEnd left
-      → made.status ≡ 400 → bytes_in made.body ≡ head_body 400 → ComesOf shown office (called_for (with_left taken left) called count) made office
+  pub short_told : (office : OfficeModel S) (taken : List ℕ) (left : Option (List ℕ)) (called : Function) (count : ℕ) (made : PreparedReply) → length taken < count → IsAtEnd left
+      → made.status ≡ 400 → bytes_in made.body ≡ head_body 400 → AnswersBody shown office (called_for (with_left taken left) called count) made office
   unfolding head_body
   short_told office taken left called count made less at_end status body =
-      subst (λ read. ComesOf shown office read made office) (sym (called_short taken left called count less at_end)) (
+      subst (λ read. AnswersBody shown office read made office) (sym (called_short taken left called count less at_end)) (
         inl (λ _. (status, body, stays shown office)),
-        asks_nothing office office (IsRead (Err BadRequest)) made.status (bytes_in made.body) refl (λ asked reads. (cc)),
+        asks_nothing office office (IsReadAs (Err BadRequest)) made.status (bytes_in made.body) refl (λ asked reads. (cc)),
       )

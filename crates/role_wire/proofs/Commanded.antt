@@ -4,7 +4,7 @@ use Rattle.std.specs.Prelude.{codes}
 use Rattle.std.specs.List.{cons_option, list_any}
 use Rattle.std.proofs.lemmas.Bool.{or_parts}
 use Rattle.serde_json.specs.Data.{Data}
-use Rattle.rbac_sets.specs.Asked.{Asked, Single, asked_of, without_room}
+use Rattle.rbac_sets.specs.CommandContent.{CommandContent, Single, content_of, without_room}
 use Rattle.rbac_sets.specs.NameOrder.{name_total, name_exact}
 use Rattle.rbac_sets.specs.declared.command.Command.{Command}
 use Rattle.rbac_sets.specs.declared.command.Command.TheVariants as command
@@ -14,21 +14,21 @@ use Rattle.rbac_sets.proofs.SetLaws.{from_members}
 use Rattle.review_mgr.specs.declared.query.Query.{Query}
 use Rattle.role_csv.specs.Assignments.{assignments}
 use Rattle.role_json.specs.Commands.{single, import, session_command_to, separation_command_to, hierarchy_command_to, command_to}
-use Rattle.role_json.specs.Fields.{activation_at, assignment_at, grant_at, inheritance_at, limit_at, member_at, name_at, new_session_at, owned_session_at, permission_at, separation_at, text_at}
+use Rattle.role_json.specs.Fields.{activation_at, assignment_at, grant_at, inheritance_at, set_cardinality_at, member_at, name_at, new_session_at, owned_session_at, permission_at, separation_at, text_at}
 use Rattle.role_json.specs.Function.{function_named}
 use Rattle.role_json.specs.Request.{command_or, json_of, request_to, request}
-use Rattle.role_json.specs.Requested.{Requested, Ask}
+use Rattle.role_json.specs.RequestContent.{RequestContent, Ask}
 use Rattle.role_json.specs.Steps.{◌>>=◌, or_refuse}
 use Rattle.role_json.specs.declared.function.Function.{Function}
 use Rattle.role_json.specs.declared.function.Function.TheVariants as function
-use Rattle.role_wire.specs.Running.{command_read, line_command, commands_in, is_import, LinesHaveCommands}
+use Rattle.role_wire.specs.LineCommands.{command_read, line_command, commands_in, is_import, LinesHaveCommands}
 
 -- a command asks for this
-abbrev IsAskedFor : Asked → Type 0
-IsAskedFor asked = (command : Command) × (asked_of command ≡ asked)
+abbrev IsAskedFor : CommandContent → Type 0
+IsAskedFor asked = (command : Command) × (content_of command ≡ asked)
 
 -- if this is asked for, and is no import, a command asks for it
-abbrev IsWithCommand : Option Asked → Type 0
+abbrev IsWithCommand : Option CommandContent → Type 0
 IsWithCommand None = Unit {0}
 IsWithCommand (Some asked) = is_import asked ≡ false → IsAskedFor asked
 
@@ -38,12 +38,12 @@ after_step : {A B : Type 0} (first : Result A Refusal) (then : A → Result B Re
 after_step (Ok a) then P holds = holds a
 after_step (Err refusal) then P holds = tt
 
-asks_for : {A : Type 0} (first : Result A Refusal) (command : A → Command) → ((a : A) → asked_of (command a) ≡ Single (command a)) → IfOk (first >>= (λ a. single (command a))) IsWithCommand
+asks_for : {A : Type 0} (first : Result A Refusal) (command : A → Command) → ((a : A) → content_of (command a) ≡ Single (command a)) → IfOk (first >>= (λ a. single (command a))) IsWithCommand
 asks_for first command same = after_step first (λ a. single (command a)) IsWithCommand (λ a _. (command a, same a))
 
 -- on sessions
 session_commands : (called : Function) (value : Data) → IfOk (session_command_to called value) IsWithCommand
-unfolding session_command_to asked_of
+unfolding session_command_to content_of
 session_commands function.CreateSession value = asks_for (new_session_at value) (λ p. command.CreateSession p.0 (without_room p.1) p.2) (λ p. ap (λ roles. Single (command.CreateSession p.0 (without_room roles) p.2)) (from_members name_total name_exact p.1))
 session_commands function.DeleteSession value = asks_for (owned_session_at value) (λ p. command.DeleteSession p.0 p.1) (λ p. refl)
 session_commands function.AddActiveRole value = asks_for (activation_at value) (λ p. command.AddActiveRole p.0 p.1 p.2) (λ p. refl)
@@ -52,22 +52,22 @@ session_commands _ value = tt
 
 -- on separation of duty sets, or on sessions
 separation_commands : (called : Function) (value : Data) → IfOk (separation_command_to called value) IsWithCommand
-unfolding separation_command_to asked_of
+unfolding separation_command_to content_of
 separation_commands function.CreateSsdSet value = asks_for (separation_at value) (λ p. command.CreateSsdSet p.0 (without_room p.1) p.2) (λ p. ap (λ roles. Single (command.CreateSsdSet p.0 (without_room roles) p.2)) (from_members name_total name_exact p.1))
 separation_commands function.AddSsdRoleMember value = asks_for (member_at value) (λ p. command.AddSsdRoleMember p.0 p.1) (λ p. refl)
 separation_commands function.DeleteSsdRoleMember value = asks_for (member_at value) (λ p. command.DeleteSsdRoleMember p.0 p.1) (λ p. refl)
-separation_commands function.SetSsdSetCardinality value = asks_for (limit_at value) (λ p. command.SetSsdSetCardinality p.0 p.1) (λ p. refl)
+separation_commands function.SetSsdSetCardinality value = asks_for (set_cardinality_at value) (λ p. command.SetSsdSetCardinality p.0 p.1) (λ p. refl)
 separation_commands function.DeleteSsdSet value = asks_for (name_at (codes "set") value) command.DeleteSsdSet (λ set. refl)
 separation_commands function.CreateDsdSet value = asks_for (separation_at value) (λ p. command.CreateDsdSet p.0 (without_room p.1) p.2) (λ p. ap (λ roles. Single (command.CreateDsdSet p.0 (without_room roles) p.2)) (from_members name_total name_exact p.1))
 separation_commands function.AddDsdRoleMember value = asks_for (member_at value) (λ p. command.AddDsdRoleMember p.0 p.1) (λ p. refl)
 separation_commands function.DeleteDsdRoleMember value = asks_for (member_at value) (λ p. command.DeleteDsdRoleMember p.0 p.1) (λ p. refl)
-separation_commands function.SetDsdSetCardinality value = asks_for (limit_at value) (λ p. command.SetDsdSetCardinality p.0 p.1) (λ p. refl)
+separation_commands function.SetDsdSetCardinality value = asks_for (set_cardinality_at value) (λ p. command.SetDsdSetCardinality p.0 p.1) (λ p. refl)
 separation_commands function.DeleteDsdSet value = asks_for (name_at (codes "set") value) command.DeleteDsdSet (λ set. refl)
 separation_commands other value = session_commands other value
 
 -- on the role hierarchy, or one of those
 hierarchy_commands : (called : Function) (value : Data) → IfOk (hierarchy_command_to called value) IsWithCommand
-unfolding hierarchy_command_to asked_of
+unfolding hierarchy_command_to content_of
 hierarchy_commands function.AddInheritance value = asks_for (inheritance_at value) (λ p. command.AddInheritance p.0 p.1) (λ p. refl)
 hierarchy_commands function.DeleteInheritance value = asks_for (inheritance_at value) (λ p. command.DeleteInheritance p.0 p.1) (λ p. refl)
 hierarchy_commands function.AddAscendant value = asks_for (inheritance_at value) (λ p. command.AddAscendant p.0 p.1) (λ p. refl)
@@ -76,7 +76,7 @@ hierarchy_commands other value = separation_commands other value
 
 -- any
 commands : (called : Function) (value : Data) → IfOk (command_to called value) IsWithCommand
-unfolding command_to asked_of
+unfolding command_to content_of
 commands function.AddUser value = asks_for (name_at (codes "user") value) command.AddUser (λ user. refl)
 commands function.DeleteUser value = asks_for (name_at (codes "user") value) command.DeleteUser (λ user. refl)
 commands function.AddRole value = asks_for (name_at (codes "role") value) command.AddRole (λ role. refl)
@@ -96,14 +96,14 @@ commands other value = hierarchy_commands other value
 
 -- ---- what a line asks for
 
-abbrev IsReadWithCommand : Requested → Type 0
+abbrev IsReadWithCommand : RequestContent → Type 0
 IsReadWithCommand requested = IsWithCommand (command_read (Ok requested))
 
 questions : (asked : Option Query) → IfOk (or_refuse UnknownFunction (option_map Ask asked)) IsReadWithCommand
 questions None = tt
 questions (Some query) = tt
 
-command_or_question : (told : Result (Option Asked) Refusal) (query : Result (Option Query) Refusal) → IfOk told IsWithCommand → IfOk (told >>= command_or query) IsReadWithCommand
+command_or_question : (told : Result (Option CommandContent) Refusal) (query : Result (Option Query) Refusal) → IfOk told IsWithCommand → IfOk (told >>= command_or query) IsReadWithCommand
 command_or_question (Ok (Some asked)) query is = is
 command_or_question (Ok None) query is = after_step query (λ asked. or_refuse UnknownFunction (option_map Ask asked)) IsReadWithCommand questions
 command_or_question (Err refusal) query is = tt
@@ -116,20 +116,20 @@ requests line =
     after_step (or_refuse UnknownFunction (function_named name)) _ IsReadWithCommand (λ called.
     command_or_question (command_to called value) _ (commands called value))))
 
-when_read : (read : Result Requested Refusal) → IfOk read IsReadWithCommand → IsWithCommand (command_read read)
+when_read : (read : Result RequestContent Refusal) → IfOk read IsReadWithCommand → IsWithCommand (command_read read)
 when_read (Ok requested) is = is
 when_read (Err refusal) is = tt
 
 -- ---- what lines ask for
 
-one_more : (asked : Option Asked) (rest : List Asked) → IsWithCommand asked → (list_any is_import rest ≡ false → (commands : List Command) × (map asked_of commands ≡ rest))
-    → list_any is_import (cons_option asked rest) ≡ false → (commands : List Command) × (map asked_of commands ≡ cons_option asked rest)
+one_more : (asked : Option CommandContent) (rest : List CommandContent) → IsWithCommand asked → (list_any is_import rest ≡ false → (commands : List Command) × (map content_of commands ≡ rest))
+    → list_any is_import (cons_option asked rest) ≡ false → (commands : List Command) × (map content_of commands ≡ cons_option asked rest)
 one_more None rest is later none = later none
 one_more (Some asked) rest is later none =
     let both = or_parts (is_import asked) (list_any is_import rest) none in
     let (command, first) = is both.0 in
     let (commands, same) = later both.1 in
-    (command ∷ commands, ap (λ a. a ∷ map asked_of commands) first ∙ ap (λ r. asked ∷ r) same)
+    (command ∷ commands, ap (λ a. a ∷ map content_of commands) first ∙ ap (λ r. asked ∷ r) same)
 
 pub lines_have_commands : LinesHaveCommands
 lines_have_commands [] none = ([], refl)

@@ -8,11 +8,11 @@ use Rattle.std.proofs.lemmas.List.Elements.{All-head, All-tail}
 use Rattle.sqlite.specs.Held.{Held}
 use Rattle.sqlite.specs.State.{State}
 use Rattle.admin_mgr.specs.RbacState.{RbacState}
-use Rattle.role_tables.specs.Office.{Opened}
+use Rattle.role_tables.specs.Office.{OfficeModel}
 use Rattle.role_wire.specs.Lines.{AllFit, asking, ended_lines, fits, fitting, is_blank, line_feed, longest_line, split_lines, with_line_feeds}
 use Rattle.role_wire.specs.Outcome.{after_line, after_lines, answer_to, answers_to, lines}
 use Rattle.role_wire.specs.Replay.{IsNext, LeavesOff}
-use Rattle.role_wire.specs.Replaying.{IsHalted, LeavesNext, WritesFirst}
+use Rattle.role_wire.specs.OfficeReplay.{IsHalted, LeavesNext, WritesFirst}
 use Rattle.role_wire.specs.declared.lines.Cause.{Cause}
 use Rattle.role_wire.specs.declared.lines.Cause.TheVariants as cause
 use Rattle.role_wire.proofs.Answering.{asking-append}
@@ -113,7 +113,7 @@ module _ (taken : List ℕ) (done : List (List ℕ)) where
   leaves_off cause.Store none = absurd none
   leaves_off cause.Closed none = absurd none
 
-module _ {S : Type 0} (shown : Held S → State) (old new : Opened S) (taken : List ℕ) where
+module _ {S : Type 0} (shown : Held S → State) (old new : OfficeModel S) (taken : List ℕ) where
   part_of : (why : Cause) (done : List (List ℕ)) (line part : List ℕ) (later : List (List ℕ)) → LeavesNext shown why old done line part new → IsPart old.facts done part (line ∷ later)
   part_of cause.Write done line part later (_, (rest, is, some)) = inr (line, later, rest, refl, is, some)
   part_of cause.Store done line part later (_, _, none) = inl none

@@ -3,15 +3,15 @@ use Rattle.std.proofs.Common.{◌≡◌, ◌⊎◌, inl, inr, ℕ, List, [], ◌
 use Rattle.std.proofs.lemmas.Bool.{cases_Bool}
 use Rattle.sqlite.specs.Held.{Held}
 use Rattle.sqlite.specs.State.{State}
-use Rattle.rbac_sets.specs.Asked.{Single, Import}
+use Rattle.rbac_sets.specs.CommandContent.{Single, Import}
 use Rattle.rbac_sets.specs.Refusal.{is_memory}
 use Rattle.rbac_sets.specs.declared.kind.Kind.TheVariants.{Record}
 use Rattle.rbac_sets.specs.declared.refusal.Refusal.{Refusal}
 use Rattle.rbac_sets.specs.declared.refusal.Refusal.TheVariants.{Memory, Store, Closed, TooMany}
-use Rattle.admin_mgr.specs.Asked.{asked_verdict}
+use Rattle.admin_mgr.specs.CommandContent.{content_verdict}
 use Rattle.admin_mgr.specs.CommandLaws.{refuses_commands}
 use Rattle.admin_mgr.specs.RbacState.{RbacState}
-use Rattle.admin_mgr.specs.Refusing.{first, refuse_if, too_many}
+use Rattle.admin_mgr.specs.Refusals.{first, refuse_if, too_many}
 use Rattle.admin_mgr.specs.Verdict.{verdict}
 use Rattle.admin_mgr.proofs.Verdicts.RefusingLaws.{verdicts_refuse_commands}
 use Rattle.review_mgr.specs.QuestionLaws.{refuses_questions}
@@ -19,13 +19,13 @@ use Rattle.review_mgr.specs.Questions.{refused}
 use Rattle.review_mgr.proofs.Refusing.{refusals_of_questions}
 use Rattle.role_json.specs.Answer.{text_of}
 use Rattle.role_json.specs.Request.{request}
-use Rattle.role_json.specs.Requested.{Requested, Change, Ask}
+use Rattle.role_json.specs.RequestContent.{RequestContent, Change, Ask}
 use Rattle.role_json.specs.declared.answer.Verdict.{Verdict}
-use Rattle.role_tables.specs.Office.{Opened}
-use Rattle.role_wire.specs.Keeping.{Reaches}
-use Rattle.role_wire.specs.OfficeLines.{AnswersLine, FailsLine, FailsRequest, told_of, told_unread}
-use Rattle.role_wire.specs.Outcome.{outcome_of, state_after, told_as, unless, answer_to, after_line}
-use Rattle.role_wire.specs.Performing.{Declines}
+use Rattle.role_tables.specs.Office.{OfficeModel}
+use Rattle.role_wire.specs.Continuation.{ReachesState}
+use Rattle.role_wire.specs.LineAnswer.{AnswersLine, FailsLine, FailsRequest, verdict_of_refusal, unread_verdict}
+use Rattle.role_wire.specs.Outcome.{outcome_of, state_after, outcome_text, unless, answer_to, after_line}
+use Rattle.role_wire.specs.OfficeRequest.{Declines}
 use Rattle.role_wire.specs.declared.lines.Unanswered.{Unanswered}
 use Rattle.role_wire.specs.declared.lines.Unanswered.TheVariants as unanswered
 use Rattle.role_wire.proofs.Performed.{stays}
@@ -60,36 +60,36 @@ too_large true refusal is = subst IsJudged (let same : TooMany Record ≡ refusa
 too_large false refusal is = absurd (cc)
 
 -- if a request has a refusal as its outcome, the refusal is about the request
-is_judged : (S : RbacState) (asked : Requested) (refusal : Refusal) → outcome_of S asked ≡ Err refusal → IsJudged refusal
-unfolding outcome_of asked_verdict
+is_judged : (S : RbacState) (asked : RequestContent) (refusal : Refusal) → outcome_of S asked ≡ Err refusal → IsJudged refusal
+unfolding outcome_of content_verdict
 is_judged S (Change (Single command)) refusal is = of_command refusal (verdicts_refuse_commands S command refusal (was_refused (verdict S command) _ refusal is))
 is_judged S (Change (Import pairs)) refusal is = too_large _ refusal (was_refused (first (too_many S Record (length pairs) ∷ [])) _ refusal is)
 is_judged S (Ask query) refusal is = of_question refusal (refusals_of_questions S query refusal (was_refused (refused S query) _ refusal is))
 
 -- and the request doesn't change the state
-pub stays_refused : (S : RbacState) (asked : Requested) (refusal : Refusal) → outcome_of S asked ≡ Err refusal → state_after S asked ≡ S
+pub stays_refused : (S : RbacState) (asked : RequestContent) (refusal : Refusal) → outcome_of S asked ≡ Err refusal → state_after S asked ≡ S
 unfolding outcome_of state_after
-stays_refused S (Change asked) refusal is = rw (was_refused (asked_verdict S asked) _ refusal is) refl
+stays_refused S (Change asked) refusal is = rw (was_refused (content_verdict S asked) _ refusal is) refl
 stays_refused S (Ask query) refusal is = refl
 
 module _ {S : Type 0} (shown : Held S → State) where
-  abbrev Told : Opened S → Requested → Opened S → Verdict → Type 0
-  Told old asked new verdict = (text_of verdict ≡ told_as (outcome_of old.facts asked)) × Reaches shown old (state_after old.facts asked) new
+  abbrev Told : OfficeModel S → RequestContent → OfficeModel S → Verdict → Type 0
+  Told old asked new verdict = (text_of verdict ≡ outcome_text (outcome_of old.facts asked)) × ReachesState shown old (state_after old.facts asked) new
 
-  judged_so : (old new : Opened S) (asked : Requested) (refusal : Refusal) → IsJudged refusal → outcome_of old.facts asked ≡ Err refusal → new ≡ old
-      → IfOk (told_of refusal) (Told old asked new) × IfErr (told_of refusal) (λ unanswered. FailsRequest shown old asked unanswered new)
+  judged_so : (old new : OfficeModel S) (asked : RequestContent) (refusal : Refusal) → IsJudged refusal → outcome_of old.facts asked ≡ Err refusal → new ≡ old
+      → IfOk (verdict_of_refusal refusal) (Told old asked new) × IfErr (verdict_of_refusal refusal) (λ unanswered. FailsRequest shown old asked unanswered new)
   unfolding text_of
   judged_so old new asked Memory judged is same = absurd judged
   judged_so old new asked Store judged is same = absurd judged
   judged_so old new asked Closed judged is same = absurd judged
   judged_so old new asked refusal judged is same = (
-    (sym (ap told_as is), subst (λ o. Reaches shown old (state_after old.facts asked) o) (sym same) (subst (λ T. Reaches shown old T old) (sym (stays_refused old.facts asked refusal is)) (stays shown old))),
+    (sym (ap outcome_text is), subst (λ o. ReachesState shown old (state_after old.facts asked) o) (sym same) (subst (λ T. ReachesState shown old T old) (sym (stays_refused old.facts asked refusal is)) (stays shown old))),
     tt,
   )
 
   -- a request that was not done
-  pub judged_refusal : (old new : Opened S) (asked : Requested) (refusal : Refusal) → Declines shown old asked refusal new
-      → IfOk (told_of refusal) (Told old asked new) × IfErr (told_of refusal) (λ unanswered. FailsRequest shown old asked unanswered new)
+  pub judged_refusal : (old new : OfficeModel S) (asked : RequestContent) (refusal : Refusal) → Declines shown old asked refusal new
+      → IfOk (verdict_of_refusal refusal) (Told old asked new) × IfErr (verdict_of_refusal refusal) (λ unanswered. FailsRequest shown old asked unanswered new)
   judged_refusal old new asked refusal (inl (is, same)) = rw is (tt, inl same)
   judged_refusal old new asked refusal (inr (inl (is, broke))) = rw is (tt, (broke.breaks.is_closed, inr (broke.accepted, broke.breaks)))
   judged_refusal old new asked refusal (inr (inr (inl (is, shut, same)))) = rw is (tt, (rw same shut, inl (shut, same)))
@@ -97,20 +97,20 @@ module _ {S : Type 0} (shown : Held S → State) where
 
   -- ---- lines
 
-  pub line_answered : (old new : Opened S) (line text : List ℕ) (asked : Requested) → request line ≡ Ok asked → text ≡ told_as (outcome_of old.facts asked) → Reaches shown old (state_after old.facts asked) new
+  pub line_answered : (old new : OfficeModel S) (line text : List ℕ) (asked : RequestContent) → request line ≡ Ok asked → text ≡ outcome_text (outcome_of old.facts asked) → ReachesState shown old (state_after old.facts asked) new
       → AnswersLine shown old line text new
   unfolding answer_to after_line
   line_answered old new line text asked read is reaches = record { text_is = rw read is; reaches = rw read reaches }
 
-  pub line_failed : (old new : Opened S) (line : List ℕ) (asked : Requested) (why : Unanswered) → request line ≡ Ok asked → FailsRequest shown old asked why new → FailsLine shown old line why new
+  pub line_failed : (old new : OfficeModel S) (line : List ℕ) (asked : RequestContent) (why : Unanswered) → request line ≡ Ok asked → FailsRequest shown old asked why new → FailsLine shown old line why new
   unfolding after_line
   line_failed old new line asked unanswered.Memory read failed = rw read failed
   line_failed old new line asked unanswered.Store read (closed, inl shut) = (closed, inl shut)
   line_failed old new line asked unanswered.Store read (closed, inr (accepted, broke)) = (closed, inr ((asked, read, accepted), rw read broke))
 
   -- a line that is no request
-  pub line_unread : (office : Opened S) (line : List ℕ) (refusal : Refusal) → (refusal ≡ Memory) ⊎ (request line ≡ Err refusal)
-      → IfOk (told_unread refusal) (λ verdict. AnswersLine shown office line (text_of verdict) office) × IfErr (told_unread refusal) (λ unanswered. FailsLine shown office line unanswered office)
+  pub line_unread : (office : OfficeModel S) (line : List ℕ) (refusal : Refusal) → (refusal ≡ Memory) ⊎ (request line ≡ Err refusal)
+      → IfOk (unread_verdict refusal) (λ verdict. AnswersLine shown office line (text_of verdict) office) × IfErr (unread_verdict refusal) (λ unanswered. FailsLine shown office line unanswered office)
   unfolding answer_to after_line text_of
   line_unread office line refusal (inl memory) = rw memory (tt, inl refl)
   line_unread office line refusal (inr read) = elim (cases_Bool (is_memory refusal)) [

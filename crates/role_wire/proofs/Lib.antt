@@ -2,7 +2,9 @@ pub mod Answering
 pub mod Calling
 pub mod Commanded
 pub mod FirstLines
+pub mod HttpAnswers
 pub mod Judged
+pub mod LineCommands
 pub mod OneLine
 pub mod Performed
 pub mod QuotedNames
@@ -10,7 +12,5 @@ pub mod ReadSoFar
 pub mod Replayed
 pub mod Requesting
 pub mod Results
-pub mod Running
 pub mod Splitting
 pub mod Stopping
-pub mod Telling

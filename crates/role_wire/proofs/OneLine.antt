@@ -9,20 +9,20 @@ use Rattle.json.specs.Print.{escape_byte, escape, quoted, token_text}
 use Rattle.json.specs.Token.{Token}
 use Rattle.serde_json.specs.Data.{Num, unsigned, negative, float, Data, null, boolean, number, string, array, object, Items, no_items, item, Members, no_members, member}
 use Rattle.serde_json.specs.Written.{number_text, comma_if, compact_text, items_text, members_text}
-use Rattle.rbac_sets.specs.Asked.{Asked, Single, Import}
+use Rattle.rbac_sets.specs.CommandContent.{CommandContent, Single, Import}
 use Rattle.rbac_sets.specs.declared.refusal.Refusal.{Refusal}
-use Rattle.admin_mgr.specs.Asked.{asked_verdict, asked_tally}
+use Rattle.admin_mgr.specs.CommandContent.{content_verdict, content_tally}
 use Rattle.admin_mgr.specs.Assignment.{Tally}
 use Rattle.admin_mgr.specs.RbacState.{RbacState}
 use Rattle.review_mgr.specs.Answering.{value}
 use Rattle.review_mgr.specs.Questions.{refused}
 use Rattle.role_json.specs.Answer.{done_text, done_data, import_text, told_text, refusal_text, refusal_data, report_data, value_data, with_value}
 use Rattle.role_json.specs.Request.{request}
-use Rattle.role_json.specs.Requested.{Requested, Change, Ask}
+use Rattle.role_json.specs.RequestContent.{RequestContent, Change, Ask}
 use Rattle.role_wire.specs.AnswerTexts.{AnswersAreLines}
 use Rattle.role_wire.specs.Lines.{line_feed, split_lines, with_line_feeds, fitting, asking}
-use Rattle.role_wire.specs.Outcome.{accepted_text, unless, told_as, outcome, outcome_of, answer_to, after_line, answers_to, answer_lines, lines}
-use Rattle.role_wire.specs.Reading.{HasNoLineFeed}
+use Rattle.role_wire.specs.Outcome.{accepted_text, unless, outcome_text, outcome, outcome_of, answer_to, after_line, answers_to, output_for, lines}
+use Rattle.role_wire.specs.private.ReadProgress.{HasNoLineFeed}
 use Rattle.role_wire.proofs.Splitting.{HasNoLineFeed-append, split_lines-ended}
 
 -- a byte from 11 on is no line feed
@@ -132,18 +132,18 @@ plain_refusal : (refusal : Refusal) → HasNoLineFeed (refusal_text refusal)
 unfolding refusal_text
 plain_refusal refusal = plain_data (refusal_data refusal)
 
-plain_accepted : (asked : Asked) (tally : Tally) → HasNoLineFeed (accepted_text asked tally)
+plain_accepted : (asked : CommandContent) (tally : Tally) → HasNoLineFeed (accepted_text asked tally)
 unfolding done_text import_text
 plain_accepted (Single command) tally = plain_data done_data
 plain_accepted (Import pairs) tally = plain_data (with_value (report_data tally))
 
-plain_unless : (told : Option Refusal) (text : List ℕ) → HasNoLineFeed text → HasNoLineFeed (told_as (unless told text))
+plain_unless : (told : Option Refusal) (text : List ℕ) → HasNoLineFeed text → HasNoLineFeed (outcome_text (unless told text))
 plain_unless None text plain = plain
 plain_unless (Some refusal) text plain = plain_refusal refusal
 
-plain_outcome : (S : RbacState) (read : Result Requested Refusal) → HasNoLineFeed (told_as (outcome S read))
+plain_outcome : (S : RbacState) (read : Result RequestContent Refusal) → HasNoLineFeed (outcome_text (outcome S read))
 unfolding outcome_of told_text
-plain_outcome S (Ok (Change asked)) = plain_unless (asked_verdict S asked) (accepted_text asked (asked_tally S asked)) (plain_accepted asked (asked_tally S asked))
+plain_outcome S (Ok (Change asked)) = plain_unless (content_verdict S asked) (accepted_text asked (content_tally S asked)) (plain_accepted asked (content_tally S asked))
 plain_outcome S (Ok (Ask query)) = plain_unless (refused S query) (told_text (value S query)) (plain_data (with_value (value_data (value S query))))
 plain_outcome S (Err refusal) = plain_refusal refusal
 
@@ -160,5 +160,5 @@ split_texts (text ∷ texts) plain =
     ap split_lines (append_assoc text (line_feed ∷ []) (with_line_feeds texts)) ∙ split_lines-ended text (with_line_feeds texts) plain.0 ∙ ap (λ rest. text ∷ rest) (split_texts texts plain.1)
 
 pub answers_are_lines : AnswersAreLines
-unfolding answer_lines lines
+unfolding output_for lines
 answers_are_lines S bytes = split_texts (answers_to S (asking (fitting (split_lines bytes)))) (plain_answers S (asking (fitting (split_lines bytes))))

@@ -4,7 +4,7 @@ use Rattle.std.proofs.lemmas.List.{append-nil}
 use Rattle.std.specs.Io.KnownBytes.{Appends}
 use Rattle.role_wire.specs.Lines.{longest_line, line_feed, split_lines, ended_lines, is_blank, asking, with_line_feeds}
 use Rattle.role_wire.specs.Replay.{AreAnswered}
-use Rattle.role_wire.specs.Reading.{Place, HasNoLineFeed, IsOpenLine, IsRead, EndsLine}
+use Rattle.role_wire.specs.private.ReadProgress.{ReadPosition, HasNoLineFeed, IsOpenLine, IsRead, EndsLine}
 use Rattle.rbac_sets.proofs.Known.{Appends-none, Appends-more}
 use Rattle.rbac_sets.proofs.Lists.{all_join}
 use Rattle.role_wire.proofs.Splitting.{split_lines-ended, ended_lines-ended, HasNoLineFeed-append}
@@ -33,7 +33,7 @@ module _ {S : Type 0} (answers : S → List ℕ → List ℕ → S → Type 0) w
   }
 
   -- bytes without LF, which were appended to the open line
-  pub read_open : (start now : Place S) (xs : List ℕ) → HasNoLineFeed xs → HasNoLineFeed start.line → length now.line ≤ longest_line
+  pub read_open : (start now : ReadPosition S) (xs : List ℕ) → HasNoLineFeed xs → HasNoLineFeed start.line → length now.line ≤ longest_line
       → start.state ≡ now.state → now.line ≡ start.line ++ xs → now.number ≡ start.number → now.answered ≡ start.answered → start.written ≡ now.written
       → IsRead answers start now xs
   unfolding with_line_feeds
@@ -51,11 +51,11 @@ module _ {S : Type 0} (answers : S → List ℕ → List ℕ → S → Type 0) w
   }
 
   -- no byte
-  pub read_none : (place : Place S) → IsOpenLine place.line → IsRead answers place place []
+  pub read_none : (place : ReadPosition S) → IsOpenLine place.line → IsRead answers place place []
   read_none place is = read_open place place [] tt is.plain is.fits refl (sym (append-nil place.line)) refl refl refl
 
   -- LF
-  pub read_ended : (start now : Place S) → IsOpenLine start.line → EndsLine answers start.state start.line now.state start.written now.written start.answered now.answered
+  pub read_ended : (start now : ReadPosition S) → IsOpenLine start.line → EndsLine answers start.state start.line now.state start.written now.written start.answered now.answered
       → now.line ≡ [] → now.number ≡ start.number + 1 → IsRead answers start now (line_feed ∷ [])
   read_ended start now is ends line number = record {
     lines = start.line ∷ [];
@@ -71,7 +71,7 @@ module _ {S : Type 0} (answers : S → List ℕ → List ℕ → S → Type 0) w
   }
 
   -- bytes, and then more of them
-  pub read_more : (start between now : Place S) (xs ys : List ℕ) → IsRead answers start between xs → IsRead answers between now ys → IsRead answers start now (xs ++ ys)
+  pub read_more : (start between now : ReadPosition S) (xs ys : List ℕ) → IsRead answers start between xs → IsRead answers between now ys → IsRead answers start now (xs ++ ys)
   read_more start between now xs ys first later = record {
     lines = first.lines ++ later.lines;
     texts = first.texts ++ later.texts;

@@ -4,15 +4,15 @@ use Rattle.std.specs.Io.KnownBytes.{Appends}
 use Rattle.sqlite.specs.Held.{Held}
 use Rattle.sqlite.specs.State.{State}
 use Rattle.admin_mgr.specs.RbacState.{RbacState}
-use Rattle.role_tables.specs.Office.{Opened}
+use Rattle.role_tables.specs.Office.{OfficeModel}
 use Rattle.role_tables.specs.Runs.{IsInRun}
-use Rattle.role_wire.specs.Keeping.{Keeps, Reaches, Breaks, StaysInRun}
+use Rattle.role_wire.specs.Continuation.{StaysDurable, ReachesState, StoreFails, StaysInRun}
 use Rattle.role_wire.specs.Lines.{asking, line_feed, split_lines, with_line_feeds}
-use Rattle.role_wire.specs.OfficeLines.{AnswersLine, FailsLine}
-use Rattle.role_wire.specs.Outcome.{answer_to, after_line, answers_to, answer_lines, lines, after_lines, asking_lines}
-use Rattle.role_wire.specs.Performing.{AsksAccepted}
+use Rattle.role_wire.specs.LineAnswer.{AnswersLine, FailsLine}
+use Rattle.role_wire.specs.Outcome.{answer_to, after_line, answers_to, output_for, lines, after_lines, asking_lines}
+use Rattle.role_wire.specs.OfficeRequest.{AsksAccepted}
 use Rattle.role_wire.specs.Replay.{AreAnswered, IsReplayed, IsStopped, LeavesLine}
-use Rattle.role_wire.specs.Replaying.{IsAnswered, LeavesNext, IsHalted}
+use Rattle.role_wire.specs.OfficeReplay.{IsAnswered, LeavesNext, IsHalted}
 use Rattle.role_wire.specs.declared.lines.Cause.{Cause}
 use Rattle.role_wire.specs.declared.lines.Cause.TheVariants.{Read, Write, Line, Store, Closed, Memory}
 use Rattle.role_wire.proofs.FirstLines.{fitting-all, answers_to-length}
@@ -25,21 +25,21 @@ after_lines-more S [] line = refl
 after_lines-more S (first ∷ done) line = after_lines-more (after_line S first) done line
 
 module _ {S : Type 0} (shown : Held S → State) where
-  pub runs_then : (a b c : Opened S) → StaysInRun shown a b → StaysInRun shown b c → StaysInRun shown a c
+  pub runs_then : (a b c : OfficeModel S) → StaysInRun shown a b → StaysInRun shown b c → StaysInRun shown a c
   runs_then a b c first later start events run =
       let one = first start events run in
       let two = later start (events ++ one.0) one.1 in
       (one.0 ++ two.0, subst (λ all. IsInRun shown start all c) (append_assoc events one.0 two.0) two.1)
 
-  keeps_then : (a b c : Opened S) → Keeps shown a b → Keeps shown b c → Keeps shown a c
+  keeps_then : (a b c : OfficeModel S) → StaysDurable shown a b → StaysDurable shown b c → StaysDurable shown a c
   keeps_then a b c first later = record {
     clean = λ clean. first.clean (later.clean clean);
     runs = runs_then a b c first.runs later.runs;
-    stands = λ clean stands. later.stands clean (first.stands (later.clean clean) stands);
+    durable = λ clean stands. later.durable clean (first.durable (later.clean clean) stands);
   }
 
   -- an office reaches a state, and then another
-  pub reaches_then : (a b c : Opened S) (T U : RbacState) → Reaches shown a T b → Reaches shown b U c → Reaches shown a U c
+  pub reaches_then : (a b c : OfficeModel S) (T U : RbacState) → ReachesState shown a T b → ReachesState shown b U c → ReachesState shown a U c
   reaches_then a b c T U first later = record {
     state = later.state;
     is_closed = later.is_closed ∙ first.is_closed;
@@ -47,21 +47,21 @@ module _ {S : Type 0} (shown : Held S → State) where
   }
 
   -- an office reaches a state, and then the store fails
-  pub breaks_then : (a b c : Opened S) (T U : RbacState) → Reaches shown a T b → Breaks shown b T U c → Breaks shown a T U c
+  pub breaks_then : (a b c : OfficeModel S) (T U : RbacState) → ReachesState shown a T b → StoreFails shown b T U c → StoreFails shown a T U c
   breaks_then a b c T U first broke = record {
     is_closed = broke.is_closed;
     state = broke.state;
     clean = λ clean. first.keeps.clean (broke.clean clean);
     runs = runs_then a b c first.keeps.runs broke.runs;
-    held = λ clean stands. broke.held clean (first.keeps.stands (broke.clean clean) stands);
-    left = λ clean stands. broke.left clean (first.keeps.stands (broke.clean clean) stands);
+    held = λ clean stands. broke.held clean (first.keeps.durable (broke.clean clean) stands);
+    left = λ clean stands. broke.left clean (first.keeps.durable (broke.clean clean) stands);
   }
 
   -- lines that were answered
-  pub answered : (old new : Opened S) (lines texts : List (List ℕ)) → AreAnswered (AnswersLine shown) old lines texts new
-      → (texts ≡ answers_to old.facts lines) × Reaches shown old (after_lines old.facts lines) new
+  pub answered : (old new : OfficeModel S) (lines texts : List (List ℕ)) → AreAnswered (AnswersLine shown) old lines texts new
+      → (texts ≡ answers_to old.facts lines) × ReachesState shown old (after_lines old.facts lines) new
   unfolding AreAnswered answers_to after_lines
-  answered old new [] [] same = (refl, subst (Reaches shown old old.facts) same (stays shown old))
+  answered old new [] [] same = (refl, subst (ReachesState shown old old.facts) same (stays shown old))
   answered old new [] (text ∷ texts) none = absurd none
   answered old new (line ∷ lines) [] none = absurd none
   answered old new (line ∷ lines) (text ∷ texts) (between, is, later) =
@@ -69,13 +69,13 @@ module _ {S : Type 0} (shown : Held S → State) where
       let to : between.facts ≡ after_line old.facts line = is.reaches.state in (
         ap (λ t. t ∷ texts) is.text_is ∙ ap (λ ts. answer_to old.facts line ∷ ts) (rest ∙ ap (λ s. answers_to s lines) to),
         reaches_then old between new (after_line old.facts line) (after_lines (after_line old.facts line) lines) is.reaches
-            (subst (λ s. Reaches shown between (after_lines s lines) new) to reaches),
+            (subst (λ s. ReachesState shown between (after_lines s lines) new) to reaches),
       )
 
   -- a replay that reached the end of its input
-  pub replayed : (old new : Opened S) (input : List ℕ) (written now_written : Option (List ℕ)) (count : ℕ) → IsReplayed (AnswersLine shown) old new input written now_written count
-      → IsAnswered old.facts input written now_written count × Reaches shown old (after_lines old.facts (asking_lines input)) new
-  unfolding answer_lines lines
+  pub replayed : (old new : OfficeModel S) (input : List ℕ) (written now_written : Option (List ℕ)) (count : ℕ) → IsReplayed (AnswersLine shown) old new input written now_written count
+      → IsAnswered old.facts input written now_written count × ReachesState shown old (after_lines old.facts (asking_lines input)) new
+  unfolding output_for lines
   replayed old new input written now_written count done =
       let (texts, reaches) = answered old new (asking_lines input) done.texts done.are_answered in
       let all : done.texts ≡ lines old.facts input = texts ∙ ap (λ fit. answers_to old.facts (asking fit)) (sym (fitting-all (split_lines input) done.lines_fit)) in (
@@ -89,19 +89,19 @@ module _ {S : Type 0} (shown : Held S → State) where
 
   -- ---- a replay that stopped
 
-  module _ (old between new : Opened S) (done : List (List ℕ)) (first : Reaches shown old (after_lines old.facts done) between) (works : old.is_closed ≡ false) (line part : List ℕ) where
+  module _ (old between new : OfficeModel S) (done : List (List ℕ)) (first : ReachesState shown old (after_lines old.facts done) between) (works : old.is_closed ≡ false) (line part : List ℕ) where
     -- from the state after the lines that are done
-    further : Reaches shown between (after_line between.facts line) new → Reaches shown old (after_lines old.facts (done ++ line ∷ [])) new
-    further later = subst (λ T. Reaches shown old T new) (ap (λ s. after_line s line) first.state ∙ sym (after_lines-more old.facts done line))
+    further : ReachesState shown between (after_line between.facts line) new → ReachesState shown old (after_lines old.facts (done ++ line ∷ [])) new
+    further later = subst (λ T. ReachesState shown old T new) (ap (λ s. after_line s line) first.state ∙ sym (after_lines-more old.facts done line))
         (reaches_then old between new (after_lines old.facts done) (after_line between.facts line) first later)
 
-    same_state : new ≡ between → Reaches shown old (after_lines old.facts done) new
-    same_state same = subst (λ o. Reaches shown old (after_lines old.facts done) o) (sym same) first
+    same_state : new ≡ between → ReachesState shown old (after_lines old.facts done) new
+    same_state same = subst (λ o. ReachesState shown old (after_lines old.facts done) o) (sym same) first
 
-    further_broken : Breaks shown between between.facts (after_line between.facts line) new → Breaks shown old (after_lines old.facts done) (after_lines old.facts (done ++ line ∷ [])) new
-    further_broken broke = subst (λ T. Breaks shown old (after_lines old.facts done) T new) (sym (after_lines-more old.facts done line))
+    further_broken : StoreFails shown between between.facts (after_line between.facts line) new → StoreFails shown old (after_lines old.facts done) (after_lines old.facts (done ++ line ∷ [])) new
+    further_broken broke = subst (λ T. StoreFails shown old (after_lines old.facts done) T new) (sym (after_lines-more old.facts done line))
         (breaks_then old between new (after_lines old.facts done) (after_line (after_lines old.facts done) line) first
-        (subst (λ s. Breaks shown between s (after_line s line) new) first.state broke))
+        (subst (λ s. StoreFails shown between s (after_line s line) new) first.state broke))
 
     next_left : (cause : Cause) → LeavesLine (AnswersLine shown) (FailsLine shown) cause between line new part → LeavesNext shown cause old done line part new
     next_left Write (text, is, rest, whole, some) = (
@@ -117,7 +117,7 @@ module _ {S : Type 0} (shown : Held S → State) where
     next_left (Line number) left = absurd left
     next_left Closed left = absurd left
 
-  pub halted : (old new : Opened S) (taken : List ℕ) (at_end : Type 0) (written now_written : Option (List ℕ)) (cause : Cause) (count : ℕ) → old.is_closed ≡ false
+  pub halted : (old new : OfficeModel S) (taken : List ℕ) (at_end : Type 0) (written now_written : Option (List ℕ)) (cause : Cause) (count : ℕ) → old.is_closed ≡ false
       → IsStopped (AnswersLine shown) (FailsLine shown) old new taken at_end written now_written cause count → IsHalted shown old new taken at_end written now_written cause count
   halted old new taken at_end written now_written cause count works stopped =
       let (texts, reaches) = answered old stopped.between stopped.done stopped.texts stopped.are_answered in
@@ -128,6 +128,6 @@ module _ {S : Type 0} (shown : Held S → State) where
         count = stopped.count ∙ ap length texts ∙ answers_to-length old.facts stopped.done;
         left = elim stopped.left [
           | inl (line, next, left) ↦ inl (line, next, next_left old stopped.between new stopped.done reaches works line stopped.part cause left)
-          | inr (off, same, none) ↦ inr (off, subst (λ o. Reaches shown old (after_lines old.facts stopped.done) o) (sym same) reaches, none)
+          | inr (off, same, none) ↦ inr (off, subst (λ o. ReachesState shown old (after_lines old.facts stopped.done) o) (sym same) reaches, none)
         ];
       }

@@ -9,24 +9,24 @@ use Rattle.rbac_sets.specs.declared.refusal.Refusal.TheVariants.{Memory}
 use Rattle.rbac_sets.proofs.Known.{Appends-none, Consumes-more}
 use Rattle.admin_mgr.specs.RbacState.{RbacState}
 use Rattle.role_json.specs.Answer.{refusal_text}
-use Rattle.role_json.specs.Requested.{Requested}
+use Rattle.role_json.specs.RequestContent.{RequestContent}
 use Rattle.role_json.specs.declared.function.Function.{Function}
-use Rattle.role_http.specs.Answered.{Answers, RefusesBytes, with_left}
-use Rattle.role_http.specs.Head.{HasHead, TakesHead}
-use Rattle.role_http.specs.Judging.{judged_head}
+use Rattle.role_http.specs.HeadAnswer.{Answers, RefusesBytes, with_left}
+use Rattle.role_http.specs.Head.{HasHead, ConsumesHead}
+use Rattle.role_http.specs.HeadChecks.{judged_head}
 use Rattle.role_http.specs.ReplyBytes.{reply_bytes}
 use Rattle.role_http.specs.Status.{head_body}
 use Rattle.role_http.proofs.Heads.{HasHead-append, with_left-later, heads_are_unique, refused_have_no_head}
-use Rattle.role_tables.specs.Office.{Opened}
-use Rattle.role_wire.specs.Made.{bytes_in}
+use Rattle.role_tables.specs.Office.{OfficeModel}
+use Rattle.role_wire.specs.private.PreparedReply.{bytes_in}
 use Rattle.role_wire.specs.Reply.{Asks, Replies, RepliesOnce, Reply, TakesNoFurther, called_for, reply_of, reply_to}
-use Rattle.role_wire.specs.Serving.{ComesOf, IsRead, IsToldInPlace, LeavesUntold, StopsAt, Tells}
+use Rattle.role_wire.specs.ServedRequest.{AnswersBody, IsReadAs, IsAnsweredInstead, LeavesUnanswered, StopsAt, AnswersBytes}
 use Rattle.role_wire.specs.declared.lines.Cause.{Cause}
 use Rattle.role_wire.specs.declared.lines.Cause.TheVariants as cause
-use Rattle.role_wire.specs.declared.made.Made.{Made}
+use Rattle.role_wire.specs.declared.prepared_reply.PreparedReply.{PreparedReply}
 use Rattle.role_wire.proofs.Calling.{with_left-end}
 use Rattle.role_wire.proofs.Performed.{stays}
-use Rattle.role_wire.proofs.Telling.{asks_nothing, has_no_memory}
+use Rattle.role_wire.proofs.HttpAnswers.{asks_nothing, has_no_memory}
 
 -- ---- no byte after the request
 
@@ -42,7 +42,7 @@ further S bytes rest taken head has whole few = (
 )
 
 -- bytes within the head were read
-pub within_head : (S : RbacState) (old new : Option (List ℕ)) (taken : List ℕ) → TakesHead old new taken → TakesNoFurther S (with_left taken new) taken
+pub within_head : (S : RbacState) (old new : Option (List ℕ)) (taken : List ℕ) → ConsumesHead old new taken → TakesNoFurther S (with_left taken new) taken
 within_head S old new taken takes = (
   λ head rest has.
       let (later, same) = with_left-later taken new in
@@ -69,12 +69,12 @@ which_refused bytes left status (inr (large, why)) = inr large
 -- ---- what the bytes ask for
 
 -- the bytes after a head ask for this, from the result of judging the head
-abbrev ReadsBy : List ℕ → Requested → Result (Function × ℕ) ℕ → Type 0
+abbrev ReadsBy : List ℕ → RequestContent → Result (Function × ℕ) ℕ → Type 0
 ReadsBy rest asked (Ok (called, count)) = called_for rest called count ≡ Ok asked
 ReadsBy rest asked (Err status) = ⊥
 
 -- for the head at the front of the bytes
-asked_by : (bytes rest : List ℕ) (head : RequestHead) (judged : Result (Function × ℕ) ℕ) → HasHead bytes head rest → judged_head head ≡ judged → (asked : Requested) → Asks bytes asked → ReadsBy rest asked judged
+asked_by : (bytes rest : List ℕ) (head : RequestHead) (judged : Result (Function × ℕ) ℕ) → HasHead bytes head rest → judged_head head ≡ judged → (asked : RequestContent) → Asks bytes asked → ReadsBy rest asked judged
 asked_by bytes rest head judged has is asked (other, after, stands, (called, count, call, reads)) =
     let same = heads_are_unique bytes other head after rest stands has in
     subst (ReadsBy rest asked) (sym call ∙ ap judged_head same.0 ∙ is) (subst (λ r. called_for r called count ≡ Ok asked) same.1 reads)
@@ -91,33 +91,33 @@ replies_once S bytes head rest has first second one two = one_reply S bytes head
 
 module _ {S : Type 0} (shown : Held S → State) where
   -- a reply to a request in these bytes, before it is written
-  abbrev Replied : Opened S → Option (List ℕ) → Option (List ℕ) → ℕ → List ℕ → Opened S → Type 0
-  Replied old source end status body new = (taken : List ℕ) × Consumes source end taken × TakesNoFurther old.facts (with_left taken end) taken × Tells shown old (with_left taken end) status body new
+  abbrev Replied : OfficeModel S → Option (List ℕ) → Option (List ℕ) → ℕ → List ℕ → OfficeModel S → Type 0
+  Replied old source end status body new = (taken : List ℕ) × Consumes source end taken × TakesNoFurther old.facts (with_left taken end) taken × AnswersBytes shown old (with_left taken end) status body new
 
-  abbrev Untold : Cause → Opened S → Option (List ℕ) → Option (List ℕ) → Opened S → Type 0
-  Untold why old source end new = (taken : List ℕ) × Consumes source end taken × TakesNoFurther old.facts (with_left taken end) taken × LeavesUntold shown why old (Asks (with_left taken end)) new
+  abbrev Untold : Cause → OfficeModel S → Option (List ℕ) → Option (List ℕ) → OfficeModel S → Type 0
+  Untold why old source end new = (taken : List ℕ) × Consumes source end taken × TakesNoFurther old.facts (with_left taken end) taken × LeavesUnanswered shown why old (Asks (with_left taken end)) new
 
   -- ---- answers
 
-  in_place : (old new : Opened S) (status : ℕ) (body : List ℕ) (First Then : Requested → Type 0) → ((asked : Requested) → First asked → Then asked) → IsToldInPlace shown old First status body new
-      → IsToldInPlace shown old Then status body new
+  in_place : (old new : OfficeModel S) (status : ℕ) (body : List ℕ) (First Then : RequestContent → Type 0) → ((asked : RequestContent) → First asked → Then asked) → IsAnsweredInstead shown old First status body new
+      → IsAnsweredInstead shown old Then status body new
   in_place old new status body First Then step (inl memory) = inl memory
   in_place old new status body First Then step (inr (inl (is, told, (asked, for, broke)))) = inr (inl (is, told, (asked, step asked for, broke)))
   in_place old new status body First Then step (inr (inr (is, told, shut, same, (asked, for)))) = inr (inr (is, told, shut, same, (asked, step asked for)))
 
-  tells_called : (old new : Opened S) (bytes rest : List ℕ) (head : RequestHead) (called : Function) (count : ℕ) (made : Made) → HasHead (bytes ++ rest) head rest
-      → judged_head head ≡ Ok (called, count) → ComesOf shown old (called_for rest called count) made new → Tells shown old (bytes ++ rest) made.status (bytes_in made.body) new
+  tells_called : (old new : OfficeModel S) (bytes rest : List ℕ) (head : RequestHead) (called : Function) (count : ℕ) (made : PreparedReply) → HasHead (bytes ++ rest) head rest
+      → judged_head head ≡ Ok (called, count) → AnswersBody shown old (called_for rest called count) made new → AnswersBytes shown old (bytes ++ rest) made.status (bytes_in made.body) new
   unfolding reply_to
   tells_called old new bytes rest head called count made has is (told, closed) = (
     elim told [
       | inl told ↦ inl (reply_of old.facts (length (take count rest)) (called_for rest called count), inl (head, rest, has, rw is refl), told (length (take count rest)))
-      | inr place ↦ inr (in_place old new made.status (bytes_in made.body) (IsRead (called_for rest called count)) (Asks (bytes ++ rest)) (λ asked read. (head, rest, has, (called, count, is, read))) place)
+      | inr place ↦ inr (in_place old new made.status (bytes_in made.body) (IsReadAs (called_for rest called count)) (Asks (bytes ++ rest)) (λ asked read. (head, rest, has, (called, count, is, read))) place)
     ],
     λ shut. ((closed shut).0, λ asked asks. (closed shut).1 asked (asked_by (bytes ++ rest) rest head (Ok (called, count)) has is asked asks)),
   )
 
-  leaves_called : (why : Cause) (old new : Opened S) (bytes rest : List ℕ) (head : RequestHead) (called : Function) (count : ℕ) → HasHead (bytes ++ rest) head rest
-      → judged_head head ≡ Ok (called, count) → LeavesUntold shown why old (IsRead (called_for rest called count)) new → LeavesUntold shown why old (Asks (bytes ++ rest)) new
+  leaves_called : (why : Cause) (old new : OfficeModel S) (bytes rest : List ℕ) (head : RequestHead) (called : Function) (count : ℕ) → HasHead (bytes ++ rest) head rest
+      → judged_head head ≡ Ok (called, count) → LeavesUnanswered shown why old (IsReadAs (called_for rest called count)) new → LeavesUnanswered shown why old (Asks (bytes ++ rest)) new
   leaves_called cause.Read old new bytes rest head called count has is left = left
   leaves_called cause.Memory old new bytes rest head called count has is (asked, read, works, accepted, reaches) = (asked, (head, rest, has, (called, count, is, read)), works, accepted, reaches)
   leaves_called cause.Write old new bytes rest head called count has is left = absurd left
@@ -127,9 +127,9 @@ module _ {S : Type 0} (shown : Held S → State) where
 
   -- ---- reading in two steps
 
-  pub made_called : (old new : Opened S) (source mid end : Option (List ℕ)) (called : Function) (count : ℕ) (made : Made)
-      → ((taken : List ℕ) × TakesHead source mid taken × Answers taken mid (Ok (called, count)))
-      → ((taken : List ℕ) × Consumes mid end taken × (length taken ≤ length (take count (with_left taken end))) × ComesOf shown old (called_for (with_left taken end) called count) made new)
+  pub made_called : (old new : OfficeModel S) (source mid end : Option (List ℕ)) (called : Function) (count : ℕ) (made : PreparedReply)
+      → ((taken : List ℕ) × ConsumesHead source mid taken × Answers taken mid (Ok (called, count)))
+      → ((taken : List ℕ) × Consumes mid end taken × (length taken ≤ length (take count (with_left taken end))) × AnswersBody shown old (called_for (with_left taken end) called count) made new)
       → Replied old source end made.status (bytes_in made.body) new
   unfolding reply_to
   made_called old new source mid end called count made (bytes, first, inl (head, has, is)) (more, later, part, comes) =
@@ -138,13 +138,13 @@ module _ {S : Type 0} (shown : Held S → State) where
         bytes ++ more,
         Consumes-more source mid end bytes more first.0 later,
         subst (λ l. TakesNoFurther old.facts l (bytes ++ more)) (sym all) (further old.facts bytes (with_left more end) more head stands (length-head bytes head has) (rw is part)),
-        subst (λ l. Tells shown old l made.status (bytes_in made.body) new) (sym all) (tells_called old new bytes (with_left more end) head called count made stands is comes),
+        subst (λ l. AnswersBytes shown old l made.status (bytes_in made.body) new) (sym all) (tells_called old new bytes (with_left more end) head called count made stands is comes),
       )
   made_called old new source mid end called count made (bytes, first, inr none) second = absurd none
 
-  pub left_called : (why : Cause) (old new : Opened S) (source mid end : Option (List ℕ)) (called : Function) (count : ℕ)
-      → ((taken : List ℕ) × TakesHead source mid taken × Answers taken mid (Ok (called, count)))
-      → ((taken : List ℕ) × Consumes mid end taken × (length taken ≤ length (take count (with_left taken end))) × LeavesUntold shown why old (IsRead (called_for (with_left taken end) called count)) new)
+  pub left_called : (why : Cause) (old new : OfficeModel S) (source mid end : Option (List ℕ)) (called : Function) (count : ℕ)
+      → ((taken : List ℕ) × ConsumesHead source mid taken × Answers taken mid (Ok (called, count)))
+      → ((taken : List ℕ) × Consumes mid end taken × (length taken ≤ length (take count (with_left taken end))) × LeavesUnanswered shown why old (IsReadAs (called_for (with_left taken end) called count)) new)
       → Untold why old source end new
   unfolding reply_to
   left_called why old new source mid end called count (bytes, first, inl (head, has, is)) (more, later, part, leaves) =
@@ -153,12 +153,12 @@ module _ {S : Type 0} (shown : Held S → State) where
         bytes ++ more,
         Consumes-more source mid end bytes more first.0 later,
         subst (λ l. TakesNoFurther old.facts l (bytes ++ more)) (sym all) (further old.facts bytes (with_left more end) more head stands (length-head bytes head has) (rw is part)),
-        subst (λ l. LeavesUntold shown why old (Asks l) new) (sym all) (leaves_called why old new bytes (with_left more end) head called count stands is leaves),
+        subst (λ l. LeavesUnanswered shown why old (Asks l) new) (sym all) (leaves_called why old new bytes (with_left more end) head called count stands is leaves),
       )
   left_called why old new source mid end called count (bytes, first, inr none) second = absurd none
 
   -- a head that is refused
-  pub made_head : (office : Opened S) (source mid : Option (List ℕ)) (status told : ℕ) (body : List ℕ) → ((taken : List ℕ) × TakesHead source mid taken × Answers taken mid (Err status))
+  pub made_head : (office : OfficeModel S) (source mid : Option (List ℕ)) (status told : ℕ) (body : List ℕ) → ((taken : List ℕ) × ConsumesHead source mid taken × Answers taken mid (Err status))
       → told ≡ status → body ≡ head_body status → Replied office source mid told body office
   unfolding reply_to
   made_head office source mid status told body (bytes, first, inl (head, has, is)) same text =
@@ -192,7 +192,7 @@ module _ {S : Type 0} (shown : Held S → State) where
   )
 
   -- reading stopped within the head
-  pub made_stopped : (office : Opened S) (source mid : Option (List ℕ)) (status : ℕ) (body : List ℕ) → ((taken : List ℕ) × TakesHead source mid taken) → status ≡ 503 → body ≡ refusal_text Memory
+  pub made_stopped : (office : OfficeModel S) (source mid : Option (List ℕ)) (status : ℕ) (body : List ℕ) → ((taken : List ℕ) × ConsumesHead source mid taken) → status ≡ 503 → body ≡ refusal_text Memory
       → Replied office source mid status body office
   made_stopped office source mid status body (bytes, first) same text = (
     bytes,
@@ -201,13 +201,13 @@ module _ {S : Type 0} (shown : Held S → State) where
     (inr (inl (same, text, stays shown office)), has_no_memory office office (Asks (with_left bytes mid)) status body refl same text),
   )
 
-  pub left_stopped : (office : Opened S) (source mid : Option (List ℕ)) → ((taken : List ℕ) × TakesHead source mid taken) → Untold cause.Read office source mid office
+  pub left_stopped : (office : OfficeModel S) (source mid : Option (List ℕ)) → ((taken : List ℕ) × ConsumesHead source mid taken) → Untold cause.Read office source mid office
   left_stopped office source mid (bytes, first) = (bytes, first.0, within_head office.facts source mid bytes first, refl)
 
   -- ---- writing
 
   -- before a byte was read
-  pub made_at_once : (office : Opened S) (source : Option (List ℕ)) (status : ℕ) (body : List ℕ) → Consumes source source [] → status ≡ 503 → body ≡ refusal_text Memory → Replied office source source status body office
+  pub made_at_once : (office : OfficeModel S) (source : Option (List ℕ)) (status : ℕ) (body : List ℕ) → Consumes source source [] → status ≡ 503 → body ≡ refusal_text Memory → Replied office source source status body office
   made_at_once office source status body none same text = (
     [],
     none,
@@ -216,19 +216,19 @@ module _ {S : Type 0} (shown : Held S → State) where
   )
 
   -- a reply that was written
-  pub sent : (old new : Opened S) (source end written now_written : Option (List ℕ)) (status told : ℕ) (body : List ℕ) → Replied old source end status body new → told ≡ status
+  pub sent : (old new : OfficeModel S) (source end written now_written : Option (List ℕ)) (status told : ℕ) (body : List ℕ) → Replied old source end status body new → told ≡ status
       → Appends written now_written (reply_bytes status body)
       → (taken : List ℕ) × Consumes source end taken × TakesNoFurther old.facts (with_left taken end) taken
-      × ((text : List ℕ) × Tells shown old (with_left taken end) told text new × Appends written now_written (reply_bytes told text))
+      × ((text : List ℕ) × AnswersBytes shown old (with_left taken end) told text new × Appends written now_written (reply_bytes told text))
   sent old new source end written now_written status told body (taken, first, few, tells) same appended = (taken, first, few, (body, rw same tells, rw same appended))
 
   -- a reply that was written in part
-  pub sent_part : (why : Cause) (old new : Opened S) (source end written now_written : Option (List ℕ)) (status : ℕ) (body : List ℕ) → Replied old source end status body new → why ≡ cause.Write
+  pub sent_part : (why : Cause) (old new : OfficeModel S) (source end written now_written : Option (List ℕ)) (status : ℕ) (body : List ℕ) → Replied old source end status body new → why ≡ cause.Write
       → ((part rest : List ℕ) × (reply_bytes status body ≡ part ++ rest) × (1 ≤ length rest) × Appends written now_written part)
       → (taken : List ℕ) × Consumes source end taken × TakesNoFurther old.facts (with_left taken end) taken × StopsAt shown why old (with_left taken end) new written now_written
   sent_part why old new source end written now_written status body (taken, first, few, tells) same part = (taken, first, few, rw same (status, body, tells, part))
 
-  stops : (why : Cause) (old new : Opened S) (bytes : List ℕ) (written : Option (List ℕ)) → LeavesUntold shown why old (Asks bytes) new → StopsAt shown why old bytes new written written
+  stops : (why : Cause) (old new : OfficeModel S) (bytes : List ℕ) (written : Option (List ℕ)) → LeavesUnanswered shown why old (Asks bytes) new → StopsAt shown why old bytes new written written
   stops cause.Read old new bytes written left = (left, Appends-none written)
   stops cause.Memory old new bytes written left = (left, Appends-none written)
   stops cause.Write old new bytes written left = absurd left
@@ -237,6 +237,6 @@ module _ {S : Type 0} (shown : Held S → State) where
   stops cause.Closed old new bytes written left = absurd left
 
   -- there is no reply
-  pub unsent : (why : Cause) (old new : Opened S) (source end written : Option (List ℕ)) → Untold why old source end new
+  pub unsent : (why : Cause) (old new : OfficeModel S) (source end written : Option (List ℕ)) → Untold why old source end new
       → (taken : List ℕ) × Consumes source end taken × TakesNoFurther old.facts (with_left taken end) taken × StopsAt shown why old (with_left taken end) new written written
   unsent why old new source end written (taken, first, few, left) = (taken, first, few, stops why old new (with_left taken end) written left)

@@ -7,7 +7,7 @@ use Rattle.std.proofs.lemmas.List.Quantifiers.{position-Some}
 use Rattle.std.proofs.lemmas.List.Sums.{fails_before_first}
 use Rattle.std.specs.List.{position, position_or_len}
 use Rattle.role_wire.specs.Lines.{line_feed, split_lines, ended_lines, open_line, SplitsByPieces}
-use Rattle.role_wire.specs.Reading.{HasNoLineFeed}
+use Rattle.role_wire.specs.private.ReadProgress.{HasNoLineFeed}
 
 pub HasNoLineFeed-append : (xs ys : List ℕ) → HasNoLineFeed xs → HasNoLineFeed ys → HasNoLineFeed (xs ++ ys)
 HasNoLineFeed-append [] ys first later = later

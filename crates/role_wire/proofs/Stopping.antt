@@ -8,7 +8,7 @@ use Rattle.role_wire.specs.declared.lines.Cause.TheVariants.{Read, Write, Line, 
 use Rattle.role_wire.specs.declared.lines.Unanswered.{Unanswered}
 use Rattle.role_wire.specs.Lines.{longest_line, split_lines, ended_lines, is_blank, asking, AllFit}
 use Rattle.role_wire.specs.Replay.{AreAnswered, IsReplayed, IsNext, LeavesOff, IsStopped}
-use Rattle.role_wire.specs.Reading.{Place, HasNoLineFeed, IsOpenLine, IsRead, EndsLine, FailsLine, EndsHere, StopsReading, Halts}
+use Rattle.role_wire.specs.private.ReadProgress.{ReadPosition, HasNoLineFeed, IsOpenLine, IsRead, EndsLine, StopsAtLine, EndsHere, StopsReading, Halts}
 use Rattle.rbac_sets.proofs.Known.{Appends-none, Appends-more}
 use Rattle.rbac_sets.proofs.Lists.{all_join}
 use Rattle.role_wire.proofs.Splitting.{ended_lines-ended, split_lines-last, ended_lines-last, split_lines-first, HasNoLineFeed-append}
@@ -42,7 +42,7 @@ split-open-fits (x ∷ line) is = subst (AllByRecursion (λ l. length l ≤ long
 
 module _ {S : Type 0} (answers : S → List ℕ → List ℕ → S → Type 0) where
   -- at the end of the input
-  pub finished : (start now : Place S) (new : S) (taken : List ℕ) (written : Option (List ℕ)) (answered : ℕ) → start.line ≡ [] → start.answered ≡ 0
+  pub finished : (start now : ReadPosition S) (new : S) (taken : List ℕ) (written : Option (List ℕ)) (answered : ℕ) → start.line ≡ [] → start.answered ≡ 0
       → IsRead answers start now taken → EndsLine answers now.state now.line new now.written written now.answered answered
       → IsReplayed answers start.state new taken start.written written answered
   finished start now new taken written answered empty none read ends =
@@ -62,7 +62,7 @@ module _ {S : Type 0} (answers : S → List ℕ → List ℕ → S → Type 0) w
 
 module _ {S : Type 0} (answers : S → List ℕ → List ℕ → S → Type 0) (fails : S → List ℕ → Unanswered → S → Type 0) where
   -- bytes were read, and then the reading stopped
-  pub halts_behind : (start between : Place S) (xs ys : List ℕ) (at_end : Type 0) (cause : Cause) (new : S) (written : Option (List ℕ)) (answered : ℕ)
+  pub halts_behind : (start between : ReadPosition S) (xs ys : List ℕ) (at_end : Type 0) (cause : Cause) (new : S) (written : Option (List ℕ)) (answered : ℕ)
       → IsRead answers start between xs → Halts answers fails between ys at_end cause new written answered → Halts answers fails start (xs ++ ys) at_end cause new written answered
   halts_behind start between xs ys at_end cause new written answered read halts = record {
     front = xs ++ halts.front;
@@ -74,7 +74,7 @@ module _ {S : Type 0} (answers : S → List ℕ → List ℕ → S → Type 0) (
     left = halts.left;
   }
 
-  module _ (start : Place S) (taken : List ℕ) (at_end : Type 0) (empty : start.line ≡ []) (cause : Cause) (new : S) (written : Option (List ℕ)) (answered : ℕ)
+  module _ (start : ReadPosition S) (taken : List ℕ) (at_end : Type 0) (empty : start.line ≡ []) (cause : Cause) (new : S) (written : Option (List ℕ)) (answered : ℕ)
       (halts : Halts answers fails start taken at_end cause new written answered) where
     abbrev lines : List (List ℕ)
     lines = halts.read.lines
@@ -167,7 +167,7 @@ module _ {S : Type 0} (answers : S → List ℕ → List ℕ → S → Type 0) (
 
 module _ {S : Type 0} (answers : S → List ℕ → List ℕ → S → Type 0) (fails : S → List ℕ → Unanswered → S → Type 0) where
   -- bytes without LF did not fit into the open line
-  pub halts_open : (place : Place S) (bytes after : List ℕ) (at_end : Type 0) (cause : Cause) (answered : ℕ) → IsOpenLine place.line → HasNoLineFeed bytes → answered ≡ place.answered
+  pub halts_open : (place : ReadPosition S) (bytes after : List ℕ) (at_end : Type 0) (cause : Cause) (answered : ℕ) → IsOpenLine place.line → HasNoLineFeed bytes → answered ≡ place.answered
       → (cause ≡ Memory) ⊎ ((cause ≡ Line (place.number + 1)) × (longest_line < length (place.line ++ bytes)))
       → Halts answers fails place (bytes ++ after) at_end cause place.state place.written answered
   halts_open place bytes after at_end cause answered is plain stays why = record {
@@ -188,8 +188,8 @@ module _ {S : Type 0} (answers : S → List ℕ → List ℕ → S → Type 0) (
   }
 
   -- the line that ended has no whole answer
-  pub halts_line : (start between : Place S) (front rest : List ℕ) (at_end : Type 0) (cause : Cause) (new : S) (written : Option (List ℕ)) (answered : ℕ)
-      → IsRead answers start between front → EndsHere rest at_end → FailsLine answers fails cause between.state between.line new between.written written → answered ≡ between.answered
+  pub halts_line : (start between : ReadPosition S) (front rest : List ℕ) (at_end : Type 0) (cause : Cause) (new : S) (written : Option (List ℕ)) (answered : ℕ)
+      → IsRead answers start between front → EndsHere rest at_end → StopsAtLine answers fails cause between.state between.line new between.written written → answered ≡ between.answered
       → Halts answers fails start (front ++ rest) at_end cause new written answered
   halts_line start between front rest at_end cause new written answered read here fails_line stays = record {
     front = front;
@@ -202,7 +202,7 @@ module _ {S : Type 0} (answers : S → List ℕ → List ℕ → S → Type 0) (
   }
 
   -- all these bytes were read, and no more
-  pub halts_read : (start between : Place S) (taken : List ℕ) (at_end : Type 0) → IsRead answers start between taken → Halts answers fails start taken at_end Read between.state between.written between.answered
+  pub halts_read : (start between : ReadPosition S) (taken : List ℕ) (at_end : Type 0) → IsRead answers start between taken → Halts answers fails start taken at_end Read between.state between.written between.answered
   halts_read start between taken at_end read = record {
     front = taken;
     rest = [];
@@ -214,8 +214,8 @@ module _ {S : Type 0} (answers : S → List ℕ → List ℕ → S → Type 0) (
   }
 
   -- the line that the end of the input ended has no whole answer
-  pub halts_last : (start between : Place S) (taken : List ℕ) (at_end : Type 0) (cause : Cause) (new : S) (written : Option (List ℕ)) (answered : ℕ) → IsRead answers start between taken → at_end
-      → FailsLine answers fails cause between.state between.line new between.written written → answered ≡ between.answered → Halts answers fails start taken at_end cause new written answered
+  pub halts_last : (start between : ReadPosition S) (taken : List ℕ) (at_end : Type 0) (cause : Cause) (new : S) (written : Option (List ℕ)) (answered : ℕ) → IsRead answers start between taken → at_end
+      → StopsAtLine answers fails cause between.state between.line new between.written written → answered ≡ between.answered → Halts answers fails start taken at_end cause new written answered
   halts_last start between taken at_end cause new written answered read end fails_line stays = record {
     front = taken;
     rest = [];
@@ -227,7 +227,7 @@ module _ {S : Type 0} (answers : S → List ℕ → List ℕ → S → Type 0) (
   }
 
   -- a stop within the input doesn't depend on whether the input is at its end
-  pub halts_within : (start : Place S) (taken : List ℕ) (at_end : Type 0) (cause : Cause) (new : S) (written : Option (List ℕ)) (answered : ℕ)
+  pub halts_within : (start : ReadPosition S) (taken : List ℕ) (at_end : Type 0) (cause : Cause) (new : S) (written : Option (List ℕ)) (answered : ℕ)
       → Halts answers fails start taken ⊥ cause new written answered → Halts answers fails start taken at_end cause new written answered
   halts_within start taken at_end cause new written answered halts = record {
     front = halts.front;

@@ -7,11 +7,11 @@ use Rattle.admin_mgr.specs.Assignment.{Tally}
 use Rattle.admin_mgr.specs.RbacState.{RbacState}
 use Rattle.role_json.specs.Answer.{import_text}
 use Rattle.role_wire.specs.Lines.{split_lines}
-use Rattle.role_wire.specs.Outcome.{answer_lines, lines}
+use Rattle.role_wire.specs.Outcome.{output_for, lines}
 
 -- what is written, split at each LF, gives the answers again
 abbrev pub AnswersAreLines : Type 0
-AnswersAreLines = (S : RbacState) (bytes : List ℕ) → split_lines (answer_lines S bytes) ≡ lines S bytes
+AnswersAreLines = (S : RbacState) (bytes : List ℕ) → split_lines (output_for S bytes) ≡ lines S bytes
 
 -- an import of three records, of which one was assigned already and the third was refused by 2 NoUser
 abbrev pub one_refused : Tally

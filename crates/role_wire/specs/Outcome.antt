@@ -1,21 +1,21 @@
 -- The outcome of requests: what the office answers to each, and its state after it.
 use Rattle.std.specs.Prelude.{ℕ, List, [], ◌∷◌, Option, Some, None, is_none, Result, Ok, Err, if◌then◌else◌}
-use Rattle.rbac_sets.specs.Asked.{Asked, Single, Import}
+use Rattle.rbac_sets.specs.CommandContent.{CommandContent, Single, Import}
 use Rattle.rbac_sets.specs.declared.refusal.Refusal.{Refusal}
 use Rattle.admin_mgr.specs.RbacState.{RbacState}
-use Rattle.admin_mgr.specs.Asked.{asked_verdict, asked_after, asked_tally}
+use Rattle.admin_mgr.specs.CommandContent.{content_verdict, content_after, content_tally}
 use Rattle.admin_mgr.specs.Assignment.{Tally}
 use Rattle.review_mgr.specs.Answering.{value}
 use Rattle.review_mgr.specs.Questions.{refused}
 use Rattle.role_json.specs.Answer.{done_text, import_text, told_text, refusal_text}
 use Rattle.role_json.specs.Request.{request}
-use Rattle.role_json.specs.Requested.{Requested, Change, Ask}
+use Rattle.role_json.specs.RequestContent.{RequestContent, Change, Ask}
 use Rattle.role_wire.specs.Lines.{split_lines, fitting, asking, with_line_feeds}
 
 -- ---- one request
 
 -- the text for a command that is accepted: for an import it reports the records
-abbrev pub accepted_text : Asked → Tally → List ℕ
+abbrev pub accepted_text : CommandContent → Tally → List ℕ
 accepted_text (Single command) tally = done_text
 accepted_text (Import pairs) tally = import_text tally
 
@@ -25,37 +25,37 @@ unless None value = Ok value
 unless (Some refusal) value = Err refusal
 
 -- the outcome of a request in this state: the text that accepts the command or answers the question, or a refusal
-unfoldable pub outcome_of : RbacState → Requested → Result (List ℕ) Refusal
-outcome_of S (Change asked) = unless (asked_verdict S asked) (accepted_text asked (asked_tally S asked))
+unfoldable pub outcome_of : RbacState → RequestContent → Result (List ℕ) Refusal
+outcome_of S (Change asked) = unless (content_verdict S asked) (accepted_text asked (content_tally S asked))
 outcome_of S (Ask query) = unless (refused S query) (told_text (value S query))
 
 -- the state after a request: only a command that is accepted changes it
-unfoldable pub state_after : RbacState → Requested → RbacState
-state_after S (Change asked) = if is_none (asked_verdict S asked) then asked_after S asked else S
+unfoldable pub state_after : RbacState → RequestContent → RbacState
+state_after S (Change asked) = if is_none (content_verdict S asked) then content_after S asked else S
 state_after S (Ask query) = S
 
 -- ---- the result of reading a text: a request, or the refusal of a text that is no request
 
 -- its outcome
-abbrev pub outcome : RbacState → Result Requested Refusal → Result (List ℕ) Refusal
+abbrev pub outcome : RbacState → Result RequestContent Refusal → Result (List ℕ) Refusal
 outcome S (Ok requested) = outcome_of S requested
 outcome S (Err refusal) = Err refusal
 
 -- the state after it
-abbrev pub after_reading : RbacState → Result Requested Refusal → RbacState
+abbrev pub after_reading : RbacState → Result RequestContent Refusal → RbacState
 after_reading S (Ok requested) = state_after S requested
 after_reading S (Err refusal) = S
 
 -- the text that reports an outcome
-abbrev pub told_as : Result (List ℕ) Refusal → List ℕ
-told_as (Ok text) = text
-told_as (Err refusal) = refusal_text refusal
+abbrev pub outcome_text : Result (List ℕ) Refusal → List ℕ
+outcome_text (Ok text) = text
+outcome_text (Err refusal) = refusal_text refusal
 
 -- ---- lines
 
 -- the answer to a line in this state, and the state after it
 unfoldable pub answer_to : RbacState → List ℕ → List ℕ
-answer_to S line = told_as (outcome S (request line))
+answer_to S line = outcome_text (outcome S (request line))
 
 unfoldable pub after_line : RbacState → List ℕ → RbacState
 after_line S line = after_reading S (request line)
@@ -78,5 +78,5 @@ unfoldable pub lines : RbacState → List ℕ → List (List ℕ)
 lines S bytes = answers_to S (asking (fitting (split_lines bytes)))
 
 -- the answers as they are written: each followed by LF
-unfoldable pub answer_lines : RbacState → List ℕ → List ℕ
-answer_lines S bytes = with_line_feeds (lines S bytes)
+unfoldable pub output_for : RbacState → List ℕ → List ℕ
+output_for S bytes = with_line_feeds (lines S bytes)

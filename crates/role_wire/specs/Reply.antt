@@ -5,12 +5,12 @@ use Rattle.rbac_sets.specs.declared.refusal.Refusal.{Refusal}
 use Rattle.rbac_sets.specs.declared.refusal.Refusal.TheVariants.{BadRequest}
 use Rattle.admin_mgr.specs.RbacState.{RbacState}
 use Rattle.role_json.specs.Request.{body_to}
-use Rattle.role_json.specs.Requested.{Requested}
+use Rattle.role_json.specs.RequestContent.{RequestContent}
 use Rattle.role_json.specs.declared.function.Function.{Function}
 use Rattle.role_http.specs.Head.{HasHead, longest_head}
-use Rattle.role_http.specs.Judging.{judged_head}
+use Rattle.role_http.specs.HeadChecks.{judged_head}
 use Rattle.role_http.specs.Status.{status_of, head_body}
-use Rattle.role_wire.specs.Outcome.{outcome, after_reading, told_as}
+use Rattle.role_wire.specs.Outcome.{outcome, after_reading, outcome_text}
 
 -- a reply: its status and its body, the state after it, and how many bytes after its head the request has
 pub record Reply : Type 0 where
@@ -25,11 +25,11 @@ status_in (Ok text) = 200
 status_in (Err refusal) = status_of refusal
 
 -- the reply to a body of `taken` bytes, from the result of reading it
-abbrev pub reply_of : RbacState → ℕ → Result Requested Refusal → Reply
-reply_of S taken read = record { status = status_in (outcome S read); body = told_as (outcome S read); after = after_reading S read; taken = taken }
+abbrev pub reply_of : RbacState → ℕ → Result RequestContent Refusal → Reply
+reply_of S taken read = record { status = status_in (outcome S read); body = outcome_text (outcome S read); after = after_reading S read; taken = taken }
 
 -- what a call asks for, by the bytes after its head: fewer than it announces are no request
-abbrev pub called_for : List ℕ → Function → ℕ → Result Requested Refusal
+abbrev pub called_for : List ℕ → Function → ℕ → Result RequestContent Refusal
 called_for rest called count = if nat_lt (length rest) count then Err BadRequest else body_to called (take count rest)
 
 -- the reply to a head, from the result of judging it, and to the bytes after it
@@ -53,7 +53,7 @@ Replies S bytes reply =
     ⊎ (HasNoHead bytes × (((reply.status ≡ 400) × HasNoRequest bytes) ⊎ (reply.status ≡ 431)) × (reply.body ≡ head_body reply.status) × (reply.after ≡ S))
 
 -- the request in these bytes asks for this
-abbrev pub Asks : List ℕ → Requested → Type 0
+abbrev pub Asks : List ℕ → RequestContent → Type 0
 Asks bytes asked = (head : RequestHead) × (rest : List ℕ) × HasHead bytes head rest
     × ((called : Function) × (count : ℕ) × (judged_head head ≡ Ok (called, count)) × (called_for rest called count ≡ Ok asked))
 

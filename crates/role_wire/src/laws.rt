@@ -4,7 +4,7 @@ ghost use Rattle.role_json.specs.Answer.{done_text, refusal_text};
 ghost use Rattle.role_wire.specs.AnswerTexts.{AnswersAreLines, ImportText, NamesAreQuoted};
 ghost use Rattle.role_wire.specs.Lines.{SplitsByPieces};
 ghost use Rattle.role_wire.specs.Reply.{RepliesOnce};
-ghost use Rattle.role_wire.specs.Running.{CommandsRunAsked, LinesHaveCommands, LinesRunAsked, LinesRunCommands, LinesTellVerdicts};
+ghost use Rattle.role_wire.specs.LineCommands.{CommandsRunAsked, LinesHaveCommands, LinesRunAsked, LinesRunCommands, LinesReportVerdicts};
 
 use rbac_sets::Refusal;
 
@@ -28,7 +28,7 @@ pub fn replies_once()
 pub fn lines_run_commands()
     ensures commands { LinesHaveCommands }
     ensures state { LinesRunCommands }
-    ensures answers { LinesTellVerdicts }
+    ensures answers { LinesReportVerdicts }
     ensures asked { LinesRunAsked }
     ensures same { CommandsRunAsked }
 {}

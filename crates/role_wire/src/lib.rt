@@ -25,14 +25,14 @@
 #![tactic(auto)]
 
 pub use lines::{Cause, Count, Stop};
-pub use replaying::replay;
+pub use office_replay::replay;
 pub use role_csv::{read_assignments, write_assignments};
 pub use role_json::{Function, Request, Verdict, answer_text, read_body, read_request};
 pub use serving::{Served, serve_one, serve_with};
 
 pub mod laws;
 pub mod lines;
-mod made;
-mod performing;
-pub mod replaying;
+pub mod office_replay;
+mod office_request;
+mod prepared_reply;
 pub mod serving;

@@ -4,7 +4,7 @@ ghost use Rattle.std.specs.List.{position};
 ghost use Rattle.std.specs.Io.KnownBytes.{Appends, Consumes, IsAtEnd};
 ghost use Rattle.rbac_sets.specs.Stream.{HasRisen};
 ghost use Rattle.role_wire.specs.Lines.{is_blank, longest_line, line_feed};
-ghost use Rattle.role_wire.specs.Reading.{place_of, IsOpenLine, IsRead, EndsLine, FailsLine, HasNoLineFeed, Halts};
+ghost use Rattle.role_wire.specs.private.ReadProgress.{read_position_of, IsOpenLine, IsRead, EndsLine, StopsAtLine, HasNoLineFeed, Halts};
 ghost use Rattle.role_wire.specs.Replay.{IsAtBound, IsReplayed, IsStopped, most_reads};
 
 use rbac_sets::{Fault, Sink, Source, write_all};
@@ -251,7 +251,7 @@ fn end_line<A: AnswerLines, W: Sink>(
     requires { progress.old.answered + 1 < 2 ^ 64 }
     ensures ok { OnOk result (EndsLine A.answers office.old progress.old.line.items office.new (W.written sink.old) (W.written sink.new) progress.old.answered progress.new.answered) }
     ensures line { OnOk result (progress.new.line.items ≡ []) }
-    ensures err { IfErr result (λ cause. FailsLine A.answers A.fails cause office.old progress.old.line.items office.new (W.written sink.old) (W.written sink.new)) }
+    ensures err { IfErr result (λ cause. StopsAtLine A.answers A.fails cause office.old progress.old.line.items office.new (W.written sink.old) (W.written sink.new)) }
     ensures stays { OnErr result (progress.new.answered ≡ progress.old.answered) }
     ensures number { progress.new.number ≡ progress.old.number }
     ensures answered { progress.new.answered ≤ progress.old.answered + 1 }
@@ -287,8 +287,8 @@ fn read_line<A: AnswerLines, W: Sink>(
     requires number { progress.old.number + 1 < 2 ^ 64 }
     requires open_line { IsOpenLine progress.old.line.items }
     requires plain { HasNoLineFeed bytes.now }
-    ensures ok { OnOk result (IsRead A.answers (place_of office.old progress.old (W.written sink.old)) (place_of office.new progress.new (W.written sink.new)) (bytes.now ++ line_feed ∷ [])) }
-    ensures err { IfErr result (λ cause. (after : List ℕ) → Halts A.answers A.fails (place_of office.old progress.old (W.written sink.old))
+    ensures ok { OnOk result (IsRead A.answers (read_position_of office.old progress.old (W.written sink.old)) (read_position_of office.new progress.new (W.written sink.new)) (bytes.now ++ line_feed ∷ [])) }
+    ensures err { IfErr result (λ cause. (after : List ℕ) → Halts A.answers A.fails (read_position_of office.old progress.old (W.written sink.old))
         (bytes.now ++ line_feed ∷ after) ⊥ cause office.new (W.written sink.new) progress.new.answered) }
     ensures number { progress.new.number ≤ progress.old.number + 1 }
     ensures answered { progress.new.answered ≤ progress.old.answered + 1 }
@@ -314,8 +314,8 @@ fn read_piece<A: AnswerLines, W: Sink>(
     requires count { progress.old.answered + length piece.now < 2 ^ 64 }
     requires number { progress.old.number + length piece.now + 1 < 2 ^ 64 }
     requires open_line { IsOpenLine progress.old.line.items }
-    ensures ok { OnOk result (IsRead A.answers (place_of office.old progress.old (W.written sink.old)) (place_of office.new progress.new (W.written sink.new)) piece.now) }
-    ensures err { IfErr result (λ cause. Halts A.answers A.fails (place_of office.old progress.old (W.written sink.old)) piece.now ⊥ cause office.new (W.written sink.new) progress.new.answered) }
+    ensures ok { OnOk result (IsRead A.answers (read_position_of office.old progress.old (W.written sink.old)) (read_position_of office.new progress.new (W.written sink.new)) piece.now) }
+    ensures err { IfErr result (λ cause. Halts A.answers A.fails (read_position_of office.old progress.old (W.written sink.old)) piece.now ⊥ cause office.new (W.written sink.new) progress.new.answered) }
     ensures number { progress.new.number ≤ progress.old.number + length piece.now }
     ensures answered { progress.new.answered ≤ progress.old.answered + length piece.now }
     ensures failures { W.failed sink.old ≤ W.failed sink.new }

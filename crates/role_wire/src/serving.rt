@@ -4,22 +4,22 @@ ghost use Rattle.std.specs.Io.KnownBytes.{Appends, Consumes};
 ghost use Rattle.sqlite.specs.Held.{state};
 ghost use Rattle.rbac_sets.specs.Stream.{HasRisen};
 ghost use Rattle.role_json.specs.Request.{body_to};
-ghost use Rattle.role_json.specs.Requested.{requested};
-ghost use Rattle.role_http.specs.Answered.{with_left};
+ghost use Rattle.role_json.specs.RequestContent.{requested};
+ghost use Rattle.role_http.specs.HeadAnswer.{with_left};
 ghost use Rattle.role_http.specs.ReplyBytes.{reply_bytes};
 ghost use Rattle.role_http.specs.Route.{routes};
-ghost use Rattle.role_wire.specs.Made.{IsRefusal, IsReplied, bytes_in};
-ghost use Rattle.role_wire.specs.Performing.{IsCommand, IsQuestion};
+ghost use Rattle.role_wire.specs.private.PreparedReply.{IsRefusal, IsReplied, bytes_in};
+ghost use Rattle.role_wire.specs.OfficeRequest.{IsCommand, IsQuestion};
 ghost use Rattle.role_wire.specs.Reply.{Asks, TakesNoFurther, called_for};
-ghost use Rattle.role_wire.specs.Serving.{ComesOf, IsDone, IsRead, LeavesUntold, ServesRequest, StopsRequest, Tells};
+ghost use Rattle.role_wire.specs.ServedRequest.{AnswersBody, IsDone, IsReadAs, LeavesUnanswered, ServesRequest, StopsRequest, AnswersBytes};
 
 use crate::lines::{Cause, Stop};
-use crate::made::{Body, Made, no_memory, refused, refused_head};
-use crate::performing::perform;
+use crate::office_request::perform;
+use crate::prepared_reply::{Body, PreparedReply, no_memory, refused, refused_head};
 use http::StatusCode;
 use matchit::Router;
 use rbac_sets::{Fault, Refusal, Sink, Source};
-use role_http::{Unread, answer_head, one_route, read_bytes, write_reply};
+use role_http::{ReadError, answer_head, one_route, read_bytes, write_reply};
 use role_json::{Function, Request, Verdict, answer_text, body_to};
 use role_tables::Office;
 use sqlite::Alter;
@@ -105,14 +105,14 @@ pub fn serve_with<S: Alter, R: Source, W: Sink>(
     ensures read_cause { IfErr result (λ stop. stop.cause ≡ Cause.Read → HasRisen (R.failed source.old) (R.failed source.new)) }
     ensures write_cause { IfErr result (λ stop. stop.cause ≡ Cause.Write → HasRisen (W.failed sink.old) (W.failed sink.new) ⊎ HasRisen (W.idle sink.old) (W.idle sink.new)) }
 {
-    match do_request(alloc, router, office, source) {
+    match answer_http_request(alloc, router, office, source) {
         Ok(made) => send(sink, &made),
         Err(cause) => Err(Stop { cause, answered: 0 }),
     }
 }
 
 // Writes a reply.
-fn send<W: Sink>(sink: &mut W, made: &Made) -> Result<Served, Stop>
+fn send<W: Sink>(sink: &mut W, made: &PreparedReply) -> Result<Served, Stop>
     ensures served { IfOk result (λ served. (served.status ≡ made.now.status) × Appends (W.written sink.old) (W.written sink.new) (reply_bytes made.now.status (bytes_in made.now.body))) }
     ensures part { IfErr result (λ stop. (stop.answered ≡ 0) × (stop.cause ≡ Cause.Write)
         × ((part rest : List ℕ) × (reply_bytes made.now.status (bytes_in made.now.body) ≡ part ++ rest) × (1 ≤ length rest) × Appends (W.written sink.old) (W.written sink.new) part)) }
@@ -130,104 +130,108 @@ fn send<W: Sink>(sink: &mut W, made: &Made) -> Result<Served, Stop>
 }
 
 // Reads a request, does what it asks for, and returns the reply.
-fn do_request<S: Alter, R: Source>(
+fn answer_http_request<S: Alter, R: Source>(
     alloc: Global,
     router: &Router<()>,
     office: &mut Office<S>,
     source: &mut R,
-) -> Result<Made, Cause>
+) -> Result<PreparedReply, Cause>
     requires route { router.now ≡ routes }
     ensures made { IfOk result (λ made. (taken : List ℕ) × Consumes (R.remaining source.old) (R.remaining source.new) taken
         × TakesNoFurther office.old.facts (with_left taken (R.remaining source.new)) taken
-        × Tells (state S.Store) office.old (with_left taken (R.remaining source.new)) made.status (bytes_in made.body) office.new) }
+        × AnswersBytes (state S.Store) office.old (with_left taken (R.remaining source.new)) made.status (bytes_in made.body) office.new) }
     ensures left { IfErr result (λ cause. (taken : List ℕ) × Consumes (R.remaining source.old) (R.remaining source.new) taken
         × TakesNoFurther office.old.facts (with_left taken (R.remaining source.new)) taken
-        × LeavesUntold (state S.Store) cause office.old (Asks (with_left taken (R.remaining source.new))) office.new) }
+        × LeavesUnanswered (state S.Store) cause office.old (Asks (with_left taken (R.remaining source.new))) office.new) }
     ensures cause { IfErr result (λ cause. cause ≡ Cause.Read → HasRisen (R.failed source.old) (R.failed source.new)) }
 {
     match answer_head(alloc, router, source) {
-        Ok(Ok((called, count))) => do_call(alloc, office, source, called, count),
+        Ok(Ok((called, count))) => answer_call(alloc, office, source, called, count),
         Ok(Err(status)) => Ok(refused_head(status)),
-        Err(Unread::Memory) => Ok(no_memory()),
-        Err(Unread::Fault) => Err(Cause::Read),
+        Err(ReadError::Memory) => Ok(no_memory()),
+        Err(ReadError::Fault) => Err(Cause::Read),
     }
 }
 
 // Reads the body of a call, does what it asks for, and returns the reply.
-fn do_call<S: Alter, R: Source>(
+fn answer_call<S: Alter, R: Source>(
     alloc: Global,
     office: &mut Office<S>,
     source: &mut R,
     called: Function,
     count: u32,
-) -> Result<Made, Cause>
+) -> Result<PreparedReply, Cause>
     ensures made { IfOk result (λ made. (taken : List ℕ) × Consumes (R.remaining source.old) (R.remaining source.new) taken
         × (length taken ≤ length (take count (with_left taken (R.remaining source.new))))
-        × ComesOf (state S.Store) office.old (called_for (with_left taken (R.remaining source.new)) called count) made office.new) }
+        × AnswersBody (state S.Store) office.old (called_for (with_left taken (R.remaining source.new)) called count) made office.new) }
     ensures left { IfErr result (λ cause. (taken : List ℕ) × Consumes (R.remaining source.old) (R.remaining source.new) taken
         × (length taken ≤ length (take count (with_left taken (R.remaining source.new))))
-        × LeavesUntold (state S.Store) cause office.old (IsRead (called_for (with_left taken (R.remaining source.new)) called count)) office.new) }
+        × LeavesUnanswered (state S.Store) cause office.old (IsReadAs (called_for (with_left taken (R.remaining source.new)) called count)) office.new) }
     ensures cause { IfErr result (λ cause. cause ≡ Cause.Read → HasRisen (R.failed source.old) (R.failed source.new)) }
 {
     let body = match read_bytes(alloc, source, count as usize) {
         Ok(body) => body,
-        Err(Unread::Memory) => return Ok(no_memory()),
-        Err(Unread::Fault) => return Err(Cause::Read),
+        Err(ReadError::Memory) => return Ok(no_memory()),
+        Err(ReadError::Fault) => return Err(Cause::Read),
     };
     if body.len() < count as usize {
         return Ok(refused_head(StatusCode::BAD_REQUEST));
     }
-    do_body(alloc, office, called, &body)
+    answer_body(alloc, office, called, &body)
 }
 
 // Does what a body asks for, and returns the reply.
-fn do_body<S: Alter>(
+fn answer_body<S: Alter>(
     alloc: Global,
     office: &mut Office<S>,
     called: Function,
     body: &[u8],
-) -> Result<Made, Cause>
-    ensures made { IfOk result (λ made. ComesOf (state S.Store) office.old (body_to called body.now) made office.new) }
-    ensures left { IfErr result (λ cause. (cause ≡ Cause.Memory) × IsDone (state S.Store) office.old (IsRead (body_to called body.now)) office.new) }
+) -> Result<PreparedReply, Cause>
+    ensures made { IfOk result (λ made. AnswersBody (state S.Store) office.old (body_to called body.now) made office.new) }
+    ensures left { IfErr result (λ cause. (cause ≡ Cause.Memory) × IsDone (state S.Store) office.old (IsReadAs (body_to called body.now)) office.new) }
 {
     match body_to(alloc, called, body) {
-        Ok(request) => do_asked(alloc, office, &request),
+        Ok(request) => answer_request(alloc, office, &request),
         Err(refusal) => Ok(refused(alloc, refusal)),
     }
 }
 
 // Does what a request asks for, and returns the reply.
-fn do_asked<S: Alter>(
+fn answer_request<S: Alter>(
     alloc: Global,
     office: &mut Office<S>,
     request: &Request,
-) -> Result<Made, Cause>
-    ensures made { IfOk result (λ made. ComesOf (state S.Store) office.old (Ok (requested request.now)) made office.new) }
-    ensures left { IfErr result (λ cause. (cause ≡ Cause.Memory) × IsDone (state S.Store) office.old (IsRead (Ok (requested request.now))) office.new) }
+) -> Result<PreparedReply, Cause>
+    ensures made { IfOk result (λ made. AnswersBody (state S.Store) office.old (Ok (requested request.now)) made office.new) }
+    ensures left { IfErr result (λ cause. (cause ≡ Cause.Memory) × IsDone (state S.Store) office.old (IsReadAs (Ok (requested request.now))) office.new) }
 {
     match perform(alloc, office, request) {
-        Ok(verdict) => tell(alloc, request, &verdict),
+        Ok(verdict) => reply_to_verdict(alloc, request, &verdict),
         Err(refusal) => Ok(refused(alloc, refusal)),
     }
 }
 
 // The reply to a request that was done or answered with this verdict.
-fn tell(alloc: Global, request: &Request, verdict: &Verdict) -> Result<Made, Cause>
+fn reply_to_verdict(
+    alloc: Global,
+    request: &Request,
+    verdict: &Verdict,
+) -> Result<PreparedReply, Cause>
     ensures made { IfOk result (λ made. IsReplied verdict.now made ⊎ (IsRefusal Refusal.Memory made × IsQuestion (requested request.now))) }
     ensures left { IfErr result (λ cause. (cause ≡ Cause.Memory) × IsCommand (requested request.now)) }
 {
     match answer_text(alloc, verdict) {
-        Ok(text) => Ok(Made {
+        Ok(text) => Ok(PreparedReply {
             status: StatusCode::OK,
             body: Body::Text(text),
         }),
-        Err(_) => untold(request),
+        Err(_) => reply_without_text(request),
     }
 }
 
 // The result for a request that was done or answered, but whose answer text could not be allocated: a question
 // is answered by 503, and a command stops without a reply.
-fn untold(request: &Request) -> Result<Made, Cause>
+fn reply_without_text(request: &Request) -> Result<PreparedReply, Cause>
     ensures made { IfOk result (λ made. IsRefusal Refusal.Memory made × IsQuestion (requested request.now)) }
     ensures left { IfErr result (λ cause. (cause ≡ Cause.Memory) × IsCommand (requested request.now)) }
 {

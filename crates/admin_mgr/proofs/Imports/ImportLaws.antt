@@ -18,11 +18,11 @@ use Rattle.std.specs.declared.alloc.Global.{Global}
 use Rattle.std.proofs.lemmas.Bool.{ltb-false}
 use Rattle.admin_mgr.specs.After.{changed, after}
 use Rattle.admin_mgr.specs.Verdict.{verdict, refusals}
-use Rattle.admin_mgr.specs.Refusing.{is_too_many}
+use Rattle.admin_mgr.specs.Refusals.{is_too_many}
 use Rattle.admin_mgr.proofs.StateAfter.SessionLaws.{none_ends}
 use Rattle.admin_mgr.proofs.Verdicts.VerdictLaws.{passed, refuse_if-None}
 use Rattle.admin_mgr.specs.Assignment.{after_assignment, after_record, after_import, assignment_verdict, import_verdicts}
-use Rattle.admin_mgr.specs.Importing.{accepted, with_assignments}
+use Rattle.admin_mgr.specs.private.ImportPlan.{accepted, with_assignments}
 use Rattle.admin_mgr.specs.Good.{IsGood}
 use Rattle.admin_mgr.proofs.StateAfter.GoodAssignment.{after_assignment_is, good_with_assignment, not_assigned}
 use Rattle.admin_mgr.proofs.Verdicts.TouchLaws.{with_assignment}

@@ -14,8 +14,8 @@ use Rattle.rbac_sets.proofs.SetLaws.{contains-empty, contains-insert, tie_Decide
 use Rattle.admin_mgr.specs.declared.planning.importing.Imported.{Imported}
 use Rattle.admin_mgr.specs.RbacState.{RbacState}
 use Rattle.admin_mgr.specs.Assignment.{assignment_verdict, import_verdicts, is_already, refused_record, tally_of}
-use Rattle.admin_mgr.specs.Importing.{accepted, with_assignments, put_assignment, IsBegun, IsAssigned, IsTold, Follows}
-use Rattle.admin_mgr.specs.Planned.{tally_of_report}
+use Rattle.admin_mgr.specs.private.ImportPlan.{accepted, with_assignments, put_assignment, IsBegun, IsAssigned, IsRefused, Follows}
+use Rattle.admin_mgr.specs.PlanEffect.{tally_of_report}
 use Rattle.admin_mgr.specs.Good.{IsGood}
 use Rattle.admin_mgr.proofs.Verdicts.TouchLaws.{with_assignment}
 use Rattle.admin_mgr.proofs.StateAfter.GoodAssignment.{good_with_assignment}
@@ -107,8 +107,8 @@ module _ (S : RbacState) (all rest : List Pair) (pair : Pair) (number : ℕ) (be
       }
 
   -- if the next record is refused
-  told_step : (refusal : Refusal) → assignment_verdict (state_now S before) pair ≡ Some refusal → IsTold (number + 1) refusal before later → Stands S all rest (number + 1) later
-  told_step refusal is told =
+  refused_step : (refusal : Refusal) → assignment_verdict (state_now S before) pair ≡ Some refusal → IsRefused (number + 1) refusal before later → Stands S all rest (number + 1) later
+  refused_step refusal is told =
       let X : RbacState = state_now S before in
       let same : state_now S later ≡ X = ap (with_assignments S) told.added in
       let verdicts : import_verdicts X (pair ∷ rest) ≡ Some refusal ∷ import_verdicts (state_now S later) rest =
@@ -150,7 +150,7 @@ module _ (S : RbacState) (all rest : List Pair) (pair : Pair) (number : ℕ) (be
     where
       by : (v : Option Refusal) → assignment_verdict (state_now S before) pair ≡ v → Follows v (number + 1) pair before later → Stands S all rest (number + 1) later
       by None is assigned = assigned_step is assigned
-      by (Some refusal) is told = told_step refusal is told
+      by (Some refusal) is told = refused_step refusal is told
 
 -- at the end, the changes are those of the whole import
 pub ends_with_changes : (S : RbacState) (all : List Pair) (number : ℕ) (now : Imported) → Stands S all [] number now → now.changes.items ≡ map put_assignment (accepted S all)

@@ -9,7 +9,7 @@ use Rattle.admin_mgr.specs.RbacState.{RbacState}
 use Rattle.admin_mgr.specs.After.{after}
 use Rattle.admin_mgr.specs.Changes.{Turns}
 use Rattle.admin_mgr.specs.Good.{IsGood}
-use Rattle.admin_mgr.specs.Importing.{accepted, put_assignment}
+use Rattle.admin_mgr.specs.private.ImportPlan.{accepted, put_assignment}
 use Rattle.admin_mgr.proofs.Imports.ImportLaws.{accepted_new, accepted_distinct, after_import_puts}
 use Rattle.admin_mgr.proofs.PlanRows.RunLaws.{all_of, steps_put_list}
 use Rattle.admin_mgr.proofs.PlanRows.SetRows.{assignment_rows}

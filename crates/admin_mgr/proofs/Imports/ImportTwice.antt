@@ -15,7 +15,7 @@ use Rattle.rbac_sets.proofs.Members.{len-subset}
 use Rattle.admin_mgr.specs.RbacState.{RbacState, members_of, active_roles}
 use Rattle.admin_mgr.specs.Authorization.{authorized_users, is_authorized}
 use Rattle.admin_mgr.specs.Separation.{is_kept_statically, static_violation}
-use Rattle.admin_mgr.specs.Refusing.{refuse_if, refuse_unless, first, is_too_many, breaks_static}
+use Rattle.admin_mgr.specs.Refusals.{refuse_if, refuse_unless, first, is_too_many, violates_static}
 use Rattle.admin_mgr.specs.Assignment.{may_go_on, end_sessions, after_assignment, after_record, after_import, assignment_verdict, assignment_refusals, import_verdicts, is_already, refused_record, tally_of}
 use Rattle.admin_mgr.specs.After.{changed, after}
 use Rattle.admin_mgr.specs.Verdict.{verdict, refusals}
@@ -84,7 +84,7 @@ module _ (S : RbacState) (few many : Pairs) (within : IsSubset few many) where
   authorized_more = authorized-fewer (holding S many) (record (whole (holding S many)) { assignments = few; assignments_within = within })
 
   -- so if no static set is violated with more assignments, none is with fewer
-  none_before : breaks_static (holding S many) ≡ None → breaks_static (holding S few) ≡ None
+  none_before : violates_static (holding S many) ≡ None → violates_static (holding S few) ≡ None
   none_before none = ap (option_map StaticSeparation)
       ((least_violated-None (is_kept_statically (holding S few)) S.ssd).1 (λ name n there.
       (kept_statically (holding S few) (members_of S.ssd name) n).1 (λ user is_user.
@@ -124,8 +124,8 @@ blocked_full S assignments p full more within put =
 -- if static separation refuses it
 blocked_static : (S : RbacState) (assignments : Pairs) (p : Pair) → (option_map StaticSeparation (named_with S assignments p) ≡ None → ⊥) → IsBlocked S assignments p
 unfolding assignment_verdict assignment_refusals after_assignment end_sessions is_kept_statically authorized_users
-blocked_static S assignments p broken more within put =
-    broken (none_before S (insert assignments p) (insert more p) (one_more assignments more p within) (passed (assignment_refusals (holding S more) p) put).1.1.1.1.0)
+blocked_static S assignments p violated more within put =
+    violated (none_before S (insert assignments p) (insert more p) (one_more assignments more p within) (passed (assignment_refusals (holding S more) p) put).1.1.1.1.0)
 
 -- a blocked pair stays unassigned
 stays_out : (p : Pair) (S X : RbacState) → IsAlike S X → IsBlocked S X.assignments p → contains X.assignments p ≡ false → (pairs : List Pair) → contains (after_import X pairs).assignments p ≡ false

@@ -14,12 +14,12 @@ use Rattle.rbac_sets.proofs.SetLaws.{any-Decides, seconds-Decides, contains-unio
 use Rattle.role_order.specs.Order.{geq}
 use Rattle.role_order.proofs.Runs.{any_seconds}
 use Rattle.admin_mgr.specs.RbacState.{RbacState}
-use Rattle.admin_mgr.specs.Refusing.{refuse_if, refuse_unless, first, too_many, breaks_static}
+use Rattle.admin_mgr.specs.Refusals.{refuse_if, refuse_unless, first, too_many, violates_static}
 use Rattle.admin_mgr.specs.Assignment.{assign_user_refusals, assignment_refusals, assignment_verdict, after_assignment}
-use Rattle.admin_mgr.specs.Importing.{with_assignments, record_refusals}
+use Rattle.admin_mgr.specs.private.ImportPlan.{with_assignments, record_refusals}
 use Rattle.admin_mgr.specs.Good.{IsGood}
-use Rattle.admin_mgr.specs.Held.{run_of, is_reached, is_touched, has_with, find_in, naming_first}
-use Rattle.admin_mgr.proofs.Verdicts.TouchLaws.{assignment_breaks}
+use Rattle.admin_mgr.specs.private.HolderRoles.{run_of, is_reached, is_touched, has_with, find_with_one, naming_first}
+use Rattle.admin_mgr.proofs.Verdicts.TouchLaws.{assignment_violates}
 use Rattle.admin_mgr.proofs.StateAfter.GoodAssignment.{not_assigned}
 use Rattle.admin_mgr.proofs.Imports.UnionLaws.{len-union}
 use Rattle.admin_mgr.proofs.Verdicts.VerdictLaws.{passed, refuse_unless-None, stopped}
@@ -63,7 +63,7 @@ reached_union edges s t x q =
 
 -- so the same separation of duty set is found
 pub found_union : (edges s t : Pairs) (x role : Bytes) (pairs : Pairs) (sets : List Cardinality) →
-    find_in edges (run_of (union s t) x) role pairs sets ≡ find_in edges (run_of s x ++ run_of t x) role pairs sets
+    find_with_one edges (run_of (union s t) x) role pairs sets ≡ find_with_one edges (run_of s x ++ run_of t x) role pairs sets
 found_union edges s t x role pairs sets = λ i. find (λ (entry : Cardinality). is_touched edges role (run_of pairs entry.0)
     && not (nat_lt (count_by (λ (member : Pair). reached_union edges s t x member.1 i || geq edges role member.1) (run_of pairs entry.0)) entry.1)) sets
 
@@ -85,21 +85,21 @@ module _ (S : RbacState) (added : Pairs) (good : IsGood (with_assignments S adde
       ∷ []
 
   -- the refusal by static separation
-  same_last : IsTrue (contains S.users user) → breaks_static (after_assignment (with_assignments S added) (user, role)) ≡ named_last S added user role
+  same_last : IsTrue (contains S.users user) → violates_static (after_assignment (with_assignments S added) (user, role)) ≡ named_last S added user role
   unfolding with_assignments
   same_last is_user =
-      assignment_breaks (with_assignments S added) good user role is_user
+      assignment_violates (with_assignments S added) good user role is_user
       ∙ ap (λ o. option_map StaticSeparation (option_map (λ (x : Cardinality). x.0) o)) (found_union S.edges S.assignments added user role S.ssd.members (members S.ssd.cardinalities))
 
   -- the record is refused with the first of these refusals, otherwise for the static set that would be violated
   pub record_verdict : assignment_verdict (with_assignments S added) (user, role) ≡ first (record_refusals S added (user, role) ++ named_last S added user role ∷ [])
   unfolding assignment_verdict assignment_refusals
   record_verdict =
-      ap (λ refusals. first (refusals ++ breaks_static (after_assignment (with_assignments S added) (user, role)) ∷ [])) same_refusals
+      ap (λ refusals. first (refusals ++ violates_static (after_assignment (with_assignments S added) (user, role)) ∷ [])) same_refusals
       ∙ by (first (record_refusals S added (user, role))) refl
     where
       by : (v : Option Refusal) → first (record_refusals S added (user, role)) ≡ v →
-          first (record_refusals S added (user, role) ++ breaks_static (after_assignment (with_assignments S added) (user, role)) ∷ [])
+          first (record_refusals S added (user, role) ++ violates_static (after_assignment (with_assignments S added) (user, role)) ∷ [])
           ≡ first (record_refusals S added (user, role) ++ named_last S added user role ∷ [])
       by (Some refusal) is = sym (stopped (record_refusals S added (user, role)) _ refusal is) ∙ stopped (record_refusals S added (user, role)) (named_last S added user role) refusal is
       by None is =

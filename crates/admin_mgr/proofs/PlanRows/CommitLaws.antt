@@ -15,8 +15,8 @@ use Rattle.admin_mgr.specs.declared.plan.Plan.{Plan}
 use Rattle.admin_mgr.specs.RbacState.{RbacState}
 use Rattle.admin_mgr.specs.Rows.{has_row}
 use Rattle.admin_mgr.specs.Changes.{same_row, is_put, is_taken, IsOnce, Turns}
-use Rattle.admin_mgr.specs.Stepping.{is_plain, with_row, without_row, with_edges, after_change, after_changes, AreFree}
-use Rattle.admin_mgr.specs.Planned.{TurnsEdges, LeadsTo}
+use Rattle.admin_mgr.specs.RowUpdates.{is_plain, with_row, without_row, with_edges, after_change, after_changes, AreFree}
+use Rattle.admin_mgr.specs.PlanEffect.{TurnsEdges, LeadsTo}
 use Rattle.admin_mgr.proofs.PlanRows.RowLaws.{plain_determine}
 use Rattle.admin_mgr.proofs.PlanRows.ChangeLaws.{has_row-with, has_row-without, has_row-changes}
 use Rattle.admin_mgr.proofs.PlanRows.StepLaws.{has_row-with_edges}

@@ -18,10 +18,10 @@ use Rattle.admin_mgr.specs.RbacState.{RbacState}
 use Rattle.admin_mgr.specs.Assignment.{may_go_on, end_sessions}
 use Rattle.admin_mgr.specs.After.{changed, after}
 use Rattle.admin_mgr.specs.Verdict.{verdict, refusals}
-use Rattle.admin_mgr.specs.Ending.{goes_on_without_pairs}
+use Rattle.admin_mgr.specs.private.SessionContinuation.{goes_on_without_pairs}
 use Rattle.admin_mgr.specs.Changes.{Turns}
-use Rattle.admin_mgr.specs.Stepping.{with_edges}
-use Rattle.admin_mgr.specs.Listing.{order_puts, order_takes, ended_rows}
+use Rattle.admin_mgr.specs.RowUpdates.{with_edges}
+use Rattle.admin_mgr.specs.private.PlanChanges.{order_puts, order_takes, ended_rows}
 use Rattle.admin_mgr.specs.Good.{IsGood}
 use Rattle.admin_mgr.proofs.Verdicts.VerdictLaws.{passed, refuse_unless-None}
 use Rattle.admin_mgr.proofs.StateAfter.NewRoleLaws.{add_ascendant_absent, add_ascendant_no_cycle, after_add_ascendant, add_descendant_absent, add_descendant_no_cycle, after_add_descendant}

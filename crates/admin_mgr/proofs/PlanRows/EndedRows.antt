@@ -18,9 +18,9 @@ use Rattle.rbac_sets.specs.declared.row.Row.TheVariants.{PairRow}
 use Rattle.rbac_sets.specs.declared.row.TheConstants.Row.{SESSION, ACTIVATED_ROLE}
 use Rattle.rbac_sets.specs.declared.row.Change.TheVariants.{Take}
 use Rattle.admin_mgr.specs.RbacState.{RbacState}
-use Rattle.admin_mgr.specs.Held.{run_of}
+use Rattle.admin_mgr.specs.private.HolderRoles.{run_of}
 use Rattle.admin_mgr.specs.Assignment.{may_go_on, end_sessions}
-use Rattle.admin_mgr.specs.Listing.{pair_row, take_all, session_rows, ended_rows}
+use Rattle.admin_mgr.specs.private.PlanChanges.{pair_row, take_all, session_rows, ended_rows}
 use Rattle.admin_mgr.proofs.PlanRows.StepLaws.Way.{taking}
 use Rattle.admin_mgr.proofs.PlanRows.StepLaws.{Steps, steps_nothing, steps_append, steps_to}
 use Rattle.admin_mgr.proofs.PlanRows.RunLaws.{remove_all, remove_all-retain, any-retain, all_two, all_of, distinct-filter, steps_take_one, steps_take_some}

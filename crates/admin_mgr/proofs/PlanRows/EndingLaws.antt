@@ -18,9 +18,9 @@ use Rattle.admin_mgr.specs.Authorization.{is_authorized}
 use Rattle.admin_mgr.specs.Assignment.{may_go_on}
 use Rattle.admin_mgr.specs.After.{changed, without_first, without_second}
 use Rattle.admin_mgr.specs.Good.{IsGood}
-use Rattle.admin_mgr.specs.Held.{run_of, is_reached}
-use Rattle.admin_mgr.specs.Ending.{is_held_without_role, is_held_without_pairs}
-use Rattle.admin_mgr.proofs.Verdicts.HeldLaws.{authorized_reached}
+use Rattle.admin_mgr.specs.private.HolderRoles.{run_of, is_reached}
+use Rattle.admin_mgr.specs.private.SessionContinuation.{is_held_without_role, is_held_without_pairs}
+use Rattle.admin_mgr.proofs.Verdicts.AuthorizationLaws.{authorized_reached}
 use Rattle.admin_mgr.proofs.StateAfter.PartLaws.{geq-fewer, remove-subset}
 use Rattle.admin_mgr.proofs.StateAfter.SessionLaws.{goes_on}
 

@@ -14,13 +14,13 @@ use Rattle.rbac_sets.specs.declared.row.Change.{Change}
 use Rattle.rbac_sets.specs.declared.row.Change.TheVariants.{Put, Take}
 use Rattle.admin_mgr.specs.RbacState.{RbacState}
 use Rattle.admin_mgr.specs.Rows.{has_row}
-use Rattle.admin_mgr.specs.Held.{run_of}
+use Rattle.admin_mgr.specs.private.HolderRoles.{run_of}
 use Rattle.admin_mgr.specs.Assignment.{may_go_on, end_sessions}
 use Rattle.admin_mgr.specs.After.{changed, after}
 use Rattle.admin_mgr.specs.Verdict.{verdict, refusals}
-use Rattle.admin_mgr.specs.Ending.{goes_on_without_role}
+use Rattle.admin_mgr.specs.private.SessionContinuation.{goes_on_without_role}
 use Rattle.admin_mgr.specs.Changes.{same_row, is_put, is_taken, Turns}
-use Rattle.admin_mgr.specs.Listing.{pair_row, grant_row, take_all, ended_rows, lock_rows, new_lock_rows}
+use Rattle.admin_mgr.specs.private.PlanChanges.{pair_row, grant_row, take_all, ended_rows, lock_rows, new_lock_rows}
 use Rattle.admin_mgr.specs.Good.{IsGood}
 use Rattle.admin_mgr.proofs.PlanRows.CommitLaws.{same_row-is}
 use Rattle.admin_mgr.proofs.Verdicts.VerdictLaws.{passed, refuse_unless-None}

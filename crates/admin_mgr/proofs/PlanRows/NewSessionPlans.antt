@@ -13,7 +13,7 @@ use Rattle.admin_mgr.specs.Run.{tally}
 use Rattle.admin_mgr.specs.After.{paired, changed}
 use Rattle.admin_mgr.specs.Verdict.{verdict}
 use Rattle.admin_mgr.specs.Good.{IsGood}
-use Rattle.admin_mgr.specs.Listing.{pair_row, put_all}
+use Rattle.admin_mgr.specs.private.PlanChanges.{pair_row, put_all}
 use Rattle.admin_mgr.proofs.PlanRows.StepLaws.Way.{putting}
 use Rattle.admin_mgr.proofs.PlanRows.StepLaws.{Steps, steps_append}
 use Rattle.admin_mgr.proofs.PlanRows.RunLaws.{steps_put_one, steps_put_set, put_all-map}

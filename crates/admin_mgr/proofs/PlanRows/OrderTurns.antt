@@ -26,8 +26,8 @@ use Rattle.rbac_sets.proofs.Lists.{any_map}
 use Rattle.admin_mgr.specs.RbacState.{RbacState}
 use Rattle.admin_mgr.specs.Rows.{has_row}
 use Rattle.admin_mgr.specs.Changes.{same_row, puts, takes, is_put, is_taken, IsOnce, TakesFirst, Turns}
-use Rattle.admin_mgr.specs.Stepping.{with_edges}
-use Rattle.admin_mgr.specs.Listing.{pair_row, put_all, take_all, order_puts, order_takes}
+use Rattle.admin_mgr.specs.RowUpdates.{with_edges}
+use Rattle.admin_mgr.specs.private.PlanChanges.{pair_row, put_all, take_all, order_puts, order_takes}
 use Rattle.admin_mgr.proofs.PlanRows.CommitLaws.{edges-changes}
 use Rattle.admin_mgr.proofs.PlanRows.StepLaws.Way.{taking, putting}
 use Rattle.admin_mgr.proofs.PlanRows.StepLaws.{Steps, steps_with_edges}

@@ -12,8 +12,8 @@ use Rattle.admin_mgr.specs.Assignment.{no_tally}
 use Rattle.admin_mgr.specs.Run.{tally}
 use Rattle.admin_mgr.specs.After.{changed, after}
 use Rattle.admin_mgr.specs.Changes.{Turns}
-use Rattle.admin_mgr.specs.PlainPlan.{IsPlain}
-use Rattle.admin_mgr.specs.Planned.{IsPlanOf}
+use Rattle.admin_mgr.specs.private.PlainPlan.{IsPlain}
+use Rattle.admin_mgr.specs.PlanEffect.{IsPlanOf}
 use Rattle.admin_mgr.specs.Good.{IsGood}
 use Rattle.admin_mgr.proofs.PlanRows.StepLaws.Way.{taking, putting}
 use Rattle.admin_mgr.proofs.PlanRows.StepLaws.{Way, Steps, steps_to}

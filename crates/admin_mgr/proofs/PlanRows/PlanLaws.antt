@@ -11,7 +11,7 @@ use Rattle.admin_mgr.specs.Assignment.{no_tally}
 use Rattle.admin_mgr.specs.Run.{tally}
 use Rattle.admin_mgr.specs.After.{after}
 use Rattle.admin_mgr.specs.Changes.{Turns}
-use Rattle.admin_mgr.specs.Planned.{TurnsEdges, tally_of_report, IsPlanOf}
+use Rattle.admin_mgr.specs.PlanEffect.{TurnsEdges, tally_of_report, IsPlanOf}
 use Rattle.admin_mgr.specs.Good.{IsGood}
 
 module _ (S : RbacState) (command : Command) (plan : Plan) (changes : List Change)

@@ -7,7 +7,7 @@ use Rattle.rbac_sets.specs.declared.row.Change.{Change}
 use Rattle.rbac_sets.specs.declared.table.Table.{Table}
 use Rattle.rbac_sets.specs.declared.table.TheConstants.Table.{COUNT}
 use Rattle.rbac_sets.specs.Table.{number_of, is_number}
-use Rattle.admin_mgr.specs.Stepping.{table_put, puts_at, puts_of, HasRoom, Spends}
+use Rattle.admin_mgr.specs.RowUpdates.{table_put, puts_at, puts_of, HasRoom, UsesRoom}
 
 -- the room for the table of this number
 abbrev pub room_of : List (ℕ × ℕ) → ℕ → ℕ
@@ -20,19 +20,19 @@ with_room [] number room = []
 with_room (table ∷ tables) number room = if nat_eq table.0 number then (table.0, room) ∷ tables else table ∷ with_room tables number room
 
 -- a change may use no room
-pub spends_none : (change : Change) (rooms : List (ℕ × ℕ)) → Spends change rooms rooms
+pub spends_none : (change : Change) (rooms : List (ℕ × ℕ)) → UsesRoom change rooms rooms
 spends_none change [] = tt
 spends_none change (table ∷ tables) = (refl, omega arith, spends_none change tables)
 
 -- a change of one table uses the room of at most one entry
-pub spends_at : (change : Change) (rooms : List (ℕ × ℕ)) (number room : ℕ) → room_of rooms number ≤ room + (if puts_at number change then 1 else 0) → Spends change rooms (with_room rooms number room)
+pub spends_at : (change : Change) (rooms : List (ℕ × ℕ)) (number room : ℕ) → room_of rooms number ≤ room + (if puts_at number change then 1 else 0) → UsesRoom change rooms (with_room rooms number room)
 spends_at change [] number room enough = tt
 spends_at change (table ∷ tables) number room enough = by (nat_eq table.0 number) refl (spends_at change tables number room) enough
   where
     by : (b : Bool) → nat_eq table.0 number ≡ b
-        → (room_of tables number ≤ room + (if puts_at number change then 1 else 0) → Spends change tables (with_room tables number room))
+        → (room_of tables number ≤ room + (if puts_at number change then 1 else 0) → UsesRoom change tables (with_room tables number room))
         → (if b then table.1 else room_of tables number) ≤ room + (if puts_at number change then 1 else 0)
-        → Spends change (table ∷ tables) (if b then (table.0, room) ∷ tables else table ∷ with_room tables number room)
+        → UsesRoom change (table ∷ tables) (if b then (table.0, room) ∷ tables else table ∷ with_room tables number room)
     by true same later enough = (refl, subst (λ n. table.1 ≤ room + (if puts_at n change then 1 else 0)) (sym (eqb-true table.0 number same)) enough, spends_none change tables)
     by false other later enough = (refl, omega arith, later enough)
 
@@ -42,7 +42,7 @@ one_less true n old new fits enough = omega (arith, fits, enough)
 one_less false n old new fits enough = omega (arith, fits, enough)
 
 -- if there is room for a list of changes, there is room for the others after the first
-pub room_left : (change : Change) (changes : List Change) (olds news : List (ℕ × ℕ)) → HasRoom olds (change ∷ changes) → Spends change olds news → HasRoom news changes
+pub room_left : (change : Change) (changes : List Change) (olds news : List (ℕ × ℕ)) → HasRoom olds (change ∷ changes) → UsesRoom change olds news → HasRoom news changes
 room_left change changes [] [] fits spends = tt
 room_left change changes [] (new ∷ news) fits spends = absurd spends
 room_left change changes (old ∷ olds) [] fits spends = absurd spends

@@ -8,8 +8,8 @@ use Rattle.rbac_sets.specs.declared.row.Row.{Row}
 use Rattle.rbac_sets.specs.declared.row.Change.{Change}
 use Rattle.rbac_sets.specs.declared.row.Change.TheVariants.{Put, Take}
 use Rattle.admin_mgr.specs.Changes.{same_row, is_put, is_taken, IsOnce, TakesFirst}
-use Rattle.admin_mgr.specs.Checked.{OccurOnce}
-use Rattle.admin_mgr.specs.Gathered.{is_among}
+use Rattle.admin_mgr.specs.RowChecks.{OccurOnce}
+use Rattle.admin_mgr.specs.StoredSets.{is_among}
 use Rattle.admin_mgr.specs.RowsAfter.{rows_by, rows_after, RowsFollow}
 use Rattle.admin_mgr.proofs.PlanRows.CommitLaws.{same_row-self, same_row-is}
 

@@ -10,20 +10,20 @@ use Rattle.rbac_sets.specs.declared.row.Row.TheVariants.{PairRow, SetRow}
 use Rattle.rbac_sets.specs.declared.row.Change.{Change}
 use Rattle.rbac_sets.specs.declared.row.Change.TheVariants.{Put, Take}
 use Rattle.admin_mgr.specs.RbacState.{RbacState, Separation, has_set, cardinality_of}
-use Rattle.admin_mgr.specs.Held.{run_of}
+use Rattle.admin_mgr.specs.private.HolderRoles.{run_of}
 use Rattle.admin_mgr.specs.After.{paired, with_set, with_member, without_member, with_cardinality, without_set}
 use Rattle.admin_mgr.specs.Changes.{Turns, is_taken, is_put, same_row}
 use Rattle.admin_mgr.specs.Good.{IsSeparation}
-use Rattle.admin_mgr.specs.Listing.{pair_row, take_all, put_all}
+use Rattle.admin_mgr.specs.private.PlanChanges.{pair_row, take_all, put_all}
 use Rattle.admin_mgr.proofs.PlanRows.CommitLaws.{same_row-is}
 use Rattle.admin_mgr.proofs.Verdicts.KeepLaws.{cardinality_there}
 use Rattle.admin_mgr.proofs.PlanRows.RunLaws.{IsSetOf, steps_take_one, steps_put_one, steps_take_some, steps_put_set, put_all-map}
 use Rattle.admin_mgr.proofs.PlanRows.SetRows.{set_row}
-use Rattle.admin_mgr.proofs.StateAfter.SetRowLaws.{no_cardinality, paired_apart, members_paired, told_cardinality-remove, no_cardinality_left, with_other_cardinality}
+use Rattle.admin_mgr.proofs.StateAfter.SetRowLaws.{no_cardinality, paired_apart, members_paired, found_cardinality-remove, no_cardinality_left, with_other_cardinality}
 use Rattle.admin_mgr.proofs.PlanRows.StepLaws.Way.{taking, putting}
 use Rattle.admin_mgr.proofs.PlanRows.StepLaws.{Way, Steps, steps_append, steps_to}
 use Rattle.admin_mgr.proofs.PlanRows.TurnLaws.{AreApart, turns_taking, turns_putting, turns_both}
-use Rattle.admin_mgr.proofs.Verdicts.HeldLaws.{is_some_cardinality}
+use Rattle.admin_mgr.proofs.Verdicts.AuthorizationLaws.{is_some_cardinality}
 
 -- The separation of duty sets of one kind, static or dynamic: `get` reads them, `set` replaces them, and `pairs` and `sets`
 -- are the kinds of the rows of their members and of their cardinalities.
@@ -34,8 +34,8 @@ pub record IsKindOfSets (pairs sets : ℕ) (get : RbacState → Separation) (set
   pub again : (S : RbacState) (s t : Separation) → set (set S s) t ≡ set S t
 
 -- a set without a cardinality is not there
-pub untold_set : (s : Separation) (name : Bytes) → cardinality_of s name ≡ None → has_set s name ≡ true → ⊥
-untold_set s name untold there = true≢false (sym there ∙ sym (is_some_cardinality s name) ∙ ap is_some untold)
+pub no_set_without_cardinality : (s : Separation) (name : Bytes) → cardinality_of s name ≡ None → has_set s name ≡ true → ⊥
+no_set_without_cardinality s name untold there = true≢false (sym there ∙ sym (is_some_cardinality s name) ∙ ap is_some untold)
 
 -- two different cardinalities of one set have different rows
 rows_apart : (sets : ℕ) (name : Bytes) (before n : ℕ) → before ≢ n → AreApart (Take (SetRow sets name before) ∷ []) (Put (SetRow sets name n) ∷ [])
@@ -126,4 +126,4 @@ module _ {pairs sets : ℕ} {get : RbacState → Separation} {set : RbacState �
           let rest : Separation = record s { cardinalities = remove s.cardinalities (name, n) } in
           turns_taking (steps_append
           (steps_take_cardinality s (name, n) (cardinality_there s name n told))
-          (steps_to (steps_take_members rest name) (ap (λ c. set S (record (without_set s name) { cardinalities = c })) (sym (told_cardinality-remove s all_roles formed name n told)))))
+          (steps_to (steps_take_members rest name) (ap (λ c. set S (record (without_set s name) { cardinalities = c })) (sym (found_cardinality-remove s all_roles formed name n told)))))

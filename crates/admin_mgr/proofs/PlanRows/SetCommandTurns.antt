@@ -11,21 +11,21 @@ use Rattle.admin_mgr.specs.declared.plan.Plan.{Plan}
 use Rattle.admin_mgr.specs.declared.separation_of_duty.SeparationOfDuty.{SeparationOfDuty}
 use Rattle.admin_mgr.specs.declared.separation_of_duty.SeparationOfDuty.TheVariants.{Static, Dynamic}
 use Rattle.admin_mgr.specs.RbacState.{RbacState, Separation, cardinality_of}
-use Rattle.admin_mgr.specs.SeparationOfDuty.{sets_of, with_sets, member_rows, cardinality_rows, create_set, add_member, delete_member, set_cardinality, delete_set}
-use Rattle.admin_mgr.specs.Held.{run_of}
+use Rattle.admin_mgr.specs.private.SeparationOfDuty.{sets_of, with_sets, member_rows, cardinality_rows, create_set, add_member, delete_member, set_cardinality, delete_set}
+use Rattle.admin_mgr.specs.private.HolderRoles.{run_of}
 use Rattle.admin_mgr.specs.Assignment.{no_tally}
 use Rattle.admin_mgr.specs.Run.{tally}
 use Rattle.admin_mgr.specs.After.{after}
 use Rattle.admin_mgr.specs.Verdict.{verdict}
 use Rattle.admin_mgr.specs.Changes.{Turns}
-use Rattle.admin_mgr.specs.Planned.{tally_of_report, IsPlanOf}
+use Rattle.admin_mgr.specs.PlanEffect.{tally_of_report, IsPlanOf}
 use Rattle.admin_mgr.specs.Good.{IsGood, IsSeparation}
-use Rattle.admin_mgr.specs.Listing.{pair_row, take_all, put_all}
-use Rattle.admin_mgr.proofs.Verdicts.BreakLaws.{formed_sets, after_create_set, after_add_member, after_delete_member, after_set_cardinality, after_delete_set}
+use Rattle.admin_mgr.specs.private.PlanChanges.{pair_row, take_all, put_all}
+use Rattle.admin_mgr.proofs.Verdicts.SetCommandViolations.{formed_sets, after_create_set, after_add_member, after_delete_member, after_set_cardinality, after_delete_set}
 use Rattle.admin_mgr.proofs.PlanRows.PlanLaws.{plan_of}
 use Rattle.admin_mgr.proofs.StateAfter.SetCommandLaws.{same_sets, can_create_set, can_add, can_delete, can_number, can_delete_set, good_after_create_set, good_after_add_member, good_after_delete_member, good_after_set_cardinality, after_same_cardinality, good_after_delete_set}
 use Rattle.admin_mgr.proofs.PlanRows.SetRows.{ssd_member_rows, ssd_cardinality_rows, dsd_member_rows, dsd_cardinality_rows}
-use Rattle.admin_mgr.proofs.PlanRows.SeparationTurns.{IsKindOfSets, untold_set, turns_add_member, turns_delete_member, turns_create_set, turns_set_cardinality, turns_delete_set}
+use Rattle.admin_mgr.proofs.PlanRows.SeparationTurns.{IsKindOfSets, no_set_without_cardinality, turns_add_member, turns_delete_member, turns_create_set, turns_set_cardinality, turns_delete_set}
 use Rattle.admin_mgr.proofs.PlanRows.StepLaws.{steps_nothing}
 use Rattle.admin_mgr.proofs.PlanRows.TurnLaws.{turns_taking}
 
@@ -130,8 +130,8 @@ module _ (duty : SeparationOfDuty) (S : RbacState) (good : IsGood S) (plan : Pla
 module _ (duty : SeparationOfDuty) (S : RbacState) (name : Bytes) (untold : cardinality_of (sets_of duty S) name ≡ None) where
   -- no accepted command sets another one
   pub none_set : (n : ℕ) → verdict S (set_cardinality duty name n) ≡ None → ⊥
-  none_set n accepted = untold_set (sets_of duty S) name untold (can_number duty S name n accepted).there
+  none_set n accepted = no_set_without_cardinality (sets_of duty S) name untold (can_number duty S name n accepted).there
 
   -- no accepted command deletes it
   pub none_deleted : verdict S (delete_set duty name) ≡ None → ⊥
-  none_deleted accepted = untold_set (sets_of duty S) name untold (can_delete_set duty S name accepted)
+  none_deleted accepted = no_set_without_cardinality (sets_of duty S) name untold (can_delete_set duty S name accepted)

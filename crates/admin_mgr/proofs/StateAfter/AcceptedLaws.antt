@@ -9,7 +9,7 @@ use Rattle.admin_mgr.proofs.Imports.ImportLaws.{good_after_import}
 use Rattle.admin_mgr.proofs.StateAfter.NewRoleLaws.{good_after_add_ascendant, good_after_add_descendant}
 use Rattle.admin_mgr.proofs.StateAfter.NewSessionLaws.{good_after_create_session, good_after_add_active_role}
 use Rattle.admin_mgr.proofs.StateAfter.SetCommandLaws.{good_after_create_set, good_after_add_member, good_after_delete_member, good_after_set_cardinality, good_after_delete_set}
-use Rattle.admin_mgr.proofs.StateAfter.TakeLaws.{good_after_delete_user, good_after_delete_role, good_after_delete_perm_obj, good_after_delete_permission, good_after_revoke_permission, good_after_deassign_user, good_after_delete_inheritance, good_after_delete_session, good_after_drop_active_role, good_after_lock_user_account, good_after_unlock_user_account}
+use Rattle.admin_mgr.proofs.StateAfter.RemovalLaws.{good_after_delete_user, good_after_delete_role, good_after_delete_perm_obj, good_after_delete_permission, good_after_revoke_permission, good_after_deassign_user, good_after_delete_inheritance, good_after_delete_session, good_after_drop_active_role, good_after_lock_user_account, good_after_unlock_user_account}
 
 -- a case for each command
 pub good_after_accepted : AcceptedIsGood

@@ -11,7 +11,7 @@ use Rattle.rbac_sets.proofs.Members.{len-members}
 use Rattle.role_order.proofs.Closing.{IsAcyclic-none, IsClosure-none}
 use Rattle.role_order.proofs.Runs.{members_seconds}
 use Rattle.admin_mgr.specs.RbacState.{no_separation}
-use Rattle.admin_mgr.specs.Gathered.{gathered}
+use Rattle.admin_mgr.specs.StoredSets.{gathered}
 use Rattle.admin_mgr.specs.Good.{IsSeparation}
 use Rattle.admin_mgr.specs.StateLaws.{EmptyIsGood, EmptyHasNoRow}
 use Rattle.admin_mgr.proofs.StoredRows.StoredLaws.{rows_are_among}

@@ -13,7 +13,7 @@ use Rattle.rbac_sets.proofs.Members.{len-insert-le}
 use Rattle.admin_mgr.specs.RbacState.{RbacState, active_roles}
 use Rattle.admin_mgr.specs.Authorization.{authorized_users, is_authorized}
 use Rattle.admin_mgr.specs.Separation.{is_kept_statically, static_violation}
-use Rattle.admin_mgr.specs.Refusing.{is_too_many}
+use Rattle.admin_mgr.specs.Refusals.{is_too_many}
 use Rattle.admin_mgr.specs.Assignment.{may_go_on, end_sessions, after_assignment, assignment_refusals, assignment_verdict}
 use Rattle.admin_mgr.specs.After.{changed, after}
 use Rattle.admin_mgr.specs.Verdict.{verdict, refusals}

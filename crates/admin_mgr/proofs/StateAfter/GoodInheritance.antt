@@ -16,7 +16,7 @@ use Rattle.role_order.proofs.Deciding.{geq-Decides}
 use Rattle.admin_mgr.specs.RbacState.{RbacState}
 use Rattle.admin_mgr.specs.Authorization.{authorized_users}
 use Rattle.admin_mgr.specs.Separation.{is_kept_statically, static_violation, dynamic_violation}
-use Rattle.admin_mgr.specs.Refusing.{is_too_many, breaks_dynamic}
+use Rattle.admin_mgr.specs.Refusals.{is_too_many, violates_dynamic}
 use Rattle.admin_mgr.specs.Assignment.{end_sessions}
 use Rattle.admin_mgr.specs.After.{changed, after}
 use Rattle.admin_mgr.specs.Verdict.{verdict, refusals}
@@ -60,9 +60,9 @@ module _ (S : RbacState) (asc desc : Bytes) (accepted : verdict S (AddInheritanc
   none_violated = (unmapped StaticSeparation (static_violation (with_edge S asc desc))).0 all_passed.1.1.1.1.1.0
 
   -- no dynamic set is named
-  none_broken : breaks_dynamic (after S (AddInheritance asc desc)) ≡ None
+  no_violation : violates_dynamic (after S (AddInheritance asc desc)) ≡ None
   unfolding refusals
-  none_broken = all_passed.1.1.1.1.1.1.0
+  no_violation = all_passed.1.1.1.1.1.1.0
 
 module _ (S : RbacState) (good : IsGood S) (asc desc : Bytes) (accepted : verdict S (AddInheritance asc desc) ≡ None) where
   -- there is one more edge, and no session ends
@@ -101,7 +101,7 @@ module _ (S : RbacState) (good : IsGood S) (asc desc : Bytes) (accepted : verdic
   none_violated_dynamically : dynamic_violation (with_edge S asc desc) ≡ None
   unfolding changed with_edge
   none_violated_dynamically = (unmapped DynamicSeparation (dynamic_violation (with_edge S asc desc))).0
-      (sym (ap breaks_dynamic after_add_inheritance) ∙ none_broken S asc desc accepted)
+      (sym (ap violates_dynamic after_add_inheritance) ∙ no_violation S asc desc accepted)
 
   -- the state with the immediate inheritance is good
   good_with_edge : IsGood (with_edge S asc desc)

@@ -10,7 +10,7 @@ use Rattle.rbac_sets.specs.Kind.{limit_of}
 use Rattle.rbac_sets.specs.declared.kind.Kind.{Kind}
 use Rattle.rbac_sets.proofs.Members.{len-insert-le}
 use Rattle.admin_mgr.specs.RbacState.{RbacState}
-use Rattle.admin_mgr.specs.Refusing.{is_too_many, too_many}
+use Rattle.admin_mgr.specs.Refusals.{is_too_many, too_many}
 use Rattle.admin_mgr.proofs.Verdicts.VerdictLaws.{refuse_if-None}
 
 -- a number that is not too many is within the limit

@@ -9,8 +9,8 @@ use Rattle.std.proofs.lemmas.Bool.{true≢false}
 use Rattle.admin_mgr.specs.RbacState.{RbacState}
 use Rattle.admin_mgr.specs.Authorization.{authorized_users}
 use Rattle.admin_mgr.specs.Rows.{has_row}
-use Rattle.admin_mgr.specs.Named.{AreNamed}
-use Rattle.admin_mgr.specs.Life.{taken_into_version_2}
+use Rattle.admin_mgr.specs.StateNames.{AreNamed}
+use Rattle.admin_mgr.specs.OfficeRun.{migrated_to_version_2}
 use Rattle.admin_mgr.specs.StateLaws.{MigratedIsGood}
 
 -- each limit of version 2 is no lower, and nobody is locked
@@ -58,7 +58,7 @@ migrated_good S good first =
     }
 
 -- its rows are those of the state, without the locks
-pub migrated_named : (S : RbacState) → AreNamed S → AreNamed (taken_into_version_2 S)
+pub migrated_named : (S : RbacState) → AreNamed S → AreNamed (migrated_to_version_2 S)
 unfolding has_row
 migrated_named S named (NameRow k a) there = named (NameRow k a) there
 migrated_named S named (PairRow k a b) there = named (PairRow k a b) there

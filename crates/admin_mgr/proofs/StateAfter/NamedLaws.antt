@@ -9,9 +9,9 @@ use Rattle.rbac_sets.specs.declared.row.Change.{Change}
 use Rattle.rbac_sets.specs.declared.row.Change.TheVariants.{Put, Take}
 use Rattle.admin_mgr.specs.RbacState.{RbacState, empty_state}
 use Rattle.admin_mgr.specs.Changes.{is_put}
-use Rattle.admin_mgr.specs.Checked.{AreRowsOf}
-use Rattle.admin_mgr.specs.Gathered.{is_among}
-use Rattle.admin_mgr.specs.Named.{AreNamed, NamedTurns}
+use Rattle.admin_mgr.specs.RowChecks.{AreRowsOf}
+use Rattle.admin_mgr.specs.StoredSets.{is_among}
+use Rattle.admin_mgr.specs.StateNames.{AreNamed, NamedTurns}
 use Rattle.admin_mgr.proofs.PlanRows.CommitLaws.{same_row-is}
 use Rattle.admin_mgr.proofs.StateAfter.EmptyLaws.{empty_has_no_row}
 

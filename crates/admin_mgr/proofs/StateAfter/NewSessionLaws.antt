@@ -15,7 +15,7 @@ use Rattle.role_order.proofs.Members.{same_or_other}
 use Rattle.admin_mgr.specs.RbacState.{RbacState, has_session, active_roles}
 use Rattle.admin_mgr.specs.Authorization.{is_authorized}
 use Rattle.admin_mgr.specs.Separation.{dynamic_violation}
-use Rattle.admin_mgr.specs.Refusing.{breaks_dynamic}
+use Rattle.admin_mgr.specs.Refusals.{violates_dynamic}
 use Rattle.admin_mgr.specs.Assignment.{may_go_on, end_sessions}
 use Rattle.admin_mgr.specs.After.{paired, changed, after}
 use Rattle.admin_mgr.specs.Verdict.{verdict, refusals}
@@ -30,8 +30,8 @@ use Rattle.admin_mgr.proofs.Verdicts.ViolationLaws.{paired-Decides, with_paired-
 use Rattle.admin_mgr.proofs.StateAfter.GoodWithLaws.{good_with_sessions, after_is_changed, good_after}
 
 -- if no session ends and no dynamic set is named, the state is dynamically separated
-separated_where : (T : RbacState) → end_sessions T ≡ T → breaks_dynamic (end_sessions T) ≡ None → IsDynamicallySeparated T
-separated_where T same none = (dynamic_test T).0 (unnamed (dynamic_violation T) (ap breaks_dynamic (sym same) ∙ none))
+separated_where : (T : RbacState) → end_sessions T ≡ T → violates_dynamic (end_sessions T) ≡ None → IsDynamicallySeparated T
+separated_where T same none = (dynamic_test T).0 (unnamed (dynamic_violation T) (ap violates_dynamic (sym same) ∙ none))
   where
     unnamed : (o : Option Bytes) → option_map DynamicSeparation o ≡ None → o ≡ None
     unnamed None h = refl
@@ -76,7 +76,7 @@ module _ (S : RbacState) (user : Bytes) (roles : Stored Bytes) (session : Bytes)
   create_session_roles_room = too_many-None S ActiveRole (len (set_of name_cmp roles)) (passed (refusals S (CreateSession user roles session)) accepted).1.1.1.1.1.1.0
 
   -- no dynamic set is named
-  pub create_session_kept : breaks_dynamic (after S (CreateSession user roles session)) ≡ None
+  pub create_session_kept : violates_dynamic (after S (CreateSession user roles session)) ≡ None
   unfolding verdict refusals
   create_session_kept = (passed (refusals S (CreateSession user roles session)) accepted).1.1.1.1.1.1.1.0
 
@@ -202,7 +202,7 @@ module _ (S : RbacState) (user session role : Bytes) (accepted : verdict S (AddA
   add_active_role_room = too_many-None S ActiveRole (len (active_roles S session) + 1) (passed (refusals S (AddActiveRole user session role)) accepted).1.1.1.1.1.1.0
 
   -- no dynamic set is named
-  pub add_active_role_kept : breaks_dynamic (after S (AddActiveRole user session role)) ≡ None
+  pub add_active_role_kept : violates_dynamic (after S (AddActiveRole user session role)) ≡ None
   unfolding verdict refusals
   add_active_role_kept = (passed (refusals S (AddActiveRole user session role)) accepted).1.1.1.1.1.1.1.0
 

@@ -10,13 +10,13 @@ use Rattle.admin_mgr.specs.declared.separation_of_duty.SeparationOfDuty.TheVaria
 use Rattle.admin_mgr.specs.RbacState.{RbacState, Separation, has_set, cardinality_of}
 use Rattle.admin_mgr.specs.Authorization.{authorized_users, is_authorized, is_session_role}
 use Rattle.admin_mgr.specs.Separation.{static_violation, dynamic_violation}
-use Rattle.admin_mgr.specs.SeparationOfDuty.{sets_of, with_sets, kind_of, breaks, create_set, add_member, delete_member, set_cardinality, delete_set}
-use Rattle.admin_mgr.specs.Refusing.{first, refuse_unless}
+use Rattle.admin_mgr.specs.private.SeparationOfDuty.{sets_of, with_sets, kind_of, violates, create_set, add_member, delete_member, set_cardinality, delete_set}
+use Rattle.admin_mgr.specs.Refusals.{first, refuse_unless}
 use Rattle.admin_mgr.specs.After.{after, with_set, with_member, without_member, with_cardinality, without_set}
 use Rattle.admin_mgr.specs.Verdict.{verdict, refusals, create_set_refusals, add_member_refusals, delete_member_refusals, set_cardinality_refusals}
 use Rattle.admin_mgr.specs.Good.{IsGood, IsWellFormed, IsStaticallySeparated, IsDynamicallySeparated}
 use Rattle.admin_mgr.proofs.Verdicts.SeparationLaws.{static_test, dynamic_test, unmapped}
-use Rattle.admin_mgr.proofs.Verdicts.BreakLaws.{formed_sets, after_create_set, after_add_member, after_delete_member, after_set_cardinality, after_delete_set}
+use Rattle.admin_mgr.proofs.Verdicts.SetCommandViolations.{formed_sets, after_create_set, after_add_member, after_delete_member, after_set_cardinality, after_delete_set}
 use Rattle.admin_mgr.proofs.Verdicts.VerdictLaws.{passed, refuse_unless-None, all_but_last}
 use Rattle.admin_mgr.proofs.StateAfter.SetRowLaws.{same_cardinality}
 use Rattle.admin_mgr.proofs.StateAfter.SoundSetLaws.{IsSound, CanCreate, CanAddMember, CanDeleteMember, CanSetCardinality, can_create, can_add_member, can_delete_member, can_set_cardinality, sound_with_set, sound_with_member, sound_without_member, sound_with_cardinality, sound_without_set, IsPartOf, part_without_member, part_without_set, count_in_part}
@@ -86,16 +86,16 @@ module _ (S : RbacState) (good : IsGood S) (ssd dsd : Separation) (sound_ssd : I
       }
 
 -- the state with sound sets is good if the verdict finds none of them violated
-good_unbroken : (duty : SeparationOfDuty) (S : RbacState) → IsGood S → (other : Separation) → IsSound S (kind_of duty) other → breaks duty (with_sets duty S other) ≡ None → IsGood (with_sets duty S other)
+good_if_none_violated : (duty : SeparationOfDuty) (S : RbacState) → IsGood S → (other : Separation) → IsSound S (kind_of duty) other → violates duty (with_sets duty S other) ≡ None → IsGood (with_sets duty S other)
 unfolding authorized_users
-good_unbroken Static S good other sound unbroken =
+good_if_none_violated Static S good other sound none_is_violated =
     let T : RbacState = record S { ssd = other } in
-    let none : static_violation T ≡ None = (unmapped StaticSeparation (static_violation T)).0 unbroken in
+    let none : static_violation T ≡ None = (unmapped StaticSeparation (static_violation T)).0 none_is_violated in
     let kept = sound_sets Dynamic S good in
     good_both S good other S.dsd sound kept ((static_test T (formed_both S good other S.dsd sound kept)).0 none) good.dynamic_separation
-good_unbroken Dynamic S good other sound unbroken =
+good_if_none_violated Dynamic S good other sound none_is_violated =
     let T : RbacState = record S { dsd = other } in
-    let none : dynamic_violation T ≡ None = (unmapped DynamicSeparation (dynamic_violation T)).0 unbroken in
+    let none : dynamic_violation T ≡ None = (unmapped DynamicSeparation (dynamic_violation T)).0 none_is_violated in
     good_both S good S.ssd other (sound_sets Static S good) sound good.static_separation ((dynamic_test T).0 none)
 
 -- the state with a sound part of the sets of a good state is good
@@ -117,13 +117,13 @@ good_part Dynamic S good other sound part = good_both S good S.ssd other (sound_
 -- ---- the refusals of each command
 
 pub refusals_create_set : (duty : SeparationOfDuty) (S : RbacState) (name : Bytes) (roles : Stored Bytes) (n : ℕ) →
-    refusals S (create_set duty name roles n) ≡ create_set_refusals S (sets_of duty S) (kind_of duty) name (set_of name_cmp roles) n ++ breaks duty (after S (create_set duty name roles n)) ∷ []
+    refusals S (create_set duty name roles n) ≡ create_set_refusals S (sets_of duty S) (kind_of duty) name (set_of name_cmp roles) n ++ violates duty (after S (create_set duty name roles n)) ∷ []
 unfolding refusals
 refusals_create_set Static S name roles n = refl
 refusals_create_set Dynamic S name roles n = refl
 
 pub refusals_add_member : (duty : SeparationOfDuty) (S : RbacState) (name role : Bytes) →
-    refusals S (add_member duty name role) ≡ add_member_refusals S (sets_of duty S) name role ++ breaks duty (after S (add_member duty name role)) ∷ []
+    refusals S (add_member duty name role) ≡ add_member_refusals S (sets_of duty S) name role ++ violates duty (after S (add_member duty name role)) ∷ []
 unfolding refusals
 refusals_add_member Static S name role = refl
 refusals_add_member Dynamic S name role = refl
@@ -134,7 +134,7 @@ refusals_delete_member Static S name role = refl
 refusals_delete_member Dynamic S name role = refl
 
 pub refusals_set_cardinality : (duty : SeparationOfDuty) (S : RbacState) (name : Bytes) (n : ℕ) →
-    refusals S (set_cardinality duty name n) ≡ set_cardinality_refusals (sets_of duty S) name n ++ breaks duty (after S (set_cardinality duty name n)) ∷ []
+    refusals S (set_cardinality duty name n) ≡ set_cardinality_refusals (sets_of duty S) name n ++ violates duty (after S (set_cardinality duty name n)) ∷ []
 unfolding refusals
 refusals_set_cardinality Static S name n = refl
 refusals_set_cardinality Dynamic S name n = refl
@@ -149,20 +149,20 @@ refusals_delete_set Dynamic S name = refl
 module _ (duty : SeparationOfDuty) (S : RbacState) (name : Bytes) where
   -- a set is created: it was not there, and no set is violated afterwards
   create_parts : (roles : Stored Bytes) (n : ℕ) → verdict S (create_set duty name roles n) ≡ None →
-      CanCreate S (sets_of duty S) (kind_of duty) name (set_of name_cmp roles) n × (breaks duty (after S (create_set duty name roles n)) ≡ None)
+      CanCreate S (sets_of duty S) (kind_of duty) name (set_of name_cmp roles) n × (violates duty (after S (create_set duty name roles n)) ≡ None)
   unfolding verdict
   create_parts roles n accepted =
-      let parts = all_but_last (create_set_refusals S (sets_of duty S) (kind_of duty) name (set_of name_cmp roles) n) (breaks duty (after S (create_set duty name roles n))) (sym (ap first (refusals_create_set duty S name roles n)) ∙ accepted) in
+      let parts = all_but_last (create_set_refusals S (sets_of duty S) (kind_of duty) name (set_of name_cmp roles) n) (violates duty (after S (create_set duty name roles n))) (sym (ap first (refusals_create_set duty S name roles n)) ∙ accepted) in
       (can_create S (sets_of duty S) (kind_of duty) name (set_of name_cmp roles) n parts.0, parts.1)
 
   pub can_create_set : (roles : Stored Bytes) (n : ℕ) → verdict S (create_set duty name roles n) ≡ None → CanCreate S (sets_of duty S) (kind_of duty) name (set_of name_cmp roles) n
   can_create_set roles n accepted = (create_parts roles n accepted).0
 
   -- a member is added: it was none, and no set is violated afterwards
-  add_parts : (role : Bytes) → verdict S (add_member duty name role) ≡ None → CanAddMember S (sets_of duty S) name role × (breaks duty (after S (add_member duty name role)) ≡ None)
+  add_parts : (role : Bytes) → verdict S (add_member duty name role) ≡ None → CanAddMember S (sets_of duty S) name role × (violates duty (after S (add_member duty name role)) ≡ None)
   unfolding verdict
   add_parts role accepted =
-      let parts = all_but_last (add_member_refusals S (sets_of duty S) name role) (breaks duty (after S (add_member duty name role))) (sym (ap first (refusals_add_member duty S name role)) ∙ accepted) in
+      let parts = all_but_last (add_member_refusals S (sets_of duty S) name role) (violates duty (after S (add_member duty name role))) (sym (ap first (refusals_add_member duty S name role)) ∙ accepted) in
       (can_add_member S (sets_of duty S) name role parts.0, parts.1)
 
   pub can_add : (role : Bytes) → verdict S (add_member duty name role) ≡ None → CanAddMember S (sets_of duty S) name role
@@ -174,10 +174,10 @@ module _ (duty : SeparationOfDuty) (S : RbacState) (name : Bytes) where
   can_delete role accepted = can_delete_member S (sets_of duty S) name role (sym (ap first (refusals_delete_member duty S name role)) ∙ accepted)
 
   -- a cardinality is set: the set is there, the cardinality fits, and no set is violated afterwards
-  number_parts : (n : ℕ) → verdict S (set_cardinality duty name n) ≡ None → CanSetCardinality (sets_of duty S) name n × (breaks duty (after S (set_cardinality duty name n)) ≡ None)
+  number_parts : (n : ℕ) → verdict S (set_cardinality duty name n) ≡ None → CanSetCardinality (sets_of duty S) name n × (violates duty (after S (set_cardinality duty name n)) ≡ None)
   unfolding verdict
   number_parts n accepted =
-      let parts = all_but_last (set_cardinality_refusals (sets_of duty S) name n) (breaks duty (after S (set_cardinality duty name n))) (sym (ap first (refusals_set_cardinality duty S name n)) ∙ accepted) in
+      let parts = all_but_last (set_cardinality_refusals (sets_of duty S) name n) (violates duty (after S (set_cardinality duty name n))) (sym (ap first (refusals_set_cardinality duty S name n)) ∙ accepted) in
       (can_set_cardinality (sets_of duty S) name n parts.0, parts.1)
 
   pub can_number : (n : ℕ) → verdict S (set_cardinality duty name n) ≡ None → CanSetCardinality (sets_of duty S) name n
@@ -194,15 +194,15 @@ module _ (duty : SeparationOfDuty) (S : RbacState) (name : Bytes) where
     good_after_create_set roles n accepted =
         let parts = create_parts roles n accepted in
         let is = after_create_set duty S good name roles n in
-        subst IsGood (sym is) (good_unbroken duty S good (with_set (sets_of duty S) name (set_of name_cmp roles) n)
-        (sound_with_set S (kind_of duty) (sets_of duty S) (sound_sets duty S good) name (set_of name_cmp roles) n parts.0) (sym (ap (breaks duty) is) ∙ parts.1))
+        subst IsGood (sym is) (good_if_none_violated duty S good (with_set (sets_of duty S) name (set_of name_cmp roles) n)
+        (sound_with_set S (kind_of duty) (sets_of duty S) (sound_sets duty S good) name (set_of name_cmp roles) n parts.0) (sym (ap (violates duty) is) ∙ parts.1))
 
     pub good_after_add_member : (role : Bytes) → verdict S (add_member duty name role) ≡ None → IsGood (after S (add_member duty name role))
     good_after_add_member role accepted =
         let parts = add_parts role accepted in
         let is = after_add_member duty S good name role in
-        subst IsGood (sym is) (good_unbroken duty S good (with_member (sets_of duty S) name role)
-        (sound_with_member S (kind_of duty) (sets_of duty S) (sound_sets duty S good) name role parts.0) (sym (ap (breaks duty) is) ∙ parts.1))
+        subst IsGood (sym is) (good_if_none_violated duty S good (with_member (sets_of duty S) name role)
+        (sound_with_member S (kind_of duty) (sets_of duty S) (sound_sets duty S good) name role parts.0) (sym (ap (violates duty) is) ∙ parts.1))
 
     pub good_after_delete_member : (role : Bytes) → verdict S (delete_member duty name role) ≡ None → IsGood (after S (delete_member duty name role))
     good_after_delete_member role accepted = subst IsGood (sym (after_delete_member duty S good name role)) (good_part duty S good (without_member (sets_of duty S) name role)
@@ -212,8 +212,8 @@ module _ (duty : SeparationOfDuty) (S : RbacState) (name : Bytes) where
     good_after_set_cardinality n accepted =
         let parts = number_parts n accepted in
         let is = after_set_cardinality duty S good name n in
-        subst IsGood (sym is) (good_unbroken duty S good (with_cardinality (sets_of duty S) name n)
-        (sound_with_cardinality S (kind_of duty) (sets_of duty S) (sound_sets duty S good) name n parts.0) (sym (ap (breaks duty) is) ∙ parts.1))
+        subst IsGood (sym is) (good_if_none_violated duty S good (with_cardinality (sets_of duty S) name n)
+        (sound_with_cardinality S (kind_of duty) (sets_of duty S) (sound_sets duty S good) name n parts.0) (sym (ap (violates duty) is) ∙ parts.1))
 
     -- nothing changes if the set has this cardinality already
     pub after_same_cardinality : (n : ℕ) → cardinality_of (sets_of duty S) name ≡ Some n → after S (set_cardinality duty name n) ≡ S

@@ -16,10 +16,10 @@ use Rattle.role_order.proofs.Members.{same_or_other}
 use Rattle.admin_mgr.specs.RbacState.{Separation, has_set, cardinality_of}
 use Rattle.admin_mgr.specs.After.{paired, without_first, without_cardinality, with_cardinality}
 use Rattle.admin_mgr.specs.Good.{IsSeparation}
-use Rattle.admin_mgr.specs.Held.{run_of}
+use Rattle.admin_mgr.specs.private.HolderRoles.{run_of}
 use Rattle.admin_mgr.proofs.Verdicts.KeepLaws.{cardinality_there}
 use Rattle.admin_mgr.proofs.Verdicts.ViolationLaws.{paired-Decides}
-use Rattle.admin_mgr.proofs.Verdicts.HeldLaws.{is_some_cardinality}
+use Rattle.admin_mgr.proofs.Verdicts.AuthorizationLaws.{is_some_cardinality}
 
 -- ---- the names of sets
 
@@ -132,24 +132,24 @@ module _ (separation : Separation) (all_roles : Names) (formed : IsSeparation al
 
 module _ (separation : Separation) (all_roles : Names) (formed : IsSeparation all_roles separation) (name : Bytes) (before : ℕ) (told : cardinality_of separation name ≡ Some before) where
   -- removing the cardinalities of a set removes this one
-  pub told_cardinality-remove : without_cardinality name separation.cardinalities ≡ remove separation.cardinalities (name, before)
-  told_cardinality-remove = without_cardinality-remove separation all_roles formed name before (cardinality_there separation name before told)
+  pub found_cardinality-remove : without_cardinality name separation.cardinalities ≡ remove separation.cardinalities (name, before)
+  found_cardinality-remove = without_cardinality-remove separation all_roles formed name before (cardinality_there separation name before told)
 
   -- nor has the set one after this one is removed
   pub no_cardinality_left : (n : ℕ) → contains (remove separation.cardinalities (name, before)) (name, n) ≡ false
-  no_cardinality_left n = false_from_ne_true _ (λ h. (other_cardinality name separation.cardinalities (name, n) (subst (λ s. IsTrue (contains s (name, n))) (sym told_cardinality-remove) h)).1 refl)
+  no_cardinality_left n = false_from_ne_true _ (λ h. (other_cardinality name separation.cardinalities (name, n) (subst (λ s. IsTrue (contains s (name, n))) (sym found_cardinality-remove) h)).1 refl)
 
   -- setting another cardinality removes the old one and inserts the new one
   pub with_other_cardinality : (n : ℕ) → with_cardinality separation name n ≡ record separation { cardinalities = insert (remove separation.cardinalities (name, before)) (name, n) }
-  with_other_cardinality n = ap (λ s. record separation { cardinalities = insert s (name, n) }) told_cardinality-remove
+  with_other_cardinality n = ap (λ s. record separation { cardinalities = insert s (name, n) }) found_cardinality-remove
 
   -- setting the same one changes nothing
   pub same_cardinality : (n : ℕ) → before ≡ n → with_cardinality separation name n ≡ separation
   same_cardinality n same = subst (λ k. with_cardinality separation name k ≡ separation) same (with_same_cardinality separation all_roles formed name before (cardinality_there separation name before told))
 
 -- `cardinality_of` gives the cardinality of a set
-pub told_cardinality : (separation : Separation) (all_roles : Names) → IsSeparation all_roles separation → (name : Bytes) (n : ℕ) → IsTrue (contains separation.cardinalities (name, n)) → cardinality_of separation name ≡ Some n
-told_cardinality separation all_roles formed name n there =
+pub found_cardinality : (separation : Separation) (all_roles : Names) → IsSeparation all_roles separation → (name : Bytes) (n : ℕ) → IsTrue (contains separation.cardinalities (name, n)) → cardinality_of separation name ≡ Some n
+found_cardinality separation all_roles formed name n there =
     by (cardinality_of separation name) refl (is_some_cardinality separation name ∙ has_set-from separation name n there)
   where
     by : (o : Option ℕ) → cardinality_of separation name ≡ o → is_some o ≡ true → cardinality_of separation name ≡ Some n

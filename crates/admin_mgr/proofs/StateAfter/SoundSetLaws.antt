@@ -14,13 +14,13 @@ use Rattle.rbac_sets.proofs.SetLaws.{tie_Decides, contains-union, contains-retai
 use Rattle.rbac_sets.proofs.Members.{count-len, len-subset, len-insert-le}
 use Rattle.role_order.proofs.Members.{same_or_other}
 use Rattle.admin_mgr.specs.RbacState.{RbacState, Separation, members_of, has_set, cardinality_of, is_below}
-use Rattle.admin_mgr.specs.Refusing.{first}
+use Rattle.admin_mgr.specs.Refusals.{first}
 use Rattle.admin_mgr.specs.Verdict.{create_set_refusals, add_member_refusals, delete_member_refusals, set_cardinality_refusals}
 use Rattle.admin_mgr.specs.After.{paired, without_cardinality, with_set, with_member, without_member, with_cardinality, without_set}
 use Rattle.admin_mgr.specs.Good.{IsSeparation}
 use Rattle.admin_mgr.proofs.Verdicts.VerdictLaws.{passed, refuse_if-None, refuse_unless-None}
 use Rattle.admin_mgr.proofs.Verdicts.ViolationLaws.{paired-Decides, with_paired-own, with_paired-others, with_one-own, with_one-others}
-use Rattle.admin_mgr.proofs.StateAfter.SetRowLaws.{IsNumberedOnce, has_set-from, numbered_set, no_cardinality, no_members, told_cardinality, other_cardinality, other_cardinality-from, with_same_cardinality, contains-without_first}
+use Rattle.admin_mgr.proofs.StateAfter.SetRowLaws.{IsNumberedOnce, has_set-from, numbered_set, no_cardinality, no_members, found_cardinality, other_cardinality, other_cardinality-from, with_same_cardinality, contains-without_first}
 use Rattle.admin_mgr.proofs.StateAfter.LimitLaws.{too_many-None}
 
 -- ---- the conditions that an accepted command meets
@@ -221,7 +221,7 @@ module _ (S : RbacState) (kind : Kind) (separation : Separation) (sound : IsSoun
       let one : len (insert (members_of T name) role) ≤ len (members_of T name) + 1 = len-insert-le name_total (members_of T name) role in
       let left : (x : Bytes) (m : ℕ) → IsTrue (contains separation.cardinalities (x, m)) → (x ≡ name) → m ≤ len (members_of T x) = λ x m h same.
       let here : IsTrue (contains separation.cardinalities (name, m)) = subst (λ first. IsTrue (contains separation.cardinalities (first, m))) same h in
-      let below : m < len (members_of separation name) = below_number _ _ m (told_cardinality separation S.roles sound.formed name m here) can.below in
+      let below : m < len (members_of separation name) = below_number _ _ m (found_cardinality separation S.roles sound.formed name m here) can.below in
       subst (λ first. m ≤ len (members_of T first)) (sym same) (omega (arith, below, less, one)) in
       record {
         formed = record {

@@ -18,8 +18,8 @@ use Rattle.admin_mgr.specs.RbacState.{RbacState}
 use Rattle.admin_mgr.specs.Rows.{has_row}
 use Rattle.admin_mgr.specs.Changes.{same_row}
 use Rattle.admin_mgr.specs.Good.{IsGood}
-use Rattle.admin_mgr.specs.Gathered.{Gathered, gathered, is_known, is_among, same_key, HaveKeysOnce}
-use Rattle.admin_mgr.specs.Checked.{Choose, AreReadable, AreRowsOf, OccurOnce, GoodRowsAreRead, IsComplete, Passes, RefusesSets, RefusesRows}
+use Rattle.admin_mgr.specs.StoredSets.{StoredSets, gathered, is_known, is_among, same_key, HaveKeysOnce}
+use Rattle.admin_mgr.specs.RowChecks.{Choose, AreReadable, AreRowsOf, OccurOnce, GoodRowsAreRead, IsComplete, Passes, RefusesSets, RefusesRows}
 use Rattle.admin_mgr.specs.StateLaws.{GoodRowsAreReadable}
 use Rattle.admin_mgr.proofs.PlanRows.RowLaws.{rows_determine}
 use Rattle.admin_mgr.proofs.StoredRows.KeyLaws.{known_sets, pairs_among}
@@ -130,7 +130,7 @@ module _ (S : RbacState) (rows : List Row) (are : AreRowsOf S rows) where
 -- ---- they pass the checks
 
 -- what a good state refers to is there
-complete_of_good : (g : Gathered) → IsGood g.facts → IsClosure g.facts.edges g.pairs → IsComplete g
+complete_of_good : (g : StoredSets) → IsGood g.facts → IsClosure g.facts.edges g.pairs → IsComplete g
 complete_of_good g good closed =
     let formed = good.well_formed in
     record {
@@ -161,7 +161,7 @@ complete_of_good g good closed =
     }
 
 -- a good state passes each check
-passes_of_good : (g : Gathered) → IsGood g.facts → IsClosure g.facts.edges g.pairs → PassBefore g 12
+passes_of_good : (g : StoredSets) → IsGood g.facts → IsClosure g.facts.edges g.pairs → PassBefore g 12
 passes_of_good g good closed =
     before_next g 11 (before_next g 10 (before_next g 9 (before_next g 8 (before_next g 7 (before_next g 6 (before_next g 5 (before_next g 4 (before_next g 3 (before_next g 2 (before_two g)
     good.limits)
@@ -187,7 +187,7 @@ other_number : (n k : ℕ) → k < n → nat_eq n k ≡ false
 other_number n k less = false_from_ne_true _ (λ h. (let same = eqb-true n k h in absurd (omega (arith, less, same))))
 
 -- there is no check of a higher number
-no_later_check : (g : Gathered) (n : ℕ) → 12 ≤ n → Passes g n
+no_later_check : (g : StoredSets) (n : ℕ) → 12 ≤ n → Passes g n
 no_later_check g n late =
     skipped (nat_eq n 2) _ _ (other_number n 2 (omega (arith, late)))
     (skipped (nat_eq n 3) _ _ (other_number n 3 (omega (arith, late)))
@@ -201,7 +201,7 @@ no_later_check g n late =
     (skipped (nat_eq n 11) _ _ (other_number n 11 (omega (arith, late))) tt)))))))))
 
 -- so every check passes
-passes_all : (g : Gathered) → PassBefore g 12 → (n : ℕ) → Passes g n
+passes_all : (g : StoredSets) → PassBefore g 12 → (n : ℕ) → Passes g n
 passes_all g before n = elim (cases_lt n 12) [ inl less ↦ before n less | inr late ↦ no_later_check g n late ]
 
 -- the rows of a good state are only refused with `Memory`

@@ -10,25 +10,25 @@ use Rattle.rbac_sets.specs.declared.row.Row.{Row}
 use Rattle.rbac_sets.specs.declared.refusal.Refusal.{Refusal}
 use Rattle.rbac_sets.specs.declared.refusal.Refusal.TheVariants.{TooMany, Memory, Damaged}
 use Rattle.admin_mgr.specs.Good.{IsWellFormed}
-use Rattle.admin_mgr.specs.Gathered.{Gathered, gathered}
-use Rattle.admin_mgr.specs.Checked.{Choose, AreReadable, Passes, RefusesSets, RefusesRows, IsStateOf, first_passed}
-use Rattle.admin_mgr.specs.Tested.{is_complete, have_one_user, has_cardinalities, have_authorized_users, are_kept_statically, are_kept_dynamically, have_unlocked_users, early_refusal, late_refusal}
+use Rattle.admin_mgr.specs.StoredSets.{StoredSets, gathered}
+use Rattle.admin_mgr.specs.RowChecks.{Choose, AreReadable, Passes, RefusesSets, RefusesRows, IsStateOf, first_exceeded}
+use Rattle.admin_mgr.specs.private.CheckTests.{is_complete, have_one_user, has_cardinalities, have_authorized_users, are_kept_statically, are_kept_dynamically, have_unlocked_users, early_refusal, late_refusal}
 use Rattle.admin_mgr.proofs.StoredRows.TestLaws.{complete, one_user, cardinalities_fit, authorized_users_are, static_sets_are, dynamic_sets_are, unlocked_users_are, RefusesOrder}
 use Rattle.admin_mgr.proofs.StoredRows.WithinLimits.{within_limits}
 use Rattle.admin_mgr.proofs.StoredRows.StoredLaws.{occur_once, rows_are_among, one_cardinality, no_locks}
 
 -- each check before this number passes
-abbrev pub PassBefore : Gathered → ℕ → Type 0
+abbrev pub PassBefore : StoredSets → ℕ → Type 0
 PassBefore g number = (earlier : ℕ) → earlier < number → Passes g earlier
 
 -- the only check before the second is that the rows are readable
-pub before_two : (g : Gathered) → PassBefore g 2
+pub before_two : (g : StoredSets) → PassBefore g 2
 before_two g zero less = tt
 before_two g (suc zero) less = tt
 before_two g (suc (suc k)) less = absurd (omega (arith, less))
 
 -- one more check
-pub before_next : (g : Gathered) (number : ℕ) → PassBefore g number → Passes g number → PassBefore g (number + 1)
+pub before_next : (g : StoredSets) (number : ℕ) → PassBefore g number → Passes g number → PassBefore g (number + 1)
 before_next g number before passes earlier less = elim (cases_lt earlier number) [
   | inl sooner ↦ before earlier sooner
   | inr no_sooner ↦ let same : number ≡ earlier = omega (arith, less, no_sooner) in subst (Passes g) same passes
@@ -43,7 +43,7 @@ some_is {X} x y h = ap at h
     at None = x
 
 -- a refusal by one check, or otherwise by those after it
-by_test : (g : Gathered) (number : ℕ) (b : Bool) (rest : Option Refusal) (refusal : Refusal) → 3 ≤ number → PassBefore g number → IsTrue b ↔ Passes g number →
+by_test : (g : StoredSets) (number : ℕ) (b : Bool) (rest : Option Refusal) (refusal : Refusal) → 3 ≤ number → PassBefore g number → IsTrue b ↔ Passes g number →
     (PassBefore g (number + 1) → rest ≡ Some refusal → RefusesSets g refusal) → cond b rest (Some (Damaged number)) ≡ Some refusal → RefusesSets g refusal
 by_test g number true rest refusal three before tells later h = later (before_next g number before (tells.0 refl)) h
 by_test g number false rest refusal three before tells later h =
@@ -57,12 +57,12 @@ by_tests false rest refusal h = cc
 -- ---- the checks before those of the hierarchy
 
 -- the refusal by the first limit that is exceeded, otherwise by the checks after it
-abbrev early : Gathered → Option Kind → Option Refusal
+abbrev early : StoredSets → Option Kind → Option Refusal
 early g (Some kind) = Some (TooMany kind)
 early g None = cond (is_complete g) (cond (have_one_user g.facts) None (Some (Damaged 4))) (Some (Damaged 3))
 
 -- the limits are checked first
-early_is : (g : Gathered) (found : Option Kind) → first_passed g.facts ≡ found → early_refusal g ≡ early g found
+early_is : (g : StoredSets) (found : Option Kind) → first_exceeded g.facts ≡ found → early_refusal g ≡ early g found
 early_is g found is = ap (early g) is
 
 -- there is no refusal in `None`
@@ -70,20 +70,20 @@ none_refused : {X : Type 0} (x : X) {A : Type 0} → ◌≡◌ {A = Option X} No
 none_refused x h = cc
 
 -- an early refusal is that of the first check that fails
-pub early_told : (g : Gathered) (refusal : Refusal) → early_refusal g ≡ Some refusal → RefusesSets g refusal
-early_told g refusal h = by (first_passed g.facts) refl
+pub early_is_first_failure : (g : StoredSets) (refusal : Refusal) → early_refusal g ≡ Some refusal → RefusesSets g refusal
+early_is_first_failure g refusal h = by (first_exceeded g.facts) refl
   where
-    by : (found : Option Kind) → first_passed g.facts ≡ found → RefusesSets g refusal
+    by : (found : Option Kind) → first_exceeded g.facts ≡ found → RefusesSets g refusal
     by (Some kind) is = subst (RefusesSets g) (some_is (TooMany kind) refusal (sym (early_is g (Some kind) is) ∙ h)) is
     by None is = by_test g 3 (is_complete g) (cond (have_one_user g.facts) None (Some (Damaged 4))) refusal (omega arith) (before_next g 2 (before_two g) (within_limits g.facts is)) (complete g)
         (λ before. by_test g 4 (have_one_user g.facts) None refusal (omega arith) before (one_user g.facts) (λ _ none. none_refused refusal none))
         (sym (early_is g None is) ∙ h)
 
 -- if nothing is refused early, the checks before the fifth pass
-pub early_passed : (g : Gathered) → early_refusal g ≡ None → PassBefore g 5
-early_passed g h = by (first_passed g.facts) refl
+pub early_passed : (g : StoredSets) → early_refusal g ≡ None → PassBefore g 5
+early_passed g h = by (first_exceeded g.facts) refl
   where
-    by : (found : Option Kind) → first_passed g.facts ≡ found → PassBefore g 5
+    by : (found : Option Kind) → first_exceeded g.facts ≡ found → PassBefore g 5
     by (Some kind) is = let wrong : Some (TooMany kind) ≡ None = sym (early_is g (Some kind) is) ∙ h in cc
     by None is =
         let third = by_tests (is_complete g) (cond (have_one_user g.facts) None (Some (Damaged 4))) (Damaged 3) (sym (early_is g None is) ∙ h) in
@@ -93,10 +93,10 @@ early_passed g h = by (first_passed g.facts) refl
 -- ---- the hierarchy
 
 -- a refusal by the hierarchy is that of the first check that fails
-pub order_told : (g : Gathered) (refusal : Refusal) → PassBefore g 5 → RefusesOrder g refusal → RefusesSets g refusal
-order_told g refusal before (inl memory) = subst (RefusesSets g) (sym memory) tt
-order_told g refusal before (inr (inl five)) = subst (RefusesSets g) (sym five.0) (omega arith, record { passed = before; failed = five.1 })
-order_told g refusal before (inr (inr six)) = subst (RefusesSets g) (sym six.0) (omega arith, record { passed = before_next g 5 before six.1; failed = six.2 })
+pub order_is_first_failure : (g : StoredSets) (refusal : Refusal) → PassBefore g 5 → RefusesOrder g refusal → RefusesSets g refusal
+order_is_first_failure g refusal before (inl memory) = subst (RefusesSets g) (sym memory) tt
+order_is_first_failure g refusal before (inr (inl five)) = subst (RefusesSets g) (sym five.0) (omega arith, record { passed = before; failed = five.1 })
+order_is_first_failure g refusal before (inr (inr six)) = subst (RefusesSets g) (sym six.0) (omega arith, record { passed = before_next g 5 before six.1; failed = six.2 })
 
 -- ---- the checks after those of the hierarchy
 
@@ -129,8 +129,8 @@ both A B p q = (λ h. (let parts = and_parts A B h in (p.0 parts.0, q.0 parts.1)
 
 module _ (version : ℕ) (rows : List Row) (readable : AreReadable version rows) where
   -- a late refusal is that of the first check that fails
-  pub late_told : (refusal : Refusal) → PassBefore (gathered version rows) 7 → late_refusal (gathered version rows).facts ≡ Some refusal → RefusesSets (gathered version rows) refusal
-  late_told refusal before h =
+  pub late_is_first_failure : (refusal : Refusal) → PassBefore (gathered version rows) 7 → late_refusal (gathered version rows).facts ≡ Some refusal → RefusesSets (gathered version rows) refusal
+  late_is_first_failure refusal before h =
       let g = gathered version rows in
       let S = g.facts in
       by_test g 7 (has_cardinalities S.ssd && has_cardinalities S.dsd) _ refusal (omega arith) before (both _ _ (cardinalities_fit S.ssd) (cardinalities_fit S.dsd))
@@ -191,6 +191,6 @@ refuses_rows version rows (TooMany kind) readable told = (readable, told)
 refuses_rows version rows _ readable told = absurd told
 
 -- unreadable rows, and a failed allocation
-pub unreadable_told : (version : ℕ) (rows : List Row) (refusal : Refusal) → ((refusal ≡ Memory) ⊎ ((refusal ≡ Damaged 1) × (AreReadable version rows → ⊥))) → RefusesRows version rows refusal
-unreadable_told version rows refusal (inl memory) = subst (RefusesRows version rows) (sym memory) tt
-unreadable_told version rows refusal (inr damaged) = subst (RefusesRows version rows) (sym damaged.0) damaged.1
+pub refuses_unreadable : (version : ℕ) (rows : List Row) (refusal : Refusal) → ((refusal ≡ Memory) ⊎ ((refusal ≡ Damaged 1) × (AreReadable version rows → ⊥))) → RefusesRows version rows refusal
+refuses_unreadable version rows refusal (inl memory) = subst (RefusesRows version rows) (sym memory) tt
+refuses_unreadable version rows refusal (inr damaged) = subst (RefusesRows version rows) (sym damaged.0) damaged.1

@@ -14,9 +14,9 @@ use Rattle.rbac_sets.proofs.SetLaws.{from_list_push}
 use Rattle.rbac_sets.specs.declared.row.Row.{Row}
 use Rattle.rbac_sets.specs.declared.row.Row.TheVariants.{NameRow, PairRow, GrantRow, SetRow, LockedRow}
 use Rattle.rbac_sets.specs.declared.row.TheConstants.Row.{USER, ROLE, OBJECT, PERMISSION, ASSIGNMENT, INHERITANCE, CLOSURE_PAIR, STATIC_MEMBER, DYNAMIC_MEMBER, SESSION, ACTIVATED_ROLE, STATIC_CARDINALITY, DYNAMIC_CARDINALITY}
-use Rattle.admin_mgr.specs.Stepping.{with_row}
-use Rattle.admin_mgr.specs.Gathered.{Gathered, gathered, names_of, pairs_of, grants_of, cardinalities_of, locks_of, with_pair_of, with_stored, is_known, same_key, HaveKeysOnce}
-use Rattle.admin_mgr.specs.Checked.{AreReadable}
+use Rattle.admin_mgr.specs.RowUpdates.{with_row}
+use Rattle.admin_mgr.specs.StoredSets.{StoredSets, gathered, names_of, pairs_of, grants_of, cardinalities_of, locks_of, with_pair_of, with_stored, is_known, same_key, HaveKeysOnce}
+use Rattle.admin_mgr.specs.RowChecks.{AreReadable}
 
 -- ---- one more row
 
@@ -157,7 +157,7 @@ locks_put rows row = ap from_list (locks_more rows row) ∙ by row
     by (LockedRow a) = put_if name_total name_exact true (locks_of rows) a
 
 -- the sets of the rows with one more, each with what the row adds to it
-abbrev by_sets : ℕ → List Row → Row → Gathered
+abbrev by_sets : ℕ → List Row → Row → StoredSets
 by_sets version rows row = record {
   facts = record {
     version = version;

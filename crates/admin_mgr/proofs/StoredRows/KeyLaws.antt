@@ -17,7 +17,7 @@ use Rattle.rbac_sets.specs.declared.row.TheConstants.Row.{USER, ROLE, OBJECT, PE
 use Rattle.rbac_sets.specs.Table.{table_of}
 use Rattle.rbac_sets.specs.declared.table.Table.{Table}
 use Rattle.admin_mgr.specs.Changes.{same_row}
-use Rattle.admin_mgr.specs.Gathered.{Gathered, gathered, has_key, names_of, pairs_of, grants_of, cardinalities_of, locks_of, is_known, is_among, same_key}
+use Rattle.admin_mgr.specs.StoredSets.{StoredSets, gathered, has_key, names_of, pairs_of, grants_of, cardinalities_of, locks_of, is_known, is_among, same_key}
 
 -- if no cardinality has the name, no set of this name has one
 pub no_cardinality : (cardinalities : Cardinalities) (name : Bytes) (n : ℕ) → any (λ (entry : Cardinality). same_name entry.0 name) cardinalities ≡ false → contains cardinalities (name, n) ≡ false
@@ -26,12 +26,12 @@ no_cardinality cardinalities name n none = false_from_ne_true _ (λ there. true�
     ∙ none))
 
 -- a static set whose key is not there has no cardinality
-pub no_static_key : (g : Gathered) (name : Bytes) (n : ℕ) → has_key g (SetRow STATIC_CARDINALITY name n) ≡ false → contains g.facts.ssd.cardinalities (name, n) ≡ false
+pub no_static_key : (g : StoredSets) (name : Bytes) (n : ℕ) → has_key g (SetRow STATIC_CARDINALITY name n) ≡ false → contains g.facts.ssd.cardinalities (name, n) ≡ false
 unfolding has_key
 no_static_key g name n none = no_cardinality g.facts.ssd.cardinalities name n none
 
 -- nor has a dynamic one
-pub no_dynamic_key : (g : Gathered) (name : Bytes) (n : ℕ) → has_key g (SetRow DYNAMIC_CARDINALITY name n) ≡ false → contains g.facts.dsd.cardinalities (name, n) ≡ false
+pub no_dynamic_key : (g : StoredSets) (name : Bytes) (n : ℕ) → has_key g (SetRow DYNAMIC_CARDINALITY name n) ≡ false → contains g.facts.dsd.cardinalities (name, n) ≡ false
 unfolding has_key
 no_dynamic_key g name n none = no_cardinality g.facts.dsd.cardinalities name n none
 

@@ -4,13 +4,13 @@ use Rattle.std.specs.List.{list_any}
 use Rattle.std.proofs.lemmas.Bool.{and_parts, and_from, not-true, true≢false}
 use Rattle.std.proofs.lemmas.List.{append_assoc}
 use Rattle.rbac_sets.specs.declared.row.Row.{Row}
-use Rattle.admin_mgr.specs.Gathered.{Gathered, gathered, has_key, with_stored, is_known, same_key}
-use Rattle.admin_mgr.specs.Checked.{AreReadable}
+use Rattle.admin_mgr.specs.StoredSets.{StoredSets, gathered, has_key, with_stored, is_known, same_key}
+use Rattle.admin_mgr.specs.RowChecks.{AreReadable}
 use Rattle.admin_mgr.proofs.StoredRows.GatherLaws.{gathered_more, readable_none, readable_more, readable_known, readable_free}
 use Rattle.admin_mgr.proofs.StoredRows.KeyLaws.{key_among}
 
 -- the rows done so far are gathered and readable, and the rest is left
-abbrev pub SoFar : ℕ → List Row → List Row → List Row → Gathered → Type 0
+abbrev pub SoFar : ℕ → List Row → List Row → List Row → StoredSets → Type 0
 SoFar version rows done rest made = (rows ≡ done ++ rest) × (made ≡ gathered version done) × AreReadable version done
 
 -- rows don't change the version
@@ -19,20 +19,20 @@ unfolding gathered
 version-gathered version rows = refl
 
 -- before the first row
-pub none_so_far : (version : ℕ) (rows : List Row) (made : Gathered) → made ≡ gathered version [] → SoFar version rows [] rows made
+pub none_so_far : (version : ℕ) (rows : List Row) (made : StoredSets) → made ≡ gathered version [] → SoFar version rows [] rows made
 none_so_far version rows made is = (refl, is, readable_none version)
 
 -- the row is known, and no row has its key
-abbrev pub fits : Gathered → Row → Bool
+abbrev pub fits : StoredSets → Row → Bool
 fits made row = is_known made.facts.version row && not (has_key made row)
 
-module _ (version : ℕ) (rows done rest left : List Row) (row : Row) (made : Gathered) (so_far : SoFar version rows done left made) (next : left ≡ row ∷ rest) where
+module _ (version : ℕ) (rows done rest left : List Row) (row : Row) (made : StoredSets) (so_far : SoFar version rows done left made) (next : left ≡ row ∷ rest) where
   -- the version stays the same
   version_is : made.facts.version ≡ version
-  version_is = ap (λ (g : Gathered). g.facts.version) so_far.1 ∙ version-gathered version done
+  version_is = ap (λ (g : StoredSets). g.facts.version) so_far.1 ∙ version-gathered version done
 
   -- a row that fits may be gathered too
-  pub one_so_far : (after : Gathered) → fits made row ≡ true → after ≡ with_stored made row → SoFar version rows (done ++ row ∷ []) rest after
+  pub one_so_far : (after : StoredSets) → fits made row ≡ true → after ≡ with_stored made row → SoFar version rows (done ++ row ∷ []) rest after
   one_so_far after fit is =
       let parts = and_parts (is_known made.facts.version row) (not (has_key made row)) fit in
       let known : is_known version row ≡ true = ap (λ v. is_known v row) (sym version_is) ∙ parts.0 in

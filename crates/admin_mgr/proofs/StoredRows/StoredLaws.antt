@@ -17,8 +17,8 @@ use Rattle.role_order.proofs.Deciding.{geq-Decides}
 use Rattle.admin_mgr.specs.RbacState.{RbacState}
 use Rattle.admin_mgr.specs.Rows.{has_row}
 use Rattle.admin_mgr.specs.Changes.{same_row}
-use Rattle.admin_mgr.specs.Gathered.{gathered, cardinalities_of, locks_of, is_known, is_among, same_key, HaveKeysOnce}
-use Rattle.admin_mgr.specs.Checked.{AreReadable, OccurOnce}
+use Rattle.admin_mgr.specs.StoredSets.{gathered, cardinalities_of, locks_of, is_known, is_among, same_key, HaveKeysOnce}
+use Rattle.admin_mgr.specs.RowChecks.{AreReadable, OccurOnce}
 use Rattle.admin_mgr.proofs.StoredRows.KeyLaws.{known_names, known_pairs, known_sets, names_among, pairs_among, grants_among, cardinalities_among, locks_among}
 
 -- ---- a row that the version doesn't know

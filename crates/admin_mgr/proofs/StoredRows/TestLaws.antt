@@ -14,13 +14,13 @@ use Rattle.rbac_sets.specs.declared.refusal.Refusal.{Refusal}
 use Rattle.rbac_sets.specs.declared.refusal.Refusal.TheVariants.{Memory, Damaged}
 use Rattle.admin_mgr.specs.RbacState.{RbacState, Separation, members_of, active_roles}
 use Rattle.admin_mgr.specs.Authorization.{is_authorized}
-use Rattle.admin_mgr.specs.Held.{run_of, is_reached}
+use Rattle.admin_mgr.specs.private.HolderRoles.{run_of, is_reached}
 use Rattle.admin_mgr.specs.Separation.{is_kept_statically, is_kept_dynamically}
 use Rattle.admin_mgr.specs.Good.{IsWellFormed, IsStaticallySeparated, IsDynamicallySeparated}
-use Rattle.admin_mgr.specs.Gathered.{Gathered}
-use Rattle.admin_mgr.specs.Checked.{IsComplete, HasMembersThere, HaveOneUser, HasCardinalities, HaveAuthorizedUsers, HaveUnlockedUsers}
-use Rattle.admin_mgr.specs.Tested.{are_firsts_in, are_seconds_in, have_sets, have_sessions, have_permissions, have_roles, is_core_complete, is_hierarchy_complete, are_sets_complete, are_sessions_complete, is_complete, have_one_user, has_cardinalities, have_authorized_users, are_kept_statically, are_kept_dynamically, have_unlocked_users}
-use Rattle.admin_mgr.proofs.Verdicts.HeldLaws.{authorized_reached}
+use Rattle.admin_mgr.specs.StoredSets.{StoredSets}
+use Rattle.admin_mgr.specs.RowChecks.{IsComplete, MembersExist, HaveOneUser, HasCardinalities, HaveAuthorizedUsers, HaveUnlockedUsers}
+use Rattle.admin_mgr.specs.private.CheckTests.{are_firsts_in, are_seconds_in, have_sets, have_sessions, have_permissions, have_roles, is_core_complete, is_hierarchy_complete, are_sets_complete, are_sessions_complete, is_complete, have_one_user, has_cardinalities, have_authorized_users, are_kept_statically, are_kept_dynamically, have_unlocked_users}
+use Rattle.admin_mgr.proofs.Verdicts.AuthorizationLaws.{authorized_reached}
 use Rattle.admin_mgr.proofs.Verdicts.SeparationLaws.{static_test, dynamic_test, least_violated-None}
 use Rattle.std.specs.declared.cmp.Ordering.{Ordering}
 use Rattle.std.specs.FinMap as finmap
@@ -47,7 +47,7 @@ lasts names pairs =
     (λ h a b there. each.0 h (a, b) there, λ h. each.1 (λ pair there. h pair.0 pair.1 there))
 
 -- members are roles of sets that are there
-pub members_there : (roles : Names) (separation : Separation) → IsTrue (have_sets separation && are_seconds_in roles separation.members) ↔ HasMembersThere roles separation
+pub members_there : (roles : Names) (separation : Separation) → IsTrue (have_sets separation && are_seconds_in roles separation.members) ↔ MembersExist roles separation
 members_there roles separation =
     let sets = all-Decides pair_total pair_exact (λ (pair : Pair). any (λ (entry : Cardinality). same_name entry.0 pair.0) separation.cardinalities) separation.members in
     let ends = lasts roles separation.members in (
@@ -56,7 +56,7 @@ members_there roles separation =
     )
 
 -- the test whether what the rows refer to is there
-pub complete : (g : Gathered) → IsTrue (is_complete g) ↔ IsComplete g
+pub complete : (g : StoredSets) → IsTrue (is_complete g) ↔ IsComplete g
 complete g =
     let S = g.facts in
     let permissions = firsts S.objects S.permissions in
@@ -231,7 +231,7 @@ dynamic_sets_are S =
 -- ---- why the hierarchy is refused
 
 -- a failed allocation, a cycle, or pairs that are not the closure
-abbrev pub RefusesOrder : Gathered → Refusal → Type 0
+abbrev pub RefusesOrder : StoredSets → Refusal → Type 0
 RefusesOrder g refusal = (refusal ≡ Memory)
     ⊎ (((refusal ≡ Damaged 5) × (IsAcyclic g.facts.edges → ⊥))
     ⊎ ((refusal ≡ Damaged 6) × IsAcyclic g.facts.edges × (IsClosure g.facts.edges g.pairs → ⊥)))
@@ -245,7 +245,7 @@ err_is {X} x y h = ap at h
     at (Err z) = z
 
 -- why the hierarchy is refused, from what its contract ensures
-pub order_refused : {X : Type 0} (g : Gathered) (refusal : Refusal) → let Told : Refusal → Type 0 = (λ other. ◌≡◌ {A = Result X Refusal} (Err refusal) (Err other)) in
+pub order_refused : {X : Type 0} (g : StoredSets) (refusal : Refusal) → let Told : Refusal → Type 0 = (λ other. ◌≡◌ {A = Result X Refusal} (Err refusal) (Err other)) in
     (Told (Damaged 5) ⊎ (Told (Damaged 6) ⊎ Told Memory)) → (Told (Damaged 5) → IsAcyclic g.facts.edges → ⊥)
     → (Told (Damaged 6) → IsAcyclic g.facts.edges × (IsClosure g.facts.edges g.pairs → ⊥)) → RefusesOrder g refusal
 order_refused g refusal (inl five) cycle differ = inr (inl (err_is refusal (Damaged 5) five, cycle five))

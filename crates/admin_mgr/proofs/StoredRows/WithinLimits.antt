@@ -11,7 +11,7 @@ use Rattle.rbac_sets.specs.declared.kind.Kind.{Kind}
 use Rattle.rbac_sets.specs.declared.kind.Kind.TheVariants.{User, Role, Object, Permission, Grant, Assignment, Edge, SsdSet, DsdSet, Member, Session, ActiveRole}
 use Rattle.admin_mgr.specs.RbacState.{RbacState}
 use Rattle.admin_mgr.specs.Good.{IsWithinLimits}
-use Rattle.admin_mgr.specs.Checked.{first_passed, is_passed, has_more_behind, limited_kinds}
+use Rattle.admin_mgr.specs.RowChecks.{first_exceeded, is_exceeded, has_more_with_first, limited_kinds}
 
 -- no item of the list passes the test
 abbrev NonePass : {X : Type 0} → (X → Bool) → List X → Type 0
@@ -41,7 +41,7 @@ not_more : (limit n : ℕ) → n ≤ limit → nat_lt limit n ≡ false
 not_more limit n most = false_from_ne_true _ (λ h. (let more = ltb-true limit n h in absurd (omega (arith, more, most))))
 
 -- if the test fails, no first name has more pairs than the limit
-few_behind : (limit : ℕ) (pairs : Pairs) → has_more_behind limit pairs ≡ false → (first : Bytes) → len (seconds pairs first) ≤ limit
+few_behind : (limit : ℕ) (pairs : Pairs) → has_more_with_first limit pairs ≡ false → (first : Bytes) → len (seconds pairs first) ≤ limit
 few_behind limit pairs none first = elim (cases_lt limit (len (seconds pairs first))) [
   | inl more ↦
       let some = a_member name_total name_exact (seconds pairs first) (omega (arith, more)) in
@@ -51,16 +51,16 @@ few_behind limit pairs none first = elim (cases_lt limit (len (seconds pairs fir
 ]
 
 -- and conversely
-behind_few : (limit : ℕ) (pairs : Pairs) → ((first : Bytes) → len (seconds pairs first) ≤ limit) → has_more_behind limit pairs ≡ false
+behind_few : (limit : ℕ) (pairs : Pairs) → ((first : Bytes) → len (seconds pairs first) ≤ limit) → has_more_with_first limit pairs ≡ false
 behind_few limit pairs few = false_from_ne_true _ (λ h.
     (let one = (any-Decides pair_total pair_exact (λ (pair : Pair). nat_lt limit (len (seconds pairs pair.0))) pairs).0 h in
     let more = ltb-true limit (len (seconds pairs one.0.0)) one.2 in
     let most = few one.0.0 in absurd (omega (arith, more, most))))
 
 -- if no limit is exceeded, the relations are within all limits
-pub within_limits : (S : RbacState) → first_passed S ≡ None → IsWithinLimits S
+pub within_limits : (S : RbacState) → first_exceeded S ≡ None → IsWithinLimits S
 within_limits S none =
-    let each = none_found (is_passed S) limited_kinds none in
+    let each = none_found (is_exceeded S) limited_kinds none in
     let users = each.0 in
     let roles = each.1.0 in
     let objects = each.1.1.0 in
@@ -70,7 +70,7 @@ within_limits S none =
     let edges = each.1.1.1.1.1.1.0 in
     let ssd = each.1.1.1.1.1.1.1.0 in
     let rest = each.1.1.1.1.1.1.1.1 in
-    let members = or_parts (has_more_behind (limit_of Member S.version) S.ssd.members) (has_more_behind (limit_of Member S.version) S.dsd.members) rest.1.0 in
+    let members = or_parts (has_more_with_first (limit_of Member S.version) S.ssd.members) (has_more_with_first (limit_of Member S.version) S.dsd.members) rest.1.0 in
     record {
       users = ltb-false (limit_of User S.version) (len S.users) users;
       roles = ltb-false (limit_of Role S.version) (len S.roles) roles;
@@ -88,8 +88,8 @@ within_limits S none =
     }
 
 -- if the relations are within all limits, none is exceeded
-pub no_limit_passed : (S : RbacState) (kind : Kind) → IsWithinLimits S → first_passed S ≡ Some kind → ⊥
-no_limit_passed S kind within found = one_found (is_passed S) limited_kinds kind found (
+pub no_limit_passed : (S : RbacState) (kind : Kind) → IsWithinLimits S → first_exceeded S ≡ Some kind → ⊥
+no_limit_passed S kind within found = one_found (is_exceeded S) limited_kinds kind found (
   not_more (limit_of User S.version) (len S.users) within.users,
   (
     not_more (limit_of Role S.version) (len S.roles) within.roles,

@@ -18,13 +18,13 @@ use Rattle.admin_mgr.specs.declared.separation_of_duty.SeparationOfDuty.TheVaria
 use Rattle.admin_mgr.specs.RbacState.{RbacState, members_of, active_roles}
 use Rattle.admin_mgr.specs.Authorization.{is_authorized}
 use Rattle.admin_mgr.specs.Separation.{least_violated}
-use Rattle.admin_mgr.specs.SeparationOfDuty.{sets_of, is_kept, refusal_of, breaks}
+use Rattle.admin_mgr.specs.private.SeparationOfDuty.{sets_of, is_kept, refusal_of, violates}
 use Rattle.admin_mgr.specs.Assignment.{may_go_on}
 use Rattle.admin_mgr.specs.After.{changed, after}
 use Rattle.admin_mgr.specs.Good.{IsGood}
-use Rattle.admin_mgr.specs.Held.{run_of, is_reached, reached_members, reached_with, is_touched, is_broken, naming_first}
+use Rattle.admin_mgr.specs.private.HolderRoles.{run_of, is_reached, reached_members, reached_with, is_touched, is_violated, naming_first}
 use Rattle.admin_mgr.specs.Holders.{runs_of}
-use Rattle.admin_mgr.proofs.Verdicts.HeldLaws.{authorized_reached}
+use Rattle.admin_mgr.proofs.Verdicts.AuthorizationLaws.{authorized_reached}
 use Rattle.admin_mgr.proofs.Verdicts.KeepLaws.{same_where, kept_members, kept_before}
 use Rattle.admin_mgr.proofs.StateAfter.SessionLaws.{none_ends_where}
 use Rattle.admin_mgr.proofs.Verdicts.TouchLaws.{untouched, violated_by, asked_passed}
@@ -123,17 +123,17 @@ module _ (S : RbacState) (good : IsGood S) (asc desc : Bytes) (no_back : geq S.e
       let kept = kept_before duty S good x there in
       same_where _ _ _ (runs_of duty S) kept (λ held fewer. untouched_keeps held (run_of (sets_of duty S).members x.0) x.1 (ltb-true _ _ fewer) none ∙ sym fewer) ∙ kept
 
-  pub inheritance_breaks : (duty : SeparationOfDuty) → breaks duty (after S (AddInheritance asc desc)) ≡ naming_first (refusal_of duty)
-      (is_broken S.edges (filter (λ held. is_reached S.edges held asc) (runs_of duty S)) desc) (sets_of duty S)
+  pub inheritance_violates : (duty : SeparationOfDuty) → violates duty (after S (AddInheritance asc desc)) ≡ naming_first (refusal_of duty)
+      (is_violated S.edges (filter (λ held. is_reached S.edges held asc) (runs_of duty S)) desc) (sets_of duty S)
   unfolding after changed with_edge
-  inheritance_breaks duty =
-      ap (breaks duty) (none_ends_where (with_edge S asc desc) goes_on_below good.well_formed.owned)
+  inheritance_violates duty =
+      ap (violates duty) (none_ends_where (with_edge S asc desc) goes_on_below good.well_formed.owned)
       ∙ named duty
       ∙ ap (option_map (refusal_of duty)) (violated_by (is_kept duty (with_edge S asc desc)) (sets_of duty S) _ (λ x there.
       ap not (kept_below duty x there) ∙ touched_only (is_touched S.edges desc (run_of (sets_of duty S).members x.0)) _ (untouched_kept duty x there)
       ∙ ap (λ kept. is_touched S.edges desc (run_of (sets_of duty S).members x.0) && not kept)
       (asked_passed (λ held. is_reached S.edges held asc) (λ held. nat_lt (reached_with S.edges held desc (run_of (sets_of duty S).members x.0)) x.1) (runs_of duty S))))
     where
-      named : (duty : SeparationOfDuty) → breaks duty (with_edge S asc desc) ≡ option_map (refusal_of duty) (least_violated (is_kept duty (with_edge S asc desc)) (sets_of duty S))
+      named : (duty : SeparationOfDuty) → violates duty (with_edge S asc desc) ≡ option_map (refusal_of duty) (least_violated (is_kept duty (with_edge S asc desc)) (sets_of duty S))
       named Static = refl
       named Dynamic = refl

@@ -11,19 +11,19 @@ use Rattle.rbac_sets.specs.NameOrder.{pair_total, pair_exact}
 use Rattle.rbac_sets.proofs.Lists.{any_map, count_map}
 use Rattle.rbac_sets.proofs.SetLaws.{all-Decides}
 use Rattle.role_order.specs.Order.{geq}
-use Rattle.order_table.specs.Table.{Table, entry, number_in, numbers_of, reaches, table_of}
-use Rattle.order_table.proofs.Roles.{entry-number}
+use Rattle.order_matrix.specs.Table.{Table, entry, number_in, numbers_of, reaches, table_of}
+use Rattle.order_matrix.proofs.Roles.{entry-number}
 use Rattle.admin_mgr.specs.declared.separation_of_duty.SeparationOfDuty.{SeparationOfDuty}
 use Rattle.admin_mgr.specs.declared.separation_of_duty.SeparationOfDuty.TheVariants.{Static, Dynamic}
 use Rattle.admin_mgr.specs.RbacState.{RbacState, members_of}
-use Rattle.admin_mgr.specs.Checked.{IsComplete}
-use Rattle.admin_mgr.specs.Gathered.{Gathered}
+use Rattle.admin_mgr.specs.RowChecks.{IsComplete}
+use Rattle.admin_mgr.specs.StoredSets.{StoredSets}
 use Rattle.admin_mgr.specs.Good.{IsWellFormed}
-use Rattle.admin_mgr.specs.Held.{find_broken, is_reached, is_touched, reached_members, reached_with, run_of}
+use Rattle.admin_mgr.specs.private.HolderRoles.{find_violated, is_reached, is_touched, reached_members, reached_with, run_of}
 use Rattle.admin_mgr.specs.Holders.{runs_of}
-use Rattle.admin_mgr.specs.Numbers.{first_broken_by, keep_all, keep_below}
-use Rattle.admin_mgr.specs.SeparationOfDuty.{is_kept, sets_of}
-use Rattle.admin_mgr.specs.Tested.{are_kept, are_roles_there, are_seconds_in}
+use Rattle.admin_mgr.specs.private.NumberedSeparation.{first_violated_by, keep_all, keep_below}
+use Rattle.admin_mgr.specs.private.SeparationOfDuty.{is_kept, sets_of}
+use Rattle.admin_mgr.specs.private.CheckTests.{are_kept, are_roles_there, are_seconds_in}
 use Rattle.admin_mgr.proofs.Verdicts.KeepLaws.{kept_members, same_where}
 
 -- ---- tests along lists
@@ -95,10 +95,10 @@ module _ (roles : Names) (edges : Pairs) (table : Table) (is : table ≡ table_o
       ∙ any_where there _ _ pairs all_there (λ pair here. entry-number roles edges table is more pair.1 at here)
 
   -- the first set that is violated with one more role
-  pub first_broken_is : (more : Bytes) → contains roles more ≡ true → (runs : List (List Pair)) → list_all (list_all there) runs ≡ true → (pairs : Pairs) → all there pairs ≡ true → (sets : List Cardinality)
-      → first_broken_by table (members roles) (map (λ run. numbers run ++ number more ∷ []) runs) (number more) pairs sets ≡ find_broken edges runs more pairs sets
+  pub first_violated_is : (more : Bytes) → contains roles more ≡ true → (runs : List (List Pair)) → list_all (list_all there) runs ≡ true → (pairs : Pairs) → all there pairs ≡ true → (sets : List Cardinality)
+      → first_violated_by table (members roles) (map (λ run. numbers run ++ number more ∷ []) runs) (number more) pairs sets ≡ find_violated edges runs more pairs sets
   unfolding all
-  first_broken_is more at runs each pairs all_there sets =
+  first_violated_is more at runs each pairs all_there sets =
       λ i. find (λ (set : Cardinality). (let run = run_of pairs set.0 in let in_run = all_filter there _ (members pairs) all_there in
       touched_is more at run in_run i && not (below_with_is more at runs each run in_run set.1 i))) sets
 
@@ -113,10 +113,10 @@ find_nothing {X} test (x ∷ xs) = step (find_nothing test xs) (test x)
     step rest false = rest
 
 -- if there is no user or session, no set is violated
-pub nobody_breaks : {X : Type 0} (run : X → List Pair) (xs : List X) → length xs ≡ 0 → (edges : Pairs) (more : Bytes) (pairs : Pairs) (sets : List Cardinality)
-    → find_broken edges (map run xs) more pairs sets ≡ None
-nobody_breaks run [] none edges more pairs sets = find_nothing (λ (set : Cardinality). is_touched edges more (run_of pairs set.0)) sets
-nobody_breaks run (x ∷ xs) none edges more pairs sets = absurd (omega (arith, none))
+pub nobody_violates : {X : Type 0} (run : X → List Pair) (xs : List X) → length xs ≡ 0 → (edges : Pairs) (more : Bytes) (pairs : Pairs) (sets : List Cardinality)
+    → find_violated edges (map run xs) more pairs sets ≡ None
+nobody_violates run [] none edges more pairs sets = find_nothing (λ (set : Cardinality). is_touched edges more (run_of pairs set.0)) sets
+nobody_violates run (x ∷ xs) none edges more pairs sets = absurd (omega (arith, none))
 
 -- ---- of a state
 
@@ -133,7 +133,7 @@ roles_are_there S formed = and_from _ _ (and_from _ _ (and_from _ _
     (seconds_in S.roles S.dsd.members (λ set role here. (formed.dsd.members set role here).1))
 
 -- and so they are if the rows of a state are complete
-pub complete_roles_are_there : (g : Gathered) → IsComplete g → IsTrue (are_roles_there g.facts)
+pub complete_roles_are_there : (g : StoredSets) → IsComplete g → IsTrue (are_roles_there g.facts)
 complete_roles_are_there g all = (let S = g.facts in and_from _ _ (and_from _ _ (and_from _ _
     (seconds_in S.roles S.assignments (λ user role here. (all.assignments user role here).1))
     (seconds_in S.roles S.active (λ session role here. (all.active session role here).1)))

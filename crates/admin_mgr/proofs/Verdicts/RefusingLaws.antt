@@ -8,7 +8,7 @@ use Rattle.rbac_sets.specs.declared.command.Command.TheVariants.{AddUser, Delete
 use Rattle.rbac_sets.specs.declared.refusal.Refusal.{Refusal}
 use Rattle.rbac_sets.specs.declared.refusal.Refusal.TheVariants.{StaticSeparation, DynamicSeparation}
 use Rattle.admin_mgr.specs.RbacState.{RbacState}
-use Rattle.admin_mgr.specs.Refusing.{refuse_if, refuse_unless, first, breaks_static, breaks_dynamic}
+use Rattle.admin_mgr.specs.Refusals.{refuse_if, refuse_unless, first, violates_static, violates_dynamic}
 use Rattle.admin_mgr.specs.Separation.{static_violation, dynamic_violation}
 use Rattle.admin_mgr.specs.Assignment.{assignment_refusals}
 use Rattle.admin_mgr.specs.Verdict.{refusals, verdict}
@@ -30,7 +30,7 @@ off true refusal told = tt
 off false refusal told = told
 
 -- a static set that is violated
-static : (S : RbacState) → MayBeTold (breaks_static S)
+static : (S : RbacState) → MayBeTold (violates_static S)
 static S = by (static_violation S)
   where
     by : (violated : Option Bytes) → MayBeTold (option_map StaticSeparation violated)
@@ -38,7 +38,7 @@ static S = by (static_violation S)
     by (Some name) = refl
 
 -- a dynamic set that is violated
-dynamic : (S : RbacState) → MayBeTold (breaks_dynamic S)
+dynamic : (S : RbacState) → MayBeTold (violates_dynamic S)
 dynamic S = by (dynamic_violation S)
   where
     by : (violated : Option Bytes) → MayBeTold (option_map DynamicSeparation violated)

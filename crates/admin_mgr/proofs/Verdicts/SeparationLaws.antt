@@ -45,8 +45,8 @@ subset_form S = (by_subsets S, by_counting S)
 -- ---- the first violated set
 
 -- whether a set is violated
-abbrev pub is_broken : (Names → ℕ → Bool) → Separation → Cardinality → Bool
-is_broken is_kept separation entry = not (is_kept (members_of separation entry.0) entry.1)
+abbrev pub is_violated : (Names → ℕ → Bool) → Separation → Cardinality → Bool
+is_violated is_kept separation entry = not (is_kept (members_of separation entry.0) entry.1)
 
 none_found : {X : Type 0} (p : X → Bool) (xs : List X) → (find p xs ≡ None) ↔ (list_any p xs ≡ false)
 none_found p [] = (λ _. refl, λ _. refl)
@@ -66,11 +66,11 @@ pub least_violated-None : (is_kept : Names → ℕ → Bool) (separation : Separ
     (least_violated is_kept separation ≡ None) ↔ ((name : Bytes) (n : ℕ) → IsTrue (contains separation.cardinalities (name, n)) → IsTrue (is_kept (members_of separation name) n))
 unfolding least_violated any
 least_violated-None is_kept separation =
-    let broken : Cardinality → Bool = is_broken is_kept separation in
-    let some = any-Decides cardinality_total cardinality_exact broken separation.cardinalities in
-    let found = none_found broken (members separation.cardinalities) in
-    let named = unmapped (λ (entry : Cardinality). entry.0) (find broken (members separation.cardinalities)) in (
-      λ none name n there. not-false _ (false_from_ne_true (broken (name, n)) (λ h. true≢false (sym (some.1 ((name, n), there, h)) ∙ found.0 (named.0 none)))),
+    let violated : Cardinality → Bool = is_violated is_kept separation in
+    let some = any-Decides cardinality_total cardinality_exact violated separation.cardinalities in
+    let found = none_found violated (members separation.cardinalities) in
+    let named = unmapped (λ (entry : Cardinality). entry.0) (find violated (members separation.cardinalities)) in (
+      λ none name n there. not-false _ (false_from_ne_true (violated (name, n)) (λ h. true≢false (sym (some.1 ((name, n), there, h)) ∙ found.0 (named.0 none)))),
       λ each. named.1 (found.1 (false_from_ne_true _ (λ h. (let one = some.0 h in true≢false (sym (each one.0.0 one.0.1 one.1) ∙ not-true _ one.2))))),
     )
 

@@ -14,14 +14,14 @@ use Rattle.role_order.proofs.Members.{same_or_other}
 use Rattle.admin_mgr.specs.RbacState.{RbacState, has_session}
 use Rattle.admin_mgr.specs.Authorization.{authorized_users, is_authorized, is_session_role}
 use Rattle.admin_mgr.specs.Separation.{is_kept_dynamically}
-use Rattle.admin_mgr.specs.Refusing.{breaks_dynamic}
+use Rattle.admin_mgr.specs.Refusals.{violates_dynamic}
 use Rattle.admin_mgr.specs.Assignment.{may_go_on, end_sessions}
 use Rattle.admin_mgr.specs.After.{paired, changed, after}
 use Rattle.admin_mgr.specs.Good.{IsGood}
-use Rattle.admin_mgr.specs.Held.{run_of, is_reached, is_reached_from, has_all, has_with, naming_first}
-use Rattle.admin_mgr.proofs.Verdicts.HeldLaws.{session_reached, session_members_count}
+use Rattle.admin_mgr.specs.private.HolderRoles.{run_of, is_reached, is_reached_from, has_all, has_with, naming_first}
+use Rattle.admin_mgr.proofs.Verdicts.AuthorizationLaws.{session_reached, session_members_count}
 use Rattle.admin_mgr.proofs.StateAfter.SessionLaws.{none_ends_where}
-use Rattle.admin_mgr.proofs.Verdicts.TouchLaws.{any_insert, one_more, violated_by, with_sessions, OthersStay, session_breaks}
+use Rattle.admin_mgr.proofs.Verdicts.TouchLaws.{any_insert, one_more, violated_by, with_sessions, OthersStay, session_violates}
 use Rattle.admin_mgr.proofs.Verdicts.ViolationLaws.{paired-Decides, with_paired-others, with_paired-own, with_one-others, with_one-own}
 
 -- a session may go on if its user is there, not locked, and authorized for the roles activated in it
@@ -76,20 +76,20 @@ module _ (S : RbacState) (good : IsGood S) (user : Bytes) (roles : Names) (sessi
   unfolding created_sessions created_active with_sessions any
   created_roles q = ap (any (λ a. geq S.edges a q)) (with_paired-own S.active session roles none_active)
 
-  created_breaks : IsTrue (contains S.users user) → contains S.locked user ≡ false → IsTrue (all (is_authorized S user) roles) →
-      breaks_dynamic (end_sessions (with_sessions S created_sessions created_active)) ≡ naming_first DynamicSeparation (has_all S.edges (members roles)) S.dsd
+  created_violates : IsTrue (contains S.users user) → contains S.locked user ≡ false → IsTrue (all (is_authorized S user) roles) →
+      violates_dynamic (end_sessions (with_sessions S created_sessions created_active)) ≡ naming_first DynamicSeparation (has_all S.edges (members roles)) S.dsd
   unfolding created_sessions created_active with_sessions
-  created_breaks is_user unlocked authorized =
-      ap breaks_dynamic (none_ends_where (with_sessions S created_sessions created_active) (created_goes_on is_user unlocked authorized) created_owned)
+  created_violates is_user unlocked authorized =
+      ap violates_dynamic (none_ends_where (with_sessions S created_sessions created_active) (created_goes_on is_user unlocked authorized) created_owned)
       ∙ ap (option_map DynamicSeparation) (violated_by (is_kept_dynamically (with_sessions S created_sessions created_active)) S.dsd _
-      (session_breaks S good created_sessions created_active session user ((contains-insert-Decides pair_total pair_exact S.sessions (session, user) (session, user)).1 (inl refl)) others_created
+      (session_violates S good created_sessions created_active session user ((contains-insert-Decides pair_total pair_exact S.sessions (session, user) (session, user)).1 (inl refl)) others_created
       (is_reached_from S.edges (members roles)) created_roles))
 
 pub create_session : (S : RbacState) → IsGood S → (user : Bytes) (roles : Stored Bytes) (session : Bytes) → has_session S session ≡ false →
     IsTrue (contains S.users user) → contains S.locked user ≡ false → IsTrue (all (is_authorized S user) (set_of name_cmp roles)) →
-    breaks_dynamic (after S (CreateSession user roles session)) ≡ naming_first DynamicSeparation (has_all S.edges (members (set_of name_cmp roles))) S.dsd
+    violates_dynamic (after S (CreateSession user roles session)) ≡ naming_first DynamicSeparation (has_all S.edges (members (set_of name_cmp roles))) S.dsd
 unfolding after changed created_sessions created_active with_sessions
-create_session S good user roles session new is_user unlocked authorized = created_breaks S good user (set_of name_cmp roles) session new is_user unlocked authorized
+create_session S good user roles session new is_user unlocked authorized = created_violates S good user (set_of name_cmp roles) session new is_user unlocked authorized
 
 -- ---- a role is activated
 
@@ -129,13 +129,13 @@ module _ (S : RbacState) (good : IsGood S) (user session role : Bytes) (owner : 
       ∙ any_insert (λ a. geq S.edges a q) (seconds S.active session) role
       ∙ ap (λ b. b || geq S.edges role q) (session_reached S session q)
 
-  pub activated_breaks :
-      breaks_dynamic (after S (AddActiveRole user session role)) ≡ naming_first DynamicSeparation (has_with S.edges (run_of S.active session) role) S.dsd
+  pub activated_violates :
+      violates_dynamic (after S (AddActiveRole user session role)) ≡ naming_first DynamicSeparation (has_with S.edges (run_of S.active session) role) S.dsd
   unfolding after changed more_active with_sessions
-  activated_breaks =
-      ap breaks_dynamic (none_ends_where (with_sessions S S.sessions more_active) activated_goes_on activated_owned)
+  activated_violates =
+      ap violates_dynamic (none_ends_where (with_sessions S S.sessions more_active) activated_goes_on activated_owned)
       ∙ ap (option_map DynamicSeparation) (violated_by (is_kept_dynamically (with_sessions S S.sessions more_active)) S.dsd _ (λ x there.
       let before : count_by (λ (m : Pair). is_reached S.edges (run_of S.active session) m.1) (run_of S.dsd.members x.0) < x.1 =
       subst (λ k. k < x.1) (session_members_count S session S.dsd.members x.0) (good.dynamic_separation x.0 session user x.1 there owner) in
-      session_breaks S good S.sessions more_active session user owner others_stay (λ q. is_reached S.edges (run_of S.active session) q || geq S.edges role q) activated_roles x there
+      session_violates S good S.sessions more_active session user owner others_stay (λ q. is_reached S.edges (run_of S.active session) q || geq S.edges role q) activated_roles x there
       ∙ sym (one_more (λ (m : Pair). is_reached S.edges (run_of S.active session) m.1) (λ (m : Pair). geq S.edges role m.1) (run_of S.dsd.members x.0) x.1 before)))

@@ -18,11 +18,11 @@ use Rattle.role_order.proofs.Runs.{count_seconds}
 use Rattle.admin_mgr.specs.RbacState.{RbacState, Separation, members_of}
 use Rattle.admin_mgr.specs.Authorization.{authorized_users, is_authorized, is_session_role}
 use Rattle.admin_mgr.specs.Separation.{is_kept_statically, is_kept_dynamically, least_violated}
-use Rattle.admin_mgr.specs.Refusing.{breaks_static}
+use Rattle.admin_mgr.specs.Refusals.{violates_static}
 use Rattle.admin_mgr.specs.Assignment.{end_sessions, after_assignment}
 use Rattle.admin_mgr.specs.Good.{IsGood}
-use Rattle.admin_mgr.specs.Held.{run_of, is_reached, has_with, naming_first}
-use Rattle.admin_mgr.proofs.Verdicts.HeldLaws.{authorized_reached, authorized_members_count}
+use Rattle.admin_mgr.specs.private.HolderRoles.{run_of, is_reached, has_with, naming_first}
+use Rattle.admin_mgr.proofs.Verdicts.AuthorizationLaws.{authorized_reached, authorized_members_count}
 use Rattle.admin_mgr.proofs.Verdicts.SeparationLaws.{kept_statically, kept_dynamically}
 
 -- two tests that agree on a list find the same
@@ -136,9 +136,9 @@ module _ (S : RbacState) (good : IsGood S) (user role : Bytes) (is_user : IsTrue
         | inr apart ↦ subst (λ k. k < x.1) (λ i. count (λ q. sym (others_as_before S user role other apart q) i) (members_of S.ssd x.0)) (good.static_separation x.0 other x.1 there)
       ]))
 
-  pub assignment_breaks : breaks_static (after_assignment S (user, role)) ≡ naming_first StaticSeparation (has_with S.edges (run_of S.assignments user) role) S.ssd
+  pub assignment_violates : violates_static (after_assignment S (user, role)) ≡ naming_first StaticSeparation (has_with S.edges (run_of S.assignments user) role) S.ssd
   unfolding after_assignment end_sessions is_kept_statically authorized_users with_assignment
-  assignment_breaks = ap (option_map StaticSeparation) (violated_by (is_kept_statically (with_assignment S (user, role))) S.ssd _ (λ x there.
+  assignment_violates = ap (option_map StaticSeparation) (violated_by (is_kept_statically (with_assignment S (user, role))) S.ssd _ (λ x there.
       let before : count_by (λ (m : Pair). is_reached S.edges (run_of S.assignments user) m.1) (run_of S.ssd.members x.0) < x.1 =
       subst (λ k. k < x.1) (authorized_members_count S user S.ssd.members x.0) (good.static_separation x.0 user x.1 there) in
       ap not (kept_by_user x there)
@@ -168,17 +168,17 @@ module _ (S : RbacState) (good : IsGood S) (sessions active : Pairs) (session us
       ]))
 
   -- and its roles are those that pass the test
-  pub session_breaks : (held : Bytes → Bool) → ((q : Bytes) → is_session_role (with_sessions S sessions active) session q ≡ held q) → (x : Cardinality) → IsTrue (contains S.dsd.cardinalities x) →
+  pub session_violates : (held : Bytes → Bool) → ((q : Bytes) → is_session_role (with_sessions S sessions active) session q ≡ held q) → (x : Cardinality) → IsTrue (contains S.dsd.cardinalities x) →
       not (is_kept_dynamically (with_sessions S sessions active) (members_of S.dsd x.0) x.1) ≡ not (nat_lt (count_by (λ (m : Pair). held m.1) (run_of S.dsd.members x.0)) x.1)
-  session_breaks held same x has =
+  session_violates held same x has =
       ap not (kept_by_session x has)
       ∙ ap (λ k. not (nat_lt k x.1)) (count_seconds (is_session_role (with_sessions S sessions active) session) S.dsd.members x.0
       ∙ (λ i. count_by (λ (m : Pair). same m.1 i) (run_of S.dsd.members x.0)))
 
 -- if no entry is touched, none is found violated
-pub none_broken : {K : Type 0} (touched kept : K → Bool) (xs : List K) → list_any touched xs ≡ false → find (λ x. touched x && not (kept x)) xs ≡ None
-none_broken touched kept [] none = refl
-none_broken touched kept (x ∷ xs) none = by (touched x) refl (none_broken touched kept xs)
+pub no_violation : {K : Type 0} (touched kept : K → Bool) (xs : List K) → list_any touched xs ≡ false → find (λ x. touched x && not (kept x)) xs ≡ None
+no_violation touched kept [] none = refl
+no_violation touched kept (x ∷ xs) none = by (touched x) refl (no_violation touched kept xs)
   where
     by : (b : Bool) → touched x ≡ b → (list_any touched xs ≡ false → find (λ y. touched y && not (kept y)) xs ≡ None) → find (λ y. touched y && not (kept y)) (x ∷ xs) ≡ None
     by true is rest = absurd (true≢false (ap (λ t. t || list_any touched xs) (sym is) ∙ none))

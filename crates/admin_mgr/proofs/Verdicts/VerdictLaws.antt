@@ -3,7 +3,7 @@ use Rattle.std.proofs.Common.{◌≡◌, Bool, true, false, cond, List, [], ◌�
 use Rattle.std.specs.Prelude.{Option, Some, None}
 use Rattle.std.specs.Option.{option_map}
 use Rattle.rbac_sets.specs.declared.refusal.Refusal.{Refusal}
-use Rattle.admin_mgr.specs.Refusing.{refuse_if, refuse_unless, first}
+use Rattle.admin_mgr.specs.Refusals.{refuse_if, refuse_unless, first}
 
 -- what is no `Some` is `None`
 pub none_unless_some : {X : Type 0} (o : Option X) → ((x : X) → o ≡ Some x → ⊥) → o ≡ None

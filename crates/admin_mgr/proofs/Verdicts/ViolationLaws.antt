@@ -13,7 +13,7 @@ use Rattle.admin_mgr.specs.RbacState.{Separation, members_of, has_set}
 use Rattle.admin_mgr.specs.Separation.{least_violated}
 use Rattle.admin_mgr.specs.After.{paired, without_cardinality, with_set, with_member, with_cardinality}
 use Rattle.admin_mgr.specs.Good.{IsSeparation}
-use Rattle.admin_mgr.proofs.Verdicts.SeparationLaws.{is_broken, least_violated-None}
+use Rattle.admin_mgr.proofs.Verdicts.SeparationLaws.{is_violated, least_violated-None}
 
 -- ---- the first entry that is found, if only one name is possible
 
@@ -37,8 +37,8 @@ pub only_set : (is_kept : Names → ℕ → Bool) (separation : Separation) (nam
 unfolding least_violated any
 only_set is_kept separation name n there others = by (is_kept (members_of separation name) n) refl
   where
-    broken : Cardinality → Bool
-    broken = is_broken is_kept separation
+    violated : Cardinality → Bool
+    violated = is_violated is_kept separation
 
     by : (b : Bool) → is_kept (members_of separation name) n ≡ b → least_violated is_kept separation ≡ cond b None (Some name)
     by true kept = (least_violated-None is_kept separation).1 (λ x m has. elim (others (x, m) has) [
@@ -46,11 +46,11 @@ only_set is_kept separation name n there others = by (is_kept (members_of separa
       | inr other ↦ other
     ])
     by false lost =
-        named broken (members separation.cardinalities) name (λ x has lost. elim (others x (contains-members separation.cardinalities x ∙ has)) [
+        named violated (members separation.cardinalities) name (λ x has lost. elim (others x (contains-members separation.cardinalities x ∙ has)) [
           | inl same ↦ ap (λ (y : Cardinality). y.0) same
           | inr other ↦ absurd (true≢false (sym other ∙ not-true _ lost))
         ])
-        ∙ ap (λ b. cond b (Some name) None) ((any-Decides cardinality_total cardinality_exact broken separation.cardinalities).1 ((name, n), there, ap not lost))
+        ∙ ap (λ b. cond b (Some name) None) ((any-Decides cardinality_total cardinality_exact violated separation.cardinalities).1 ((name, n), there, ap not lost))
 
 -- ---- the members of a set, and those of others
 

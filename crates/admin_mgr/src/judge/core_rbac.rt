@@ -3,7 +3,7 @@
 ghost use Rattle.std.specs.Prelude.{◌≡◌, IfOk};
 ghost use Rattle.rbac_sets.specs.declared.command.Command.TheVariants.{AddUser, DeleteUser, AddRole, DeleteRole, AddPermObj, DeletePermObj, AddPermission, DeletePermission, GrantPermission, RevokePermission, AssignUser, DeassignUser, ImportAssignments, LockUserAccount, UnlockUserAccount};
 ghost use Rattle.admin_mgr.specs.Assignment.{assign_user_refusals};
-ghost use Rattle.admin_mgr.specs.Refusing.{first};
+ghost use Rattle.admin_mgr.specs.Refusals.{first};
 ghost use Rattle.admin_mgr.specs.Verdict.{verdict};
 ghost use Rattle.admin_mgr.specs.Verdict.{is_in_use};
 
@@ -242,7 +242,7 @@ pub(crate) fn judge_assign_user(
 ) -> Result<Option<Refusal>, AllocError>
     ensures { IfOk result (λ found. found ≡ verdict state.now.facts (AssignUser user.now role.now)) }
 {
-    state.is_good();
+    state.recall_good();
     if let Some(refusal) = refuse_assignment(state, user, role) {
         return Ok(Some(refusal));
     }

@@ -4,11 +4,11 @@ ghost use Rattle.rbac_sets.specs.Sets.{contains};
 ghost use Rattle.rbac_sets.specs.declared.command.Command.TheVariants.{AddInheritance, DeleteInheritance, AddAscendant, AddDescendant};
 ghost use Rattle.role_order.specs.Order.{geq};
 ghost use Rattle.admin_mgr.specs.After.{after};
-ghost use Rattle.admin_mgr.specs.Refusing.{first};
-ghost use Rattle.admin_mgr.specs.SeparationOfDuty.{breaks};
+ghost use Rattle.admin_mgr.specs.Refusals.{first};
+ghost use Rattle.admin_mgr.specs.private.SeparationOfDuty.{violates};
 ghost use Rattle.admin_mgr.specs.Verdict.{verdict, add_inheritance_refusals};
 
-use crate::inheriting::first_broken;
+use crate::inheriting::first_violated;
 use crate::judge::naming::name_violated;
 use crate::limits::is_full;
 use crate::separation_of_duty::SeparationOfDuty;
@@ -35,20 +35,26 @@ pub(crate) fn judge_add_inheritance(
 ) -> Result<Option<Refusal>, AllocError>
     ensures { IfOk result (λ found. found ≡ verdict state.now.facts (AddInheritance asc.now desc.now)) }
 {
-    state.is_good();
+    state.recall_good();
     if let Some(refusal) = refuse_inheritance(state, asc, desc) {
         return Ok(Some(refusal));
     }
-    if let Some(refusal) = refuse_broken(alloc, state, SeparationOfDuty::Static, asc, desc)? {
+    if let Some(refusal) = refuse_first_violated(
+        alloc,
+        state,
+        SeparationOfDuty::Static,
+        asc,
+        desc,
+    )? {
         return Ok(Some(refusal));
     }
-    let broken = refuse_broken(alloc, state, SeparationOfDuty::Dynamic, asc, desc)?;
-    Ok(broken)
+    let violated = refuse_first_violated(alloc, state, SeparationOfDuty::Dynamic, asc, desc)?;
+    Ok(violated)
 }
 
 // The refusal that names the first set of this kind in byte order that somebody would violate if `asc`
 // became an immediate ascendant of `desc`.
-fn refuse_broken(
+fn refuse_first_violated(
     alloc: Global,
     state: &State,
     duty: SeparationOfDuty,
@@ -57,10 +63,10 @@ fn refuse_broken(
 ) -> Result<Option<Refusal>, AllocError>
     requires apart { geq state.now.facts.edges desc.now asc.now ≡ false }
     requires there { IsTrue (contains state.now.facts.roles desc.now) }
-    ensures { IfOk result (λ found. found ≡ breaks duty (after state.now.facts (AddInheritance asc.now desc.now))) }
+    ensures { IfOk result (λ found. found ≡ violates duty (after state.now.facts (AddInheritance asc.now desc.now))) }
 {
-    state.is_good();
-    let violated = first_broken(alloc, state, duty, asc, desc)?;
+    state.recall_good();
+    let violated = first_violated(alloc, state, duty, asc, desc)?;
     let named = name_violated(alloc, duty, violated)?;
     Ok(named)
 }

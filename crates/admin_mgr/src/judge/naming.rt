@@ -2,7 +2,7 @@
 ghost use Rattle.std.specs.Prelude.{◌≡◌, IfOk};
 ghost use Rattle.std.specs.Option.{option_copied, option_map};
 ghost use Rattle.rbac_sets.specs.Sets.{Cardinality};
-ghost use Rattle.admin_mgr.specs.SeparationOfDuty.{refusal_of};
+ghost use Rattle.admin_mgr.specs.private.SeparationOfDuty.{refusal_of};
 
 use crate::separation_of_duty::SeparationOfDuty;
 use rbac_sets::{Name, Refusal};

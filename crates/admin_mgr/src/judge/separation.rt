@@ -1,10 +1,10 @@
 //! The verdicts on the commands on separation of duty sets, static or dynamic.
 ghost use Rattle.std.specs.Prelude.{◌≡◌, IfOk};
 ghost use Rattle.admin_mgr.specs.Verdict.{verdict};
-ghost use Rattle.admin_mgr.specs.SeparationOfDuty.{create_set, add_member, delete_member, set_cardinality, delete_set};
+ghost use Rattle.admin_mgr.specs.private.SeparationOfDuty.{create_set, add_member, delete_member, set_cardinality, delete_set};
 
 use crate::judge::set_refusals::{
-    has_set, refuse_cardinality, refuse_member, refuse_member_taken, refuse_set, refuse_violated,
+    has_set, refuse_cardinality, refuse_member, refuse_member_removal, refuse_set, refuse_violated,
 };
 use crate::keeping::{keeps, keeps_set, keeps_with};
 use crate::separation_of_duty::SeparationOfDuty;
@@ -32,7 +32,7 @@ pub(crate) fn judge_create_set(
 ) -> Result<Option<Refusal>, AllocError>
     ensures { IfOk result (λ found. found ≡ verdict state.now.facts (create_set duty set.now roles.now cardinality)) }
 {
-    state.is_good();
+    state.recall_good();
     if let Some(refusal) = refuse_set(
         state,
         duty.kind(),
@@ -44,8 +44,8 @@ pub(crate) fn judge_create_set(
         return Ok(Some(refusal));
     }
     let kept = keeps(state, duty, roles, cardinality);
-    let broken = refuse_violated(alloc, duty, kept, set)?;
-    Ok(broken)
+    let violated = refuse_violated(alloc, duty, kept, set)?;
+    Ok(violated)
 }
 
 // The verdict on AddSsdRoleMember or AddDsdRoleMember.
@@ -65,7 +65,7 @@ pub(crate) fn judge_add_member(
 ) -> Result<Option<Refusal>, AllocError>
     ensures { IfOk result (λ found. found ≡ verdict state.now.facts (add_member duty set.now role.now)) }
 {
-    state.is_good();
+    state.recall_good();
     if let Some(refusal) = refuse_member(
         state,
         duty.members(state),
@@ -77,8 +77,8 @@ pub(crate) fn judge_add_member(
     }
     let cardinality = duty.cardinality(state, set).unwrap();
     let kept = keeps_with(state, duty, set, cardinality, role);
-    let broken = refuse_violated(alloc, duty, kept, set)?;
-    Ok(broken)
+    let violated = refuse_violated(alloc, duty, kept, set)?;
+    Ok(violated)
 }
 
 // The verdict on DeleteSsdRoleMember or DeleteDsdRoleMember.
@@ -94,7 +94,7 @@ pub(crate) fn judge_delete_member(
 ) -> Option<Refusal>
     ensures { result ≡ verdict state.now.facts (delete_member duty set.now role.now) }
 {
-    refuse_member_taken(
+    refuse_member_removal(
         state,
         duty.members(state),
         duty.cardinalities(state),
@@ -120,7 +120,7 @@ pub(crate) fn judge_set_cardinality(
 ) -> Result<Option<Refusal>, AllocError>
     ensures { IfOk result (λ found. found ≡ verdict state.now.facts (set_cardinality duty set.now cardinality)) }
 {
-    state.is_good();
+    state.recall_good();
     if let Some(refusal) = refuse_cardinality(
         duty.members(state),
         duty.cardinalities(state),
@@ -131,8 +131,8 @@ pub(crate) fn judge_set_cardinality(
     }
     let before = duty.cardinality(state, set).unwrap();
     let kept = keeps_set(state, duty, set, before, cardinality);
-    let broken = refuse_violated(alloc, duty, kept, set)?;
-    Ok(broken)
+    let violated = refuse_violated(alloc, duty, kept, set)?;
+    Ok(violated)
 }
 
 // The verdict on DeleteSsdSet or DeleteDsdSet.

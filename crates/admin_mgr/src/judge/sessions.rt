@@ -5,7 +5,7 @@ ghost use Rattle.rbac_sets.specs.Sets.{name_cmp};
 ghost use Rattle.rbac_sets.specs.SortedSet.{set_of};
 ghost use Rattle.rbac_sets.specs.declared.command.Command.TheVariants.{CreateSession, DeleteSession, AddActiveRole, DropActiveRole};
 ghost use Rattle.admin_mgr.specs.Authorization.{is_authorized};
-ghost use Rattle.admin_mgr.specs.Refusing.{first};
+ghost use Rattle.admin_mgr.specs.Refusals.{first};
 ghost use Rattle.admin_mgr.specs.Verdict.{verdict, create_session_refusals, add_active_role_refusals};
 
 use crate::held::{first_with_all, first_with_one, is_reached};
@@ -37,7 +37,7 @@ pub(crate) fn judge_create_session(
 ) -> Result<Option<Refusal>, AllocError>
     ensures { IfOk result (λ found. found ≡ verdict state.now.facts (CreateSession user.now roles.now session.now)) }
 {
-    state.is_good();
+    state.recall_good();
     if let Some(refusal) = refuse_session(state, user, roles, session) {
         return Ok(Some(refusal));
     }
@@ -131,7 +131,7 @@ pub(crate) fn judge_add_active_role(
 ) -> Result<Option<Refusal>, AllocError>
     ensures { IfOk result (λ found. found ≡ verdict state.now.facts (AddActiveRole user.now session.now role.now)) }
 {
-    state.is_good();
+    state.recall_good();
     if let Some(refusal) = refuse_activation(state, user, session, role) {
         return Ok(Some(refusal));
     }

@@ -2,10 +2,10 @@
 ghost use Rattle.std.specs.Prelude.{◌≡◌, ◌&&◌, IfOk, None, Some, cond, nat_le};
 ghost use Rattle.rbac_sets.specs.Sets.{Cardinality, Pairs, any, cardinality_cmp, len, name_cmp, pair_cmp, same_name, seconds};
 ghost use Rattle.rbac_sets.specs.SortedSet.{set_of};
-ghost use Rattle.admin_mgr.specs.Kept.{separation_of};
+ghost use Rattle.admin_mgr.specs.StateWithRoom.{separation_of};
 ghost use Rattle.admin_mgr.specs.RbacState.{Separation, is_below};
-ghost use Rattle.admin_mgr.specs.Refusing.{first};
-ghost use Rattle.admin_mgr.specs.SeparationOfDuty.{refusal_of};
+ghost use Rattle.admin_mgr.specs.Refusals.{first};
+ghost use Rattle.admin_mgr.specs.private.SeparationOfDuty.{refusal_of};
 ghost use Rattle.admin_mgr.specs.Verdict.{create_set_refusals, add_member_refusals, delete_member_refusals, set_cardinality_refusals};
 
 use crate::judge::naming::copied;
@@ -90,7 +90,7 @@ pub(crate) fn refuse_member(
 
 // Why a member can't be removed from a set.
 #[tactic(auto, unfolding(crate::specs::RbacState::cardinality_of))]
-pub(crate) fn refuse_member_taken(
+pub(crate) fn refuse_member_removal(
     state: &State,
     members: &PairSet,
     cardinalities: &CountSet,

@@ -1,13 +1,13 @@
 //! The plans of the commands of core RBAC except those on sessions, and of the commands on locks.
 ghost use Rattle.std.specs.Prelude.{◌≡◌, ◌++◌, None, IfOk, IfErr, OnOk};
 ghost use Rattle.rbac_sets.specs.declared.command.Command.TheVariants.{AddUser, DeleteUser, AddRole, DeleteRole, AddPermObj, DeletePermObj, AddPermission, DeletePermission, GrantPermission, RevokePermission, AssignUser, DeassignUser, LockUserAccount, UnlockUserAccount};
-ghost use Rattle.admin_mgr.specs.Listing.{lock_rows, new_lock_rows};
+ghost use Rattle.admin_mgr.specs.private.PlanChanges.{lock_rows, new_lock_rows};
 ghost use Rattle.admin_mgr.specs.Verdict.{verdict};
-ghost use Rattle.admin_mgr.specs.Planned.{IsPlanOf};
+ghost use Rattle.admin_mgr.specs.PlanEffect.{IsPlanOf};
 
 use crate::plan::Plan;
 use crate::planning::ending::{Loss, take_ended};
-use crate::planning::making::{one_put, one_taken, plain};
+use crate::planning::making::{one_put, one_take, plain};
 use crate::planning::rows::{
     put, take, take_grants, take_grants_of_role, take_pairs, take_pairs_with_second,
 };
@@ -22,7 +22,7 @@ pub(crate) fn plan_add_user(alloc: Global, state: &State, user: &Name) -> Result
     ensures planned { IfOk result (IsPlanOf state.now.facts (AddUser user.now)) }
     ensures cause { IfErr result (λ refusal. refusal ≡ Refusal.Memory) }
 {
-    state.is_good();
+    state.recall_good();
     one_put(alloc, Row::user(user.copy(alloc)?))
 }
 
@@ -32,7 +32,7 @@ pub(crate) fn plan_delete_user(alloc: Global, state: &State, user: &Name) -> Res
     ensures planned { IfOk result (IsPlanOf state.now.facts (DeleteUser user.now)) }
     ensures cause { IfErr result (λ refusal. refusal ≡ Refusal.Memory) }
 {
-    state.is_good();
+    state.recall_good();
     let mut changes = Vec::new(alloc);
     take(&mut changes, Row::user(user.copy(alloc)?))?;
     take_lock(alloc, &mut changes, state, user)?;
@@ -53,7 +53,7 @@ pub(crate) fn plan_add_role(alloc: Global, state: &State, role: &Name) -> Result
     ensures planned { IfOk result (IsPlanOf state.now.facts (AddRole role.now)) }
     ensures cause { IfErr result (λ refusal. refusal ≡ Refusal.Memory) }
 {
-    state.is_good();
+    state.recall_good();
     one_put(alloc, Row::role(role.copy(alloc)?))
 }
 
@@ -63,7 +63,7 @@ pub(crate) fn plan_delete_role(alloc: Global, state: &State, role: &Name) -> Res
     ensures planned { IfOk result (IsPlanOf state.now.facts (DeleteRole role.now)) }
     ensures cause { IfErr result (λ refusal. refusal ≡ Refusal.Memory) }
 {
-    state.is_good();
+    state.recall_good();
     let mut changes = Vec::new(alloc);
     take(&mut changes, Row::role(role.copy(alloc)?))?;
     take_pairs_with_second(
@@ -89,12 +89,12 @@ pub(crate) fn plan_add_perm_obj(
     ensures planned { IfOk result (IsPlanOf state.now.facts (AddPermObj object.now)) }
     ensures cause { IfErr result (λ refusal. refusal ≡ Refusal.Memory) }
 {
-    state.is_good();
+    state.recall_good();
     one_put(alloc, Row::object(object.copy(alloc)?))
 }
 
 // The plan of DeletePermObj.
-#[tactic(auto, using(crate::proofs::PlanRows::TakePlans::done_delete_perm_obj))]
+#[tactic(auto, using(crate::proofs::PlanRows::RemovalPlans::done_delete_perm_obj))]
 pub(crate) fn plan_delete_perm_obj(
     alloc: Global,
     state: &State,
@@ -104,8 +104,8 @@ pub(crate) fn plan_delete_perm_obj(
     ensures planned { IfOk result (IsPlanOf state.now.facts (DeletePermObj object.now)) }
     ensures cause { IfErr result (λ refusal. refusal ≡ Refusal.Memory) }
 {
-    state.is_good();
-    one_taken(alloc, Row::object(object.copy(alloc)?))
+    state.recall_good();
+    one_take(alloc, Row::object(object.copy(alloc)?))
 }
 
 // The plan of AddPermission.
@@ -120,7 +120,7 @@ pub(crate) fn plan_add_permission(
     ensures planned { IfOk result (IsPlanOf state.now.facts (AddPermission object.now operation.now)) }
     ensures cause { IfErr result (λ refusal. refusal ≡ Refusal.Memory) }
 {
-    state.is_good();
+    state.recall_good();
     one_put(
         alloc,
         Row::permission(object.copy(alloc)?, operation.copy(alloc)?),
@@ -138,7 +138,7 @@ pub(crate) fn plan_delete_permission(
     ensures planned { IfOk result (IsPlanOf state.now.facts (DeletePermission object.now operation.now)) }
     ensures cause { IfErr result (λ refusal. refusal ≡ Refusal.Memory) }
 {
-    state.is_good();
+    state.recall_good();
     let mut changes = Vec::new(alloc);
     take(
         &mut changes,
@@ -165,7 +165,7 @@ pub(crate) fn plan_grant_permission(
     ensures planned { IfOk result (IsPlanOf state.now.facts (GrantPermission object.now operation.now role.now)) }
     ensures cause { IfErr result (λ refusal. refusal ≡ Refusal.Memory) }
 {
-    state.is_good();
+    state.recall_good();
     one_put(
         alloc,
         Row::grant(
@@ -177,7 +177,7 @@ pub(crate) fn plan_grant_permission(
 }
 
 // The plan of RevokePermission.
-#[tactic(auto, using(crate::proofs::PlanRows::TakePlans::done_revoke_permission))]
+#[tactic(auto, using(crate::proofs::PlanRows::RemovalPlans::done_revoke_permission))]
 pub(crate) fn plan_revoke_permission(
     alloc: Global,
     state: &State,
@@ -189,8 +189,8 @@ pub(crate) fn plan_revoke_permission(
     ensures planned { IfOk result (IsPlanOf state.now.facts (RevokePermission object.now operation.now role.now)) }
     ensures cause { IfErr result (λ refusal. refusal ≡ Refusal.Memory) }
 {
-    state.is_good();
-    one_taken(
+    state.recall_good();
+    one_take(
         alloc,
         Row::grant(
             object.copy(alloc)?,
@@ -212,7 +212,7 @@ pub(crate) fn plan_assign_user(
     ensures planned { IfOk result (IsPlanOf state.now.facts (AssignUser user.now role.now)) }
     ensures cause { IfErr result (λ refusal. refusal ≡ Refusal.Memory) }
 {
-    state.is_good();
+    state.recall_good();
     one_put(alloc, Row::assignment(user.copy(alloc)?, role.copy(alloc)?))
 }
 
@@ -227,7 +227,7 @@ pub(crate) fn plan_deassign_user(
     ensures planned { IfOk result (IsPlanOf state.now.facts (DeassignUser user.now role.now)) }
     ensures cause { IfErr result (λ refusal. refusal ≡ Refusal.Memory) }
 {
-    state.is_good();
+    state.recall_good();
     let mut changes = Vec::new(alloc);
     take(
         &mut changes,
@@ -247,7 +247,7 @@ pub(crate) fn plan_lock_user_account(
     ensures planned { IfOk result (IsPlanOf state.now.facts (LockUserAccount user.now)) }
     ensures cause { IfErr result (λ refusal. refusal ≡ Refusal.Memory) }
 {
-    state.is_good();
+    state.recall_good();
     let mut changes = Vec::new(alloc);
     take_ended(alloc, &mut changes, state, Loss::User(user))?;
     put_lock(alloc, &mut changes, state, user)?;
@@ -264,7 +264,7 @@ pub(crate) fn plan_unlock_user_account(
     ensures planned { IfOk result (IsPlanOf state.now.facts (UnlockUserAccount user.now)) }
     ensures cause { IfErr result (λ refusal. refusal ≡ Refusal.Memory) }
 {
-    state.is_good();
+    state.recall_good();
     let mut changes = Vec::new(alloc);
     take_lock(alloc, &mut changes, state, user)?;
     Ok(plain(alloc, changes))

@@ -4,9 +4,9 @@ ghost use Rattle.std.specs.List.{list_any, list_all};
 ghost use Rattle.rbac_sets.specs.Sets.{Bytes, Pair, pair_cmp, contains, same_name};
 ghost use Rattle.rbac_sets.specs.SortedSet.{set_of};
 ghost use Rattle.role_order.specs.Order.{geq};
-ghost use Rattle.admin_mgr.specs.Held.{run_of};
-ghost use Rattle.admin_mgr.specs.Listing.{session_rows, ended_rows};
-ghost use Rattle.admin_mgr.specs.Ending.{is_held_without_role, is_held_without_pairs, goes_on_without_role, goes_on_without_pairs, stays};
+ghost use Rattle.admin_mgr.specs.private.HolderRoles.{run_of};
+ghost use Rattle.admin_mgr.specs.private.PlanChanges.{session_rows, ended_rows};
+ghost use Rattle.admin_mgr.specs.private.SessionContinuation.{is_held_without_role, is_held_without_pairs, goes_on_without_role, goes_on_without_pairs, stays};
 
 use crate::lookup::is_same;
 use crate::planning::rows::{take, take_pairs};

@@ -4,9 +4,9 @@ ghost use Rattle.rbac_sets.specs.Sets.{contains};
 ghost use Rattle.role_order.specs.Order.{geq};
 ghost use Rattle.role_order.specs.Planned.{IsPlanOf as IsOrderPlanOf};
 ghost use Rattle.rbac_sets.specs.declared.command.Command.TheVariants.{AddInheritance, DeleteInheritance, AddAscendant, AddDescendant};
-ghost use Rattle.admin_mgr.specs.Listing.{order_puts, order_takes};
+ghost use Rattle.admin_mgr.specs.private.PlanChanges.{order_puts, order_takes};
 ghost use Rattle.admin_mgr.specs.Verdict.{verdict};
-ghost use Rattle.admin_mgr.specs.Planned.{IsPlanOf};
+ghost use Rattle.admin_mgr.specs.PlanEffect.{IsPlanOf};
 
 use crate::plan::Plan;
 use crate::planning::ending::{Loss, take_ended};
@@ -29,7 +29,7 @@ pub(crate) fn plan_add_inheritance(
     ensures planned { IfOk result (IsPlanOf state.now.facts (AddInheritance asc.now desc.now)) }
     ensures cause { IfErr result (λ refusal. refusal ≡ Refusal.Memory) }
 {
-    state.is_good();
+    state.recall_good();
     let order = order_with_edge(alloc, state, asc, desc)?;
     let mut changes = Vec::new(alloc);
     put_edge(alloc, &mut changes, asc, desc, &order)?;
@@ -48,7 +48,7 @@ pub(crate) fn plan_delete_inheritance(
     ensures planned { IfOk result (IsPlanOf state.now.facts (DeleteInheritance asc.now desc.now)) }
     ensures cause { IfErr result (λ refusal. refusal ≡ Refusal.Memory) }
 {
-    state.is_good();
+    state.recall_good();
     let order = order_without_edge(alloc, state, asc, desc)?;
     let mut changes = Vec::new(alloc);
     take_edge(alloc, &mut changes, asc, desc, &order)?;
@@ -68,7 +68,7 @@ pub(crate) fn plan_add_ascendant(
     ensures planned { IfOk result (IsPlanOf state.now.facts (AddAscendant asc.now desc.now)) }
     ensures cause { IfErr result (λ refusal. refusal ≡ Refusal.Memory) }
 {
-    state.is_good();
+    state.recall_good();
     let order = order_with_edge(alloc, state, asc, desc)?;
     let mut changes = Vec::new(alloc);
     put(&mut changes, Row::role(asc.copy(alloc)?))?;
@@ -88,7 +88,7 @@ pub(crate) fn plan_add_descendant(
     ensures planned { IfOk result (IsPlanOf state.now.facts (AddDescendant asc.now desc.now)) }
     ensures cause { IfErr result (λ refusal. refusal ≡ Refusal.Memory) }
 {
-    state.is_good();
+    state.recall_good();
     let order = order_with_edge(alloc, state, asc, desc)?;
     let mut changes = Vec::new(alloc);
     put(&mut changes, Row::role(desc.copy(alloc)?))?;

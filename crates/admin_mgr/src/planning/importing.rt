@@ -9,10 +9,10 @@ ghost use Rattle.rbac_sets.specs.SortedSet.{set_of};
 ghost use Rattle.rbac_sets.specs.declared.command.Command.TheVariants.{ImportAssignments};
 ghost use Rattle.admin_mgr.specs.Assignment.{assignment_verdict};
 ghost use Rattle.admin_mgr.specs.Good.{IsGood};
-ghost use Rattle.admin_mgr.specs.Held.{is_reached, is_touched, reached_with, find_in};
-ghost use Rattle.admin_mgr.specs.Importing.{accepted, put_assignment, record_refusals, with_assignments, IsBegun, IsAssigned, IsTold, Follows};
-ghost use Rattle.admin_mgr.specs.Planned.{tally_of_report, IsPlanOf};
-ghost use Rattle.admin_mgr.specs.Refusing.{first};
+ghost use Rattle.admin_mgr.specs.private.HolderRoles.{is_reached, is_touched, reached_with, find_with_one};
+ghost use Rattle.admin_mgr.specs.private.ImportPlan.{accepted, put_assignment, record_refusals, with_assignments, IsBegun, IsAssigned, IsRefused, Follows};
+ghost use Rattle.admin_mgr.specs.PlanEffect.{tally_of_report, IsPlanOf};
+ghost use Rattle.admin_mgr.specs.Refusals.{first};
 ghost use Rattle.admin_mgr.specs.Run.{tally};
 ghost use Rattle.admin_mgr.specs.Verdict.{verdict};
 
@@ -46,7 +46,7 @@ pub(crate) fn import(
     ensures report { IfOk result (λ done. tally_of_report done.1 ≡ tally state.now.facts (ImportAssignments pairs.now)) }
     ensures cause { IfErr result (λ refusal. refusal ≡ Refusal.Memory) }
 {
-    state.is_good();
+    state.recall_good();
     let mut imported = Imported::new(alloc);
     for (i, pair) in pairs.iter().enumerate() {
         imported.take(alloc, state, i as u32 + 1, &pair.0, &pair.1)?;
@@ -115,7 +115,7 @@ impl Imported {
     // Counts the refusal of the record of this number in the report.
     fn tell(&mut self, number: u32, refusal: &Refusal) -> Result<(), Refusal>
         requires few { self.old.report.already < 10000 }
-        ensures ok { OnOk result (IsTold number refusal.now self.old self.new) }
+        ensures ok { OnOk result (IsRefused number refusal.now self.old self.new) }
         ensures cause { IfErr result (λ refusal. refusal ≡ Refusal.Memory) }
     {
         if refusal.code() == Refusal::AlreadyAssigned.code() {
@@ -185,7 +185,7 @@ fn first_with_both<'a>(
     members: &PairSet,
     cardinalities: &'a [(Name, u32)],
 ) -> Option<&'a (Name, u32)>
-    ensures { option_copied result ≡ find_in order.now.edges (held.now ++ since.now) more.now (set_of pair_cmp members.now) cardinalities.now }
+    ensures { option_copied result ≡ find_with_one order.now.edges (held.now ++ since.now) more.now (set_of pair_cmp members.now) cardinalities.now }
 {
     cardinalities.iter().find(|entry| has_both(
         order,
@@ -252,7 +252,7 @@ pub(crate) fn plan_import_assignments(
     ensures planned { IfOk result (IsPlanOf state.now.facts (ImportAssignments pairs.now)) }
     ensures cause { IfErr result (λ refusal. refusal ≡ Refusal.Memory) }
 {
-    state.is_good();
+    state.recall_good();
     let (changes, report) = import(alloc, state, pairs)?;
     Ok(Plan {
         changes,

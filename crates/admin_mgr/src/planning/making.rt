@@ -2,8 +2,8 @@
 ghost use Rattle.std.specs.Prelude.{◌≡◌, ◌∷◌, [], None, Some, IfOk, IfErr};
 ghost use Rattle.rbac_sets.specs.declared.row.Change.TheVariants.{Put, Take};
 ghost use Rattle.admin_mgr.specs.Assignment.{no_tally};
-ghost use Rattle.admin_mgr.specs.PlainPlan.{IsPlain};
-ghost use Rattle.admin_mgr.specs.Planned.{tally_of_report};
+ghost use Rattle.admin_mgr.specs.private.PlainPlan.{IsPlain};
+ghost use Rattle.admin_mgr.specs.PlanEffect.{tally_of_report};
 
 use crate::plan::{Plan, Report};
 use crate::planning::rows::{put, take};
@@ -19,7 +19,7 @@ pub(crate) fn plain(alloc: Global, changes: Vec<Change>) -> Plan
 {
     Plan {
         changes,
-        report: nothing_told(alloc),
+        report: empty_report(alloc),
         order: None,
     }
 }
@@ -35,7 +35,7 @@ pub(crate) fn one_put(alloc: Global, row: Row) -> Result<Plan, Refusal>
 }
 
 // The plan of a command that takes one row.
-pub(crate) fn one_taken(alloc: Global, row: Row) -> Result<Plan, Refusal>
+pub(crate) fn one_take(alloc: Global, row: Row) -> Result<Plan, Refusal>
     ensures ok { IfOk result (IsPlain (Take row ∷ [])) }
     ensures cause { IfErr result (λ refusal. refusal ≡ Refusal.Memory) }
 {
@@ -52,13 +52,13 @@ pub(crate) fn with_order(alloc: Global, changes: Vec<Change>, order: OrderPlan) 
 {
     Plan {
         changes,
-        report: nothing_told(alloc),
+        report: empty_report(alloc),
         order: Some(order),
     }
 }
 
 // The report of a command that is no import.
-fn nothing_told(alloc: Global) -> Report
+fn empty_report(alloc: Global) -> Report
     ensures { tally_of_report result ≡ no_tally }
 {
     Report {

@@ -4,7 +4,7 @@ ghost use Rattle.std.specs.Prelude.{map as list_map};
 ghost use Rattle.rbac_sets.specs.Sets.{Bytes, Pair, Triple, same_name};
 ghost use Rattle.rbac_sets.specs.declared.row.Row.TheVariants.{PairRow, GrantRow, SetRow};
 ghost use Rattle.rbac_sets.specs.declared.row.Change.TheVariants.{Put, Take};
-ghost use Rattle.admin_mgr.specs.Listing.{pair_row, grant_row, take_all, put_all};
+ghost use Rattle.admin_mgr.specs.private.PlanChanges.{pair_row, grant_row, take_all, put_all};
 
 use crate::lookup::is_same;
 use rbac_sets::{Change, Name, Refusal, Row};

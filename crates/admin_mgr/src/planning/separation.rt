@@ -1,8 +1,8 @@
 //! The plans of the commands on separation of duty sets, static or dynamic.
 ghost use Rattle.std.specs.Prelude.{◌≡◌, None, IfOk, IfErr};
 ghost use Rattle.admin_mgr.specs.Verdict.{verdict};
-ghost use Rattle.admin_mgr.specs.Planned.{IsPlanOf};
-ghost use Rattle.admin_mgr.specs.SeparationOfDuty.{create_set, add_member, delete_member, set_cardinality, delete_set};
+ghost use Rattle.admin_mgr.specs.PlanEffect.{IsPlanOf};
+ghost use Rattle.admin_mgr.specs.private.SeparationOfDuty.{create_set, add_member, delete_member, set_cardinality, delete_set};
 
 use crate::plan::Plan;
 use crate::planning::making::plain;
@@ -25,7 +25,7 @@ pub(crate) fn plan_create_set(
     ensures planned { IfOk result (IsPlanOf state.now.facts (create_set duty set.now roles.now cardinality)) }
     ensures cause { IfErr result (λ refusal. refusal ≡ Refusal.Memory) }
 {
-    state.is_good();
+    state.recall_good();
     let mut changes = Vec::new(alloc);
     put(
         &mut changes,
@@ -53,7 +53,7 @@ pub(crate) fn plan_add_member(
     ensures planned { IfOk result (IsPlanOf state.now.facts (add_member duty set.now role.now)) }
     ensures cause { IfErr result (λ refusal. refusal ≡ Refusal.Memory) }
 {
-    state.is_good();
+    state.recall_good();
     let mut changes = Vec::new(alloc);
     put(
         &mut changes,
@@ -74,7 +74,7 @@ pub(crate) fn plan_delete_member(
     ensures planned { IfOk result (IsPlanOf state.now.facts (delete_member duty set.now role.now)) }
     ensures cause { IfErr result (λ refusal. refusal ≡ Refusal.Memory) }
 {
-    state.is_good();
+    state.recall_good();
     let mut changes = Vec::new(alloc);
     take(
         &mut changes,
@@ -95,7 +95,7 @@ pub(crate) fn plan_set_cardinality(
     ensures planned { IfOk result (IsPlanOf state.now.facts (set_cardinality duty set.now cardinality)) }
     ensures cause { IfErr result (λ refusal. refusal ≡ Refusal.Memory) }
 {
-    state.is_good();
+    state.recall_good();
     let mut changes = Vec::new(alloc);
     if let Some(before) = duty.cardinality(state, set) {
         if before != cardinality {
@@ -123,7 +123,7 @@ pub(crate) fn plan_delete_set(
     ensures planned { IfOk result (IsPlanOf state.now.facts (delete_set duty set.now)) }
     ensures cause { IfErr result (λ refusal. refusal ≡ Refusal.Memory) }
 {
-    state.is_good();
+    state.recall_good();
     let mut changes = Vec::new(alloc);
     if let Some(cardinality) = duty.cardinality(state, set) {
         take(

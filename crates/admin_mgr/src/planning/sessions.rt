@@ -2,11 +2,11 @@
 ghost use Rattle.std.specs.Prelude.{◌≡◌, None, IfOk, IfErr};
 ghost use Rattle.rbac_sets.specs.declared.command.Command.TheVariants.{CreateSession, DeleteSession, AddActiveRole, DropActiveRole};
 ghost use Rattle.admin_mgr.specs.Verdict.{verdict};
-ghost use Rattle.admin_mgr.specs.Planned.{IsPlanOf};
+ghost use Rattle.admin_mgr.specs.PlanEffect.{IsPlanOf};
 
 use crate::plan::Plan;
 use crate::planning::ending::take_session;
-use crate::planning::making::{one_put, one_taken, plain};
+use crate::planning::making::{one_put, one_take, plain};
 use crate::planning::rows::{put, put_paired};
 use crate::state::State;
 use rbac_sets::{Name, NameSet, Refusal, Row};
@@ -24,7 +24,7 @@ pub(crate) fn plan_create_session(
     ensures planned { IfOk result (IsPlanOf state.now.facts (CreateSession user.now roles.now session.now)) }
     ensures cause { IfErr result (λ refusal. refusal ≡ Refusal.Memory) }
 {
-    state.is_good();
+    state.recall_good();
     let mut changes = Vec::new(alloc);
     put(
         &mut changes,
@@ -51,7 +51,7 @@ pub(crate) fn plan_delete_session(
     ensures planned { IfOk result (IsPlanOf state.now.facts (DeleteSession user.now session.now)) }
     ensures cause { IfErr result (λ refusal. refusal ≡ Refusal.Memory) }
 {
-    state.is_good();
+    state.recall_good();
     let mut changes = Vec::new(alloc);
     take_session(alloc, &mut changes, state, session, user)?;
     Ok(plain(alloc, changes))
@@ -70,7 +70,7 @@ pub(crate) fn plan_add_active_role(
     ensures planned { IfOk result (IsPlanOf state.now.facts (AddActiveRole user.now session.now role.now)) }
     ensures cause { IfErr result (λ refusal. refusal ≡ Refusal.Memory) }
 {
-    state.is_good();
+    state.recall_good();
     one_put(
         alloc,
         Row::activated_role(session.copy(alloc)?, role.copy(alloc)?),
@@ -78,7 +78,7 @@ pub(crate) fn plan_add_active_role(
 }
 
 // The plan of DropActiveRole.
-#[tactic(auto, using(crate::proofs::PlanRows::TakePlans::done_drop_active_role))]
+#[tactic(auto, using(crate::proofs::PlanRows::RemovalPlans::done_drop_active_role))]
 pub(crate) fn plan_drop_active_role(
     alloc: Global,
     state: &State,
@@ -90,8 +90,8 @@ pub(crate) fn plan_drop_active_role(
     ensures planned { IfOk result (IsPlanOf state.now.facts (DropActiveRole user.now session.now role.now)) }
     ensures cause { IfErr result (λ refusal. refusal ≡ Refusal.Memory) }
 {
-    state.is_good();
-    one_taken(
+    state.recall_good();
+    one_take(
         alloc,
         Row::activated_role(session.copy(alloc)?, role.copy(alloc)?),
     )

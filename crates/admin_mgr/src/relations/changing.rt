@@ -5,13 +5,13 @@ ghost use Rattle.rbac_sets.specs.declared.row.TheConstants.Row.{ACTIVATED_ROLE};
 ghost use Rattle.rbac_sets.specs.declared.row.Change.{Change};
 ghost use Rattle.rbac_sets.specs.declared.row.Change.TheVariants.{Put, Take};
 ghost use Rattle.role_order.specs.Planned.{Fits, changed};
-ghost use Rattle.admin_mgr.specs.Stepping.{with_row, without_row, with_edges, after_change, after_changes, IsFree, AreFree, HasRoom, Spends, table_put, puts_of};
-ghost use Rattle.admin_mgr.specs.Planned.{order_of, HasRoomIn};
+ghost use Rattle.admin_mgr.specs.RowUpdates.{with_row, without_row, with_edges, after_change, after_changes, IsFree, AreFree, HasRoom, UsesRoom, table_put, puts_of};
+ghost use Rattle.admin_mgr.specs.PlanEffect.{order_of, HasRoomIn};
 ghost use Rattle.admin_mgr.specs.Changes.{takes};
-ghost use Rattle.admin_mgr.specs.Listing.{pair_row, take_all};
+ghost use Rattle.admin_mgr.specs.private.PlanChanges.{pair_row, take_all};
 
 use crate::relations::Relations;
-use crate::relations::together::Together;
+use crate::relations::bulk_removal::BulkRemoval;
 use rbac_sets::{Change, Refusal, Row, Table};
 use role_order::OrderPlan;
 use std::collections::VecDeque;
@@ -55,7 +55,7 @@ impl Relations {
     }
 
     // Makes the changes one after the other, except those of rows of the role hierarchy. Rows that are taken
-    // one after the other are taken together.
+    // one after the other are taken bulk_removal.
     pub(crate) fn change(&mut self, changes: Vec<Change>)
         requires free { AreFree self.old.facts changes.items }
         requires room { HasRoom self.old.room changes.items }
@@ -92,16 +92,16 @@ impl Relations {
         let [Change::Take(_), Change::Take(_), ..] = changes else {
             return 0;
         };
-        let mut sets = Together {
-            assignments: self.assignments.start_taking(),
-            grants: self.grants.start_taking(),
-            sessions: self.sessions.start_taking(),
-            active: self.active.start_taking(),
-            ssd_members: self.ssd_members.start_taking(),
-            dsd_members: self.dsd_members.start_taking(),
+        let mut sets = BulkRemoval {
+            assignments: self.assignments.start_removal(),
+            grants: self.grants.start_removal(),
+            sessions: self.sessions.start_removal(),
+            active: self.active.start_removal(),
+            ssd_members: self.ssd_members.start_removal(),
+            dsd_members: self.dsd_members.start_removal(),
         };
         let count = sets.take_first(changes);
-        let Together {
+        let BulkRemoval {
             assignments,
             grants,
             sessions,
@@ -123,7 +123,7 @@ impl Relations {
         requires free { IsFree self.old.facts change }
         requires room { HasRoom self.old.room (change ∷ []) }
         ensures facts { self.new.facts ≡ after_change self.old.facts change }
-        ensures room { Spends change self.old.room self.new.room }
+        ensures room { UsesRoom change self.old.room self.new.room }
         ensures order { order_of self.new ≡ order_of self.old }
     {
         match change {
@@ -133,12 +133,12 @@ impl Relations {
     }
 
     // Puts a row that the sets don't have yet. Rows of the role hierarchy are left to its plan.
-    #[tactic(auto, unfolding(crate::specs::Stepping::with_row, crate::specs::Rows::has_row))]
+    #[tactic(auto, unfolding(crate::specs::RowUpdates::with_row, crate::specs::Rows::has_row))]
     fn put(&mut self, row: Row)
         requires free { IsFree self.old.facts (Put row) }
         requires room { HasRoom self.old.room (Put row ∷ []) }
         ensures facts { self.new.facts ≡ with_row self.old.facts row }
-        ensures room { Spends (Put row) self.old.room self.new.room }
+        ensures room { UsesRoom (Put row) self.old.room self.new.room }
         ensures order { order_of self.new ≡ order_of self.old }
     {
         match row {
@@ -164,10 +164,10 @@ impl Relations {
     }
 
     // Takes a row. Rows of the role hierarchy are left to its plan.
-    #[tactic(auto, unfolding(crate::specs::Stepping::without_row), using(crate::proofs::PlanRows::RoomLaws::spends_none))]
+    #[tactic(auto, unfolding(crate::specs::RowUpdates::without_row), using(crate::proofs::PlanRows::RoomLaws::spends_none))]
     fn take(&mut self, row: &Row)
         ensures facts { self.new.facts ≡ without_row self.old.facts row.now }
-        ensures room { Spends (Take row.now) self.old.room self.new.room }
+        ensures room { UsesRoom (Take row.now) self.old.room self.new.room }
         ensures order { order_of self.new ≡ order_of self.old }
     {
         match row {

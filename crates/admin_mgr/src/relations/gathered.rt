@@ -5,8 +5,8 @@ ghost use Rattle.rbac_sets.specs.Named.{is_named};
 ghost use Rattle.rbac_sets.specs.Sets.{contains, insert};
 ghost use Rattle.rbac_sets.specs.SortedSet.{set_of};
 ghost use Rattle.role_order.specs.Order.{IsAcyclic, IsClosure};
-ghost use Rattle.admin_mgr.specs.Gathered.{gathered, has_key, is_known, with_stored};
-ghost use Rattle.admin_mgr.specs.Checked.{AreReadable};
+ghost use Rattle.admin_mgr.specs.StoredSets.{gathered, has_key, is_known, with_stored};
+ghost use Rattle.admin_mgr.specs.RowChecks.{AreReadable};
 
 use crate::judge::set_refusals::has_set;
 use crate::relations::Relations;
@@ -20,7 +20,7 @@ mod checks;
 // The sets and relations that rows make, and the closure pairs that are stored beside the edges of the role
 // hierarchy.
 #[derive(Drop)]
-pub(crate) struct Gathered {
+pub(crate) struct StoredSets {
     version: u32,
     users: NameSet,
     locked: NameSet,
@@ -39,24 +39,24 @@ pub(crate) struct Gathered {
     dsd_cardinalities: CountSet,
 }
 
-impl Model for Gathered {
-    ghost use Rattle.admin_mgr.specs.Gathered.{Gathered, coded_gathered};
-    ghost use Rattle.admin_mgr.specs.GatheredView.{gathered_of};
+impl Model for StoredSets {
+    ghost use Rattle.admin_mgr.specs.StoredSets.{StoredSets, coded_stored_sets};
+    ghost use Rattle.admin_mgr.specs.StoredSetsView.{stored_sets_of};
 
-    ghost Value = { Gathered };
+    ghost Value = { StoredSets };
 
-    ghost coded = { coded_gathered };
+    ghost coded = { coded_stored_sets };
 
-    ghost view = { gathered_of };
+    ghost view = { stored_sets_of };
 }
 
-impl Gathered {
+impl StoredSets {
     // The sets without any row. It doesn't allocate.
-    #[tactic(auto, unfolding(crate::specs::Gathered::gathered, rbac_sets::specs::Sets::from_list))]
-    fn new(alloc: Global, version: u32) -> Gathered
+    #[tactic(auto, unfolding(crate::specs::StoredSets::gathered, rbac_sets::specs::Sets::from_list))]
+    fn new(alloc: Global, version: u32) -> StoredSets
         ensures { result ≡ gathered version [] }
     {
-        Gathered {
+        StoredSets {
             version,
             users: NameSet::new(alloc),
             locked: NameSet::new(alloc),
@@ -78,14 +78,18 @@ impl Gathered {
 
     // The sets that these rows make. Refused by `Damaged(1)` if the version doesn't allow a row, or two rows
     // have the same key.
-    pub(crate) fn of_rows(alloc: Global, version: u32, rows: Vec<Row>) -> Result<Gathered, Refusal>
+    pub(crate) fn of_rows(
+        alloc: Global,
+        version: u32,
+        rows: Vec<Row>,
+    ) -> Result<StoredSets, Refusal>
         ensures ok { IfOk result (λ made. (made ≡ gathered version rows.items) × AreReadable version rows.items) }
         ensures named { IfOk result (λ made. list_all is_named rows.items ≡ true) }
         ensures err { IfErr result (λ refusal. (refusal ≡ Refusal.Memory) ⊎ ((refusal ≡ Refusal.Damaged 1) × (AreReadable version rows.items → ⊥))) }
     {
-        let mut made = Gathered::new(alloc, version);
+        let mut made = StoredSets::new(alloc, version);
         for row in rows {
-            row.is_named();
+            row.recall_names();
             made.add(row)?;
         }
         Ok(made)
@@ -112,7 +116,7 @@ impl Gathered {
             ⊎ (((refusal ≡ Refusal.Damaged 5) × (IsAcyclic self.facts.edges → ⊥))
             ⊎ ((refusal ≡ Refusal.Damaged 6) × IsAcyclic self.facts.edges × (IsClosure self.facts.edges self.pairs → ⊥)))) }
     {
-        let Gathered {
+        let StoredSets {
             version,
             users,
             locked,
@@ -158,7 +162,7 @@ impl Gathered {
     }
 
     // Whether there is a row with the key of this one.
-    #[tactic(auto, unfolding(crate::specs::Gathered::has_key))]
+    #[tactic(auto, unfolding(crate::specs::StoredSets::has_key))]
     fn has_key(&self, row: &Row) -> bool
         ensures { result ≡ has_key self.now row.now }
     {
@@ -186,7 +190,7 @@ impl Gathered {
     }
 
     // Adds a row whose key is new. A row of an unknown kind is ignored.
-    #[tactic(auto, unfolding(crate::specs::Stepping::with_row, crate::specs::Gathered::has_key))]
+    #[tactic(auto, unfolding(crate::specs::RowUpdates::with_row, crate::specs::StoredSets::has_key))]
     fn put(&mut self, row: Row) -> Result<(), Refusal>
         requires { has_key self.old row ≡ false }
         ensures ok { OnOk result (self.new ≡ with_stored self.old row) }

@@ -4,11 +4,11 @@ ghost use Rattle.std.specs.List.Sorted.{IsStrictlySortedBy};
 ghost use Rattle.std.specs.Ordering.{eq_by_cmp};
 ghost use Rattle.rbac_sets.specs.Sets.{Pair, Triple, name_cmp, pair_cmp, triple_cmp, members};
 ghost use Rattle.rbac_sets.specs.SortedSet.{set_of};
-ghost use Rattle.role_order.specs.Runs.{run_of};
-ghost use Rattle.order_table.specs.Table.{number_in};
+ghost use Rattle.role_order.specs.private.Runs.{run_of};
+ghost use Rattle.order_matrix.specs.Table.{number_in};
 
 use admin_mgr::State;
-use order_table::{OrderTable, number, second_numbers};
+use order_matrix::{OrderMatrix, number, second_numbers};
 use rbac_sets::{GrantSet, Name, PairSet, Refusal};
 use std::alloc::Global;
 
@@ -16,7 +16,7 @@ use std::alloc::Global;
 #[derive(Drop)]
 pub(super) struct Numbers {
     // the reachability matrix of the roles
-    pub(super) table: OrderTable,
+    pub(super) table: OrderMatrix,
     // of each user, the roles that it is assigned
     pub(super) assigned: Vec<Vec<usize>>,
     // of each permission, the roles that it is granted to
@@ -26,7 +26,7 @@ pub(super) struct Numbers {
 }
 
 impl Numbers {
-    ghost use Rattle.review_mgr.specs.Numbering.{IsNumbering};
+    ghost use Rattle.review_mgr.specs.private.Numbering.{IsNumbering};
 
     // The numbers of a state.
     pub(super) fn new(alloc: Global, state: &State) -> Result<Numbers, Refusal>
@@ -34,7 +34,7 @@ impl Numbers {
         ensures cause { IfErr result (λ refusal. refusal ≡ Refusal.Memory) }
     {
         let roles = state.roles().as_slice();
-        let table = OrderTable::new(alloc, state.order(), roles)?;
+        let table = OrderMatrix::new(alloc, state.order(), roles)?;
         let users = state.users().as_slice();
         let assigned = assigned_numbers(alloc, roles, users, state.assignments())?;
         let permissions = state.permissions().as_slice();

@@ -78,6 +78,6 @@ pub fn authorized_roles(alloc: Global, state: &State, user: &Name) -> Result<Vec
     if !state.users().contains(user) {
         return Err(Refusal::NoUser);
     }
-    state.is_good();
+    state.recall_good();
     roles_reached(alloc, state.order(), assigned_to(state, user))
 }

@@ -26,7 +26,7 @@ pub fn session_roles(alloc: Global, state: &State, session: &Name) -> Result<Vec
     if !has_session(state, session) {
         return Err(Refusal::NoSession);
     }
-    state.is_good();
+    state.recall_good();
     roles_reached(alloc, state.order(), activated_in(state, session))
 }
 
@@ -49,7 +49,7 @@ pub fn session_permissions(
     if !has_session(state, session) {
         return Err(Refusal::NoSession);
     }
-    state.is_good();
+    state.recall_good();
     permissions_reached(
         alloc,
         state.order(),

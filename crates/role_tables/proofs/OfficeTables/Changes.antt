@@ -14,7 +14,7 @@ use Rattle.sqlite_rules.specs.Cast.{cast_all}
 use Rattle.sqlite_trees.proofs.ListLemmas.{all-slice_get, all-permutation, all-filter}
 use Rattle.role_tables.specs.TableByName.{Place, AreIn, cells_at, HasNoNull, HoldsRows, without_row, same_row}
 use Rattle.role_tables.specs.OfficeTables.{StoredTable, Meta, Names, Pairs, Grants, Sets, Locks, making, made, places, Rows, code, changed_at, OfficeRow, meta_row, name_row, pair_row, grant_row, set_row, locked_row, table_of, cells, HoldsTables}
-use Rattle.role_tables.specs.Texts.{put_text, take_text, read_text}
+use Rattle.role_tables.specs.private.Texts.{insert_text, delete_text, read_text}
 use Rattle.role_tables.proofs.OfficeTables.Texts.{are_in, are_few, all_is, take_is, where_of, are_ours, put_terms, put_is}
 use Rattle.role_tables.proofs.Meanings.SelectedRows.{reads_rows}
 use Rattle.role_tables.proofs.Meanings.ForeignKeys.{unreferenced}
@@ -137,7 +137,7 @@ no_null (grant_row ob op role) = (refl, (refl, (refl, tt)))
 no_null (set_row kind name n) = (refl, (refl, (refl, tt)))
 no_null (locked_row a) = (refl, tt)
 
-pub puts_row : (want : StoredTable → Bool) (row : OfficeRow) (wanted : IsTrue (want (table_of row))) (old new : State) (count : ℕ) (rows : Rows) → HoldsTables want old.now rows → Executes (put_text (table_of row)) (cells row) old new (Ok count)
+pub puts_row : (want : StoredTable → Bool) (row : OfficeRow) (wanted : IsTrue (want (table_of row))) (old new : State) (count : ℕ) (rows : Rows) → HoldsTables want old.now rows → Executes (insert_text (table_of row)) (cells row) old new (Ok count)
     → HoldsTables want new.now (changed_at (table_of row) (λ all. cells row ∷ all) rows)
 unfolding holds_more
 puts_row want row wanted old new count rows held ran =
@@ -145,7 +145,7 @@ puts_row want row wanted old new count rows held ran =
     let table = held.tables kind wanted in
     let m = making kind in
     let free = unreferenced old.now.schema (made kind table.tree) table.alone table.unreferenced in
-    let it = puts m.name m.columns m.key m.checks old new table.at table.tree table.is_named free (put_text kind) (put_terms kind) (length (places kind) + 1) (cells row) count (put_is old.now.schema kind table.tree)
+    let it = puts m.name m.columns m.key m.checks old new table.at table.tree table.is_named free (insert_text kind) (put_terms kind) (length (places kind) + 1) (cells row) count (put_is old.now.schema kind table.tree)
     (values_given row table.tree) (values_fit row) ran in
     holds_changed want old.now new.now rows held kind wanted (λ all. cells row ∷ all) it.schema_is it.others
     (holds_more old.now new.now m.name (made kind) (places kind) (rows kind) (cells row) table it.id it.schema_is (values_shown row table.tree it.id) it.free it.rows) it.sound (no_null row, held.solid kind)
@@ -190,7 +190,7 @@ are_params (grant_row ob op role) = (refl, (refl, (refl, tt)))
 are_params (set_row kind name n) = (refl, (refl, (refl, tt)))
 are_params (locked_row a) = (refl, tt)
 
-pub takes_row : (want : StoredTable → Bool) (row : OfficeRow) (wanted : IsTrue (want (table_of row))) (old new : State) (count : ℕ) (rows : Rows) → HoldsTables want old.now rows → Executes (take_text (table_of row)) (cells row) old new (Ok count)
+pub takes_row : (want : StoredTable → Bool) (row : OfficeRow) (wanted : IsTrue (want (table_of row))) (old new : State) (count : ℕ) (rows : Rows) → HoldsTables want old.now rows → Executes (delete_text (table_of row)) (cells row) old new (Ok count)
     → HoldsTables want new.now (changed_at (table_of row) (without_row (cells row)) rows)
 unfolding holds_less
 takes_row want row wanted old new count rows held ran =
@@ -200,7 +200,7 @@ takes_row want row wanted old new count rows held ran =
     let free = unreferenced old.now.schema (made kind table.tree) table.alone table.unreferenced in
     let whole = made kind table.tree in
     let solid = all-permutation (λ c. HasNoNull c) (rows kind) (map (cells_at whole (places kind)) (old.now.trees table.tree)) table.rows_are (held.solid kind) in
-    let it = takes old new table.at whole m.name table.is_named refl free table.keyed table.int_ids (take_text kind) (places kind) (where_of (places kind)) (cells row) count (take_is kind)
+    let it = takes old new table.at whole m.name table.is_named refl free table.keyed table.int_ids (delete_text kind) (places kind) (where_of (places kind)) (cells row) count (take_is kind)
     (tests_read old.now.schema table.at whole table.is_named.1 refl m.name table.is_named.0 (places kind) (are_some kind) (are_in kind table.tree) (are_ours kind)) (as_wide row) (are_params row) (no_null row) solid ran in
     holds_changed want old.now new.now rows held kind wanted (without_row (cells row)) it.schema_is it.others
     (holds_less old.now new.now m.name (made kind) (places kind) (rows kind) (cells row) table it.schema_is it.rows) it.sound (all-filter (λ c. HasNoNull c) (λ r. not (same_row r (cells row))) (rows kind) (held.solid kind))

@@ -1,18 +1,18 @@
 -- From the tables that were created to an empty office.
 use Rattle.std.proofs.Common.{◌≡◌, ◌⊎◌, inl, inr, ℕ, [], ◌∷◌, Bool, IsTrue, Ok, refl, ◌∙◌, codes}
 use Rattle.admin_mgr.specs.RbacState.{empty_state}
-use Rattle.admin_mgr.specs.Checked.{AreRowsOf}
+use Rattle.admin_mgr.specs.RowChecks.{AreRowsOf}
 use Rattle.admin_mgr.proofs.StateAfter.EmptyLaws.{empty_has_no_row}
 use Rattle.sqlite.specs.Effect.{Database}
 use Rattle.sqlite.specs.State.{State, Executes}
 use Rattle.role_tables.specs.OfficeTables.{StoredTable, Meta, Names, Pairs, Grants, Sets, Locks, made, Rows, changed_at, meta_row, cells, is_wanted, tables_of, HoldsTables}
-use Rattle.role_tables.specs.Texts.{put_text}
+use Rattle.role_tables.specs.private.Texts.{insert_text}
 use Rattle.role_tables.specs.StoredState.{stored_rows, HoldsState}
-use Rattle.role_tables.specs.Creating.{with_tables, no_table, no_rows, IsStage, AreNew, StageAfter, PutsVersion}
+use Rattle.role_tables.specs.Creation.{with_tables, no_table, no_rows, IsStage, AreNew, StageAfter, InsertsVersion}
 use Rattle.role_tables.proofs.OfficeTables.Changes.{puts_row}
 use Rattle.role_tables.proofs.StoredRows.Texts.{holds_same}
 
-pub version_put : (version : ℕ) (old new : State) (count : ℕ) → Executes (put_text Meta) (cells (meta_row (codes "rbac") version)) old new (Ok count) → IsTrue old.is_open → new.in_transaction ≡ old.in_transaction → PutsVersion version old new
+pub version_put : (version : ℕ) (old new : State) (count : ℕ) → Executes (insert_text Meta) (cells (meta_row (codes "rbac") version)) old new (Ok count) → IsTrue old.is_open → new.in_transaction ≡ old.in_transaction → InsertsVersion version old new
 version_put version old new count ran is_open mode = record {
   was_open = is_open;
   put = λ want rows wanted held. puts_row want (meta_row (codes "rbac") version) wanted old new count rows held ran;
@@ -65,7 +65,7 @@ first_rows version Sets = refl
 first_rows version Locks = refl
 
 -- the empty state is stored once the tables are created and the row of the version is inserted
-pub office_made : (version : ℕ) → (version ≡ 1) ⊎ (version ≡ 2) → (old mid new : State) → StageAfter old mid (tables_of version) → PutsVersion version mid new → IsStage version no_table old.now no_rows → HoldsState new.now (empty_state version)
+pub office_made : (version : ℕ) → (version ≡ 1) ⊎ (version ≡ 2) → (old mid new : State) → StageAfter old mid (tables_of version) → InsertsVersion version mid new → IsStage version no_table old.now no_rows → HoldsState new.now (empty_state version)
 office_made version known old mid new made put stage =
     let wanted = all_wanted version known in
     let all = with_tables (tables_of version) no_table in

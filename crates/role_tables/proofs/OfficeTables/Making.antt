@@ -13,7 +13,7 @@ use Rattle.sqlite_tied.specs.Compute.{everything}
 use Rattle.sqlite_resolve.specs.Compile.{first}
 use Rattle.sqlite.specs.Compile.{table_defined_by}
 use Rattle.role_tables.specs.OfficeTables.{StoredTable, Meta, Names, Pairs, Grants, Sets, Locks, making, made, places}
-use Rattle.role_tables.specs.Texts.{create_text}
+use Rattle.role_tables.specs.private.Texts.{create_text}
 use Rattle.role_tables.proofs.Meanings.CreatedTables.{IsCreate}
 
 pub create_is : (kind : StoredTable) → IsCreate (create_text kind) (made kind 0)

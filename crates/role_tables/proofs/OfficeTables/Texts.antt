@@ -10,7 +10,7 @@ use Rattle.sqlite_resolve.specs.Compile.{first}
 use Rattle.sqlite_resolve.specs.Lowering.{max_budget}
 use Rattle.role_tables.specs.TableByName.{Place, AreIn, names_of}
 use Rattle.role_tables.specs.OfficeTables.{StoredTable, Meta, Names, Pairs, Grants, Sets, Locks, making, made, places}
-use Rattle.role_tables.specs.Texts.{put_text, take_text, read_text}
+use Rattle.role_tables.specs.private.Texts.{insert_text, delete_text, read_text}
 use Rattle.role_tables.proofs.Meanings.ParsedTexts.{column_is}
 use Rattle.role_tables.proofs.Meanings.Columns.{Enough}
 use Rattle.role_tables.proofs.Meanings.Understood.{in_ok}
@@ -53,7 +53,7 @@ abbrev pub where_of : List Place → Expr
 where_of [] = column_is [] 1
 where_of (p ∷ ps) = where_from (column_is p.0 1) 2 (names_of ps)
 
-pub take_is : (kind : StoredTable) → IsDelete (take_text kind) (making kind).name (where_of (places kind))
+pub take_is : (kind : StoredTable) → IsDelete (delete_text kind) (making kind).name (where_of (places kind))
 unfolding first everything
 take_is Meta = (refl, refl)
 take_is Names = (refl, refl)
@@ -84,7 +84,7 @@ given_from at (p ∷ ps) = col 0 at ∷ given_from (at + 1) ps
 abbrev pub put_terms : StoredTable → List Term
 put_terms kind = lit Null ∷ given_from 0 (places kind)
 
-pub put_is : (schema : Schema) (kind : StoredTable) (tree : ℕ) → in_ok (first (put_text kind)) (Inserts schema (made kind tree) (making kind).name (Values (put_terms kind) (length (places kind) + 1)))
+pub put_is : (schema : Schema) (kind : StoredTable) (tree : ℕ) → in_ok (first (insert_text kind)) (Inserts schema (made kind tree) (making kind).name (Values (put_terms kind) (length (places kind) + 1)))
 unfolding first everything
 put_is schema Meta tree = ((refl, refl), refl)
 put_is schema Names tree = ((refl, refl), refl)

@@ -9,8 +9,8 @@ use Rattle.sqlite_schema.specs.Names.{same_name, column_named}
 use Rattle.sqlite_schema.specs.declared.schema.Column.{Column}
 use Rattle.role_tables.specs.TableByName.{Place, names_of, cells_at}
 use Rattle.role_tables.specs.OfficeTables.{StoredTable, making, places, is_wanted, tables_of}
-use Rattle.role_tables.specs.Found.{find_places, find_table, held_in}
-use Rattle.role_tables.specs.InSchema.{has_all, is_such, is_there, are_there}
+use Rattle.role_tables.specs.TableContents.{find_places, find_table, contents_of}
+use Rattle.role_tables.specs.SchemaTests.{has_all, is_such, is_there, are_there}
 use Rattle.role_tables.proofs.OfficeTables.Looking.{each_of, all_of}
 
 mapped_some : {A B : Type 0} (f : A → B) (o : Option A) → is_some (option_map f o) ≡ is_some o
@@ -42,24 +42,24 @@ places_there table (name ∷ names) = at_name (places_there table names) (column
         let same : at ≡ it.0 = omega (arith, it.1) in
         at_column at it.2.0 (ap (slice_get table.columns) same ∙ it.2.1) rest
 
-pub there_found : (db : Database) (kind : StoredTable) → is_some (held_in db kind) ≡ is_there db.schema kind
+pub there_found : (db : Database) (kind : StoredTable) → is_some (contents_of db kind) ≡ is_there db.schema kind
 there_found db kind = go (find_table db.schema (making kind).name)
   where
     go : (o : Option Table) → is_some (option_and_then (λ table. option_map (λ found. map (cells_at table found) (db.trees table.tree)) (find_places table (names_of (places kind)))) o) ≡ is_such o (λ table. has_all table (names_of (places kind)))
     go None = refl
     go (Some table) = mapped_some (λ found. map (cells_at table found) (db.trees table.tree)) (find_places table (names_of (places kind))) ∙ places_there table (names_of (places kind))
 
-pub some_there : (db : Database) (kind : StoredTable) → is_there db.schema kind ≡ true → IsSome (held_in db kind)
+pub some_there : (db : Database) (kind : StoredTable) → is_there db.schema kind ≡ true → IsSome (contents_of db kind)
 some_there db kind there = there_found db kind ∙ there
 
-pub there_some : (db : Database) (kind : StoredTable) → IsSome (held_in db kind) → is_there db.schema kind ≡ true
+pub there_some : (db : Database) (kind : StoredTable) → IsSome (contents_of db kind) → is_there db.schema kind ≡ true
 there_some db kind found = sym (there_found db kind) ∙ found
 
 -- if the tables of a version are there with their columns, each of them is found, and otherwise one isn't
-pub all_found : (db : Database) (version : ℕ) → (version ≡ 1) ⊎ (version ≡ 2) → are_there db.schema (tables_of version) ≡ true → (table : StoredTable) → IsTrue (is_wanted version table) → IsSome (held_in db table)
+pub all_found : (db : Database) (version : ℕ) → (version ≡ 1) ⊎ (version ≡ 2) → are_there db.schema (tables_of version) ≡ true → (table : StoredTable) → IsTrue (is_wanted version table) → IsSome (contents_of db table)
 all_found db version known all table wanted = some_there db table (each_of (is_there db.schema) version known all table wanted)
 
-pub some_missed : (db : Database) (version : ℕ) → (version ≡ 1) ⊎ (version ≡ 2) → are_there db.schema (tables_of version) ≡ false → ((table : StoredTable) → IsTrue (is_wanted version table) → IsSome (held_in db table)) → ⊥
+pub some_missed : (db : Database) (version : ℕ) → (version ≡ 1) ⊎ (version ≡ 2) → are_there db.schema (tables_of version) ≡ false → ((table : StoredTable) → IsTrue (is_wanted version table) → IsSome (contents_of db table)) → ⊥
 some_missed db version known none all =
     let e = all_of (is_there db.schema) version known (λ table wanted. there_some db table (all table wanted)) in
     let clash = sym none ∙ e in cc

@@ -26,8 +26,8 @@ use Rattle.sqlite_schema.specs.Names.{table_named, column_named}
 use Rattle.sqlite_schema.specs.declared.schema.Column.{Column}
 use Rattle.role_tables.specs.TableByName.{Place, AreIn, IsNamed, names_of, cells_at}
 use Rattle.role_tables.specs.OfficeTables.{StoredTable, making, places}
-use Rattle.role_tables.specs.Texts.{read_text}
-use Rattle.role_tables.specs.Found.{find_places, held_in}
+use Rattle.role_tables.specs.private.Texts.{read_text}
+use Rattle.role_tables.specs.TableContents.{find_places, contents_of}
 use Rattle.role_tables.proofs.Meanings.Columns.{Enough}
 use Rattle.role_tables.proofs.Meanings.Selects.{reading_query, selects}
 use Rattle.role_tables.proofs.Meanings.Understood.{in_ok, in_ok_then, Plans, meant}
@@ -75,7 +75,7 @@ pub record IsFound (db : Database) (kind : StoredTable) (values : List Row) : Ty
   pub names : names_of all ≡ names_of (places kind)
   pub values_are : map (cells_at table all) (db.trees table.tree) ≡ values
 
-pub found : (db : Database) (kind : StoredTable) (values : List Row) → held_in db kind ≡ Some values → IsFound db kind values
+pub found : (db : Database) (kind : StoredTable) (values : List Row) → contents_of db kind ≡ Some values → IsFound db kind values
 found db kind values is = at_name (table_named db.schema (making kind).name) refl is
   where
     after : Option Table → Option (List Row)

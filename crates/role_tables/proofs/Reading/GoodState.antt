@@ -20,20 +20,20 @@ use Rattle.rbac_sets.specs.Named.{is_named}
 use Rattle.rbac_sets.specs.Table.{table_of as relation_of}
 use Rattle.rbac_sets.specs.Sets.{contains, len}
 use Rattle.rbac_sets.specs.declared.kind.Kind.TheVariants.{Member}
-use Rattle.admin_mgr.specs.Named as names
+use Rattle.admin_mgr.specs.StateNames as names
 use Rattle.admin_mgr.specs.Rows.{has_row}
 use Rattle.admin_mgr.specs.RbacState.{Separation, members_of}
 use Rattle.admin_mgr.specs.Good.{IsSeparation}
 use Rattle.admin_mgr.specs.Changes.{same_row}
-use Rattle.admin_mgr.specs.Gathered.{is_known, is_among}
+use Rattle.admin_mgr.specs.StoredSets.{is_known, is_among}
 use Rattle.admin_mgr.proofs.PlanRows.CommitLaws.{same_row-self}
-use Rattle.admin_mgr.specs.Checked.{AreRowsOf}
+use Rattle.admin_mgr.specs.RowChecks.{AreRowsOf}
 use Rattle.admin_mgr.proofs.StoredRows.AcceptLaws.{readable_of_good}
 use Rattle.admin_mgr.proofs.PlanRows.RowLaws.{rows_determine}
 use Rattle.role_tables.specs.OfficeTables.{StoredTable, Meta, Names, Pairs, Grants, Sets, Locks, meta_row, cells, table_of, is_wanted, row_tables}
 use Rattle.role_tables.specs.StoredState.{stored, is_of, cells_of, stored_rows, HoldsState}
-use Rattle.role_tables.specs.Found.{Found, is_whole, has_names, row_in, held_in}
-use Rattle.role_tables.specs.Opening.{values, versions, is_known_version, HasFive, HasKnownVersions, version_in, HasLocks, IsOffice, AreWhole, AreNamed, rows_at, rows_in_all, rows_found, RefusesFound, IsStateFound, HasRowsOf, GoodRowsAreFound, FoundAlone}
+use Rattle.role_tables.specs.TableContents.{TableContents, is_well_typed, has_names, row_in, contents_of}
+use Rattle.role_tables.specs.OpeningChecks.{values, versions, is_known_version, HasCommonTables, HasKnownVersions, version_in, HasLocks, IsOffice, AreWellTyped, HaveValidNames, rows_at, rows_in_all, office_rows, RefusesContents, IsStateOfContents, HasRowsOf, GoodContentsAreRead, StateIsUnique}
 use Rattle.role_tables.proofs.OfficeTables.Changes.{same_code}
 use Rattle.role_tables.proofs.OfficeTables.Looking.{rows_wanted}
 use Rattle.role_tables.proofs.Reading.Held.{holds_found}
@@ -149,7 +149,7 @@ set_kind k a n h = elim (cases_Bool (nat_eq k 1)) [
       ]
 ]
 
-whole_own : (version : ℕ) (row : Row) → is_known version row ≡ true → IsProper row → is_whole (table_of (stored row)) (cells_of row) ≡ true
+whole_own : (version : ℕ) (row : Row) → is_known version row ≡ true → IsProper row → is_well_typed (table_of (stored row)) (cells_of row) ≡ true
 whole_own version (NameRow k a) known proper = rw (name_kind k a known) refl
 whole_own version (PairRow k a b) known proper = rw (pair_kind k a b known) refl
 whole_own version (GrantRow a b c) known proper = refl
@@ -184,7 +184,7 @@ none_of_meta (SetRow k a n ∷ rows) = none_of_meta rows
 none_of_meta (LockedRow a ∷ rows) = none_of_meta rows
 
 all_of_kind : (version : ℕ) (kind : StoredTable) (rows : List Row) → list_all (is_known version) rows ≡ true → AllProper rows
-    → (list_all (is_whole kind) (map cells_of (filter (is_of kind) rows)) ≡ true) × (list_all (has_names kind) (map cells_of (filter (is_of kind) rows)) ≡ true) × (map (row_in kind) (map cells_of (filter (is_of kind) rows)) ≡ filter (is_of kind) rows)
+    → (list_all (is_well_typed kind) (map cells_of (filter (is_of kind) rows)) ≡ true) × (list_all (has_names kind) (map cells_of (filter (is_of kind) rows)) ≡ true) × (map (row_in kind) (map cells_of (filter (is_of kind) rows)) ≡ filter (is_of kind) rows)
 all_of_kind version kind [] known proper = (refl, refl, refl)
 all_of_kind version kind (row ∷ rows) known proper =
     let both = and_parts (is_known version row) (list_all (is_known version) rows) known in
@@ -192,7 +192,7 @@ all_of_kind version kind (row ∷ rows) known proper =
     elim (cases_Bool (is_of kind row)) [
       | inl here ↦ (
           let same = of_kind kind row here in
-          let whole : is_whole kind (cells_of row) ≡ true = ap (λ k. is_whole k (cells_of row)) same ∙ whole_own version row both.0 proper.0 in
+          let whole : is_well_typed kind (cells_of row) ≡ true = ap (λ k. is_well_typed k (cells_of row)) same ∙ whole_own version row both.0 proper.0 in
           let names : has_names kind (cells_of row) ≡ true = ap (λ k. has_names k (cells_of row)) same ∙ named_own row proper.0 in
           let read : row_in kind (cells_of row) ≡ row = ap (λ k. row_in k (cells_of row)) same ∙ read_own row in
           rw here (rw whole more.0, rw names more.1, rw read (ap (λ l. row ∷ l) more.2)))
@@ -257,7 +257,7 @@ flat_permutation f h (table ∷ tables) all = IsPermutation-append (f table) (h 
 
 -- ---- what is found
 
-module _ (found : Found) (S : RbacState) (good : IsGood S) (is_named : names.AreNamed S) (has : HasRowsOf found S) where
+module _ (found : TableContents) (S : RbacState) (good : IsGood S) (is_named : names.AreNamed S) (has : HasRowsOf found S) where
   known_all : list_all (is_known S.version) has.rows ≡ true
   known_all = (readable_of_good S has.rows good has.rows_are).known
 
@@ -300,7 +300,7 @@ module _ (found : Found) (S : RbacState) (good : IsGood S) (is_named : names.Are
   office : IsOffice found
   office = record { tables = five; tagged = rw metas refl }
     where
-      five : HasFive found
+      five : HasCommonTables found
       five Meta w = (finds Meta refl).0
       five Names w = (finds Names refl).0
       five Pairs w = (finds Pairs refl).0
@@ -311,7 +311,7 @@ module _ (found : Found) (S : RbacState) (good : IsGood S) (is_named : names.Are
   locks : HasLocks found
   locks = elim good.version [ inl one ↦ inl (version_is ∙ one) | inr two ↦ inr (finds Locks (rw two refl)).0 ]
 
-  judged : (kind : StoredTable) → (list_all (is_whole kind) (stored_rows S.version has.rows kind) ≡ true) × (list_all (has_names kind) (stored_rows S.version has.rows kind) ≡ true)
+  judged : (kind : StoredTable) → (list_all (is_well_typed kind) (stored_rows S.version has.rows kind) ≡ true) × (list_all (has_names kind) (stored_rows S.version has.rows kind) ≡ true)
   judged Meta = rw (none_of_meta has.rows) (refl, refl)
   judged Names = let it = all_of_kind S.version Names has.rows known_all proper in (it.0, it.1)
   judged Pairs = let it = all_of_kind S.version Pairs has.rows known_all proper in (it.0, it.1)
@@ -322,13 +322,13 @@ module _ (found : Found) (S : RbacState) (good : IsGood S) (is_named : names.Are
   wanted_so : (kind : StoredTable) → IsTrue (is_wanted (version_in found) kind) → IsTrue (is_wanted S.version kind)
   wanted_so kind w = subst (λ v. IsTrue (is_wanted v kind)) version_is w
 
-  whole : AreWhole found
+  whole : AreWellTyped found
   whole = record {
-    rows = λ kind w. sym (list_all-IsPermutation (is_whole kind) _ _ (finds kind (wanted_so kind w)).1) ∙ (judged kind).0;
+    rows = λ kind w. sym (list_all-IsPermutation (is_well_typed kind) _ _ (finds kind (wanted_so kind w)).1) ∙ (judged kind).0;
     one = rw metas refl;
   }
 
-  named : AreNamed found
+  named : HaveValidNames found
   named kind w = sym (list_all-IsPermutation (has_names kind) _ _ (finds kind (wanted_so kind w)).1) ∙ (judged kind).1
 
   -- the rows that are read of one table
@@ -349,47 +349,47 @@ module _ (found : Found) (S : RbacState) (good : IsGood S) (is_named : names.Are
   read_all version is = flat_permutation (λ table. by_table table has.rows) (λ table. rows_at table found) (row_tables version) (rows_wanted (λ table. IsPermutation (by_table table has.rows) (rows_at table found)) version (subst (λ v. (v ≡ 1) ⊎ (v ≡ 2)) (sym is) good.version)
       (λ table w other. read_at table (subst (λ v. IsTrue (is_wanted v table)) is w) other))
 
-  read_rows : IsPermutation has.rows (rows_found found)
+  read_rows : IsPermutation has.rows (office_rows found)
   read_rows =
       let split_rows : IsPermutation (flat_map (λ table. by_table table has.rows) (row_tables S.version)) has.rows = subst (λ l. IsPermutation l has.rows) (sym (split_is S.version has.rows)) (split_all S.version has.rows known_all) in
       subst (λ v. IsPermutation has.rows (rows_in_all found (row_tables v))) (sym version_is) (IsPermutation-trans _ _ _ (IsPermutation-sym _ _ split_rows) (read_all S.version refl))
 
-  of_state : (others : List Row) → IsPermutation (rows_found found) others → AreRowsOf S others
-  of_state others same = rows_of_same S has.rows others (IsPermutation-trans has.rows (rows_found found) others read_rows same) has.rows_are
+  of_state : (others : List Row) → IsPermutation (office_rows found) others → AreRowsOf S others
+  of_state others same = rows_of_same S has.rows others (IsPermutation-trans has.rows (office_rows found) others read_rows same) has.rows_are
 
   -- the state is found, so nothing is refused except by Memory
-  is_found : IsStateFound found S
+  is_found : IsStateOfContents found S
   is_found = record {
     reached = (office, known_versions, locks);
     whole = whole;
     named = named;
-    rows = rows_found found;
-    same = IsPermutation-refl (rows_found found);
-    state = record { version_is = sym version_is; stored = of_state (rows_found found) (IsPermutation-refl (rows_found found)); good = good };
+    rows = office_rows found;
+    same = IsPermutation-refl (office_rows found);
+    state = record { version_is = sym version_is; stored = of_state (office_rows found) (IsPermutation-refl (office_rows found)); good = good };
   }
 
-  nothing_refused : (refusal : Refusal) → RefusesFound found refusal → refusal ≡ Memory
+  nothing_refused : (refusal : Refusal) → RefusesContents found refusal → refusal ≡ Memory
   nothing_refused = found_refused found S is_found
 
   -- and no other state is found
-  no_other : (T : RbacState) → IsStateFound found T → T ≡ S
+  no_other : (T : RbacState) → IsStateOfContents found T → T ≡ S
   no_other T it =
       let ours = of_state it.rows it.same in
       rows_determine T S (it.state.version_is ∙ version_is) (λ row. it.state.stored.rows_are row ∙ sym (ours.rows_are row))
 
-pub good_rows_are_found : GoodRowsAreFound
+pub good_rows_are_found : GoodContentsAreRead
 good_rows_are_found found S refusal good is_named has = nothing_refused found S good is_named has refusal
 
-pub found_alone : FoundAlone
+pub found_alone : StateIsUnique
 found_alone found S T good is_named has = no_other found S good is_named has T
 
 -- ---- a database that holds the state
 
-has_rows : (db : Database) (S : RbacState) → HoldsState db S → HasRowsOf (held_in db) S
+has_rows : (db : Database) (S : RbacState) → HoldsState db S → HasRowsOf (contents_of db) S
 has_rows db S held = record { rows = held.rows; rows_are = held.rows_are; tables = holds_found (is_wanted S.version) db (stored_rows S.version held.rows) held.tables }
 
-pub memory_alone : (db : Database) (S : RbacState) → IsGood S → names.AreNamed S → HoldsState db S → (refusal : Refusal) → RefusesFound (held_in db) refusal → refusal ≡ Memory
-memory_alone db S good is_named held = nothing_refused (held_in db) S good is_named (has_rows db S held)
+pub memory_alone : (db : Database) (S : RbacState) → IsGood S → names.AreNamed S → HoldsState db S → (refusal : Refusal) → RefusesContents (contents_of db) refusal → refusal ≡ Memory
+memory_alone db S good is_named held = nothing_refused (contents_of db) S good is_named (has_rows db S held)
 
-pub same_state : (db : Database) (S : RbacState) → IsGood S → names.AreNamed S → HoldsState db S → (T : RbacState) → IsStateFound (held_in db) T → T ≡ S
-same_state db S good is_named held = no_other (held_in db) S good is_named (has_rows db S held)
+pub same_state : (db : Database) (S : RbacState) → IsGood S → names.AreNamed S → HoldsState db S → (T : RbacState) → IsStateOfContents (contents_of db) T → T ≡ S
+same_state db S good is_named held = no_other (contents_of db) S good is_named (has_rows db S held)

@@ -6,7 +6,7 @@ use Rattle.sqlite.specs.Effect.{Database}
 use Rattle.sqlite_tied.specs.Compute.{everything}
 use Rattle.role_tables.specs.TableByName.{names_of, cells_at}
 use Rattle.role_tables.specs.OfficeTables.{StoredTable, Meta, Names, Pairs, Grants, Sets, Locks, made, places, Rows, HoldsTables}
-use Rattle.role_tables.specs.Found.{find_places, held_in}
+use Rattle.role_tables.specs.TableContents.{find_places, contents_of}
 
 own_places : (kind : StoredTable) (tree : ℕ) → find_places (made kind tree) (names_of (places kind)) ≡ Some (places kind)
 unfolding everything
@@ -19,7 +19,7 @@ own_places Locks tree = refl
 
 -- the rows that a table holds are found, in some order
 pub holds_found : (want : StoredTable → Bool) (db : Database) (rows : Rows) → HoldsTables want db rows → (kind : StoredTable) → IsTrue (want kind)
-    → (values : List Row) × (held_in db kind ≡ Some values) × IsPermutation (rows kind) values
+    → (values : List Row) × (contents_of db kind ≡ Some values) × IsPermutation (rows kind) values
 holds_found want db rows held kind wanted =
     let table = held.tables kind wanted in
     let whole = made kind table.tree in (

@@ -13,10 +13,10 @@ use Rattle.sqlite_trees.proofs.ListLemmas.{IsPermutation-flat_map}
 use Rattle.std.specs.List.{AllByRecursion}
 use Rattle.sqlite.specs.Order.{Row}
 use Rattle.role_tables.specs.OfficeTables.{Meta}
-use Rattle.role_tables.specs.Found.{is_whole, Found}
-use Rattle.role_tables.specs.Gathering.{IsRead}
-use Rattle.role_tables.specs.Opening.{values, is_tagged, version_at, listed, versions, is_number, is_known_version, is_single}
-use Rattle.role_tables.specs.MetaRows.{IsUnknownOf, lesser, SeesMore, Sees}
+use Rattle.role_tables.specs.TableContents.{is_well_typed, TableContents}
+use Rattle.role_tables.specs.private.GatheredRows.{IsRead}
+use Rattle.role_tables.specs.OpeningChecks.{values, is_tagged, version_at, listed, versions, is_number, is_known_version, is_single}
+use Rattle.role_tables.specs.private.MetaRows.{IsUnknownOf, lesser, SeesMore, Sees}
 use Rattle.role_tables.specs.declared.meta_rows.Metas.{Metas}
 
 -- ---- lists
@@ -132,7 +132,7 @@ sees_more xs y a b so more = record {
   tagged = more.tagged ∙ ap (λ o. o || is_tagged y) so.tagged ∙ ap (λ o. list_any is_tagged xs || o) (sym (any_one is_tagged y)) ∙ sym (list_any-append is_tagged xs (y ∷ []));
   unknown = subst (λ l. IsUnknownOf l b.unknown) (sym (versions_more xs y)) (subst (IsUnknownOf (versions xs ++ listed (version_at y))) (sym more.unknown) (unknown_more (versions xs) a.unknown (version_at y) so.unknown));
   second = more.second ∙ ap (λ o. o || list_any (is_number 2) (listed (version_at y))) so.second ∙ sym (list_any-append (is_number 2) (versions xs) (listed (version_at y))) ∙ ap (list_any (is_number 2)) (sym (versions_more xs y));
-  whole = more.whole ∙ ap (λ o. o && is_whole Meta y) so.whole ∙ ap (λ o. list_all (is_whole Meta) xs && o) (sym (all_one (is_whole Meta) y)) ∙ sym (list_all-append (is_whole Meta) xs (y ∷ []));
+  whole = more.whole ∙ ap (λ o. o && is_well_typed Meta y) so.whole ∙ ap (λ o. list_all (is_well_typed Meta) xs && o) (sym (all_one (is_well_typed Meta) y)) ∙ sym (list_all-append (is_well_typed Meta) xs (y ∷ []));
   one = more.one ∙ so.empty ∙ sym (single_more xs y);
   empty = more.empty ∙ sym (none_more xs y);
 }
@@ -146,12 +146,12 @@ sees_same xs ys metas same so =
       tagged = so.tagged ∙ sym (list_any-IsPermutation is_tagged xs ys same);
       unknown = unknown_same (versions ys) (versions xs) metas.unknown (IsPermutation-sym _ _ (versions_same xs ys same)) so.unknown;
       second = so.second ∙ sym (list_any-IsPermutation (is_number 2) (versions xs) (versions ys) (versions_same xs ys same));
-      whole = so.whole ∙ sym (list_all-IsPermutation (is_whole Meta) xs ys same);
+      whole = so.whole ∙ sym (list_all-IsPermutation (is_well_typed Meta) xs ys same);
       one = so.one ∙ ap (λ n. nat_eq n 1) long;
       empty = so.empty ∙ ap (λ n. nat_eq n 0) long;
     }
 
-pub sees_read : (found : Found) (shown : List Row) (metas : Metas) → IsRead (found Meta) shown → Sees shown metas → Sees (values found Meta) metas
+pub sees_read : (found : TableContents) (shown : List Row) (metas : Metas) → IsRead (found Meta) shown → Sees shown metas → Sees (values found Meta) metas
 sees_read found shown metas read so = go (found Meta) read
   where
     go : (o : Option (List Row)) → IsRead o shown → Sees (elim o [ Some rows ↦ rows | None ↦ [] ]) metas

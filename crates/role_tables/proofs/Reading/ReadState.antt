@@ -8,14 +8,14 @@ use Rattle.sqlite.proofs.Callers.{unchanged_then}
 use Rattle.sqlite.proofs.StateLemmas.{survives_then}
 use Rattle.sqlite_schema.specs.declared.schema.Schema.{Schema}
 use Rattle.admin_mgr.specs.RbacState.{RbacState}
-use Rattle.admin_mgr.specs.Checked.{IsStateOf}
+use Rattle.admin_mgr.specs.RowChecks.{IsStateOf}
 use Rattle.role_tables.specs.OfficeTables.{Meta, row_tables}
-use Rattle.role_tables.specs.Found.{held_in}
-use Rattle.role_tables.specs.Opening.{values, HasFive, RefusesFound, IsStateFound}
-use Rattle.role_tables.specs.MetaRows.{Sees}
+use Rattle.role_tables.specs.TableContents.{contents_of}
+use Rattle.role_tables.specs.OpeningChecks.{values, HasCommonTables, RefusesContents, IsStateOfContents}
+use Rattle.role_tables.specs.private.MetaRows.{Sees}
 use Rattle.role_tables.specs.declared.meta_rows.Metas.{Metas}
 use Rattle.role_tables.specs.declared.gathering.Gathering.{Gathering}
-use Rattle.role_tables.specs.Gathering.{AreThere, GathersTables, HasTables, IsVersionSeen, RefusesVersion, RefusesGathering}
+use Rattle.role_tables.specs.private.GatheredRows.{AreThere, GathersTables, HasTables, IsVersionSeen, RefusesVersion, RefusesGathering}
 use Rattle.role_tables.proofs.Reading.Judging.{seen_known, version_refused, reached, tables_there, rows_refused, state_found}
 
 pub if_ok : {T E : Type 0} (r : Result T E) (P Q : T → Type 0) → ((x : T) → P x → Q x) → IfOk r P → IfOk r Q
@@ -26,8 +26,8 @@ pub if_err : {T E : Type 0} (r : Result T E) (P Q : E → Type 0) → ((x : E) �
 if_err (Ok x) P Q f p = tt
 if_err (Err e) P Q f p = f e p
 
-module _ (old mid : State) (metas : Metas) (five : HasFive (held_in old.now)) (seen : HasCleanDisk mid → Sees (values (held_in old.now) Meta) metas × IsUnchanged old mid) where
-  pub no_version : (schema : Schema) → schema ≡ mid.now.schema → HasCleanDisk mid → (refusal : Refusal) → RefusesVersion metas schema refusal → RefusesFound (held_in old.now) refusal
+module _ (old mid : State) (metas : Metas) (five : HasCommonTables (contents_of old.now)) (seen : HasCleanDisk mid → Sees (values (contents_of old.now) Meta) metas × IsUnchanged old mid) where
+  pub no_version : (schema : Schema) → schema ≡ mid.now.schema → HasCleanDisk mid → (refusal : Refusal) → RefusesVersion metas schema refusal → RefusesContents (contents_of old.now) refusal
   no_version schema is clean refusal bad =
       let s = seen clean in
       version_refused old.now metas five s.0 refusal (subst (λ (db : Database). RefusesVersion metas db.schema refusal) s.1.0.now_is (subst (λ schema. RefusesVersion metas schema refusal) is bad))
@@ -40,7 +40,7 @@ module _ (old mid : State) (metas : Metas) (five : HasFive (held_in old.now)) (s
     before clean = subst (λ (db : Database). IsVersionSeen metas db.schema version) (seen clean).1.0.now_is (subst (λ schema. IsVersionSeen metas schema version) is told)
 
     there : HasCleanDisk mid → HasTables mid (row_tables version)
-    there clean = let s = seen clean in (s.1.0.is_open, subst (λ (db : Database). AreThere (held_in db) (row_tables version)) (sym s.1.0.now_is) (tables_there old.now metas five s.0 version (before clean)))
+    there clean = let s = seen clean in (s.1.0.is_open, subst (λ (db : Database). AreThere (contents_of db) (row_tables version)) (sym s.1.0.now_is) (tables_there old.now metas five s.0 version (before clean)))
 
     pub read_survives : (new : State) → Survives old mid (λ _. ⊥) → Survives mid new (λ _. HasTables mid (row_tables version) → ⊥) → Survives old new (λ _. ⊥)
     read_survives new one two =
@@ -51,24 +51,24 @@ module _ (old mid : State) (metas : Metas) (five : HasFive (held_in old.now)) (s
         let was : HasCleanDisk mid = omega (arith, clean, two.clean) in
         keeps_then old mid new (unchanged_keeps old mid (inl (seen was).1)) (kept clean (there was))
 
-    module _ (new : State) (start all : Gathering) (begins : start.is_whole ≡ (metas.is_whole && metas.is_one)) (named : start.is_named ≡ true) (empty : start.rows.items ≡ [])
-        (kept : Survives mid new (λ _. HasTables mid (row_tables version) → ⊥)) (gathered : HasCleanDisk new → HasTables mid (row_tables version) → GathersTables (held_in mid.now) (row_tables version) start all × IsUnchanged mid new) where
-      whole : HasCleanDisk new → GathersTables (held_in old.now) (row_tables version) start all × IsUnchanged old new
+    module _ (new : State) (start all : Gathering) (begins : start.is_well_typed ≡ (metas.is_well_typed && metas.is_one)) (named : start.is_named ≡ true) (empty : start.rows.items ≡ [])
+        (kept : Survives mid new (λ _. HasTables mid (row_tables version) → ⊥)) (gathered : HasCleanDisk new → HasTables mid (row_tables version) → GathersTables (contents_of mid.now) (row_tables version) start all × IsUnchanged mid new) where
+      whole : HasCleanDisk new → GathersTables (contents_of old.now) (row_tables version) start all × IsUnchanged old new
       whole clean =
           let was : HasCleanDisk mid = omega (arith, clean, kept.clean) in
           let same = (seen was).1 in
           let got = gathered clean (there was) in
-          (subst (λ (db : Database). GathersTables (held_in db) (row_tables version) start all) same.0.now_is got.0, unchanged_then old mid new same got.1)
+          (subst (λ (db : Database). GathersTables (contents_of db) (row_tables version) start all) same.0.now_is got.0, unchanged_then old mid new same got.1)
 
-      pub reads_state : HasCleanDisk new → (S : RbacState) → IsTrue all.is_whole → IsTrue all.is_named → IsStateOf version all.rows.items S → IsStateFound (held_in old.now) S × IsUnchanged old new
-      reads_state clean S is_whole is_named made =
+      pub reads_state : HasCleanDisk new → (S : RbacState) → IsTrue all.is_well_typed → IsTrue all.is_named → IsStateOf version all.rows.items S → IsStateOfContents (contents_of old.now) S × IsUnchanged old new
+      reads_state clean S is_well_typed is_named made =
           let was : HasCleanDisk mid = omega (arith, clean, kept.clean) in
           let r = reached old.now metas five (seen was).0 version (before was) in
           let got = whole clean in
-          (state_found (held_in old.now) metas (seen was).0 r.0 version known r.1 start all begins named empty got.0 S is_whole is_named made, got.1)
+          (state_found (contents_of old.now) metas (seen was).0 r.0 version known r.1 start all begins named empty got.0 S is_well_typed is_named made, got.1)
 
-      pub reads_refusal : HasCleanDisk new → (refusal : Refusal) → RefusesGathering version all refusal → RefusesFound (held_in old.now) refusal
+      pub reads_refusal : HasCleanDisk new → (refusal : Refusal) → RefusesGathering version all refusal → RefusesContents (contents_of old.now) refusal
       reads_refusal clean refusal bad =
           let was : HasCleanDisk mid = omega (arith, clean, kept.clean) in
           let r = reached old.now metas five (seen was).0 version (before was) in
-          rows_refused (held_in old.now) metas (seen was).0 r.0 version known r.1 start all begins named empty (whole clean).0 refusal bad
+          rows_refused (contents_of old.now) metas (seen was).0 r.0 version known r.1 start all begins named empty (whole clean).0 refusal bad

@@ -6,22 +6,22 @@ use Rattle.rbac_sets.specs.declared.row.Row.{Row}
 use Rattle.rbac_sets.specs.declared.refusal.Refusal.{Refusal}
 use Rattle.rbac_sets.specs.declared.refusal.Refusal.TheVariants.{Memory, NotAnOffice, Version, Damaged, TooMany}
 use Rattle.admin_mgr.specs.RbacState.{RbacState}
-use Rattle.admin_mgr.specs.Checked.{RefusesRows, AreRowsOf}
+use Rattle.admin_mgr.specs.RowChecks.{RefusesRows, AreRowsOf}
 use Rattle.admin_mgr.proofs.StoredRows.AcceptLaws.{good_rows_are_read}
 use Rattle.role_tables.specs.OfficeTables.{Meta}
-use Rattle.role_tables.specs.Found.{Found}
-use Rattle.role_tables.specs.Opening.{values, versions, is_known_version, rows_found, RefusesRead, RefusesFound, IsStateFound, RefusedFindNone}
+use Rattle.role_tables.specs.TableContents.{TableContents}
+use Rattle.role_tables.specs.OpeningChecks.{values, versions, is_known_version, office_rows, RefusesRead, RefusesContents, IsStateOfContents, RefusedHaveNoState}
 use Rattle.role_tables.proofs.Reading.Judging.{clash, passes_each}
 use Rattle.role_tables.proofs.StoredRows.Once.{rows_of_same}
 
-module _ (found : Found) (S : RbacState) (it : IsStateFound found S) where
-  rows_are : (rows : List Row) → IsPermutation (rows_found found) rows → AreRowsOf S rows
-  rows_are rows same = rows_of_same S it.rows rows (IsPermutation-trans it.rows (rows_found found) rows (IsPermutation-sym _ _ it.same) same) it.state.stored
+module _ (found : TableContents) (S : RbacState) (it : IsStateOfContents found S) where
+  rows_are : (rows : List Row) → IsPermutation (office_rows found) rows → AreRowsOf S rows
+  rows_are rows same = rows_of_same S it.rows rows (IsPermutation-trans it.rows (office_rows found) rows (IsPermutation-sym _ _ it.same) same) it.state.stored
 
   read_refused : (refusal : Refusal) → RefusesRead found refusal → refusal ≡ Memory
   read_refused refusal (rows, same, bad) = good_rows_are_read S rows refusal it.state.good (rows_are rows same) (subst (λ v. RefusesRows v rows refusal) (sym it.state.version_is) bad)
 
-  pub found_refused : (refusal : Refusal) → RefusesFound found refusal → refusal ≡ Memory
+  pub found_refused : (refusal : Refusal) → RefusesContents found refusal → refusal ≡ Memory
   found_refused Memory bad = refl
   found_refused NotAnOffice (inl none) = absurd (none it.reached.0)
   found_refused NotAnOffice (inr bare) = absurd (bare.2 it.reached.2)
@@ -32,5 +32,5 @@ module _ (found : Found) (S : RbacState) (it : IsStateFound found S) where
   found_refused (Damaged check) (reached, inr (inr bad)) = read_refused (Damaged check) bad.2
   found_refused _ bad = absurd bad
 
-pub refused_find_none : RefusedFindNone
+pub refused_find_none : RefusedHaveNoState
 refused_find_none found refusal S bad other it = other (found_refused found S it refusal bad)

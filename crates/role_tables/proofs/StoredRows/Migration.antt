@@ -10,9 +10,9 @@ use Rattle.rbac_sets.specs.declared.row.Row.TheVariants.{NameRow, PairRow, Grant
 use Rattle.admin_mgr.specs.RbacState.{RbacState}
 use Rattle.admin_mgr.specs.Rows.{has_row}
 use Rattle.admin_mgr.specs.Changes as change
-use Rattle.admin_mgr.specs.Gathered.{is_among}
+use Rattle.admin_mgr.specs.StoredSets.{is_among}
 use Rattle.admin_mgr.specs.Good.{IsGood}
-use Rattle.admin_mgr.specs.Life.{taken_into_version_2}
+use Rattle.admin_mgr.specs.OfficeRun.{migrated_to_version_2}
 use Rattle.admin_mgr.proofs.PlanRows.CommitLaws.{same_row-self}
 use Rattle.sqlite.specs.Order as sql
 use Rattle.sqlite.specs.Order.{row_cmp}
@@ -22,17 +22,17 @@ use Rattle.sqlite.specs.State.{State, Executes}
 use Rattle.role_tables.specs.TableByName.{same_row, without_row, is_referred}
 use Rattle.sqlite_schema.specs.Names.{table_named}
 use Rattle.role_tables.specs.OfficeTables.{StoredTable, Meta, Names, Pairs, Grants, Sets, Locks, making, Rows, changed_at, meta_row, cells, is_wanted, HoldsTables}
-use Rattle.role_tables.specs.Texts.{take_text}
+use Rattle.role_tables.specs.private.Texts.{delete_text}
 use Rattle.role_tables.specs.StoredState.{is_of, cells_of, stored_rows, HoldsState}
-use Rattle.role_tables.specs.InSchema.{is_free, may_count}
-use Rattle.role_tables.specs.Creating.{with_table, IsStage, StageAfter, PutsVersion}
-use Rattle.role_tables.specs.Migrating.{may_lock, TakesVersion}
+use Rattle.role_tables.specs.SchemaTests.{is_free, may_count}
+use Rattle.role_tables.specs.Creation.{with_table, IsStage, StageAfter, InsertsVersion}
+use Rattle.role_tables.specs.Migration.{may_lock, DeletesVersion}
 use Rattle.role_tables.proofs.OfficeTables.Changes.{takes_row}
 use Rattle.role_tables.proofs.StoredRows.Texts.{holds_same}
 use Rattle.role_tables.proofs.OfficeTables.Looking.{free_parts, counts}
 use Rattle.role_tables.proofs.OfficeTables.EmptyOffice.{holds_wanted}
 
-pub version_taken : (version : ℕ) (old new : State) (count : ℕ) → Executes (take_text Meta) (cells (meta_row (codes "rbac") version)) old new (Ok count) → new.in_transaction ≡ old.in_transaction → TakesVersion version old new
+pub version_taken : (version : ℕ) (old new : State) (count : ℕ) → Executes (delete_text Meta) (cells (meta_row (codes "rbac") version)) old new (Ok count) → new.in_transaction ≡ old.in_transaction → DeletesVersion version old new
 version_taken version old new count ran mode = record {
   taken = λ want rows wanted held. takes_row want (meta_row (codes "rbac") version) wanted old new count rows held ran;
   mode = mode;
@@ -40,7 +40,7 @@ version_taken version old new count ran mode = record {
 
 -- ---- the rows are those of the state in version 2 too
 
-same_rows : (S : RbacState) → S.locked ≡ empty → (row : Row) → has_row (taken_into_version_2 S) row ≡ has_row S row
+same_rows : (S : RbacState) → S.locked ≡ empty → (row : Row) → has_row (migrated_to_version_2 S) row ≡ has_row S row
 unfolding has_row
 same_rows S none (NameRow kind a) = refl
 same_rows S none (PairRow kind a b) = refl
@@ -90,8 +90,8 @@ all_wanted Grants = refl
 all_wanted Sets = refl
 all_wanted Locks = refl
 
-second_stage : (db : Database) (rows : Rows) → may_lock db.schema ≡ true → HoldsTables (is_wanted 1) db rows → IsStage 2 (is_wanted 1) db rows
-second_stage db rows may held =
+version_2_stage : (db : Database) (rows : Rows) → may_lock db.schema ≡ true → HoldsTables (is_wanted 1) db rows → IsStage 2 (is_wanted 1) db rows
+version_2_stage db rows may held =
     let both = and_parts (is_free db.schema (codes "locked_row")) (may_count db.schema) may in
     let locks = free_parts db.schema (codes "locked_row") both.0 in
     record {
@@ -122,12 +122,12 @@ unfolding has_row
 lock_row S x = refl
 
 -- the tables hold the state in version 2 once the table of locks is created and the version is changed
-pub migrated : (old a b new : State) → StageAfter old a (Locks ∷ []) → TakesVersion 1 a b → PutsVersion 2 b new → (S : RbacState) → S.version ≡ 1 → IsGood S → may_lock old.now.schema ≡ true → HoldsState old.now S → HoldsState new.now (taken_into_version_2 S)
+pub migrated : (old a b new : State) → StageAfter old a (Locks ∷ []) → DeletesVersion 1 a b → InsertsVersion 2 b new → (S : RbacState) → S.version ≡ 1 → IsGood S → may_lock old.now.schema ≡ true → HoldsState old.now S → HoldsState new.now (migrated_to_version_2 S)
 migrated old a b new made taken put S first good may held =
     let none = good.no_locks first in
     let stored_in : HoldsTables (is_wanted 1) old.now (stored_rows 1 held.rows) = subst (λ v. HoldsTables (is_wanted v) old.now (stored_rows v held.rows)) first held.tables in
     let unlocked : stored_rows 1 held.rows Locks ≡ [] = no_locks held.rows (λ x. sym (held.rows_are.rows_are (LockedRow x)) ∙ lock_row S x ∙ ap (λ s. contains s x) none ∙ contains-empty name_cmp x) in
-    let stage = made.stage 2 (is_wanted 1) (stored_rows 1 held.rows) (refl, refl, unlocked, tt) (second_stage old.now (stored_rows 1 held.rows) may stored_in) in
+    let stage = made.stage 2 (is_wanted 1) (stored_rows 1 held.rows) (refl, refl, unlocked, tt) (version_2_stage old.now (stored_rows 1 held.rows) may stored_in) in
     let bare = taken.taken (with_table Locks (is_wanted 1)) (stored_rows 1 held.rows) refl stage.held in
     record {
       rows = held.rows;

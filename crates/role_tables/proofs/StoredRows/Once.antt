@@ -8,7 +8,7 @@ use Rattle.sqlite_trees.proofs.ListLemmas.{IsPermutation-filter}
 use Rattle.rbac_sets.specs.declared.row.Row.{Row}
 use Rattle.admin_mgr.specs.RbacState.{RbacState}
 use Rattle.admin_mgr.specs.Changes.{same_row}
-use Rattle.admin_mgr.specs.Checked.{AreRowsOf, OccurOnce}
+use Rattle.admin_mgr.specs.RowChecks.{AreRowsOf, OccurOnce}
 use Rattle.admin_mgr.proofs.PlanRows.CommitLaws.{same_row-self, same_row-is}
 
 abbrev alike : Row → List Row → List Row

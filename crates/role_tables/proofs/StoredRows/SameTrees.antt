@@ -15,7 +15,7 @@ use Rattle.admin_mgr.specs.RbacState.{RbacState}
 use Rattle.role_tables.specs.TableByName.{Place, HaveIntIds, HoldsRows, cells_at, refers_to}
 use Rattle.role_tables.specs.OfficeTables.{making, made, places}
 use Rattle.role_tables.specs.StoredState.{HoldsState}
-use Rattle.role_tables.specs.Standing.{SameTreesHoldSame, FindsWhatWasLeft}
+use Rattle.role_tables.specs.Durability.{SameTreesHoldSame, HoldsWhatWasLeft}
 
 same_text : (row : Row) (a b : List ℕ) → column row 4 ≡ Text a → column row 4 ≡ Text b → a ≡ b
 same_text row a b one two = cc
@@ -71,8 +71,8 @@ pub same_trees_hold_same : SameTreesHoldSame
 same_trees_hold_same S trees db left is same = holds_state left.0 db left.2.tables.sound is (sym left.1 ∙ sym same) S left.2
 
 -- An open connection outside a transaction holds what was committed, and a crash leaves that alone.
-pub finds_what_was_left : (s : State) → IsLive s → (s.in_transaction ≡ false → IsTrue s.is_open → s.now ≡ s.committed) → (IsTrue s.is_open → (trees : Trees) → s.may_leave trees → trees ≡ s.committed.trees) → FindsWhatWasLeft s
-finds_what_was_left s live settled alone S trees left is_open outside same =
+pub holds_what_was_left : (s : State) → IsLive s → (s.in_transaction ≡ false → IsTrue s.is_open → s.now ≡ s.committed) → (IsTrue s.is_open → (trees : Trees) → s.may_leave trees → trees ≡ s.committed.trees) → HoldsWhatWasLeft s
+holds_what_was_left s live settled alone S trees left is_open outside same =
     let held = same_trees_hold_same S trees s.now left (live is_open).0 same in
     record {
       is_open = is_open;

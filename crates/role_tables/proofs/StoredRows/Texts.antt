@@ -18,9 +18,9 @@ use Rattle.sqlite.specs.State.{State, Executes, ExecutesInside, KeepsCommit}
 use Rattle.sqlite.proofs.InsideLemmas.{inside_keeps}
 use Rattle.role_tables.specs.TableByName.{HasNoNull, HoldsRows}
 use Rattle.role_tables.specs.OfficeTables.{StoredTable, making, made, places, Rows, is_wanted, HoldsTables}
-use Rattle.role_tables.specs.Texts.{change_text}
+use Rattle.role_tables.specs.private.Texts.{change_text}
 use Rattle.role_tables.specs.StoredState.{stored, cells_of, stored_rows}
-use Rattle.role_tables.specs.Writing.{IsKept, AreKept, TablesAfter, ChangesTables}
+use Rattle.role_tables.specs.private.TableChanges.{IsKept, AreKept, TablesAfter, ChangesTables}
 use Rattle.role_tables.proofs.OfficeTables.Changes.{puts_row, takes_row}
 use Rattle.role_tables.proofs.OfficeTables.Lists.{all_at}
 use Rattle.role_tables.proofs.StoredRows.Changes.{put_tables, take_tables}

@@ -26,8 +26,8 @@ use Rattle.sqlite.proofs.StateLemmas.{survives_then}
 use Rattle.sqlite.proofs.Callers.{survives_begin}
 use Rattle.role_tables.specs.OfficeTables.{HoldsTables, table_of, is_wanted}
 use Rattle.role_tables.specs.StoredState.{stored, stored_rows, HoldsState}
-use Rattle.role_tables.specs.Standing.{Rests, HoldsAsBefore, Transacts}
-use Rattle.role_tables.specs.Writing.{AreKept, TablesAfter}
+use Rattle.role_tables.specs.Durability.{HoldsDurably, HoldsAsBefore, Transacts}
+use Rattle.role_tables.specs.private.TableChanges.{AreKept, TablesAfter}
 
 -- ---- a transaction
 
@@ -60,7 +60,7 @@ module _ {S : Type 0} (g : Ghosts S) (old : Held S) (mid end : State) (Is : Data
       whole : Survives (state g old) end (λ db. db ≡ mid.now.trees)
       whole = survives_then (state g old) mid end (λ _. ⊥) (λ db. db ≡ mid.now.trees) (λ db. db ≡ mid.now.trees) (λ _ db none. absurd none) (λ _ db is. is) (survives_begin g old mid (λ _. ⊥) inside) after
 
-      stands : (r : Result (Unit {0}) Error) → OnOk r (IsTrue mid.in_transaction × Shows mid end mid.now mid.now false × KeepsCounts mid end × (end.marks ≡ [])) → OnOk r (Rests end Is)
+      stands : (r : Result (Unit {0}) Error) → OnOk r (IsTrue mid.in_transaction × Shows mid end mid.now mid.now false × KeepsCounts mid end × (end.marks ≡ [])) → OnOk r (HoldsDurably end Is)
       stands (Err e) ok = tt
       stands (Ok u) ok = let shows = ok.1 in record {
         is_open = shows.is_open;

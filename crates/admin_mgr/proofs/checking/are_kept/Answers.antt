@@ -3,9 +3,9 @@ use Rattle.std.specs.List.Sorted.{IsStrictlySortedBy}
 use Rattle.std.proofs.lemmas.Simd.{map-map}
 use Rattle.rbac_sets.specs.Sets.{members, name_cmp}
 use Rattle.rbac_sets.proofs.Members.{members-rise}
-use Rattle.order_table.specs.Table.{numbers_of}
-use Rattle.admin_mgr.specs.Numbers.{keep_all}
-use Rattle.admin_mgr.specs.SeparationOfDuty.{sets_of}
+use Rattle.order_matrix.specs.Table.{numbers_of}
+use Rattle.admin_mgr.specs.private.NumberedSeparation.{keep_all}
+use Rattle.admin_mgr.specs.private.SeparationOfDuty.{sets_of}
 use Rattle.admin_mgr.proofs.Verdicts.NumberLaws.{keep_all_is}
 use Rattle.admin_mgr.proofs.checking.are_kept.Goals as goal
 

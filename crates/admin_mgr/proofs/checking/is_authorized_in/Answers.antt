@@ -1,7 +1,7 @@
 use Rattle.std.proofs.Common.{sym, ◌∙◌, ap}
 use Rattle.std.specs.List.{list_all}
 use Rattle.rbac_sets.specs.Sets.{Pair}
-use Rattle.admin_mgr.specs.Held.{run_of, is_reached}
+use Rattle.admin_mgr.specs.private.HolderRoles.{run_of, is_reached}
 use Rattle.admin_mgr.proofs.StoredRows.TestLaws.{authorized_active}
 use Rattle.admin_mgr.proofs.checking.is_authorized_in.Goals as goal
 

@@ -8,4 +8,4 @@ use Rattle.admin_mgr.proofs.keeping.keeps_with.Goals as goal
 pub returns : goal.returns
 returns c =
     all_from_yields_List _ _ _ _ c.all.ensures.ran (YieldsList-from_first (λ x. x.now) runs_left _ (c.runs.ensures ∙ ap (λ r. runs_of c.args.duty r.facts) c.relations.ensures)) (λ x b q k. search rules)
-    ∙ with_member c.args.duty c.args.state.now.facts c.is_good.ensures c.args.set.now c.args.role.now c.args.cardinality c.requires.there c.requires.absent
+    ∙ with_member c.args.duty c.args.state.now.facts c.recall_good.ensures c.args.set.now c.args.role.now c.args.cardinality c.requires.there c.requires.absent

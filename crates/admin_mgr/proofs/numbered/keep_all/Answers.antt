@@ -4,9 +4,9 @@ use Rattle.std.proofs.Math.ListN.{drop_of_length-le}
 use Rattle.std.proofs.lemmas.List.Folds.{list_all-map}
 use Rattle.rbac_sets.specs.Sets.{Cardinality, pair_cmp}
 use Rattle.rbac_sets.specs.SortedSet.{set_of}
-use Rattle.order_table.specs.Table.{Table, numbers_of}
-use Rattle.admin_mgr.specs.Held.{run_of}
-use Rattle.admin_mgr.specs.Numbers.{count_reached, keep_all, keep_below}
+use Rattle.order_matrix.specs.Table.{Table, numbers_of}
+use Rattle.admin_mgr.specs.private.HolderRoles.{run_of}
+use Rattle.admin_mgr.specs.private.NumberedSeparation.{count_reached, keep_all, keep_below}
 use Rattle.admin_mgr.proofs.PlanRows.ListLaws.{all_here, all_later}
 use Rattle.admin_mgr.proofs.numbered.keep_all.Goals as goal
 

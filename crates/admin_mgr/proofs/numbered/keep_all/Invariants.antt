@@ -1,7 +1,7 @@
 use Rattle.std.proofs.Common.{◌≡◌, drop, map}
 use Rattle.rbac_sets.specs.Sets.{pair_cmp}
 use Rattle.rbac_sets.specs.SortedSet.{set_of}
-use Rattle.admin_mgr.specs.Numbers.{keep_all}
+use Rattle.admin_mgr.specs.private.NumberedSeparation.{keep_all}
 use Rattle.admin_mgr.proofs.numbered.keep_all.Given as goal
 
 abbrev pub invariant-loop-set : goal.invariant-loop-set

@@ -1,6 +1,6 @@
 use Rattle.std.proofs.Common.{◌++◌}
-use Rattle.order_table.specs.Table.{numbers_of}
-use Rattle.order_table.proofs.Mapped.{mapped_more_through}
+use Rattle.order_matrix.specs.Table.{numbers_of}
+use Rattle.order_matrix.proofs.Mapped.{mapped_more_through}
 use Rattle.admin_mgr.proofs.numbered.run_numbers.Goals as goal
 
 pub loop-run-preserved : goal.loop-run-preserved

@@ -1,5 +1,5 @@
 use Rattle.std.proofs.Common.{◌≡◌, ◌++◌, map, take}
-use Rattle.order_table.specs.Table.{numbers_of}
+use Rattle.order_matrix.specs.Table.{numbers_of}
 use Rattle.admin_mgr.proofs.numbered.run_numbers.Given as goal
 
 abbrev pub invariant-loop-run : goal.invariant-loop-run

@@ -2,13 +2,13 @@
 ghost use Rattle.std.specs.Prelude.{◌≡◌, ◌⊎◌, ◌||◌, ◌&&◌, nat_lt};
 ghost use Rattle.rbac_sets.specs.Sets.{Pair, Triple, all, any, contains, same_name, name_cmp, pair_cmp, triple_cmp};
 ghost use Rattle.rbac_sets.specs.SortedSet.{set_of};
-ghost use Rattle.admin_mgr.specs.Kept.{separation_of};
-ghost use Rattle.admin_mgr.specs.Checked.{first_passed, has_more_behind, is_passed};
-ghost use Rattle.admin_mgr.specs.Tested.{early_refusal, have_one_user, have_sets, is_complete, is_core_complete, is_hierarchy_complete, are_sets_complete, are_sessions_complete};
+ghost use Rattle.admin_mgr.specs.StateWithRoom.{separation_of};
+ghost use Rattle.admin_mgr.specs.RowChecks.{first_exceeded, has_more_with_first, is_exceeded};
+ghost use Rattle.admin_mgr.specs.private.CheckTests.{early_refusal, have_one_user, have_sets, is_complete, is_core_complete, is_hierarchy_complete, are_sets_complete, are_sessions_complete};
 
 use crate::judge::set_refusals::{has_set, member_count};
 use crate::lookup::{are_among, are_firsts_in, are_seconds_in, has_first};
-use crate::relations::gathered::Gathered;
+use crate::relations::gathered::StoredSets;
 use rbac_sets::{CountSet, GrantSet, Kind, NameSet, PairSet, Refusal};
 
 // The kinds whose limits are checked, in this order.
@@ -27,14 +27,14 @@ const LIMITED: [Kind; 12] = [
     Kind::ActiveRole,
 ];
 
-impl Gathered {
+impl StoredSets {
     // Why the sets are refused: by `TooMany` if a limit is exceeded, then by `Damaged(3)` if a row refers to
     // something that doesn't exist, then by `Damaged(4)` if a session has two users.
     pub(crate) fn early_refusal(&self) -> Option<Refusal>
         requires { (self.now.facts.version ≡ 1) ⊎ (self.now.facts.version ≡ 2) }
         ensures { result ≡ early_refusal self.now }
     {
-        if let Some(kind) = self.first_passed() {
+        if let Some(kind) = self.first_exceeded() {
             return Some(Refusal::TooMany(kind));
         }
         if !self.is_complete() {
@@ -47,17 +47,17 @@ impl Gathered {
     }
 
     // The first kind whose limit is exceeded.
-    fn first_passed(&self) -> Option<Kind>
+    fn first_exceeded(&self) -> Option<Kind>
         requires { (self.now.facts.version ≡ 1) ⊎ (self.now.facts.version ≡ 2) }
-        ensures { result ≡ first_passed self.now.facts }
+        ensures { result ≡ first_exceeded self.now.facts }
     {
-        LIMITED.iter().copied().find(|kind| self.is_passed(*kind))
+        LIMITED.iter().copied().find(|kind| self.is_exceeded(*kind))
     }
 
     // Whether the limit of the kind is exceeded.
-    fn is_passed(&self, kind: Kind) -> bool
+    fn is_exceeded(&self, kind: Kind) -> bool
         requires { (self.now.facts.version ≡ 1) ⊎ (self.now.facts.version ≡ 2) }
-        ensures { result ≡ is_passed self.now.facts kind }
+        ensures { result ≡ is_exceeded self.now.facts kind }
     {
         let limit = kind.limit(self.version) as usize;
         match kind {
@@ -71,11 +71,11 @@ impl Gathered {
             Kind::SsdSet => self.ssd_cardinalities.len() > limit,
             Kind::DsdSet => self.dsd_cardinalities.len() > limit,
             Kind::Member => {
-                has_more_behind(&self.ssd_members, limit)
-                    || has_more_behind(&self.dsd_members, limit)
+                has_more_with_first(&self.ssd_members, limit)
+                    || has_more_with_first(&self.dsd_members, limit)
             }
             Kind::Session => self.sessions.len() > limit,
-            Kind::ActiveRole => has_more_behind(&self.active, limit),
+            Kind::ActiveRole => has_more_with_first(&self.active, limit),
             Kind::Record | Kind::Byte => false,
         }
     }
@@ -145,8 +145,8 @@ impl Gathered {
 
 // Whether more pairs than the limit begin with one name.
 #[tactic(auto, unfolding(rbac_sets::specs::Sets::any))]
-fn has_more_behind(pairs: &PairSet, limit: usize) -> bool
-    ensures { result ≡ has_more_behind limit (set_of pair_cmp pairs.now) }
+fn has_more_with_first(pairs: &PairSet, limit: usize) -> bool
+    ensures { result ≡ has_more_with_first limit (set_of pair_cmp pairs.now) }
 {
     pairs
         .as_slice()

@@ -2,7 +2,7 @@ use Rattle.std.proofs.Common.{◌≡◌, ◌+◌, ◌<◌, ◌∙◌, arith, rul
 use Rattle.std.specs.declared.cmp.Ordering.TheVariants.{Less}
 use Rattle.std.specs.List.{AllWithin}
 use Rattle.std.specs.Ordering.{is_lt}
-use Rattle.rbac_sets.specs.Taking.{around}
+use Rattle.rbac_sets.specs.SetRemoval.{around}
 use Rattle.std.proofs.lemmas.List.{get_or_default}
 use Rattle.rbac_sets.proofs.InOrder.{less_of}
 use Rattle.rbac_sets.proofs.Gaps.{around-swap, below-swap}

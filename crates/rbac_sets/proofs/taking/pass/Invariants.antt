@@ -1,7 +1,7 @@
 use Rattle.std.proofs.Common.{◌≡◌, ◌+◌, ◌-◌, ◌≤◌, vec_len, vec_capacity}
 use Rattle.std.specs.List.{AllWithin}
 use Rattle.std.specs.declared.cmp.Ordering.TheVariants.{Less}
-use Rattle.rbac_sets.specs.Taking.{around}
+use Rattle.rbac_sets.specs.SetRemoval.{around}
 use Rattle.rbac_sets.proofs.taking.pass.Given as goal
 
 abbrev pub invariant-loop-passed : goal.invariant-loop-passed

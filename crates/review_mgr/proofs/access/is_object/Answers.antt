@@ -6,4 +6,4 @@ use Rattle.review_mgr.proofs.access.is_object.Goals as goal
 pub returns-then-not-is_empty : goal.returns-then-not-is_empty
 returns-then-not-is_empty c =
     ap not c.if-not-is_empty.true
-    ∙ sym (object_if_granted c.args.state.now.facts c.is_good.ensures c.args.operation.now c.args.object.now (ap (λ xs. not (length xs == 0)) (sym c.requires) ∙ sym (ap not c.is_empty.ensures) ∙ ap not c.if-not-is_empty.true))
+    ∙ sym (object_if_granted c.args.state.now.facts c.recall_good.ensures c.args.operation.now c.args.object.now (ap (λ xs. not (length xs == 0)) (sym c.requires) ∙ sym (ap not c.is_empty.ensures) ∙ ap not c.if-not-is_empty.true))

@@ -1,7 +1,7 @@
 use Rattle.std.proofs.Common.{◌≡◌, true, length}
 use Rattle.std.specs.List.{AllWithin}
 use Rattle.rbac_sets.specs.Sets.{Triple}
-use Rattle.review_mgr.specs.Meeting.{may_have}
+use Rattle.review_mgr.specs.private.Intersection.{may_have}
 use Rattle.review_mgr.proofs.fingerprints.fingerprints_of.Given as goal
 
 abbrev pub invariant-loop-grant : goal.invariant-loop-grant

@@ -3,7 +3,7 @@ use Rattle.rbac_sets.specs.Sets.{Triple, triple_cmp, same_name, retain}
 use Rattle.rbac_sets.specs.SortedSet.{set_of}
 use Rattle.rbac_sets.specs.NameOrder.{triple_exact, triple_total}
 use Rattle.rbac_sets.proofs.Members.{members-retain}
-use Rattle.admin_mgr.specs.Held.{is_reached}
+use Rattle.admin_mgr.specs.private.HolderRoles.{is_reached}
 use Rattle.review_mgr.proofs.gather.operations_reached.Goals as goal
 
 pub returns-clause-ok : goal.returns-clause-ok

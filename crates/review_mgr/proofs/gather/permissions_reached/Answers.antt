@@ -1,7 +1,7 @@
 use Rattle.std.proofs.Common.{◌≡◌, rules, ◌∙◌}
 use Rattle.rbac_sets.specs.Sets.{Triple, name_cmp, triple_cmp, contains, from_list}
 use Rattle.rbac_sets.specs.SortedSet.{set_of}
-use Rattle.admin_mgr.specs.Held.{is_reached}
+use Rattle.admin_mgr.specs.private.HolderRoles.{is_reached}
 use Rattle.review_mgr.specs.Review.{permission_of}
 use Rattle.review_mgr.proofs.gather.permissions_reached.Goals as goal
 

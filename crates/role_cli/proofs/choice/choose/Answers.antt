@@ -1,7 +1,7 @@
 use Rattle.std.proofs.Common.{◌≡◌, Bool, Bor, List, map, refl, subst, true, false, ℕ}
 use Rattle.clap.specs.Words.{takes}
 use Rattle.role_cli.specs.CommandLine.{program}
-use Rattle.role_cli.specs.Choosing.{IsFault}
+use Rattle.role_cli.specs.ArgumentChoice.{IsFault}
 use Rattle.role_cli.specs.declared.choice.Unchosen.TheVariants.{Memory}
 use Rattle.role_cli.proofs.Faults.{fault_by}
 use Rattle.role_cli.proofs.Subcommands.{entered}

@@ -1,5 +1,5 @@
 use Rattle.sqlite.specs.WalFiles.{image_at}
-use Rattle.role_cli.proofs.OnFile.{stands_in}
+use Rattle.role_cli.proofs.FileWork.{stands_in}
 use Rattle.role_wire.proofs.Results.{if_err-then}
 use Rattle.role_cli.proofs.Results.{on_ok-then}
 use Rattle.role_cli.proofs.files.run_on_path.Goals as goal
@@ -13,7 +13,7 @@ returns-in-Some-clause-done g c clean =
       opened = c.in-Some.conn;
       is_open = opened;
       found = found;
-      stands = stands_in (image_at g.D.Start) c.in-Some.conn opened found c.reopened.ensures;
+      durable = stands_in (image_at g.D.Start) c.in-Some.conn opened found c.reopened.ensures;
       work = works;
     })
 
@@ -26,6 +26,6 @@ returns-in-Some-clause-failed g c clean =
       opened = c.in-Some.conn;
       is_open = opened;
       found = found;
-      stands = stands_in (image_at g.D.Start) c.in-Some.conn opened found c.reopened.ensures;
+      durable = stands_in (image_at g.D.Start) c.in-Some.conn opened found c.reopened.ensures;
       work = fails;
     })

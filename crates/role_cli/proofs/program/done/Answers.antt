@@ -1,5 +1,5 @@
 use Rattle.std.proofs.Common.{rules, ◌≡◌, false}
-use Rattle.role_cli.specs.Done.{is_in_memory}
+use Rattle.role_cli.specs.ProgramOutcome.{is_memory_replay}
 use Rattle.role_cli.proofs.Beginning.{of_file}
 use Rattle.role_cli.proofs.Results.{on_ok-then}
 use Rattle.role_cli.proofs.program.done.Goals as goal
@@ -8,7 +8,7 @@ use Rattle.role_cli.proofs.program.done.Goals.{in-Init, in-Init-2, in-Init-3, in
 -- What was done over the office of a file was done.
 pub returns-in-Init-clause-done : goal.returns-in-Init-clause-done
 returns-in-Init-clause-done g c =
-    let on_disk : is_in_memory c.args.choice.now ≡ false = elim c.in-Init-1.branch [
+    let on_disk : is_memory_replay c.args.choice.now ≡ false = elim c.in-Init-1.branch [
       | in-Init w ↦ search rules
       | in-Init-2 w ↦ search rules
       | in-Init-3 w ↦ search rules

@@ -1,7 +1,7 @@
 use Rattle.std.proofs.Common.{inr}
 use Rattle.role_cli.proofs.Results.{if_err-both, on_ok-holds}
 use Rattle.rbac_sets.specs.declared.refusal.Refusal.TheVariants.{Memory}
-use Rattle.role_cli.specs.Telling.{no_memory_line}
+use Rattle.role_cli.specs.ErrorOutput.{no_memory_line}
 use Rattle.role_cli.specs.declared.failure.Failure.TheVariants.{Refused}
 use Rattle.role_cli.proofs.program.run.Goals as goal
 
@@ -22,8 +22,8 @@ returns-in-Ok-clause-stopped g c one =
     )
 
 -- An allocation failed before anything was chosen.
-pub returns-in-Err-Memory-clause-told : goal.returns-in-Err-Memory-clause-told
-returns-in-Err-Memory-clause-told g c _ = (Refused Memory, (no_memory_line, tt, c.report_no_memory.ensures))
+pub returns-in-Err-Memory-clause-reported : goal.returns-in-Err-Memory-clause-reported
+returns-in-Err-Memory-clause-reported g c _ = (Refused Memory, (no_memory_line, tt, c.report_no_memory.ensures))
 
-pub returns-in-Err-Fault-clause-told : goal.returns-in-Err-Fault-clause-told
-returns-in-Err-Fault-clause-told g c stopped = (Refused Memory, (no_memory_line, tt, c.explain.ensures.told stopped))
+pub returns-in-Err-Fault-clause-reported : goal.returns-in-Err-Fault-clause-reported
+returns-in-Err-Fault-clause-reported g c stopped = (Refused Memory, (no_memory_line, tt, c.explain.ensures.reported stopped))

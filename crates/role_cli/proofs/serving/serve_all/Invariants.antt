@@ -1,7 +1,7 @@
 use Rattle.std.proofs.Common.{◌≡◌, ℕ, false, List, Option, length}
 use Rattle.std.specs.List.{list_any}
 use Rattle.sqlite.specs.Held.{state}
-use Rattle.role_cli.specs.Serving.{AreServed, is_closing}
+use Rattle.role_cli.specs.ServedConnections.{AreServed, is_closing}
 use Rattle.role_cli.proofs.serving.serve_all.Given as goal
 
 -- The connections so far had these statuses, none of which closed the office.

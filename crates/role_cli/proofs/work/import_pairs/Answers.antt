@@ -1,11 +1,11 @@
 use Rattle.std.proofs.Common.{◌≡◌, Ok, Err, rules, inl, inr, refl, subst}
 use Rattle.sqlite.specs.Held.{state}
-use Rattle.rbac_sets.specs.Asked.{asked_of}
-use Rattle.admin_mgr.specs.Planned.{tally_of_report}
+use Rattle.rbac_sets.specs.CommandContent.{content_of}
+use Rattle.admin_mgr.specs.PlanEffect.{tally_of_report}
 use Rattle.role_json.specs.Answer.{import_text}
-use Rattle.role_json.specs.Requested.{Change}
+use Rattle.role_json.specs.RequestContent.{Change}
 use Rattle.role_wire.specs.Outcome.{accepted_text}
-use Rattle.role_wire.specs.Performing.{Performs}
+use Rattle.role_wire.specs.OfficeRequest.{Performs}
 use Rattle.role_wire.proofs.Performed.{command_done, command_refused}
 use Rattle.role_wire.proofs.Results.{if_err-then, if_ok-then}
 use Rattle.role_cli.proofs.work.import_pairs.Goals as goal
@@ -15,10 +15,10 @@ pub returns-clause-ok : goal.returns-clause-ok
 returns-clause-ok g c =
     let is : c.apply.result ≡ Ok c.in_ok-report.report = search rules in
     let e = c.apply.ensures in
-    let accepts : accepted_text (asked_of c.args.command.now) (tally_of_report c.in_ok-report.report) ≡ import_text (tally_of_report c.in_ok-report.report) = rw c.requires.1 refl in
+    let accepts : accepted_text (content_of c.args.command.now) (tally_of_report c.in_ok-report.report) ≡ import_text (tally_of_report c.in_ok-report.report) = rw c.requires.1 refl in
     if_ok-then c.import_line.result _ _ c.import_line.ensures.ok (λ line text. (
       import_text (tally_of_report c.in_ok-report.report),
-      subst (λ answer. Performs (state g.S.Store) c.args.office.now (Change (asked_of c.args.command.now)) answer c.apply.new.self) accepts
+      subst (λ answer. Performs (state g.S.Store) c.args.office.now (Change (content_of c.args.command.now)) answer c.apply.new.self) accepts
           (command_done (state g.S.Store) c.args.office.now c.apply.new.self c.args.command.now c.apply.result e.closed e.answers e.clean e.done e.undone e.stop e.run c.in_ok-report.report is),
       text,
     ))
@@ -30,7 +30,7 @@ returns-clause-err g c =
     if_err-then c.import_line.result _ _ c.import_line.ensures.err (λ refusal memory. inr (
       memory,
       (
-        accepted_text (asked_of c.args.command.now) (tally_of_report c.in_ok-report.report),
+        accepted_text (content_of c.args.command.now) (tally_of_report c.in_ok-report.report),
         command_done (state g.S.Store) c.args.office.now c.apply.new.self c.args.command.now c.apply.result e.closed e.answers e.clean e.done e.undone e.stop e.run c.in_ok-report.report is,
       ),
     ))

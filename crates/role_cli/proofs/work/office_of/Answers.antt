@@ -11,7 +11,7 @@ returns-in-Init-clause-begins g c =
 
 pub returns-in-Init-clause-unopened : goal.returns-in-Init-clause-unopened
 returns-in-Init-clause-unopened g c =
-    rw c.in-Init.is (if_err-three c.create.result _ _ _ _ c.create.ensures.err c.create.ensures.undone c.create.ensures.stop (λ u why held left clean. (why, held clean, left clean)))
+    rw c.in-Init.is (if_err-three c.create.result _ _ _ _ c.create.ensures.err c.create.ensures.undone c.create.ensures.crash (λ u why held left clean. (why, held clean, left clean)))
 
 -- ---- an office is migrated
 
@@ -22,7 +22,7 @@ returns-in-Migrate-clause-begins g c =
 
 pub returns-in-Migrate-clause-unopened : goal.returns-in-Migrate-clause-unopened
 returns-in-Migrate-clause-unopened g c =
-    rw c.in-Migrate.is (if_err-three c.migrate.result _ _ _ _ c.migrate.ensures.err c.migrate.ensures.unmoved c.migrate.ensures.stop (λ u why stays left clean. (why clean, stays clean, left clean)))
+    rw c.in-Migrate.is (if_err-three c.migrate.result _ _ _ _ c.migrate.ensures.err c.migrate.ensures.unmoved c.migrate.ensures.crash (λ u why stays left clean. (why clean, stays clean, left clean)))
 
 -- ---- an office is opened
 

@@ -37,4 +37,4 @@ returns-in-Ok-clause-failed g c clean =
 pub returns-in-Ok-clause-some : goal.returns-in-Ok-clause-some
 returns-in-Ok-clause-some g c =
     on_ok-then c.run_on_office-done.result _ _ c.run_on_office-done.ensures.done
-    (λ does. (c.in-Ok.office, c.run_on_office-done.new.office, c.in-Ok.ensures.open, c.is_good.ensures.0, c.is_good.ensures.1, c.in-Ok.ensures.made, does))
+    (λ does. (c.in-Ok.office, c.run_on_office-done.new.office, c.in-Ok.ensures.open, c.recall_good.ensures.0, c.recall_good.ensures.1, c.in-Ok.ensures.made, does))

@@ -3,7 +3,7 @@ use Rattle.std.proofs.lemmas.List.{append-nil}
 use Rattle.httparse.specs.Grammar.{print_request}
 use Rattle.rbac_sets.proofs.Known.{Consumes-more, Consumes-none}
 use Rattle.role_http.proofs.Failing.{on_err}
-use Rattle.role_http.proofs.Heads.{TakesHead-all, TakesHead-kept, TakesHead-more, no_request-nil, no_request-push, whole_at_last}
+use Rattle.role_http.proofs.Heads.{ConsumesHead-all, ConsumesHead-kept, ConsumesHead-more, no_request-nil, no_request-push, whole_at_last}
 use Rattle.role_http.proofs.head.read_head.Goals as goal
 use Rattle.role_http.proofs.head.read_head.Goals.{then-byte-eq10+in-Ok-Partial, else-byte-eq10}
 
@@ -36,33 +36,33 @@ returns-in-Ok-Complete-clause-ends g c =
 pub returns-in_default-clause-takes : goal.returns-in_default-clause-takes
 returns-in_default-clause-takes g c =
     let l = c.loop.invariant in
-    TakesHead-kept _ _ _ c.loop.bytes.items l.none (rw l.counted (omega (arith, c.loop-test.true))) l.read (rw c.in_default.is at c.in_ok-byte.ensures.end)
+    ConsumesHead-kept _ _ _ c.loop.bytes.items l.none (rw l.counted (omega (arith, c.loop-test.true))) l.read (rw c.in_default.is at c.in_ok-byte.ensures.end)
 
 pub returns-in_err-byte-clause-stops : goal.returns-in_err-byte-clause-stops
 returns-in_err-byte-clause-stops g c =
     let l = c.loop.invariant in
-    on_err _ c.from_residual.result (c.loop.bytes.items, TakesHead-kept _ _ _ c.loop.bytes.items l.none (rw l.counted (omega (arith, c.loop-test.true))) l.read c.in_err-byte.ensures.err)
+    on_err _ c.from_residual.result (c.loop.bytes.items, ConsumesHead-kept _ _ _ c.loop.bytes.items l.none (rw l.counted (omega (arith, c.loop-test.true))) l.read c.in_err-byte.ensures.err)
 
 pub returns-in_err-push-clause-stops : goal.returns-in_err-push-clause-stops
 returns-in_err-push-clause-stops g c =
     let l = c.loop.invariant in
     on_err _ c.from_residual-in_err-push.result
-    (_, TakesHead-more _ _ _ c.loop.bytes.items c.in-Some.byte l.none (rw l.counted (omega (arith, c.loop-test.true))) l.read (rw c.in-Some.is at c.in_ok-byte.ensures.byte))
+    (_, ConsumesHead-more _ _ _ c.loop.bytes.items c.in-Some.byte l.none (rw l.counted (omega (arith, c.loop-test.true))) l.read (rw c.in-Some.is at c.in_ok-byte.ensures.byte))
 
 pub returns-in-Ok-Complete-clause-takes : goal.returns-in-Ok-Complete-clause-takes
 returns-in-Ok-Complete-clause-takes g c =
     let items : c.push.new.self.items ≡ c.loop.bytes.items ++ c.in-Some.byte ∷ [] = search rules in
     let l = c.loop.invariant in
-    rw items (TakesHead-more _ _ _ c.loop.bytes.items c.in-Some.byte l.none (rw l.counted (omega (arith, c.loop-test.true))) l.read (rw c.in-Some.is at c.in_ok-byte.ensures.byte))
+    rw items (ConsumesHead-more _ _ _ c.loop.bytes.items c.in-Some.byte l.none (rw l.counted (omega (arith, c.loop-test.true))) l.read (rw c.in-Some.is at c.in_ok-byte.ensures.byte))
 
 pub returns-in-Err-TooManyHeaders-clause-takes : goal.returns-in-Err-TooManyHeaders-clause-takes
 returns-in-Err-TooManyHeaders-clause-takes g c =
     let items : c.push.new.self.items ≡ c.loop.bytes.items ++ c.in-Some.byte ∷ [] = search rules in
     let l = c.loop.invariant in
-    rw items (TakesHead-more _ _ _ c.loop.bytes.items c.in-Some.byte l.none (rw l.counted (omega (arith, c.loop-test.true))) l.read (rw c.in-Some.is at c.in_ok-byte.ensures.byte))
+    rw items (ConsumesHead-more _ _ _ c.loop.bytes.items c.in-Some.byte l.none (rw l.counted (omega (arith, c.loop-test.true))) l.read (rw c.in-Some.is at c.in_ok-byte.ensures.byte))
 
 pub returns-clause-takes : goal.returns-clause-takes
 returns-clause-takes g c =
     let l = c.loop.invariant in
     let all : c.loop.counter ≤ 8192 = search rules in
-    TakesHead-all _ _ c.loop.bytes.items l.none (rw l.counted all) l.read
+    ConsumesHead-all _ _ c.loop.bytes.items l.none (rw l.counted all) l.read

@@ -1,5 +1,5 @@
 use Rattle.std.proofs.Common.{◌≡◌}
-use Rattle.role_http.specs.Judging.{has_field}
+use Rattle.role_http.specs.HeadChecks.{has_field}
 use Rattle.role_http.proofs.Fields.{rest_of}
 use Rattle.role_http.proofs.judge.has_field.Given as goal
 

@@ -1,7 +1,7 @@
 use Rattle.std.proofs.Common.{◌∙◌, refl, sym}
 use Rattle.std.specs.Prelude.{option_map, codes}
 use Rattle.std.proofs.lemmas.Bool.{and_parts}
-use Rattle.role_http.specs.Judging.{agrees, is_length}
+use Rattle.role_http.specs.HeadChecks.{agrees, is_length}
 use Rattle.role_http.proofs.Fields.{one_length-other, one_length-more, one_length-bad, one_length-end}
 use Rattle.role_http.proofs.judge.one_length.Goals as goal
 use Rattle.role_http.proofs.judge.one_length.Goals.{then-is_name+else-not-fits, else-is_name}

@@ -1,6 +1,6 @@
 use Rattle.std.proofs.Common.{◌≡◌, None, true, IfSome}
 use Rattle.std.specs.Prelude.{option_map, codes}
-use Rattle.role_http.specs.Judging.{is_length, one_length, values_of}
+use Rattle.role_http.specs.HeadChecks.{is_length, one_length, values_of}
 use Rattle.role_http.proofs.Fields.{rest_of}
 use Rattle.role_http.proofs.judge.one_length.Given as goal
 

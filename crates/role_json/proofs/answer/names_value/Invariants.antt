@@ -1,7 +1,7 @@
 use Rattle.std.proofs.Common.{◌≡◌, drop}
 use Rattle.serde_json.specs.Data.{string}
 use Rattle.role_json.specs.Answer.{texts_of}
-use Rattle.role_json.proofs.JsonWriting.{items_with}
+use Rattle.role_json.proofs.AnswerValues.{items_with}
 use Rattle.role_json.proofs.answer.names_value.Given as goal
 
 abbrev pub invariant-loop-name : goal.invariant-loop-name

@@ -1,6 +1,6 @@
 use Rattle.std.proofs.Common.{◌≡◌, drop}
 use Rattle.role_json.specs.Answer.{pairs_of, pair_data}
-use Rattle.role_json.proofs.JsonWriting.{items_with}
+use Rattle.role_json.proofs.AnswerValues.{items_with}
 use Rattle.role_json.proofs.answer.pairs_value.Given as goal
 
 abbrev pub invariant-loop-pair : goal.invariant-loop-pair

@@ -1,4 +1,4 @@
-use Rattle.role_json.proofs.NameReading.{name_set-IsPermutation}
+use Rattle.role_json.proofs.NameSets.{name_set-IsPermutation}
 use Rattle.role_json.proofs.fields.checked_set.Goals as goal
 
 pub returns-clause-err : goal.returns-clause-err

@@ -2,7 +2,7 @@ use Rattle.std.proofs.Common.{refl, sym, ◌∙◌, inl, inr}
 use Rattle.std.proofs.lemmas.Result.{err_from_is_err_and}
 use Rattle.rbac_sets.specs.Sets.{name_cmp}
 use Rattle.rbac_sets.specs.SortedSet.{set_of}
-use Rattle.role_json.proofs.NameReading.{HasFirst-none, HasFirst-put, HasFirst-known, HasFirst-bad}
+use Rattle.role_json.proofs.NameSets.{HasFirst-none, HasFirst-put, HasFirst-known, HasFirst-bad}
 use Rattle.role_json.proofs.fields.set_of_names.Goals as goal
 use Rattle.role_json.proofs.fields.set_of_names.Goals.{then-not-contains+in_ok-reserve, else-not-contains}
 

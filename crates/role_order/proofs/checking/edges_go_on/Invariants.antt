@@ -2,7 +2,7 @@ use Rattle.std.proofs.Common.{take}
 use Rattle.std.specs.Prelude.{Contains}
 use Rattle.rbac_sets.specs.Sets.{Pair, pair_cmp}
 use Rattle.rbac_sets.specs.SortedSet.{set_of}
-use Rattle.role_order.specs.Checked.{HasRowOf}
+use Rattle.role_order.specs.private.Checked.{HasRowOf}
 use Rattle.role_order.proofs.checking.edges_go_on.Given as goal
 
 abbrev pub invariant-loop-a : goal.invariant-loop-a

@@ -2,7 +2,7 @@ use Rattle.std.proofs.Common.{◌≡◌, ◌<◌, ◌+◌, true, false, cond, dr
 use Rattle.std.proofs.lemmas.Bool.Decides.{Decides-eqb}
 use Rattle.std.proofs.lemmas.List.{drop_all}
 use Rattle.rbac_sets.specs.Sets.{Pair}
-use Rattle.role_order.specs.Checked.{is_next}
+use Rattle.role_order.specs.private.Checked.{is_next}
 use Rattle.role_order.proofs.Runs.{walk, walk-step, walk-end, walk-Decides, next_within}
 use Rattle.role_order.proofs.checking.has_seconds_of.Goals as goal
 use Rattle.role_order.proofs.checking.has_seconds_of.Goals.{then-is_next_at, else-is_next_at}

@@ -1,7 +1,7 @@
 use Rattle.std.proofs.Common.{refl}
 use Rattle.rbac_sets.specs.Sets.{Pairs, pair_cmp}
 use Rattle.rbac_sets.specs.SortedSet.{set_of}
-use Rattle.role_order.specs.Checked.{IsClosedUnder}
+use Rattle.role_order.specs.private.Checked.{IsClosedUnder}
 use Rattle.role_order.proofs.StoredClosure.{IsAcyclic-from_check, IsClosure-from_check, check_passes}
 use Rattle.role_order.proofs.checking.is_closed_under.Goals as goal
 

@@ -4,7 +4,7 @@ use Rattle.rbac_sets.specs.Sets.{Pair, Pairs, pair_cmp, insert, len}
 use Rattle.rbac_sets.specs.SortedSet.{set_of}
 use Rattle.rbac_sets.specs.NameOrder.{pair_total, pair_exact}
 use Rattle.rbac_sets.proofs.Members.{len-members, members-rise}
-use Rattle.role_order.specs.Checked.{LeadsOn}
+use Rattle.role_order.specs.private.Checked.{LeadsOn}
 use Rattle.role_order.proofs.Members.{none_in}
 use Rattle.role_order.proofs.Walks.{all_more, all_members, passed_all}
 use Rattle.role_order.proofs.Gathering.{kept_above, kept_more, kept_skip, len-put, len-none}

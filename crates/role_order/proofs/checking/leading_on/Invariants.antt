@@ -3,7 +3,7 @@ use Rattle.std.specs.Prelude.{IsTrue, Contains}
 use Rattle.rbac_sets.specs.Sets.{Bytes, Pair, pair_cmp, len}
 use Rattle.rbac_sets.specs.SortedSet.{set_of}
 use Rattle.role_order.specs.Order.{HasPair}
-use Rattle.role_order.specs.Checked.{LeadsOn}
+use Rattle.role_order.specs.private.Checked.{LeadsOn}
 use Rattle.role_order.proofs.checking.leading_on.Given as goal
 
 abbrev pub invariant-loop-a : goal.invariant-loop-a

@@ -2,7 +2,7 @@ use Rattle.std.proofs.Common.{refl}
 use Rattle.rbac_sets.specs.Sets.{Pair, pair_cmp}
 use Rattle.rbac_sets.specs.SortedSet.{set_of}
 use Rattle.rbac_sets.specs.NameOrder.{pair_total, pair_exact}
-use Rattle.role_order.specs.Checked.{HasFirstStep}
+use Rattle.role_order.specs.private.Checked.{HasFirstStep}
 use Rattle.role_order.proofs.Walks.{all_more, member_at, all_members}
 use Rattle.role_order.proofs.checking.pairs_begin.Goals as goal
 

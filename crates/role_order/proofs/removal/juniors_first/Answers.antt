@@ -7,7 +7,7 @@ use Rattle.rbac_sets.specs.Sets.{Bytes, name_cmp, pair_cmp, same_name}
 use Rattle.rbac_sets.specs.SortedSet.{set_of}
 use Rattle.rbac_sets.specs.NameOrder.{name_total, name_exact}
 use Rattle.rbac_sets.proofs.Members.{members-rise}
-use Rattle.role_order.specs.Removal.{junior_count}
+use Rattle.role_order.specs.private.Removal.{junior_count}
 use Rattle.role_order.proofs.Members.{Contains-members, same_name-flips}
 use Rattle.role_order.proofs.removal.juniors_first.Goals as goal
 

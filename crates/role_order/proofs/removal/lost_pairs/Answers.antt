@@ -4,7 +4,7 @@ use Rattle.std.proofs.lemmas.List.{take_all}
 use Rattle.std.proofs.lemmas.Result.{IfOk-weaker}
 use Rattle.rbac_sets.specs.Sets.{Bytes, Names, Pairs, name_cmp, pair_cmp}
 use Rattle.rbac_sets.specs.SortedSet.{set_of}
-use Rattle.role_order.specs.Removal.{AreLost}
+use Rattle.role_order.specs.private.Removal.{AreLost}
 use Rattle.role_order.proofs.Members.{Contains-take_more, disjoint-from}
 use Rattle.role_order.proofs.Walks.{item_in}
 use Rattle.role_order.proofs.Removing.{RowsLost, RowsLost-none, RowsLost-more, AreLost-from_rows, new_name}

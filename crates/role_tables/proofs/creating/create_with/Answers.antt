@@ -1,12 +1,12 @@
 use Rattle.std.proofs.Common.{IsTrue, ◌≡◌, ◌∙◌, rules, true, false, sym, ap, subst}
 use Rattle.sqlite.specs.State.{HasCleanDisk}
 use Rattle.sqlite.specs.Held.{state}
-use Rattle.admin_mgr.specs.Named.{AreNamed}
+use Rattle.admin_mgr.specs.StateNames.{AreNamed}
 use Rattle.admin_mgr.specs.RbacState.{empty_state}
 use Rattle.admin_mgr.proofs.StateAfter.NamedLaws.{empty_named}
-use Rattle.role_tables.specs.Creating.{IsStage, no_table, no_rows}
-use Rattle.role_tables.specs.InSchema.{may_create}
-use Rattle.role_tables.specs.Standing.{LeavesBeforeOr, Stands}
+use Rattle.role_tables.specs.Creation.{IsStage, no_table, no_rows}
+use Rattle.role_tables.specs.SchemaTests.{may_create}
+use Rattle.role_tables.specs.Durability.{LeavesBeforeOr, IsDurable}
 use Rattle.role_tables.proofs.OfficeTables.Looking.{first_stage}
 use Rattle.role_tables.proofs.Runs.{begins}
 use Rattle.role_tables.proofs.creating.create_with.Goals as goal
@@ -25,8 +25,8 @@ returns-in-Ok-clause-ok g c =
       c.new.ensures.2,
       (
         (autocommit, may),
-        subst (λ h. HasCleanDisk (state g.S.Store h) → Stands (state g.S.Store h) c.args.first.facts) same
-            (λ clean. subst (Stands (state g.S.Store c.create_office.new.conn)) empty (c.in-Ok.ensures.made clean stage).done),
+        subst (λ h. HasCleanDisk (state g.S.Store h) → IsDurable (state g.S.Store h) c.args.first.facts) same
+            (λ clean. subst (IsDurable (state g.S.Store c.create_office.new.conn)) empty (c.in-Ok.ensures.made clean stage).done),
       ),
     )
 
@@ -43,8 +43,8 @@ returns-in-Err-clause-undone g c clean =
     first_stage c.version-version.result (state g.S.Store c.args.conn).now c.version-version.ensures.known (rw (← version) at may) (c.schema.ensures.live is_open).0 in
     (c.in-Err.ensures.made clean stage).undone
 
-pub returns-in-Err-clause-stop : goal.returns-in-Err-clause-stop
-returns-in-Err-clause-stop g c clean =
+pub returns-in-Err-clause-crash : goal.returns-in-Err-clause-crash
+returns-in-Err-clause-crash g c clean =
     let version : c.version-version.result ≡ c.args.first.facts.version = c.version-version.ensures.version in
     let may : may_create c.args.first.facts.version (state g.S.Store c.args.conn).now.schema ≡ true = search rules in
     let stage : IsTrue (state g.S.Store c.args.conn).is_open → IsStage c.version-version.result no_table (state g.S.Store c.args.conn).now no_rows = λ is_open.

@@ -2,9 +2,9 @@ use Rattle.std.proofs.Common.{rules, [], ◌∷◌, ◌++◌, refl, ◌∙◌, a
 use Rattle.sqlite.specs.State.{HasCleanDisk, Survives, IsUnchanged, CommitsShowing}
 use Rattle.sqlite.specs.Held.{state}
 use Rattle.sqlite.proofs.Callers.{unchanged_then}
-use Rattle.role_tables.specs.Texts.{read_text}
-use Rattle.role_tables.specs.Found.{held_in}
-use Rattle.role_tables.specs.Gathering.{GathersTable}
+use Rattle.role_tables.specs.private.Texts.{read_text}
+use Rattle.role_tables.specs.TableContents.{contents_of}
+use Rattle.role_tables.specs.private.GatheredRows.{GathersTable}
 use Rattle.role_tables.proofs.Reading.Gathering.{Unfound, gathers_none, gathers_more, refused_survives, begun_found, more_survives, ended, query_keeps}
 use Rattle.role_tables.proofs.gathering.read_table.Goals as goal
 
@@ -44,7 +44,7 @@ returns-in-Ok-None-clause-gathered g c clean there =
     let was = c.rows.invariant.3.2 (omega (arith, moved.survives.clean)) there in
     let last = (rw (c.in-Ok-None.is, c.in-Ok-None.field-0-is) at (moved.ok late)) (read_text kind) [] c.rows.invariant.3.0 was.0 in
     let both = ended g.S.Store kind c.args.conn.now c.rows.rows.conn.now now c.rows.invariant.3.0 there was.1 last in
-    let whole : GathersTable (held_in (state g.S.Store c.args.conn.now).now kind) kind c.args.into.now c.rows.into × IsUnchanged (state g.S.Store c.args.conn.now) (state g.S.Store now) = ((c.rows.invariant.3.0, both.0, c.rows.invariant.3.1), both.1) in
+    let whole : GathersTable (contents_of (state g.S.Store c.args.conn.now).now kind) kind c.args.into.now c.rows.into × IsUnchanged (state g.S.Store c.args.conn.now) (state g.S.Store now) = ((c.rows.invariant.3.0, both.0, c.rows.invariant.3.1), both.1) in
     search rules
 
 pub returns-in-Ok-None-clause-survives : goal.returns-in-Ok-None-clause-survives

@@ -3,9 +3,9 @@ use Rattle.sqlite.specs.Order.{Row}
 use Rattle.sqlite.specs.State.{HasCleanDisk, Survives, IsUnchanged}
 use Rattle.sqlite.specs.Held.{state}
 use Rattle.sqlite.specs.Given.{HasGiven}
-use Rattle.role_tables.specs.Texts.{read_text}
-use Rattle.role_tables.specs.Found.{held_in}
-use Rattle.role_tables.specs.Gathering.{Gathers}
+use Rattle.role_tables.specs.private.Texts.{read_text}
+use Rattle.role_tables.specs.TableContents.{contents_of}
+use Rattle.role_tables.specs.private.GatheredRows.{Gathers}
 use Rattle.role_tables.proofs.Reading.Gathering.{Unfound}
 use Rattle.role_tables.proofs.gathering.read_table.Given as goal
 
@@ -15,4 +15,4 @@ invariant-rows g l =
     let now = state g.S.Store l.rows.conn.now in
     let kind = l.fn.table in
     (l.rows.conn.ghost_name ≡ l.initial.rows.conn.ghost_name) × Survives old now (Unfound g.S.Store kind l.fn.conn) × (l.fn.conn.in_transaction ≡ false → l.rows.conn.now.in_transaction ≡ false)
-    × ((shown : List Row) × Gathers kind shown l.fn.into l.into × (HasCleanDisk now → IsSome (held_in old.now kind) → HasGiven g.S.Store (read_text kind) [] l.rows.conn.now shown × IsUnchanged old now))
+    × ((shown : List Row) × Gathers kind shown l.fn.into l.into × (HasCleanDisk now → IsSome (contents_of old.now kind) → HasGiven g.S.Store (read_text kind) [] l.rows.conn.now shown × IsUnchanged old now))

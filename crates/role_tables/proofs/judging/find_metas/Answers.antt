@@ -2,9 +2,9 @@ use Rattle.std.proofs.Common.{◌≡◌, rules, refl, inl, inr, true, false, IsS
 use Rattle.sqlite.specs.Held.{state}
 use Rattle.sqlite.proofs.StateLemmas.{survives_weaker}
 use Rattle.role_tables.specs.OfficeTables.{Meta, tables_of}
-use Rattle.role_tables.specs.Opening.{HasFive}
-use Rattle.role_tables.specs.Found.{held_in}
-use Rattle.role_tables.specs.InSchema.{are_there}
+use Rattle.role_tables.specs.OpeningChecks.{HasCommonTables}
+use Rattle.role_tables.specs.TableContents.{contents_of}
+use Rattle.role_tables.specs.SchemaTests.{are_there}
 use Rattle.role_tables.proofs.OfficeTables.There.{all_found, some_missed}
 use Rattle.role_tables.proofs.judging.find_metas.Goals as goal
 
@@ -16,7 +16,7 @@ returns-then-not-are_there-clause-refused g c =
 pub returns-clause-five : goal.returns-clause-five
 returns-clause-five g c =
     let all : are_there (state g.S.Store c.args.conn.now).now.schema (tables_of 1) ≡ true = search rules in
-    let five : HasFive (held_in (state g.S.Store c.args.conn.now).now) = all_found (state g.S.Store c.args.conn.now).now 1 (inl refl) all in
+    let five : HasCommonTables (contents_of (state g.S.Store c.args.conn.now).now) = all_found (state g.S.Store c.args.conn.now).now 1 (inl refl) all in
     search rules
 
 pub returns-clause-seen : goal.returns-clause-seen
@@ -33,4 +33,4 @@ pub returns-clause-survives : goal.returns-clause-survives
 returns-clause-survives g c =
     let old = state g.S.Store c.args.conn.now in
     let all : are_there old.now.schema (tables_of 1) ≡ true = search rules in
-    survives_weaker old (state g.S.Store c.read_metas.new.conn) (λ _. IsSome (held_in old.now Meta) → ⊥) (λ _. ⊥) (λ _ db none. none (all_found old.now 1 (inl refl) all Meta refl)) c.read_metas.ensures.survives
+    survives_weaker old (state g.S.Store c.read_metas.new.conn) (λ _. IsSome (contents_of old.now Meta) → ⊥) (λ _. ⊥) (λ _ db none. none (all_found old.now 1 (inl refl) all Meta refl)) c.read_metas.ensures.survives

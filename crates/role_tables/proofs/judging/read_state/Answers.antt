@@ -1,5 +1,5 @@
 use Rattle.sqlite.specs.Held.{state}
-use Rattle.role_tables.proofs.Reading.Standing.{kept_as_before}
+use Rattle.role_tables.proofs.Reading.Durability.{kept_as_before}
 use Rattle.role_tables.proofs.judging.read_state.Goals as goal
 
 pub returns-clause-undone : goal.returns-clause-undone

@@ -1,4 +1,4 @@
-use Rattle.role_tables.proofs.Lives.Calls.{one_call, earlier_are_possible, so_far_left, open_leaves, open_goes_on, closed_stays, so_far_goes_on}
+use Rattle.role_tables.proofs.OfficeHistory.Calls.{one_call, earlier_are_possible, so_far_left, open_leaves, open_goes_on, closed_stays, so_far_goes_on}
 use Rattle.role_tables.proofs.laws.calls.Goals as goal
 
 pub returns-clause-one : goal.returns-clause-one

@@ -1,5 +1,5 @@
-use Rattle.role_tables.proofs.Lives.Openings.{openings_are_good, openings_follow, last_is_sound}
-use Rattle.role_tables.proofs.Lives.Taken.{deassigned_stays, revoked_stays}
+use Rattle.role_tables.proofs.OfficeHistory.Openings.{openings_are_good, openings_follow, last_is_sound}
+use Rattle.role_tables.proofs.OfficeHistory.Taken.{deassigned_stays, revoked_stays}
 use Rattle.role_tables.proofs.laws.lives.Goals as goal
 
 pub returns-clause-good : goal.returns-clause-good

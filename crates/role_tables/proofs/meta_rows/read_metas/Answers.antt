@@ -3,10 +3,10 @@ use Rattle.sqlite.specs.State.{HasCleanDisk, Survives, IsUnchanged, CommitsShowi
 use Rattle.sqlite.specs.Held.{state}
 use Rattle.sqlite.proofs.Callers.{unchanged_then}
 use Rattle.role_tables.specs.OfficeTables.{Meta}
-use Rattle.role_tables.specs.Texts.{read_text}
-use Rattle.role_tables.specs.Found.{held_in}
-use Rattle.role_tables.specs.Opening.{values}
-use Rattle.role_tables.specs.MetaRows.{Sees}
+use Rattle.role_tables.specs.private.Texts.{read_text}
+use Rattle.role_tables.specs.TableContents.{contents_of}
+use Rattle.role_tables.specs.OpeningChecks.{values}
+use Rattle.role_tables.specs.private.MetaRows.{Sees}
 use Rattle.role_tables.proofs.Reading.Gathering.{Unfound, refused_survives, begun_found, more_survives, ended, query_keeps}
 use Rattle.role_tables.proofs.Reading.MetaRows.{sees_more, sees_read}
 use Rattle.role_tables.proofs.meta_rows.read_metas.Goals as goal
@@ -36,8 +36,8 @@ returns-in-Ok-None-clause-seen g c clean there =
     let was = c.rows.invariant.3.2 (omega (arith, moved.survives.clean)) there in
     let last = (rw (c.in-Ok-None.is, c.in-Ok-None.field-0-is) at (moved.ok late)) (read_text Meta) [] c.rows.invariant.3.0 was.0 in
     let both = ended g.S.Store Meta c.args.conn.now c.rows.rows.conn.now now c.rows.invariant.3.0 there was.1 last in
-    let whole : Sees (values (held_in (state g.S.Store c.args.conn.now).now) Meta) c.rows.seen × IsUnchanged (state g.S.Store c.args.conn.now) (state g.S.Store now) =
-    (sees_read (held_in (state g.S.Store c.args.conn.now).now) c.rows.invariant.3.0 c.rows.seen both.0 c.rows.invariant.3.1, both.1) in
+    let whole : Sees (values (contents_of (state g.S.Store c.args.conn.now).now) Meta) c.rows.seen × IsUnchanged (state g.S.Store c.args.conn.now) (state g.S.Store now) =
+    (sees_read (contents_of (state g.S.Store c.args.conn.now).now) c.rows.invariant.3.0 c.rows.seen both.0 c.rows.invariant.3.1, both.1) in
     search rules
 
 pub returns-in-Ok-None-clause-survives : goal.returns-in-Ok-None-clause-survives

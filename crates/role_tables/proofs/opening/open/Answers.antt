@@ -2,12 +2,12 @@ use Rattle.std.proofs.Common.{rules, ◌≡◌, sym, subst, ◌∙◌}
 use Rattle.sqlite.specs.State.{HasCleanDisk, IsUnchanged}
 use Rattle.sqlite.specs.Held.{state}
 use Rattle.admin_mgr.specs.Good.{IsGood}
-use Rattle.admin_mgr.specs.Named.{AreNamed}
+use Rattle.admin_mgr.specs.StateNames.{AreNamed}
 use Rattle.admin_mgr.specs.RbacState.{RbacState}
-use Rattle.role_tables.specs.Found.{held_in}
-use Rattle.role_tables.specs.Opening.{IsStateFound}
-use Rattle.role_tables.specs.Standing.{Stands}
-use Rattle.role_tables.proofs.Reading.Standing.{leaves_still, stands_still, opens_the_state, refuses_no_more}
+use Rattle.role_tables.specs.TableContents.{contents_of}
+use Rattle.role_tables.specs.OpeningChecks.{IsStateOfContents}
+use Rattle.role_tables.specs.Durability.{IsDurable}
+use Rattle.role_tables.proofs.Reading.Durability.{leaves_still, stays_durable, opens_the_state, refuses_no_more}
 use Rattle.role_tables.proofs.Runs.{begins}
 use Rattle.role_tables.proofs.opening.open.Goals as goal
 
@@ -18,8 +18,8 @@ returns-in-Ok-clause-ok g c =
     let old = state g.S.Store c.args.conn in (
       c.new.ensures.2,
       search rules,
-      subst (λ h. HasCleanDisk (state g.S.Store h) → IsStateFound (held_in old.now) c.new.result.facts × IsUnchanged old (state g.S.Store h)) same
-          (λ clean. let got = c.in-Ok.ensures.ok clean in (subst (λ (S : RbacState). IsStateFound (held_in old.now) S) (sym facts) got.0, got.1)),
+      subst (λ h. HasCleanDisk (state g.S.Store h) → IsStateOfContents (contents_of old.now) c.new.result.facts × IsUnchanged old (state g.S.Store h)) same
+          (λ clean. let got = c.in-Ok.ensures.ok clean in (subst (λ (S : RbacState). IsStateOfContents (contents_of old.now) S) (sym facts) got.0, got.1)),
     )
 
 pub returns-in-Ok-clause-again : goal.returns-in-Ok-clause-again
@@ -28,9 +28,9 @@ returns-in-Ok-clause-again g c =
     let same : c.read_state.new.conn ≡ c.new.result.conn = search rules in
     let old = state g.S.Store c.args.conn in
     let new = state g.S.Store c.read_state.new.conn in
-    subst (λ h. HasCleanDisk (state g.S.Store h) → (before : RbacState) → IsGood before → AreNamed before → Stands old before → (c.new.result.facts ≡ before) × Stands (state g.S.Store h) before) same (λ clean before good named stands.
+    subst (λ h. HasCleanDisk (state g.S.Store h) → (before : RbacState) → IsGood before → AreNamed before → IsDurable old before → (c.new.result.facts ≡ before) × IsDurable (state g.S.Store h) before) same (λ clean before good named stands.
     let got = c.in-Ok.ensures.ok clean in
-    (facts ∙ opens_the_state old before c.in-Ok.state.facts good named stands got.0, stands_still old new before clean c.read_state.ensures.survives got.1 stands))
+    (facts ∙ opens_the_state old before c.in-Ok.state.facts good named stands got.0, stays_durable old new before clean c.read_state.ensures.survives got.1 stands))
 
 pub returns-in-Ok-clause-run : goal.returns-in-Ok-clause-run
 returns-in-Ok-clause-run g c clean before good named stands =

@@ -3,8 +3,8 @@ use Rattle.rbac_sets.specs.Named.{row_of}
 use Rattle.sqlite.specs.Held.{state}
 use Rattle.sqlite.specs.State.{KeepsCommit}
 use Rattle.role_tables.specs.StoredState.{cells_of}
-use Rattle.role_tables.specs.Texts.{change_text}
-use Rattle.role_tables.specs.Writing.{ChangesTables}
+use Rattle.role_tables.specs.private.Texts.{change_text}
+use Rattle.role_tables.specs.private.TableChanges.{ChangesTables}
 use Rattle.role_tables.proofs.StoredRows.Texts.{made_inside, kept_inside, keeps_itself, change_made}
 use Rattle.role_tables.proofs.statements.change_values.Goals as goal
 

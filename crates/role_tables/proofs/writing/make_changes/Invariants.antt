@@ -2,7 +2,7 @@ use Rattle.std.proofs.Common.{◌≡◌, take}
 use Rattle.sqlite.specs.State.{HasCleanDisk, KeepsCommit, Survives}
 use Rattle.sqlite.specs.Held.{state}
 use Rattle.admin_mgr.specs.RowsAfter.{rows_after}
-use Rattle.role_tables.specs.Writing.{AreKept, TablesAfter}
+use Rattle.role_tables.specs.private.TableChanges.{AreKept, TablesAfter}
 use Rattle.role_tables.proofs.writing.make_changes.Given as goal
 
 abbrev pub invariant-changes : goal.invariant-changes

@@ -1,5 +1,5 @@
 use Rattle.role_wire.proofs.Commanded as commanded
-use Rattle.role_wire.proofs.Running as running
+use Rattle.role_wire.proofs.LineCommands as running
 use Rattle.role_wire.proofs.laws.lines_run_commands.Goals as goal
 
 pub returns-clause-commands : goal.returns-clause-commands

@@ -4,7 +4,7 @@ use Rattle.std.specs.Io.KnownBytes.{Consumes, IsAtEnd}
 use Rattle.role_wire.specs.declared.lines.Cause.{Cause}
 use Rattle.role_wire.specs.declared.lines.Cause.TheVariants.{Read}
 use Rattle.role_wire.specs.Replay.{IsReplayed, IsStopped}
-use Rattle.role_wire.specs.Reading.{place_of, IsOpenLine, EndsLine, FailsLine}
+use Rattle.role_wire.specs.private.ReadProgress.{read_position_of, IsOpenLine, EndsLine, StopsAtLine}
 use Rattle.rbac_sets.specs.Stream.{one_more}
 use Rattle.rbac_sets.proofs.Counting.{one_more-rises, one_more-most}
 use Rattle.rbac_sets.proofs.Known.{Consumes-none, Consumes-kept, Consumes-more, Consumes-no_more}
@@ -32,7 +32,7 @@ loop-turn-init g c =
     record {
       taken = [];
       is_consumed = Consumes-none _;
-      is_read = read_none g.A.AnswerLines.answers (place_of c.args.office.now c.args.progress.now (g.W.Sink.written c.args.sink.now)) open_line;
+      is_read = read_none g.A.AnswerLines.answers (read_position_of c.args.office.now c.args.progress.now (g.W.Sink.written c.args.sink.now)) open_line;
       number_within = rw c.requires.number (omega arith);
       answered_within = rw c.requires.answered (omega arith);
       writes = omega arith;
@@ -62,8 +62,8 @@ loop-turn-preserved g c =
 pub returns-in_default-clause-err : goal.returns-in_default-clause-err
 returns-in_default-clause-err g c =
     let before = c.loop-turn.invariant in
-    let start = place_of c.args.office.now c.args.progress.now (g.W.Sink.written c.args.sink.now) in
-    let between = place_of c.loop-turn.office c.loop-turn.progress (g.W.Sink.written c.loop-turn.sink) in (
+    let start = read_position_of c.args.office.now c.args.progress.now (g.W.Sink.written c.args.sink.now) in
+    let between = read_position_of c.loop-turn.office c.loop-turn.progress (g.W.Sink.written c.loop-turn.sink) in (
       before.taken,
       Consumes-no_more _ _ _ before.taken before.is_consumed (Consumes-kept _ _ c.in_default.ensures.bytes),
       stopped g.A.AnswerLines.answers g.A.AnswerLines.fails start before.taken (IsAtEnd (g.R.Source.remaining c.read.new.self)) c.requires.line Read c.loop-turn.office (g.W.Sink.written c.loop-turn.sink) c.loop-turn.progress.answered
@@ -73,8 +73,8 @@ returns-in_default-clause-err g c =
 pub returns-clause-err : goal.returns-clause-err
 returns-clause-err g c =
     let before = c.loop-turn.invariant in
-    let start = place_of c.args.office.now c.args.progress.now (g.W.Sink.written c.args.sink.now) in
-    let between = place_of c.loop-turn.office c.loop-turn.progress (g.W.Sink.written c.loop-turn.sink) in (
+    let start = read_position_of c.args.office.now c.args.progress.now (g.W.Sink.written c.args.sink.now) in
+    let between = read_position_of c.loop-turn.office c.loop-turn.progress (g.W.Sink.written c.loop-turn.sink) in (
       before.taken,
       before.is_consumed,
       stopped g.A.AnswerLines.answers g.A.AnswerLines.fails start before.taken (IsAtEnd (g.R.Source.remaining c.loop-turn.source)) c.requires.line Read c.loop-turn.office (g.W.Sink.written c.loop-turn.sink) c.loop-turn.progress.answered
@@ -86,8 +86,8 @@ returns-in_err-read_piece-clause-err g c =
     let p = err_from_is_err_and c.from_residual.result c.from_residual.ensures.1 in
     let before = c.loop-turn.invariant in
     let bytes : List ℕ = take c.in-Ok.count c.read.new.buffer in
-    let start = place_of c.args.office.now c.args.progress.now (g.W.Sink.written c.args.sink.now) in
-    let between = place_of c.loop-turn.office c.loop-turn.progress (g.W.Sink.written c.loop-turn.sink) in
+    let start = read_position_of c.args.office.now c.args.progress.now (g.W.Sink.written c.args.sink.now) in
+    let between = read_position_of c.loop-turn.office c.loop-turn.progress (g.W.Sink.written c.loop-turn.sink) in
     let at_end = IsAtEnd (g.R.Source.remaining c.read.new.self) in
     rw (p.1, p.2) (
       before.taken ++ bytes,
@@ -100,8 +100,8 @@ returns-in_err-read_piece-clause-err g c =
 pub returns-then-count-eq0-clause-ok : goal.returns-then-count-eq0-clause-ok
 returns-then-count-eq0-clause-ok g c =
     let before = c.loop-turn.invariant in
-    let start = place_of c.args.office.now c.args.progress.now (g.W.Sink.written c.args.sink.now) in
-    let between = place_of c.loop-turn.office c.loop-turn.progress (g.W.Sink.written c.loop-turn.sink) in
+    let start = read_position_of c.args.office.now c.args.progress.now (g.W.Sink.written c.args.sink.now) in
+    let between = read_position_of c.loop-turn.office c.loop-turn.progress (g.W.Sink.written c.loop-turn.sink) in
     let told = c.end_line.ensures in
     let consumed = Consumes-no_more _ _ _ before.taken before.is_consumed (rw c.if-count-eq0.true at c.in-Ok.ensures.bytes.0) in
     let Ended : Type 0 = EndsLine g.A.AnswerLines.answers between.state between.line c.end_line.new.office between.written (g.W.Sink.written c.end_line.new.sink) between.answered c.end_line.new.progress.answered in
@@ -120,8 +120,8 @@ returns-then-count-eq0-clause-ok g c =
 pub returns-then-count-eq0-clause-err : goal.returns-then-count-eq0-clause-err
 returns-then-count-eq0-clause-err g c =
     let before = c.loop-turn.invariant in
-    let start = place_of c.args.office.now c.args.progress.now (g.W.Sink.written c.args.sink.now) in
-    let between = place_of c.loop-turn.office c.loop-turn.progress (g.W.Sink.written c.loop-turn.sink) in
+    let start = read_position_of c.args.office.now c.args.progress.now (g.W.Sink.written c.args.sink.now) in
+    let between = read_position_of c.loop-turn.office c.loop-turn.progress (g.W.Sink.written c.loop-turn.sink) in
     let told = c.end_line.ensures in
     let at_end = IsAtEnd (g.R.Source.remaining c.read.new.self) in
     let end : at_end = c.in-Ok.ensures.bytes.1 c.if-count-eq0.true (omega arith) in
@@ -129,7 +129,7 @@ returns-then-count-eq0-clause-err g c =
     let new = c.end_line.new.office in
     let written = g.W.Sink.written c.end_line.new.sink in
     let answered = c.end_line.new.progress.answered in
-    let Failed : Cause → Type 0 = λ cause. FailsLine g.A.AnswerLines.answers g.A.AnswerLines.fails cause between.state between.line new between.written written in
+    let Failed : Cause → Type 0 = λ cause. StopsAtLine g.A.AnswerLines.answers g.A.AnswerLines.fails cause between.state between.line new between.written written in
     let Whole : Cause → Type 0 = λ cause. (taken : List ℕ) × Consumes (g.R.Source.remaining c.args.source.now) (g.R.Source.remaining c.read.new.self) taken
     × IsStopped g.A.AnswerLines.answers g.A.AnswerLines.fails c.args.office.now new taken at_end (g.W.Sink.written c.args.sink.now) written cause answered in
     let whole : (cause : Cause) → Failed cause → answered ≡ between.answered → Whole cause = λ cause failed stays. (

@@ -1,6 +1,6 @@
 use Rattle.std.proofs.Common.{◌⊎◌, ℕ, List, ◌+◌, ◌-◌, ◌*◌, ◌^◌, ◌≤◌}
 use Rattle.std.specs.Io.KnownBytes.{Consumes}
-use Rattle.role_wire.specs.Reading.{place_of, IsRead}
+use Rattle.role_wire.specs.private.ReadProgress.{read_position_of, IsRead}
 use Rattle.role_wire.proofs.lines.read_input.Given as goal
 
 -- this many reads were made between the two counts, or the count has reached its greatest value
@@ -22,6 +22,6 @@ pub record ReadsInput (consumed read : List ℕ → Type 0) (turns number answer
 abbrev pub invariant-loop-turn : goal.invariant-loop-turn
 invariant-loop-turn g l = ReadsInput
     (λ taken. Consumes (g.R.Source.remaining l.initial.source) (g.R.Source.remaining l.source) taken)
-    (λ taken. IsRead g.A.AnswerLines.answers (place_of l.initial.office l.initial.progress (g.W.Sink.written l.initial.sink)) (place_of l.office l.progress (g.W.Sink.written l.sink)) taken)
+    (λ taken. IsRead g.A.AnswerLines.answers (read_position_of l.initial.office l.initial.progress (g.W.Sink.written l.initial.sink)) (read_position_of l.office l.progress (g.W.Sink.written l.sink)) taken)
     l._turn l.progress.number l.progress.answered (g.W.Sink.failed l.initial.sink) (g.W.Sink.failed l.sink)
     (g.W.Sink.idle l.initial.sink) (g.W.Sink.idle l.sink) (g.R.Source.failed l.initial.source) (g.R.Source.failed l.source) (g.R.Source.reads l.initial.source) (g.R.Source.reads l.source)

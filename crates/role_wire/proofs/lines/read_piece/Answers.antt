@@ -3,7 +3,7 @@ use Rattle.std.proofs.lemmas.List.{append-nil}
 use Rattle.std.proofs.lemmas.Result.{err_from_is_err_and}
 use Rattle.std.proofs.lemmas.Grind.{common_steps}
 use Rattle.role_wire.specs.Lines.{line_feed, longest_line}
-use Rattle.role_wire.specs.Reading.{place_of, IsRead, HasNoLineFeed, Halts}
+use Rattle.role_wire.specs.private.ReadProgress.{read_position_of, IsRead, HasNoLineFeed, Halts}
 use Rattle.role_wire.specs.declared.lines.Cause.{Cause}
 use Rattle.role_wire.specs.declared.lines.Cause.TheVariants.{Line, Memory}
 use Rattle.role_wire.proofs.Splitting.{first_line_feed, no_line_feed}
@@ -31,8 +31,8 @@ returns-in_err-read_line-clause-err g c =
     let before = c.loop-end.invariant in
     let end = c.in-Some.end in
     let rest = c.loop-end.rest.now in
-    let start = place_of c.args.office.now c.args.progress.now (g.W.Sink.written c.args.sink.now) in
-    let between = place_of c.loop-end.office c.loop-end.progress (g.W.Sink.written c.loop-end.sink) in
+    let start = read_position_of c.args.office.now c.args.progress.now (g.W.Sink.written c.args.sink.now) in
+    let between = read_position_of c.loop-end.office c.loop-end.progress (g.W.Sink.written c.loop-end.sink) in
     let whole : c.args.piece.now ≡ before.front ++ (take end rest ++ line_feed ∷ drop (end + 1) rest) =
     before.piece_is ∙ ap (λ l. before.front ++ l) (first_line_feed rest end (sym c.in-Some.ensures)).2 in
     rw (p.1, p.2, whole) (halts_behind g.A.AnswerLines.answers g.A.AnswerLines.fails start between before.front _ ⊥ _ _ _ _ before.is_read (c.in_err-read_line.ensures.err (drop (end + 1) rest)))
@@ -43,8 +43,8 @@ loop-end-preserved g c =
     let end = c.in-Some.end in
     let rest = c.loop-end.rest.now in
     let told = c.in_ok-read_line.ensures in
-    let start = place_of c.args.office.now c.args.progress.now (g.W.Sink.written c.args.sink.now) in
-    let between = place_of c.loop-end.office c.loop-end.progress (g.W.Sink.written c.loop-end.sink) in
+    let start = read_position_of c.args.office.now c.args.progress.now (g.W.Sink.written c.args.sink.now) in
+    let between = read_position_of c.loop-end.office c.loop-end.progress (g.W.Sink.written c.loop-end.sink) in
     let found = first_line_feed rest end (sym c.in-Some.ensures) in
     let line : List ℕ = take end rest ++ line_feed ∷ [] in
     let whole : c.args.piece.now ≡ (before.front ++ line) ++ drop (end + 1) rest =
@@ -63,9 +63,9 @@ loop-end-preserved g c =
 pub returns-clause-ok : goal.returns-clause-ok
 returns-clause-ok g c =
     let before = c.loop-end.invariant in
-    let start = place_of c.args.office.now c.args.progress.now (g.W.Sink.written c.args.sink.now) in
-    let between = place_of c.loop-end.office c.loop-end.progress (g.W.Sink.written c.loop-end.sink) in
-    let now = place_of c.loop-end.office c.extend_line.new.self (g.W.Sink.written c.loop-end.sink) in
+    let start = read_position_of c.args.office.now c.args.progress.now (g.W.Sink.written c.args.sink.now) in
+    let between = read_position_of c.loop-end.office c.loop-end.progress (g.W.Sink.written c.loop-end.sink) in
+    let now = read_position_of c.loop-end.office c.extend_line.new.self (g.W.Sink.written c.loop-end.sink) in
     let rest : List ℕ = c.loop-end.rest.now in
     let plain : HasNoLineFeed rest = no_line_feed rest (sym c.line_end.ensures ∙ c.in_default.is) in
     let told = c.extend_line.ensures in
@@ -80,8 +80,8 @@ returns-clause-ok g c =
 pub returns-clause-err : goal.returns-clause-err
 returns-clause-err g c =
     let before = c.loop-end.invariant in
-    let start = place_of c.args.office.now c.args.progress.now (g.W.Sink.written c.args.sink.now) in
-    let between = place_of c.loop-end.office c.loop-end.progress (g.W.Sink.written c.loop-end.sink) in
+    let start = read_position_of c.args.office.now c.args.progress.now (g.W.Sink.written c.args.sink.now) in
+    let between = read_position_of c.loop-end.office c.loop-end.progress (g.W.Sink.written c.loop-end.sink) in
     let rest : List ℕ = c.loop-end.rest.now in
     let plain : HasNoLineFeed rest = no_line_feed rest (sym c.line_end.ensures ∙ c.in_default.is) in
     let told = c.extend_line.ensures in

@@ -1,5 +1,5 @@
 use Rattle.std.proofs.Common.{◌≡◌, ℕ, List, ◌++◌, ◌+◌, ◌≤◌, length}
-use Rattle.role_wire.specs.Reading.{place_of, IsRead}
+use Rattle.role_wire.specs.private.ReadProgress.{read_position_of, IsRead}
 use Rattle.role_wire.proofs.lines.read_piece.Given as goal
 
 -- the bytes before the rest were read
@@ -14,7 +14,7 @@ pub record ReadsPiece (read : List ℕ → Type 0) (piece rest : List ℕ) (numb
 
 abbrev pub invariant-loop-end : goal.invariant-loop-end
 invariant-loop-end g l = ReadsPiece
-    (λ front. IsRead g.A.AnswerLines.answers (place_of l.initial.office l.initial.progress (g.W.Sink.written l.initial.sink)) (place_of l.office l.progress (g.W.Sink.written l.sink)) front)
+    (λ front. IsRead g.A.AnswerLines.answers (read_position_of l.initial.office l.initial.progress (g.W.Sink.written l.initial.sink)) (read_position_of l.office l.progress (g.W.Sink.written l.sink)) front)
     l.piece l.rest l.initial.progress.number l.progress.number l.initial.progress.answered l.progress.answered (g.W.Sink.failed l.initial.sink) (g.W.Sink.failed l.sink)
     (g.W.Sink.idle l.initial.sink) (g.W.Sink.idle l.sink)
 

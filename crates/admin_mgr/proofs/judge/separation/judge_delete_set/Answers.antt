@@ -2,8 +2,8 @@ use Rattle.std.proofs.Common.{◌≡◌, Bool, [], ◌∷◌, sym, ◌∙◌, ap
 use Rattle.rbac_sets.specs.Sets.{Cardinality, any, same_name}
 use Rattle.rbac_sets.specs.declared.refusal.Refusal.TheVariants.{NoSet}
 use Rattle.admin_mgr.specs.RbacState.{has_set}
-use Rattle.admin_mgr.specs.Refusing.{first, refuse_unless}
-use Rattle.admin_mgr.specs.SeparationOfDuty.{sets_of}
+use Rattle.admin_mgr.specs.Refusals.{first, refuse_unless}
+use Rattle.admin_mgr.specs.private.SeparationOfDuty.{sets_of}
 use Rattle.admin_mgr.specs.Verdict.{verdict}
 use Rattle.admin_mgr.proofs.StateAfter.SetCommandLaws.{refusals_delete_set}
 use Rattle.admin_mgr.proofs.judge.separation.judge_delete_set.Goals as goal

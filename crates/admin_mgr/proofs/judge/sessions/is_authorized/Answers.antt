@@ -1,6 +1,6 @@
 use Rattle.std.proofs.Common.{sym, ◌∙◌, ap}
-use Rattle.admin_mgr.specs.Held.{run_of, is_reached}
-use Rattle.admin_mgr.proofs.Verdicts.HeldLaws.{authorized_reached}
+use Rattle.admin_mgr.specs.private.HolderRoles.{run_of, is_reached}
+use Rattle.admin_mgr.proofs.Verdicts.AuthorizationLaws.{authorized_reached}
 use Rattle.admin_mgr.proofs.judge.sessions.is_authorized.Goals as goal
 
 pub returns : goal.returns

@@ -8,7 +8,7 @@ use Rattle.admin_mgr.specs.Run.{tally}
 use Rattle.admin_mgr.specs.After.{changed, after}
 use Rattle.admin_mgr.proofs.PlanRows.ListLaws.{listed_then}
 use Rattle.admin_mgr.proofs.PlanRows.PlanLaws.{plan_of}
-use Rattle.admin_mgr.proofs.StateAfter.TakeLaws.{good_after_deassign_user}
+use Rattle.admin_mgr.proofs.StateAfter.RemovalLaws.{good_after_deassign_user}
 use Rattle.admin_mgr.proofs.PlanRows.EndingTurns.{turns_deassign_user}
 use Rattle.admin_mgr.proofs.planning.core_rbac.plan_deassign_user.Goals as goal
 
@@ -20,6 +20,6 @@ returns-clause-planned c =
     plan_of S (DeassignUser c.args.user.now c.args.role.now) c.plain.result _ refl
     (c.plain.ensures.changes ∙ listed_then c.in_ok-take_ended.ensures.ok taken refl)
     c.plain.ensures.report
-    (turns_deassign_user S c.is_good.ensures c.args.user.now c.args.role.now c.requires.accepted)
-    (good_after_deassign_user S c.is_good.ensures c.args.user.now c.args.role.now c.requires.accepted)
+    (turns_deassign_user S c.recall_good.ensures c.args.user.now c.args.role.now c.requires.accepted)
+    (good_after_deassign_user S c.recall_good.ensures c.args.user.now c.args.role.now c.requires.accepted)
     c.plain.ensures.order refl

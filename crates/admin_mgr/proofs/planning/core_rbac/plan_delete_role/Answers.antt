@@ -8,10 +8,10 @@ use Rattle.rbac_sets.specs.declared.row.Change.TheVariants.{Take}
 use Rattle.admin_mgr.specs.Assignment.{end_sessions}
 use Rattle.admin_mgr.specs.Run.{tally}
 use Rattle.admin_mgr.specs.After.{changed, after}
-use Rattle.admin_mgr.specs.Listing.{pair_row, grant_row, take_all}
+use Rattle.admin_mgr.specs.private.PlanChanges.{pair_row, grant_row, take_all}
 use Rattle.admin_mgr.proofs.PlanRows.ListLaws.{listed_then}
 use Rattle.admin_mgr.proofs.PlanRows.PlanLaws.{plan_of}
-use Rattle.admin_mgr.proofs.StateAfter.TakeLaws.{good_after_delete_role}
+use Rattle.admin_mgr.proofs.StateAfter.RemovalLaws.{good_after_delete_role}
 use Rattle.admin_mgr.proofs.PlanRows.EndingTurns.{turns_delete_role}
 use Rattle.admin_mgr.proofs.planning.core_rbac.plan_delete_role.Goals as goal
 
@@ -27,6 +27,6 @@ returns-clause-planned c =
     plan_of S (DeleteRole c.args.role.now) c.plain.result _ refl
     (c.plain.ensures.changes ∙ listed_then c.in_ok-take_ended.ensures.ok revoked refl)
     c.plain.ensures.report
-    (turns_delete_role S c.is_good.ensures c.args.role.now c.requires.accepted)
-    (good_after_delete_role S c.is_good.ensures c.args.role.now c.requires.accepted)
+    (turns_delete_role S c.recall_good.ensures c.args.role.now c.requires.accepted)
+    (good_after_delete_role S c.recall_good.ensures c.args.role.now c.requires.accepted)
     c.plain.ensures.order refl

@@ -6,11 +6,11 @@ use Rattle.rbac_sets.specs.declared.row.Change.TheVariants.{Take}
 use Rattle.admin_mgr.specs.Assignment.{end_sessions}
 use Rattle.admin_mgr.specs.Run.{tally}
 use Rattle.admin_mgr.specs.After.{changed, after}
-use Rattle.admin_mgr.specs.Held.{run_of}
-use Rattle.admin_mgr.specs.Listing.{pair_row, take_all}
+use Rattle.admin_mgr.specs.private.HolderRoles.{run_of}
+use Rattle.admin_mgr.specs.private.PlanChanges.{pair_row, take_all}
 use Rattle.admin_mgr.proofs.PlanRows.ListLaws.{listed_then}
 use Rattle.admin_mgr.proofs.PlanRows.PlanLaws.{plan_of}
-use Rattle.admin_mgr.proofs.StateAfter.TakeLaws.{good_after_delete_user}
+use Rattle.admin_mgr.proofs.StateAfter.RemovalLaws.{good_after_delete_user}
 use Rattle.admin_mgr.proofs.PlanRows.EndingTurns.{turns_delete_user}
 use Rattle.admin_mgr.proofs.planning.core_rbac.plan_delete_user.Goals as goal
 
@@ -24,6 +24,6 @@ returns-clause-planned c =
     plan_of S (DeleteUser c.args.user.now) c.plain.result _ refl
     (c.plain.ensures.changes ∙ listed_then c.in_ok-take_ended.ensures.ok deassigned refl)
     c.plain.ensures.report
-    (turns_delete_user S c.is_good.ensures c.args.user.now c.requires.accepted)
-    (good_after_delete_user S c.is_good.ensures c.args.user.now c.requires.accepted)
+    (turns_delete_user S c.recall_good.ensures c.args.user.now c.requires.accepted)
+    (good_after_delete_user S c.recall_good.ensures c.args.user.now c.requires.accepted)
     c.plain.ensures.order refl

@@ -5,7 +5,7 @@ use Rattle.admin_mgr.specs.Run.{tally}
 use Rattle.admin_mgr.specs.After.{changed, after}
 use Rattle.admin_mgr.proofs.PlanRows.ListLaws.{listed_then}
 use Rattle.admin_mgr.proofs.PlanRows.PlanLaws.{plan_of}
-use Rattle.admin_mgr.proofs.StateAfter.TakeLaws.{good_after_lock_user_account}
+use Rattle.admin_mgr.proofs.StateAfter.RemovalLaws.{good_after_lock_user_account}
 use Rattle.admin_mgr.proofs.PlanRows.EndingTurns.{turns_lock_user_account}
 use Rattle.admin_mgr.proofs.planning.core_rbac.plan_lock_user_account.Goals as goal
 
@@ -17,6 +17,6 @@ returns-clause-planned c =
     plan_of S (LockUserAccount c.args.user.now) c.plain.result _ refl
     (c.plain.ensures.changes ∙ listed_then c.in_ok-put_lock.ensures.ok ended refl)
     c.plain.ensures.report
-    (turns_lock_user_account S c.is_good.ensures c.args.user.now)
-    (good_after_lock_user_account S c.is_good.ensures c.args.user.now c.requires.accepted)
+    (turns_lock_user_account S c.recall_good.ensures c.args.user.now)
+    (good_after_lock_user_account S c.recall_good.ensures c.args.user.now c.requires.accepted)
     c.plain.ensures.order refl

@@ -2,8 +2,8 @@ use Rattle.std.proofs.Common.{◌∙◌, ap}
 use Rattle.std.specs.List.{list_all}
 use Rattle.rbac_sets.specs.Sets.{Pair, pair_cmp}
 use Rattle.rbac_sets.specs.SortedSet.{set_of}
-use Rattle.admin_mgr.specs.Held.{run_of}
-use Rattle.admin_mgr.specs.Ending.{is_held_without_pairs}
+use Rattle.admin_mgr.specs.private.HolderRoles.{run_of}
+use Rattle.admin_mgr.specs.private.SessionContinuation.{is_held_without_pairs}
 use Rattle.admin_mgr.proofs.planning.ending.goes_on_without_pairs.Goals as goal
 
 pub returns : goal.returns

@@ -1,8 +1,8 @@
 use Rattle.std.specs.Prelude.{not, filter}
 use Rattle.std.specs.List.{flat_map}
 use Rattle.rbac_sets.specs.Sets.{Pair}
-use Rattle.admin_mgr.specs.Ending.{stays}
-use Rattle.admin_mgr.specs.Listing.{session_rows}
+use Rattle.admin_mgr.specs.private.SessionContinuation.{stays}
+use Rattle.admin_mgr.specs.private.PlanChanges.{session_rows}
 use Rattle.admin_mgr.proofs.PlanRows.ListLaws.{IsListed}
 use Rattle.admin_mgr.proofs.planning.ending.take_ended.Given as goal
 

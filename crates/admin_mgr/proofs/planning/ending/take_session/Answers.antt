@@ -3,8 +3,8 @@ use Rattle.std.proofs.lemmas.List.{append_assoc}
 use Rattle.rbac_sets.specs.declared.row.Row.TheVariants.{PairRow}
 use Rattle.rbac_sets.specs.declared.row.TheConstants.Row.{SESSION, ACTIVATED_ROLE}
 use Rattle.rbac_sets.specs.declared.row.Change.TheVariants.{Take}
-use Rattle.admin_mgr.specs.Held.{run_of}
-use Rattle.admin_mgr.specs.Listing.{pair_row, take_all}
+use Rattle.admin_mgr.specs.private.HolderRoles.{run_of}
+use Rattle.admin_mgr.specs.private.PlanChanges.{pair_row, take_all}
 use Rattle.admin_mgr.proofs.planning.ending.take_session.Goals as goal
 
 pub returns-clause-ok : goal.returns-clause-ok

@@ -21,6 +21,6 @@ returns-clause-planned c =
     plan_with S (AddAscendant asc desc) c.with_order.result _ refl
     (c.with_order.ensures.changes ∙ listed_then c.in_ok-put_edge.ensures.ok named refl)
     c.with_order.ensures.report
-    (turns_add_ascendant S c.is_good.ensures asc desc _ planned c.requires.accepted)
-    (good_after_add_ascendant S c.is_good.ensures asc desc c.requires.accepted)
-    _ c.with_order.ensures.order planned.fits (edges_add_ascendant S c.is_good.ensures asc desc _ planned)
+    (turns_add_ascendant S c.recall_good.ensures asc desc _ planned c.requires.accepted)
+    (good_after_add_ascendant S c.recall_good.ensures asc desc c.requires.accepted)
+    _ c.with_order.ensures.order planned.fits (edges_add_ascendant S c.recall_good.ensures asc desc _ planned)

@@ -17,6 +17,6 @@ returns-clause-planned c =
     plan_with S (AddInheritance asc desc) c.with_order.result _ refl
     (c.with_order.ensures.changes ∙ listed_then c.in_ok-put_edge.ensures.ok c.new-changes.ensures.items refl)
     c.with_order.ensures.report
-    (turns_add_inheritance S c.is_good.ensures asc desc _ planned c.requires.accepted)
-    (good_after_add_inheritance S c.is_good.ensures asc desc c.requires.accepted)
-    _ c.with_order.ensures.order planned.fits (edges_add_inheritance S c.is_good.ensures asc desc _ planned)
+    (turns_add_inheritance S c.recall_good.ensures asc desc _ planned c.requires.accepted)
+    (good_after_add_inheritance S c.recall_good.ensures asc desc c.requires.accepted)
+    _ c.with_order.ensures.order planned.fits (edges_add_inheritance S c.recall_good.ensures asc desc _ planned)

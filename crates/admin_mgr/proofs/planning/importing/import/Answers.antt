@@ -5,7 +5,7 @@ use Rattle.admin_mgr.proofs.Imports.ImportSteps.{begins, goes_on_at, none_left, 
 use Rattle.admin_mgr.proofs.planning.importing.import.Goals as goal
 
 pub loop-i-init : goal.loop-i-init
-loop-i-init c = begins c.args.state.now.facts c.is_good.ensures c.args.pairs.now.items c.new-imported.result c.new-imported.ensures
+loop-i-init c = begins c.args.state.now.facts c.recall_good.ensures c.args.pairs.now.items c.new-imported.result c.new-imported.ensures
 
 pub overflow_cast-i : goal.overflow_cast-i
 overflow_cast-i c =

@@ -9,7 +9,7 @@ use Rattle.admin_mgr.proofs.planning.importing.plan_import_assignments.Goals as 
 pub returns-clause-planned : goal.returns-clause-planned
 returns-clause-planned c =
     let S = c.args.state.now.facts in
-    let good = c.is_good.ensures in
+    let good = c.recall_good.ensures in
     record {
       leads = record {
         rows = subst (λ xs. Turns S xs (after S (ImportAssignments c.args.pairs.now))) (sym c.in_ok-changes.ensures.changes) (turns_import S good c.args.pairs.now);

@@ -1,6 +1,6 @@
 use Rattle.std.proofs.Common.{◌≡◌, length}
-use Rattle.admin_mgr.specs.Stepping.{after_changes, AreFree, HasRoom}
-use Rattle.admin_mgr.specs.Planned.{order_of}
+use Rattle.admin_mgr.specs.RowUpdates.{after_changes, AreFree, HasRoom}
+use Rattle.admin_mgr.specs.PlanEffect.{order_of}
 use Rattle.admin_mgr.proofs.relations.Relations.change.Given as goal
 
 abbrev pub invariant-loop-self : goal.invariant-loop-self

@@ -1,6 +1,6 @@
 use Rattle.std.proofs.Common.{◌≡◌, ◌∷◌, ◌+◌, ◌∙◌, rules, arith, refl, sym, ap, subst, drop, get_or}
 use Rattle.std.proofs.lemmas.List.{drop_more, drop_all}
-use Rattle.admin_mgr.specs.Stepping.{puts_of}
+use Rattle.admin_mgr.specs.RowUpdates.{puts_of}
 use Rattle.admin_mgr.proofs.PlanRows.RoomLaws.{AreCounted, counted_none, counted_some}
 use Rattle.admin_mgr.proofs.Verdicts.VerdictLaws.{none_unless_some}
 use Rattle.admin_mgr.proofs.relations.changing.count_puts.Goals as goal

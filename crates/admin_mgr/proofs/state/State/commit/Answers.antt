@@ -1,8 +1,8 @@
 use Rattle.std.proofs.Common.{◌≡◌, sym, subst, ◌∙◌}
-use Rattle.admin_mgr.specs.Kept.{Kept}
-use Rattle.admin_mgr.specs.Stepping.{after_changes}
+use Rattle.admin_mgr.specs.StateWithRoom.{StateWithRoom}
+use Rattle.admin_mgr.specs.RowUpdates.{after_changes}
 use Rattle.admin_mgr.specs.Good.{IsGood}
-use Rattle.admin_mgr.specs.Named.{AreNamed}
+use Rattle.admin_mgr.specs.StateNames.{AreNamed}
 use Rattle.admin_mgr.proofs.PlanRows.CommitLaws.{free, leads, leads_edges}
 use Rattle.admin_mgr.proofs.StateAfter.NamedLaws.{named_turns}
 use Rattle.admin_mgr.proofs.Verdicts.VerdictLaws.{none_unless_some}
@@ -19,9 +19,9 @@ returns-in-Some-clause-state c T to =
 pub invariant_of-self : goal.invariant_of-self
 invariant_of-self c =
     let to = c.requires.planned.1 in
-    let named : AreNamed c.args.self.now.facts = subst (λ (k : Kept). AreNamed k.facts) c.self.view_is c.self.invariant.1 in
+    let named : AreNamed c.args.self.now.facts = subst (λ (k : StateWithRoom). AreNamed k.facts) c.self.view_is c.self.invariant.1 in
     subst (λ S. IsGood S × AreNamed S) (sym (returns-in-Some-clause-state c c.requires.planned.0 to))
-    (to.good, named_turns c.args.self.now.facts c.requires.planned.0 c.args.plan.changes.items to.rows named c.is_named.ensures)
+    (to.good, named_turns c.args.self.now.facts c.requires.planned.0 c.args.plan.changes.items to.rows named c.recall_names.ensures)
 
 pub returns-in_default-clause-state : goal.returns-in_default-clause-state
 returns-in_default-clause-state c T to =
@@ -32,6 +32,6 @@ pub invariant_of-self-in_default : goal.invariant_of-self-in_default
 invariant_of-self-in_default c =
     let to = c.requires.planned.1 in
     let made : c.change.new.self.facts ≡ after_changes c.args.self.now.facts c.args.plan.changes.items = rw (← c.self.view_is) c.change.ensures.facts in
-    let named : AreNamed c.args.self.now.facts = subst (λ (k : Kept). AreNamed k.facts) c.self.view_is c.self.invariant.1 in
+    let named : AreNamed c.args.self.now.facts = subst (λ (k : StateWithRoom). AreNamed k.facts) c.self.view_is c.self.invariant.1 in
     subst (λ S. IsGood S × AreNamed S) (sym (leads c.args.self.now.facts c.requires.planned.0 c.args.plan to (none_unless_some _ c.in_default.not-Some) c.change.new.self.facts made))
-    (to.good, named_turns c.args.self.now.facts c.requires.planned.0 c.args.plan.changes.items to.rows named c.is_named.ensures)
+    (to.good, named_turns c.args.self.now.facts c.requires.planned.0 c.args.plan.changes.items to.rows named c.recall_names.ensures)

@@ -1,6 +1,6 @@
 use Rattle.std.proofs.Common.{subst, sym, refl, inr}
 use Rattle.admin_mgr.specs.Good.{IsGood}
-use Rattle.admin_mgr.specs.Named.{AreNamed}
+use Rattle.admin_mgr.specs.StateNames.{AreNamed}
 use Rattle.admin_mgr.proofs.StateAfter.EmptyLaws.{empty_is_good}
 use Rattle.admin_mgr.proofs.StateAfter.NamedLaws.{empty_named}
 use Rattle.admin_mgr.proofs.state.State.empty.Goals as goal

@@ -1,9 +1,9 @@
 use Rattle.std.proofs.Common.{map, ap, ◌∙◌}
 use Rattle.rbac_sets.specs.Sets.{Bytes, Pair, pair_cmp}
 use Rattle.rbac_sets.specs.SortedSet.{set_of}
-use Rattle.role_order.specs.Runs.{run_of}
-use Rattle.order_table.specs.Table.{number_in}
-use Rattle.order_table.proofs.Mapped.{mapped_more_through}
+use Rattle.role_order.specs.private.Runs.{run_of}
+use Rattle.order_matrix.specs.Table.{number_in}
+use Rattle.order_matrix.proofs.Mapped.{mapped_more_through}
 use Rattle.review_mgr.proofs.report.numbering.assigned_numbers.Goals as goal
 
 pub loop-user-preserved : goal.loop-user-preserved

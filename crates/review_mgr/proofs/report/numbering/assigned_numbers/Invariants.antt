@@ -1,8 +1,8 @@
 use Rattle.std.proofs.Common.{◌≡◌, map, take}
 use Rattle.rbac_sets.specs.Sets.{Bytes, Pair, pair_cmp}
 use Rattle.rbac_sets.specs.SortedSet.{set_of}
-use Rattle.role_order.specs.Runs.{run_of}
-use Rattle.order_table.specs.Table.{number_in}
+use Rattle.role_order.specs.private.Runs.{run_of}
+use Rattle.order_matrix.specs.Table.{number_in}
 use Rattle.review_mgr.proofs.report.numbering.assigned_numbers.Given as goal
 
 abbrev pub invariant-loop-user : goal.invariant-loop-user

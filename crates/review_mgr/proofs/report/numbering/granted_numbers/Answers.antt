@@ -2,8 +2,8 @@ use Rattle.std.proofs.Common.{filter, map, ap, ◌∙◌}
 use Rattle.std.specs.Ordering.{eq_by_cmp}
 use Rattle.rbac_sets.specs.Sets.{Pair, Triple, pair_cmp, triple_cmp, members}
 use Rattle.rbac_sets.specs.SortedSet.{set_of}
-use Rattle.order_table.specs.Table.{number_in}
-use Rattle.order_table.proofs.Mapped.{mapped_more_through}
+use Rattle.order_matrix.specs.Table.{number_in}
+use Rattle.order_matrix.proofs.Mapped.{mapped_more_through}
 use Rattle.review_mgr.proofs.report.numbering.granted_numbers.Goals as goal
 
 pub loop-permission-preserved : goal.loop-permission-preserved

@@ -2,7 +2,7 @@ use Rattle.std.proofs.Common.{◌≡◌, filter, map, take}
 use Rattle.std.specs.Ordering.{eq_by_cmp}
 use Rattle.rbac_sets.specs.Sets.{Pair, Triple, pair_cmp, triple_cmp, members}
 use Rattle.rbac_sets.specs.SortedSet.{set_of}
-use Rattle.order_table.specs.Table.{number_in}
+use Rattle.order_matrix.specs.Table.{number_in}
 use Rattle.review_mgr.proofs.report.numbering.granted_numbers.Given as goal
 
 abbrev pub invariant-loop-permission : goal.invariant-loop-permission

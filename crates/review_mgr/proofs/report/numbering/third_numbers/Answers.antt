@@ -1,6 +1,6 @@
 use Rattle.rbac_sets.specs.Sets.{Triple}
-use Rattle.order_table.specs.Table.{number_in}
-use Rattle.order_table.proofs.Mapped.{mapped_more}
+use Rattle.order_matrix.specs.Table.{number_in}
+use Rattle.order_matrix.proofs.Mapped.{mapped_more}
 use Rattle.review_mgr.proofs.report.numbering.third_numbers.Goals as goal
 
 pub loop-grant-preserved : goal.loop-grant-preserved

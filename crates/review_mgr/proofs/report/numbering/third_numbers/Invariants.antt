@@ -1,6 +1,6 @@
 use Rattle.std.proofs.Common.{◌≡◌, map, take}
 use Rattle.rbac_sets.specs.Sets.{Triple}
-use Rattle.order_table.specs.Table.{number_in}
+use Rattle.order_matrix.specs.Table.{number_in}
 use Rattle.review_mgr.proofs.report.numbering.third_numbers.Given as goal
 
 abbrev pub invariant-loop-grant : goal.invariant-loop-grant

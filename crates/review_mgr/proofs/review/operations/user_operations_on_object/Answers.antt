@@ -1,7 +1,7 @@
 use Rattle.std.proofs.Common.{◌≡◌, List, ap, subst, ◌∙◌}
 use Rattle.std.specs.Prelude.{IfOk}
 use Rattle.rbac_sets.specs.Sets.{Bytes, Pairs, Triple, name_cmp, same_name, members, retain, image}
-use Rattle.admin_mgr.specs.Held.{run_of, is_reached}
+use Rattle.admin_mgr.specs.private.HolderRoles.{run_of, is_reached}
 use Rattle.rbac_sets.specs.Sets.{seconds}
 use Rattle.review_mgr.specs.Review.{user_operations_on_object}
 use Rattle.review_mgr.proofs.Reached.{seconds-permissions, user_permissions-reached}

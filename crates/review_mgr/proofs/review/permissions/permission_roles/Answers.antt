@@ -2,7 +2,7 @@ use Rattle.std.proofs.Common.{◌≡◌, true, false, List, [], ◌∷◌, inr, 
 use Rattle.std.specs.Prelude.{IfOk}
 use Rattle.rbac_sets.specs.Sets.{Bytes, Triple, name_cmp, contains, members, retain, image}
 use Rattle.rbac_sets.specs.declared.refusal.Refusal.TheVariants.{NoObject, NoPermission}
-use Rattle.admin_mgr.specs.Refusing.{refuse_unless, first}
+use Rattle.admin_mgr.specs.Refusals.{refuse_unless, first}
 use Rattle.review_mgr.specs.Questions.{refused, refusals}
 use Rattle.review_mgr.specs.Review.{is_grant_of, permission_roles}
 use Rattle.review_mgr.proofs.review.permissions.permission_roles.Goals as goal

@@ -1,7 +1,7 @@
 use Rattle.std.proofs.Common.{◌≡◌, List, ap, subst, ◌∙◌}
 use Rattle.std.specs.Prelude.{IfOk}
 use Rattle.rbac_sets.specs.Sets.{Pair, Triple, pair_cmp, members, retain, image}
-use Rattle.admin_mgr.specs.Held.{is_reached}
+use Rattle.admin_mgr.specs.private.HolderRoles.{is_reached}
 use Rattle.review_mgr.specs.Review.{permission_of}
 use Rattle.review_mgr.proofs.Reached.{user_permissions-reached}
 use Rattle.review_mgr.proofs.review.permissions.user_permissions.Goals as goal

@@ -1,10 +1,10 @@
 use Rattle.std.proofs.Common.{◌∙◌}
-use Rattle.admin_mgr.specs.Held.{is_reached}
+use Rattle.admin_mgr.specs.private.HolderRoles.{is_reached}
 use Rattle.review_mgr.proofs.Below.{authorized_roles-listed, if_both}
 use Rattle.review_mgr.proofs.review.roles.authorized_roles.Goals as goal
 
 pub returns-clause-value : goal.returns-clause-value
 returns-clause-value c =
     if_both _ _ _ c.roles_reached.result
-    (λ names sorted all. authorized_roles-listed c.args.state.now.facts c.is_good.ensures c.args.user.now names.items sorted (λ q. all q ∙ (λ i. is_reached (c.order.ensures i) (c.assigned_to.ensures i) q)))
+    (λ names sorted all. authorized_roles-listed c.args.state.now.facts c.recall_good.ensures c.args.user.now names.items sorted (λ q. all q ∙ (λ i. is_reached (c.order.ensures i) (c.assigned_to.ensures i) q)))
     c.roles_reached.ensures.sorted c.roles_reached.ensures.reached

@@ -1,8 +1,8 @@
 use Rattle.std.proofs.Common.{sym, ap, ◌∙◌}
 use Rattle.std.specs.Prelude.{is_some, ◌∷◌, []}
 use Rattle.rbac_sets.specs.declared.refusal.Refusal.TheVariants.{NoSet}
-use Rattle.admin_mgr.specs.Refusing.{refuse_unless, first}
-use Rattle.admin_mgr.proofs.Verdicts.HeldLaws.{is_some_cardinality}
+use Rattle.admin_mgr.specs.Refusals.{refuse_unless, first}
+use Rattle.admin_mgr.proofs.Verdicts.AuthorizationLaws.{is_some_cardinality}
 use Rattle.review_mgr.specs.Questions.{refused, refusals}
 use Rattle.review_mgr.proofs.review.separation.ssd_role_set_cardinality.Goals as goal
 

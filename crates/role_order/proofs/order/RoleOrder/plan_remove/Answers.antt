@@ -5,7 +5,7 @@ use Rattle.rbac_sets.specs.Sets.{Bytes, Pairs, pair_cmp, remove, same_name}
 use Rattle.rbac_sets.specs.SortedSet.{set_of}
 use Rattle.role_order.specs.Order.{IsAcyclic, IsClosure, IsGained}
 use Rattle.role_order.specs.Planned.{Order}
-use Rattle.role_order.specs.Removal.{AreJuniorsFirst}
+use Rattle.role_order.specs.private.Removal.{AreJuniorsFirst}
 use Rattle.role_order.proofs.Planning.{Fits-taken, judged_are}
 use Rattle.role_order.proofs.Removing.{IsGained-lost}
 use Rattle.role_order.proofs.Ranking.{AreJuniorsFirst-from_counts}

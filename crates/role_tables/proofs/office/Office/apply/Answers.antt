@@ -3,17 +3,17 @@ use Rattle.std.proofs.lemmas.Bool.{true≢false}
 use Rattle.sqlite.specs.Held.{state}
 use Rattle.admin_mgr.specs.After.{after}
 use Rattle.admin_mgr.specs.Good.{IsGood}
-use Rattle.admin_mgr.specs.Planned.{LeadsTo, IsPlanOf, tally_of_report}
+use Rattle.admin_mgr.specs.PlanEffect.{LeadsTo, IsPlanOf, tally_of_report}
 use Rattle.admin_mgr.specs.Verdict.{verdict}
 use Rattle.rbac_sets.specs.declared.refusal.Refusal.TheVariants.{Memory, Store, Closed}
 use Rattle.role_tables.specs.Office.{Answers, event_of}
 use Rattle.role_tables.specs.Runs.{GoesOnBy}
-use Rattle.role_tables.specs.Standing.{ForgetsNoFault, HoldsAsBefore, Stands, LeavesAsIn}
-use Rattle.role_tables.proofs.Reading.Standing.{leaves_either}
-use Rattle.admin_mgr.specs.Named.{AreNamed}
+use Rattle.role_tables.specs.Durability.{ForgetsNoFault, HoldsAsBefore, IsDurable, LeavesByEvents}
+use Rattle.role_tables.proofs.Reading.Durability.{leaves_either}
+use Rattle.admin_mgr.specs.StateNames.{AreNamed}
 use Rattle.admin_mgr.proofs.StateAfter.NamedLaws.{named_turns}
-use Rattle.role_tables.proofs.Events.{plan_refused, leaves_unchanged, leaves_done, leaves_stopped}
-use Rattle.role_tables.proofs.Runs.{closed_call, done_call, goes_on, refused_call, stopped_call}
+use Rattle.role_tables.proofs.Events.{plan_refused, leaves_unchanged, leaves_done, leaves_failed}
+use Rattle.role_tables.proofs.Runs.{closed_call, done_call, goes_on, refused_call, failed_call}
 use Rattle.role_tables.proofs.office.Office.apply.Goals as goal
 
 pub returns-in_err-plan-clause-answers : goal.returns-in_err-plan-clause-answers
@@ -24,11 +24,11 @@ returns-in_err-plan-clause-answers g c working =
     (plan_refused c.args.self.now c.args.command.now c.in_err-plan.field-0.0
     (subst (λ S. (c.in_err-plan.field-0.0 ≡ Memory) ⊎ (verdict S c.args.command.now ≡ Some c.in_err-plan.field-0.0)) facts c.in_err-plan.ensures.refused))
 
-pub returns-in_err-plan-clause-stop : goal.returns-in_err-plan-clause-stop
-returns-in_err-plan-clause-stop g c working clean stands =
+pub returns-in_err-plan-clause-crash : goal.returns-in_err-plan-clause-crash
+returns-in_err-plan-clause-crash g c working clean stands =
     let is : c.from_residual.result ≡ Err c.in_err-plan.field-0.0 = search rules in
     let facts : c.self.inside.state.facts ≡ c.args.self.now.facts = search rules in
-    subst (λ r. LeavesAsIn (state g.S.Store c.args.self.now.conn) c.args.self.now.facts (event_of c.args.command.now r ∷ [])) (sym is)
+    subst (λ r. LeavesByEvents (state g.S.Store c.args.self.now.conn) c.args.self.now.facts (event_of c.args.command.now r ∷ [])) (sym is)
     (leaves_unchanged g.S.Store c.args.self.now c.args.command.now c.in_err-plan.field-0.0
     (subst (λ S. (c.in_err-plan.field-0.0 ≡ Memory) ⊎ (verdict S c.args.command.now ≡ Some c.in_err-plan.field-0.0)) facts c.in_err-plan.ensures.refused) stands)
 
@@ -43,10 +43,10 @@ returns-in-Ok-clause-done g c working clean stands =
     let planned : IsPlanOf S c.args.command.now c.in_ok-plan.plan = subst (λ S. IsPlanOf S c.args.command.now c.in_ok-plan.plan) facts c.in_ok-plan.ensures.planned in
     let leads = planned.leads in
     let conn_is : c.args.self.now.conn ≡ c.self.inside.conn = search rules in
-    (c.in-Ok.ensures.written clean S (after S c.args.command.now) (rw c.changes.ensures leads.rows) (subst (λ S. IsGood S) facts c.self.invariant.1) leads.good (subst (λ h. Stands (state g.S.Store h) S) conn_is stands)).done
+    (c.in-Ok.ensures.written clean S (after S c.args.command.now) (rw c.changes.ensures leads.rows) (subst (λ S. IsGood S) facts c.self.invariant.1) leads.good (subst (λ h. IsDurable (state g.S.Store h) S) conn_is stands)).done
 
-pub returns-in-Ok-clause-stop : goal.returns-in-Ok-clause-stop
-returns-in-Ok-clause-stop g c working clean stands =
+pub returns-in-Ok-clause-crash : goal.returns-in-Ok-clause-crash
+returns-in-Ok-clause-crash g c working clean stands =
     let S = c.args.self.now.facts in
     let facts : c.self.inside.state.facts ≡ S = search rules in
     let planned : IsPlanOf S c.args.command.now c.in_ok-plan.plan = subst (λ S. IsPlanOf S c.args.command.now c.in_ok-plan.plan) facts c.in_ok-plan.ensures.planned in
@@ -54,10 +54,10 @@ returns-in-Ok-clause-stop g c working clean stands =
     let leads = planned.leads in
     let conn_is : c.args.self.now.conn ≡ c.self.inside.conn = search rules in
     leaves_done (state g.S.Store c.write_changes.new.conn) S c.args.command.now c.commit-report.result accepted (ap tally_of_report c.commit-report.ensures.report ∙ planned.report)
-    (c.in-Ok.ensures.written clean S (after S c.args.command.now) (rw c.changes.ensures leads.rows) (subst (λ S. IsGood S) facts c.self.invariant.1) leads.good (subst (λ h. Stands (state g.S.Store h) S) conn_is stands)).done
+    (c.in-Ok.ensures.written clean S (after S c.args.command.now) (rw c.changes.ensures leads.rows) (subst (λ S. IsGood S) facts c.self.invariant.1) leads.good (subst (λ h. IsDurable (state g.S.Store h) S) conn_is stands)).done
 
-pub returns-in-Err-clause-stop : goal.returns-in-Err-clause-stop
-returns-in-Err-clause-stop g c working clean stands =
+pub returns-in-Err-clause-crash : goal.returns-in-Err-clause-crash
+returns-in-Err-clause-crash g c working clean stands =
     let S = c.args.self.now.facts in
     let T = after S c.args.command.now in
     let facts : c.self.inside.state.facts ≡ S = search rules in
@@ -66,18 +66,18 @@ returns-in-Err-clause-stop g c working clean stands =
     let leads = planned.leads in
     let conn_is : c.args.self.now.conn ≡ c.self.inside.conn = search rules in
     let same : c.match-plan-2.self.conn ≡ c.write_changes.new.conn = search rules in
-    let here = subst (λ h. Stands (state g.S.Store h) S) conn_is stands in
-    subst (λ h. LeavesAsIn (state g.S.Store h) S (event_of c.args.command.now (Err Store) ∷ [])) (sym same)
-    (leaves_stopped (state g.S.Store c.write_changes.new.conn) S c.args.command.now accepted
+    let here = subst (λ h. IsDurable (state g.S.Store h) S) conn_is stands in
+    subst (λ h. LeavesByEvents (state g.S.Store h) S (event_of c.args.command.now (Err Store) ∷ [])) (sym same)
+    (leaves_failed (state g.S.Store c.write_changes.new.conn) S c.args.command.now accepted
     (leaves_either (state g.S.Store c.self.inside.conn) (state g.S.Store c.write_changes.new.conn) S T here
     (c.in-Err.ensures.written (rw same at clean) S T (rw c.changes.ensures leads.rows) (subst (λ S. IsGood S) facts c.self.invariant.1) leads.good here).left))
 
-pub returns-in_err-make_room-clause-stop : goal.returns-in_err-make_room-clause-stop
-returns-in_err-make_room-clause-stop g c working clean stands =
+pub returns-in_err-make_room-clause-crash : goal.returns-in_err-make_room-clause-crash
+returns-in_err-make_room-clause-crash g c working clean stands =
     let is : c.from_residual-in_err-make_room.result ≡ Err Memory = search rules in
     let conn_is : c.args.self.now.conn ≡ c.self.inside.conn = search rules in
-    subst (λ h. LeavesAsIn (state g.S.Store h) c.args.self.now.facts (event_of c.args.command.now c.from_residual-in_err-make_room.result ∷ [])) conn_is
-    (subst (λ r. LeavesAsIn (state g.S.Store c.args.self.now.conn) c.args.self.now.facts (event_of c.args.command.now r ∷ [])) (sym is)
+    subst (λ h. LeavesByEvents (state g.S.Store h) c.args.self.now.facts (event_of c.args.command.now c.from_residual-in_err-make_room.result ∷ [])) conn_is
+    (subst (λ r. LeavesByEvents (state g.S.Store c.args.self.now.conn) c.args.self.now.facts (event_of c.args.command.now r ∷ [])) (sym is)
     (leaves_unchanged g.S.Store c.args.self.now c.args.command.now Memory (inl refl) stands))
 
 pub returns-in_err-plan-clause-named : goal.returns-in_err-plan-clause-named
@@ -96,7 +96,7 @@ returns-in-Err-clause-named g c store =
     let S = c.args.self.now.facts in
     let facts : c.self.inside.state.facts ≡ S = search rules in
     let planned : IsPlanOf S c.args.command.now c.in_ok-plan.plan = subst (λ S. IsPlanOf S c.args.command.now c.in_ok-plan.plan) facts c.in_ok-plan.ensures.planned in
-    named_turns S (after S c.args.command.now) c.in_ok-plan.plan.changes.items planned.leads.rows (subst AreNamed facts c.self.invariant.2) c.is_named.ensures
+    named_turns S (after S c.args.command.now) c.in_ok-plan.plan.changes.items planned.leads.rows (subst AreNamed facts c.self.invariant.2) c.recall_names.ensures
 
 -- ---- the run with one event added
 
@@ -140,7 +140,7 @@ returns-in-Ok-clause-run g c =
     (subst (λ h. ForgetsNoFault (state g.S.Store h) (state g.S.Store c.write_changes.new.conn)) (sym conn_is) c.write_changes.ensures.clean)
     (accepted, ap tally_of_report c.commit-report.ensures.report ∙ planned.report, done, open_now)
     (λ clean stands. returns-in-Ok-clause-done g c works clean stands)
-    c.is_named-in-Ok.ensures)
+    c.recall_names-in-Ok.ensures)
 
 pub returns-in-Err-clause-run : goal.returns-in-Err-clause-run
 returns-in-Err-clause-run g c =
@@ -156,14 +156,14 @@ returns-in-Err-clause-run g c =
     let shut : c.match-plan-2.self.is_closed ≡ true = search rules in
     let stays : c.match-plan-2.self.facts ≡ S = search rules in
     goes_on (state g.S.Store) c.args.self.now (event_of c.args.command.now (Err Store)) c.match-plan-2.self
-    (stopped_call g.S.Store c.args.self.now c.match-plan-2.self c.args.command.now works
+    (failed_call g.S.Store c.args.self.now c.match-plan-2.self c.args.command.now works
     (subst (λ h. ForgetsNoFault (state g.S.Store c.args.self.now.conn) (state g.S.Store h)) (sym same)
     (subst (λ h. ForgetsNoFault (state g.S.Store h) (state g.S.Store c.write_changes.new.conn)) (sym conn_is) c.write_changes.ensures.clean))
     (accepted, shut, stays)
     (λ clean stands.
-    let here = subst (λ h. Stands (state g.S.Store h) S) conn_is stands in
+    let here = subst (λ h. IsDurable (state g.S.Store h) S) conn_is stands in
     subst (λ h. HoldsAsBefore (state g.S.Store c.args.self.now.conn) (state g.S.Store h)) (sym same)
     (subst (λ h. HoldsAsBefore (state g.S.Store h) (state g.S.Store c.write_changes.new.conn)) (sym conn_is)
     (c.in-Err.ensures.written (rw same at clean) S T (rw c.changes.ensures leads.rows) (subst (λ S. IsGood S) facts c.self.invariant.1) leads.good here).undone))
-    (λ clean stands. returns-in-Err-clause-stop g c works clean stands)
+    (λ clean stands. returns-in-Err-clause-crash g c works clean stands)
     (returns-in-Err-clause-named g c refl))

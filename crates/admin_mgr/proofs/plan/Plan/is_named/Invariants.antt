@@ -1,6 +1,0 @@
-use Rattle.std.specs.Prelude.{IsTrue, take}
-use Rattle.rbac_sets.specs.Named.{are_named}
-use Rattle.admin_mgr.proofs.plan.Plan.is_named.Given as goal
-
-abbrev pub invariant-loop-change : goal.invariant-loop-change
-invariant-loop-change l = IsTrue (are_named (take l.change-index l.self.changes.items))

@@ -1,0 +1,10 @@
+-- Definitions that no public contract reaches: whoever calls or audits this crate need not read them.
+pub mod BulkRemoval
+pub mod CheckTests
+pub mod HolderRoles
+pub mod ImportPlan
+pub mod NumberedSeparation
+pub mod PlainPlan
+pub mod PlanChanges
+pub mod SeparationOfDuty
+pub mod SessionContinuation

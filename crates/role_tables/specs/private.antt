@@ -1,0 +1,5 @@
+-- Definitions that no public contract reaches: whoever calls or audits this crate need not read them.
+pub mod GatheredRows
+pub mod MetaRows
+pub mod TableChanges
+pub mod Texts

@@ -1,0 +1,119 @@
+-- How requests over HTTP are answered.
+use Rattle.std.proofs.Common.{◌≡◌, ◌⊎◌, inl, inr, ℕ, List, false, None, Some, Option, Result, Ok, Err, refl, sym, ap, subst, ◌∙◌}
+use Rattle.sqlite.specs.Held.{Held}
+use Rattle.sqlite.specs.State.{State}
+use Rattle.rbac_sets.specs.declared.refusal.Refusal.{Refusal}
+use Rattle.rbac_sets.specs.declared.refusal.Refusal.TheVariants.{Memory, Store, Closed}
+use Rattle.admin_mgr.specs.CommandContent.{content_verdict}
+use Rattle.role_json.specs.Answer.{refusal_text}
+use Rattle.role_json.specs.RequestContent.{RequestContent, Change}
+use Rattle.role_tables.specs.Office.{OfficeModel}
+use Rattle.role_wire.specs.Continuation.{ReachesState}
+use Rattle.role_wire.specs.private.PreparedReply.{IsRefusal, ReportsRefusal, bytes_in, is_fixed}
+use Rattle.role_wire.specs.Outcome.{outcome_of, state_after, unless}
+use Rattle.role_wire.specs.OfficeRequest.{IsCommand, IsQuestion, Performs, Declines}
+use Rattle.role_wire.specs.Reply.{reply_of}
+use Rattle.role_wire.specs.ServedRequest.{IsThisReply, IsAnsweredInstead, IsDone, IsReadAs, AnswersBody, StaysClosed}
+use Rattle.role_wire.specs.declared.prepared_reply.PreparedReply.{PreparedReply}
+use Rattle.role_wire.proofs.Judged.{stays_refused}
+use Rattle.role_wire.proofs.Performed.{stays}
+
+was_accepted : {X : Type 0} (v : Option Refusal) (value told : X) → unless v value ≡ Ok told → v ≡ None
+was_accepted None value told is = refl
+was_accepted (Some refusal) value told is = absurd (cc)
+
+-- ---- a closed office
+
+module _ {S : Type 0} (old new : OfficeModel S) (AsksFor : RequestContent → Type 0) (status : ℕ) (body : List ℕ) where
+  -- an open office
+  pub works_on : old.is_closed ≡ false → StaysClosed old AsksFor status body new
+  works_on works shut = absurd (let no = sym shut ∙ works in cc)
+
+  -- nothing is asked for
+  pub asks_nothing : new ≡ old → ((asked : RequestContent) → ¬ (AsksFor asked)) → StaysClosed old AsksFor status body new
+  asks_nothing same none shut = (same, λ asked asks. absurd (none asked asks))
+
+  -- an allocation failed
+  pub has_no_memory : new ≡ old → status ≡ 503 → body ≡ refusal_text Memory → StaysClosed old AsksFor status body new
+  has_no_memory same is text shut = (same, λ asked asks. inr (is, text))
+
+  -- the answer is 42 Closed
+  pub says_closed : new ≡ old → status ≡ 500 → body ≡ refusal_text Closed → StaysClosed old AsksFor status body new
+  says_closed same is text shut = (same, λ asked asks. inl (is, text))
+
+-- ---- requests
+
+module _ {S : Type 0} (shown : Held S → State) where
+  same_state : (old new : OfficeModel S) → new ≡ old → ReachesState shown old old.facts new
+  same_state old new same = subst (ReachesState shown old old.facts) (sym same) (stays shown old)
+
+  -- an allocation failed before anything was done
+  pub no_memory_told : (old new : OfficeModel S) (AsksFor : RequestContent → Type 0) (made : PreparedReply) → IsRefusal Memory made → ReachesState shown old old.facts new
+      → IsAnsweredInstead shown old AsksFor made.status (bytes_in made.body) new
+  no_memory_told old new AsksFor made is same = inl (is.0, is.1, same)
+
+  -- the same, as an answer to a body
+  pub memory_refused : (old new : OfficeModel S) (read : Result RequestContent Refusal) (made : PreparedReply) → new ≡ old → IsRefusal Memory made → AnswersBody shown old read made new
+  memory_refused old new read made same is = (
+    inr (no_memory_told old new (IsReadAs read) made is (same_state old new same)),
+    has_no_memory old new (IsReadAs read) made.status (bytes_in made.body) same is.0 is.1,
+  )
+
+  -- a request that was done or answered
+  pub performed_told : (old new : OfficeModel S) (asked : RequestContent) (text : List ℕ) (status : ℕ) (body : List ℕ) (taken : ℕ) → Performs shown old asked text new → status ≡ 200 → body ≡ text
+      → IsThisReply shown old (reply_of old.facts taken (Ok asked)) status body new
+  performed_told old new asked text status body taken performs ok is = rw performs.outcome (ok, is, performs.reaches)
+
+  -- a question whose answer text could not be allocated
+  pub question_untold : (old new : OfficeModel S) (asked : RequestContent) (text : List ℕ) (made : PreparedReply) → Performs shown old asked text new → IsQuestion asked → IsRefusal Memory made
+      → AnswersBody shown old (Ok asked) made new
+  unfolding state_after
+  question_untold old new asked text made performs (query, is) tells = (
+    inr (no_memory_told old new (IsReadAs (Ok asked)) made tells (subst (λ T. ReachesState shown old T new) (ap (state_after old.facts) is) performs.reaches)),
+    works_on old new (IsReadAs (Ok asked)) made.status (bytes_in made.body) performs.is_open,
+  )
+
+  -- a command whose answer text could not be allocated
+  pub command_untold : (old new : OfficeModel S) (asked : RequestContent) (text : List ℕ) → Performs shown old asked text new → IsCommand asked → IsDone shown old (IsReadAs (Ok asked)) new
+  unfolding outcome_of
+  command_untold old new asked text performs (command, is) =
+      let outcome : outcome_of old.facts (Change command) ≡ Ok text = subst (λ a. outcome_of old.facts a ≡ Ok text) is performs.outcome in
+      (asked, refl, performs.is_open, (command, is, was_accepted (content_verdict old.facts command) _ text outcome), performs.reaches)
+
+  -- a request that was not done
+  pub declined_told : (old new : OfficeModel S) (asked : RequestContent) (refusal : Refusal) (made : PreparedReply) → Declines shown old asked refusal new → ReportsRefusal refusal made
+      → AnswersBody shown old (Ok asked) made new
+  declined_told old new asked refusal made (inl (is, same)) (inl tells) = memory_refused old new (Ok asked) made same (rw is at tells)
+  declined_told old new asked refusal made (inl (is, same)) (inr (tells, plain)) = memory_refused old new (Ok asked) made same tells
+  declined_told old new asked refusal made (inr (inl (is, broke))) (inl tells) =
+      let told : IsRefusal Store made = rw is at tells in (
+        inr (inr (inl (told.0, told.1, (asked, refl, broke)))),
+        works_on old new (IsReadAs (Ok asked)) made.status (bytes_in made.body) broke.is_open,
+      )
+  declined_told old new asked refusal made (inr (inl (is, broke))) (inr (tells, plain)) =
+      absurd (let wrong : is_fixed Store ≡ false = rw is at plain in cc)
+  declined_told old new asked refusal made (inr (inr (inl (is, shut, same)))) (inl tells) =
+      let told : IsRefusal Closed made = rw is at tells in (
+        inr (inr (inr (told.0, told.1, shut, same, (asked, refl)))),
+        says_closed old new (IsReadAs (Ok asked)) made.status (bytes_in made.body) same told.0 told.1,
+      )
+  declined_told old new asked refusal made (inr (inr (inl (is, shut, same)))) (inr (tells, plain)) =
+      absurd (let wrong : is_fixed Closed ≡ false = rw is at plain in cc)
+  declined_told old new asked refusal made (inr (inr (inr (is, works, same)))) (inl tells) = (
+    inl (λ taken. rw is (tells.0, tells.1, stays_told old new asked refusal is same)),
+    works_on old new (IsReadAs (Ok asked)) made.status (bytes_in made.body) works,
+  )
+    where
+      stays_told : (old new : OfficeModel S) (asked : RequestContent) (refusal : Refusal) → outcome_of old.facts asked ≡ Err refusal → new ≡ old → ReachesState shown old (state_after old.facts asked) new
+      stays_told old new asked refusal is same = subst (λ T. ReachesState shown old T new) (sym (stays_refused old.facts asked refusal is)) (same_state old new same)
+  declined_told old new asked refusal made (inr (inr (inr (is, works, same)))) (inr (tells, plain)) = memory_refused old new (Ok asked) made same tells
+
+  -- a body that is no request
+  pub unread_told : (office : OfficeModel S) (read : Result RequestContent Refusal) (refusal : Refusal) (made : PreparedReply) → (refusal ≡ Memory) ⊎ (read ≡ Err refusal) → ReportsRefusal refusal made
+      → AnswersBody shown office read made office
+  unread_told office read refusal made (inl is) (inl tells) = memory_refused office office read made refl (rw is at tells)
+  unread_told office read refusal made why (inr (tells, plain)) = memory_refused office office read made refl tells
+  unread_told office read refusal made (inr is) (inl tells) = (
+    inl (λ taken. rw is (tells.0, tells.1, stays shown office)),
+    asks_nothing office office (IsReadAs read) made.status (bytes_in made.body) refl (λ asked reads. (let no = sym is ∙ reads in cc)),
+  )

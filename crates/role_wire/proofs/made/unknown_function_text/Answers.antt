@@ -1,6 +1,0 @@
-use Rattle.role_http.specs.Status.{head_body}
-use Rattle.role_wire.proofs.made.unknown_function_text.Goals as goal
-
-pub returns : goal.returns
-unfolding head_body
-returns c = c.refused_body.ensures

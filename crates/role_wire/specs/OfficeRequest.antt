@@ -1,0 +1,51 @@
+-- What an office does for one request.
+use Rattle.std.specs.Prelude.{◌≡◌, ◌⊎◌, true, false, ℕ, List, None, Ok, Err}
+use Rattle.sqlite.specs.Held.{Held}
+use Rattle.sqlite.specs.State.{State}
+use Rattle.rbac_sets.specs.CommandContent.{CommandContent}
+use Rattle.rbac_sets.specs.declared.refusal.Refusal.{Refusal}
+use Rattle.rbac_sets.specs.declared.refusal.Refusal.TheVariants.{Memory, Store, Closed}
+use Rattle.admin_mgr.specs.CommandContent.{content_verdict}
+use Rattle.admin_mgr.specs.RbacState.{RbacState}
+use Rattle.review_mgr.specs.declared.query.Query.{Query}
+use Rattle.role_json.specs.Request.{request}
+use Rattle.role_json.specs.RequestContent.{RequestContent, Change, Ask}
+use Rattle.role_tables.specs.Office.{OfficeModel}
+use Rattle.role_wire.specs.Continuation.{StoreFails, ReachesState}
+use Rattle.role_wire.specs.Outcome.{outcome_of, state_after}
+
+-- it is a command, or a question
+abbrev pub IsCommand : RequestContent → Type 0
+IsCommand requested = (asked : CommandContent) × (requested ≡ Change asked)
+
+abbrev pub IsQuestion : RequestContent → Type 0
+IsQuestion requested = (query : Query) × (requested ≡ Ask query)
+
+-- the request is a command that is accepted in this state
+abbrev pub IsAccepted : RbacState → RequestContent → Type 0
+IsAccepted S requested = (asked : CommandContent) × (requested ≡ Change asked) × (content_verdict S asked ≡ None)
+
+-- the line asks for a command that is accepted in this state
+abbrev pub AsksAccepted : RbacState → List ℕ → Type 0
+AsksAccepted S line = (asked : RequestContent) × (request line ≡ Ok asked) × IsAccepted S asked
+
+module _ {S : Type 0} (shown : Held S → State) where
+  -- an open office did the command or answered the question, and this is the answer text
+  pub record Performs (old : OfficeModel S) (requested : RequestContent) (text : List ℕ) (new : OfficeModel S) : Type 0 where
+    pub is_open : old.is_closed ≡ false
+    pub outcome : outcome_of old.facts requested ≡ Ok text
+    pub reaches : ReachesState shown old (state_after old.facts requested) new
+
+  -- the office was open, and the store failed in the command, which is accepted
+  pub record StoreFailsFor (old : OfficeModel S) (requested : RequestContent) (new : OfficeModel S) : Type 0 where
+    pub is_open : old.is_closed ≡ false
+    pub accepted : IsAccepted old.facts requested
+    pub breaks : StoreFails shown old old.facts (state_after old.facts requested) new
+
+  -- the request was declined: an allocation failed, the store failed, the office is closed, or an open office refuses the request
+  abbrev pub Declines : OfficeModel S → RequestContent → Refusal → OfficeModel S → Type 0
+  Declines old requested refusal new =
+      ((refusal ≡ Memory) × (new ≡ old))
+      ⊎ (((refusal ≡ Store) × StoreFailsFor old requested new)
+      ⊎ (((refusal ≡ Closed) × (old.is_closed ≡ true) × (new ≡ old))
+      ⊎ ((outcome_of old.facts requested ≡ Err refusal) × (old.is_closed ≡ false) × (new ≡ old))))
