@@ -49,22 +49,22 @@ IsSameButVersion S T = record S { version = T.version } ≡ T
 
 -- an office may be opened with S after this run: a crash may leave S, or a state of version 1 that is S once it is migrated
 abbrev pub OpensAfter : OfficeRun → RbacState → Type 0
-OpensAfter life S = Leaves life.start life.events S
-    ⊎ ((T : RbacState) × Leaves life.start life.events T × (T.version ≡ 1) × (S ≡ migrated_to_version_2 T))
+OpensAfter office_run S = Leaves office_run.start office_run.events S
+    ⊎ ((T : RbacState) × Leaves office_run.start office_run.events T × (T.version ≡ 1) × (S ≡ migrated_to_version_2 T))
 
 -- each run begins with a state that the office may be opened with after the run before it, and its events are possible; `opens`
 -- says with which states the first run may begin
 abbrev pub AreSuccessiveRuns : (RbacState → Type 0) → List OfficeRun → Type 0
 AreSuccessiveRuns opens [] = Unit {0}
-AreSuccessiveRuns opens (life ∷ lives) = opens life.start × ((T : RbacState) × Leaves life.start life.events T) × AreSuccessiveRuns (OpensAfter life) lives
+AreSuccessiveRuns opens (office_run ∷ runs) = opens office_run.start × ((T : RbacState) × Leaves office_run.start office_run.events T) × AreSuccessiveRuns (OpensAfter office_run) runs
 
 -- the runs of one office, in order: the first begins with the empty state of either version
 abbrev pub AreRuns : List OfficeRun → Type 0
-AreRuns lives = AreSuccessiveRuns (λ S. (S ≡ empty_state 1) ⊎ (S ≡ empty_state 2)) lives
+AreRuns runs = AreSuccessiveRuns (λ S. (S ≡ empty_state 1) ⊎ (S ≡ empty_state 2)) runs
 
 -- the events of the runs, in order
 abbrev pub events_of : List OfficeRun → List Event
-events_of lives = flat_map (λ (life : OfficeRun). life.events) lives
+events_of runs = flat_map (λ (office_run : OfficeRun). office_run.events) runs
 
 -- ---- what was deassigned or revoked, and not assigned or granted again
 

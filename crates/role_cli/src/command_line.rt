@@ -22,7 +22,7 @@ Examples:
   rbac serve office.db --port 8080 --limit 1000000
   rbac check office.db
 
-Each request is one line of JSON, or one POST to /v1/FUNCTION. The answers to them name errors by code and name.";
+Each request is one line of JSON, or one POST to /v1/FUNCTION. A refusal has a code and a name.";
 
 // The path of an office, which is required.
 fn file_arg<'a>(alloc: Global) -> Arg<'a>

@@ -38,7 +38,7 @@ MigratesTables old new result = (from : RbacState) → from.version ≡ 1 → Is
 
 -- the table of locks could be created, a state of version 1 was read, and `made` is this state in version 2
 abbrev pub IsMigratedFrom : Database → RbacState → Type 0
-IsMigratedFrom db made = IsTrue (may_lock db.schema) × (first : RbacState) × IsStateOfContents (contents_of db) first × (first.version ≡ 1) × (made ≡ migrated_to_version_2 first)
+IsMigratedFrom db made = IsTrue (may_lock db.schema) × (before : RbacState) × IsStateOfContents (contents_of db) before × (before.version ≡ 1) × (made ≡ migrated_to_version_2 before)
 
 -- the state that was durable was of version 1, and it is durable in version 2 now
 abbrev pub MigratesDurably : State → State → RbacState → Type 0

@@ -49,23 +49,23 @@ NeverFalls before now = (now ≡ before) ⊎ ((before ≡ 1) × (now ≡ 2))
 
 -- except for the version, which never falls, T is the state after a prefix of the accepted commands of the run, and the prefix
 -- has every acknowledged one
-pub record IsAfterPrefix (life : OfficeRun) (T : RbacState) : Type 0 where
+pub record IsAfterPrefix (office_run : OfficeRun) (T : RbacState) : Type 0 where
   -- the prefix, and what it lacks
   pub done : List Command
   pub lost : List Command
-  pub is_prefix : accepted life.events ≡ done ++ lost
-  pub has_acknowledged : BeginsWith done (acknowledged life.events)
-  pub loses_one : MayLose life.events lost
-  pub state : IsSameButVersion (run life.start done) T
-  pub version : NeverFalls life.start.version T.version
+  pub is_prefix : accepted office_run.events ≡ done ++ lost
+  pub has_acknowledged : BeginsWith done (acknowledged office_run.events)
+  pub loses_one : MayLose office_run.events lost
+  pub state : IsSameButVersion (run office_run.start done) T
+  pub version : NeverFalls office_run.start.version T.version
 
 -- each run begins with a good state
 abbrev pub OpeningsAreGood : Type 0
-OpeningsAreGood = (before : List OfficeRun) (life : OfficeRun) (later : List OfficeRun) → AreRuns (before ++ life ∷ later) → IsGood life.start
+OpeningsAreGood = (before : List OfficeRun) (office_run : OfficeRun) (later : List OfficeRun) → AreRuns (before ++ office_run ∷ later) → IsGood office_run.start
 
 -- and each run but the first with the state after such a prefix of the run before
 abbrev pub OpeningsFollow : Type 0
-OpeningsFollow = (before : List OfficeRun) (life next : OfficeRun) (later : List OfficeRun) → AreRuns (before ++ life ∷ next ∷ later) → IsAfterPrefix life next.start
+OpeningsFollow = (before : List OfficeRun) (office_run next : OfficeRun) (later : List OfficeRun) → AreRuns (before ++ office_run ∷ next ∷ later) → IsAfterPrefix office_run next.start
 
 -- these are runs of one office, and T is the state so far of the last one, or a state that a next opening may give
 pub record IsReached (before : List OfficeRun) (last : OfficeRun) (T : RbacState) : Type 0 where

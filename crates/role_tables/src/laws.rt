@@ -11,7 +11,7 @@ ghost use Rattle.role_tables.specs.Durability.{HoldsWhatWasLeft, SameTreesHoldSa
 use admin_mgr::laws::{accepted_good, effects, empty_states, migrated_good};
 use sqlite::{Alter, Connection};
 
-/// Over every list of runs of one office (this law calls a run a life): each run begins with a good
+/// Over every list of runs of one office, which are the lives of the name: each run begins with a good
 /// state. For each run but the first this is, except for the version, the state after a prefix of the
 /// accepted commands of the run before, and the prefix has every acknowledged one. The same holds of the
 /// last run's state so far and of each state that a next opening may give. In these, an assignment or a

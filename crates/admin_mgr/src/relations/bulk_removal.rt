@@ -1,4 +1,4 @@
-//! Rows that are taken bulk_removal: the entries behind them are moved only once.
+//! Rows that are taken together: the entries behind them are moved only once.
 ghost use Rattle.std.specs.Prelude.{◌≡◌, ◌≤◌, List, true, false, length, take};
 ghost use Rattle.rbac_sets.specs.declared.row.Change.{Change};
 ghost use Rattle.rbac_sets.specs.declared.row.Change.TheVariants.{Take};

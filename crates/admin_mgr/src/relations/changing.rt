@@ -55,7 +55,7 @@ impl Relations {
     }
 
     // Makes the changes one after the other, except those of rows of the role hierarchy. Rows that are taken
-    // one after the other are taken bulk_removal.
+    // one after the other are taken together.
     pub(crate) fn change(&mut self, changes: Vec<Change>)
         requires free { AreFree self.old.facts changes.items }
         requires room { HasRoom self.old.room changes.items }

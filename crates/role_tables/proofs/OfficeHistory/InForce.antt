@@ -80,9 +80,9 @@ module _ (IsAway : RbacState → Type 0) (gives : Command → Bool) (takes : Com
         λ kept. (let before = away_before S command events closed kept in stays S command before.0 before.1),
       ))
 
-  away_opening : (life : OfficeRun) (T : RbacState) → OpensAfter life T → IsKept (IsAway life.start) life.events → IsAway T
-  away_opening life T (inl left) kept = away_left life.start life.events T left kept
-  away_opening life T (inr (M, left, first, second)) kept = subst IsAway (sym second) (migrated M (away_left life.start life.events M left kept))
+  away_opening : (office_run : OfficeRun) (T : RbacState) → OpensAfter office_run T → IsKept (IsAway office_run.start) office_run.events → IsAway T
+  away_opening office_run T (inl left) kept = away_left office_run.start office_run.events T left kept
+  away_opening office_run T (inr (M, left, first, second)) kept = subst IsAway (sym second) (migrated M (away_left office_run.start office_run.events M left kept))
 
   -- ---- over runs
 
@@ -102,10 +102,10 @@ module _ (IsAway : RbacState → Type 0) (gives : Command → Bool) (takes : Com
     | inl none ↦ absurd none
     | inr (quiet, here) ↦ away_opening last T found (elim here [ inl away ↦ inl away | inr both ↦ inr (both.0, both.1 last.start follow.0) ])
   ]
-  away_behind opens (life ∷ before) last T follow found kept =
-      away_behind (OpensAfter life) before last T follow.2 found (elim (kept_parts ((S : RbacState) → opens S → IsAway S) life.events (events_of (before ++ last ∷ [])) kept) [
+  away_behind opens (office_run ∷ before) last T follow found kept =
+      away_behind (OpensAfter office_run) before last T follow.2 found (elim (kept_parts ((S : RbacState) → opens S → IsAway S) office_run.events (events_of (before ++ last ∷ [])) kept) [
         | inl later ↦ inl later
-        | inr (quiet, here) ↦ inr (quiet, λ S opens_with. away_opening life S opens_with (elim here [ inl away ↦ inl away | inr both ↦ inr (both.0, both.1 life.start follow.0) ]))
+        | inr (quiet, here) ↦ inr (quiet, λ S opens_with. away_opening office_run S opens_with (elim here [ inl away ↦ inl away | inr both ↦ inr (both.0, both.1 office_run.start follow.0) ]))
       ])
 
   -- it is away if it was removed in force

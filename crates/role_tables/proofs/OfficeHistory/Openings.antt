@@ -15,13 +15,10 @@ use Rattle.admin_mgr.specs.Good.{IsGood}
 use Rattle.admin_mgr.specs.CommandLaws.{VersionStays}
 use Rattle.admin_mgr.specs.OfficeRun.{Event, IsClosedReply, Leaves, OfficeRun, OpensAfter, AreSuccessiveRuns, may_have_taken_effect}
 use Rattle.role_tables.specs.OfficeHistory.{acknowledged, accepted, MayLose, NeverFalls, IsAfterPrefix, OpeningsAreGood, OpeningsFollow, IsReached, LastIsSound}
+use Rattle.role_tables.specs.Runs.{run_of}
 use Rattle.role_tables.proofs.OfficeHistory.Known.{GoodnessLaws}
 use Rattle.role_tables.proofs.OfficeHistory.Induction.{event_with, by_events}
 use Rattle.role_tables.proofs.OfficeHistory.Calls.{so_far_left}
-
--- the run of these events from S on
-abbrev life_of : RbacState → List Event → OfficeRun
-life_of S events = record { start = S; events = events }
 
 -- ---- the state after a prefix
 
@@ -45,9 +42,9 @@ lost_of_more : (event : Event) (events : List Event) (lost : List Command) → M
 lost_of_more event events [] may = tt
 lost_of_more event events (command ∷ commands) may = (Contains-append_right (event ∷ []) events _ may.0, may.1)
 
-prefix_left : VersionStays → (S : RbacState) (events : List Event) (T : RbacState) → Leaves S events T → IsAfterPrefix (life_of S events) T
+prefix_left : VersionStays → (S : RbacState) (events : List Event) (T : RbacState) → Leaves S events T → IsAfterPrefix (run_of S events) T
 unfolding run
-prefix_left stays = by_events (λ S events T. IsAfterPrefix (life_of S events) T)
+prefix_left stays = by_events (λ S events T. IsAfterPrefix (run_of S events) T)
     (λ S. record { done = []; lost = []; is_prefix = refl; has_acknowledged = ([], refl); loses_one = tt; state = refl; version = inl refl })
     (λ S T command told events none rest. record {
       done = command ∷ rest.done;
@@ -101,16 +98,16 @@ module _ (laws : GoodnessLaws) where
       (λ S command events none closed. (λ good. good, λ good. laws.accepted S good command none))
 
   -- a state that a next opening may give is good
-  pub good_opening : (life : OfficeRun) → IsGood life.start → (T : RbacState) → OpensAfter life T → IsGood T
-  good_opening life good T (inl left) = good_left life.start life.events T left good
-  good_opening life good T (inr (M, left, first, taken)) = subst IsGood (sym taken) (laws.migrated M (good_left life.start life.events M left good) first)
+  pub good_opening : (office_run : OfficeRun) → IsGood office_run.start → (T : RbacState) → OpensAfter office_run T → IsGood T
+  good_opening office_run good T (inl left) = good_left office_run.start office_run.events T left good
+  good_opening office_run good T (inr (M, left, first, taken)) = subst IsGood (sym taken) (laws.migrated M (good_left office_run.start office_run.events M left good) first)
 
   -- and it is the state after a prefix: a state that is migrated to version 2 had no locks
-  prefix_opening : (life : OfficeRun) → IsGood life.start → (T : RbacState) → OpensAfter life T → IsAfterPrefix life T
-  prefix_opening life good T (inl left) = prefix_left laws.version life.start life.events T left
-  prefix_opening life good T (inr (M, left, first, taken)) =
-      let it = prefix_left laws.version life.start life.events M left in
-      let better = good_left life.start life.events M left good in
+  prefix_opening : (office_run : OfficeRun) → IsGood office_run.start → (T : RbacState) → OpensAfter office_run T → IsAfterPrefix office_run T
+  prefix_opening office_run good T (inl left) = prefix_left laws.version office_run.start office_run.events T left
+  prefix_opening office_run good T (inr (M, left, first, taken)) =
+      let it = prefix_left laws.version office_run.start office_run.events M left in
+      let better = good_left office_run.start office_run.events M left good in
       let second : record M { version = 2 } ≡ T = ap (λ (locks : Names). record M { version = 2; locked = locks }) (better.no_locks first) ∙ sym taken in
       record {
         done = it.done;
@@ -118,7 +115,7 @@ module _ (laws : GoodnessLaws) where
         is_prefix = it.is_prefix;
         has_acknowledged = it.has_acknowledged;
         loses_one = it.loses_one;
-        state = ap (λ (X : RbacState). record (run life.start it.done) { version = X.version }) taken
+        state = ap (λ (X : RbacState). record (run office_run.start it.done) { version = X.version }) taken
             ∙ ap (λ (X : RbacState). record X { version = 2 }) it.state ∙ second;
         version = inr (elim it.version [ inl same ↦ sym same ∙ first | inr rises ↦ rises.0 ], ap (λ (X : RbacState). X.version) taken);
       }
@@ -126,23 +123,23 @@ module _ (laws : GoodnessLaws) where
   -- ---- in a list of runs
 
   -- a run of the list begins with a good state, and the runs after it follow on
-  run_at : (opens : RbacState → Type 0) → ((S : RbacState) → opens S → IsGood S) → (before : List OfficeRun) (life : OfficeRun) (later : List OfficeRun) →
-      AreSuccessiveRuns opens (before ++ life ∷ later) → IsGood life.start × ((T : RbacState) × Leaves life.start life.events T) × AreSuccessiveRuns (OpensAfter life) later
-  run_at opens good [] life later follow = (good life.start follow.0, follow.1, follow.2)
-  run_at opens good (first ∷ before) life later follow =
-      run_at (OpensAfter first) (good_opening first (good first.start follow.0)) before life later follow.2
+  run_at : (opens : RbacState → Type 0) → ((S : RbacState) → opens S → IsGood S) → (before : List OfficeRun) (office_run : OfficeRun) (later : List OfficeRun) →
+      AreSuccessiveRuns opens (before ++ office_run ∷ later) → IsGood office_run.start × ((T : RbacState) × Leaves office_run.start office_run.events T) × AreSuccessiveRuns (OpensAfter office_run) later
+  run_at opens good [] office_run later follow = (good office_run.start follow.0, follow.1, follow.2)
+  run_at opens good (first ∷ before) office_run later follow =
+      run_at (OpensAfter first) (good_opening first (good first.start follow.0)) before office_run later follow.2
 
   first_good : (S : RbacState) → ((S ≡ empty_state 1) ⊎ (S ≡ empty_state 2)) → IsGood S
   first_good S (inl e) = subst IsGood (sym e) (laws.empty 1 (inl refl))
   first_good S (inr e) = subst IsGood (sym e) (laws.empty 2 (inr refl))
 
   pub openings_are_good : OpeningsAreGood
-  openings_are_good before life later are = (run_at _ first_good before life later are).0
+  openings_are_good before office_run later are = (run_at _ first_good before office_run later are).0
 
   pub openings_follow : OpeningsFollow
-  openings_follow before life following later are =
-      let here = run_at _ first_good before life (following ∷ later) are in
-      prefix_opening life here.0 following.start here.2.0
+  openings_follow before office_run following later are =
+      let here = run_at _ first_good before office_run (following ∷ later) are in
+      prefix_opening office_run here.0 following.start here.2.0
 
   -- the state so far is one of those that a next opening may give
   pub reached_opens : (before : List OfficeRun) (last : OfficeRun) (T : RbacState) → IsReached before last T → OpensAfter last T
