@@ -22,6 +22,7 @@ MODULES = [
     "model",
     "counts",
     "proofs",
+    "specs",
     "paths",
     "architecture",
 ]

@@ -48,5 +48,8 @@ def check_definitions(bench):
     """The part of a crate names each file of its specs/."""
     for crate, text in parts().items():
         named = set(re.findall(r"\w+", text[text.index("specs/:") :]))
-        there = {path.stem for path in (CRATES / crate / "specs").glob("*.antt")} - {"Lib"}
+        there = {path.stem for path in (CRATES / crate / "specs").rglob("*.antt")} - {"Lib", "private"}
         bench.same(f"definitions of {crate} that are not named", sorted(there - named), [])
+        apart = {path.stem for path in (CRATES / crate / "specs/private").glob("*.antt")}
+        named = set(re.findall(r"\w+", text.partition("specs/private/:")[2]))
+        bench.same(f"definitions of {crate} that are named as private", sorted(named & there), sorted(apart))
