@@ -1,4 +1,4 @@
-"""The page of the proofs: the files that a new command touches are those that name every command."""
+"""The page of the proofs: it names each lemma file, and the files that a new command touches are those that name every command."""
 
 import re
 import subprocess
@@ -9,6 +9,9 @@ ADDING = markdown.section(markdown.page("PROOFS.md"), "## How to add a command")
 
 # What is never written by hand for one command, or has commands in rows of their own.
 BESIDE = ("release/", "tests/rows/", "tests/edits/", "docs/PROOFS.md")
+
+# The proofs of one function, and lists of modules.
+OF_FUNCTIONS = {"Answers", "Invariants", "Lib"}
 
 
 def words_of(path):
@@ -49,8 +52,12 @@ def check_adding(bench):
 
 
 def check_lemma_files(bench):
-    """Each file that the tables of lemma files name is there, and each file of these folders is named."""
-    text = markdown.section(markdown.page("PROOFS.md"), "## The lemma files")
+    """Each lemma file is named, and each file that the tables of lemma files name is there."""
+    page = markdown.page("PROOFS.md")
+    paths = [path for path in (sources.ROOT / "crates").glob("*/proofs/**/*.antt") if path.stem not in OF_FUNCTIONS]
+    left = {str(path.relative_to(sources.ROOT)) for path in paths if not re.search(rf"\b{path.stem}\b", page)}
+    bench.same("lemma files that are not named", sorted(left), [])
+    text = markdown.section(page, "## The lemma files")
     parts = re.findall(r"\*\*proofs/(\w+)\*\*.*?\n\n(\|.*?)\n\n", text, re.S)
     bench.same("folders with a table", len(parts), 5)
     for folder, rows in parts:
