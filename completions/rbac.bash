@@ -5,7 +5,7 @@ _rbac() {
     local commands='init replay serve import export report check migrate help'
     COMPREPLY=()
     if [ "$COMP_CWORD" -eq 1 ]; then
-        given="$commands -h --help"
+        given="$commands -h --help -V --version"
     elif [ "$before" = --port ] || [ "$before" = --limit ] || [ "$before" = = ]; then
         return
     else

@@ -1,17 +1,18 @@
 # Completions of rbac for fish. tests/package.py compares them with the sources of the command line.
 
 complete -c rbac -n __fish_use_subcommand -f
-complete -c rbac -n __fish_use_subcommand -a init -d 'Create an office'
-complete -c rbac -n __fish_use_subcommand -a replay -d 'Answer request lines'
-complete -c rbac -n __fish_use_subcommand -a serve -d 'Answer requests over HTTP'
-complete -c rbac -n __fish_use_subcommand -a import -d 'Assign users to roles from a CSV file'
-complete -c rbac -n __fish_use_subcommand -a export -d 'Print the assignments as CSV'
-complete -c rbac -n __fish_use_subcommand -a report -d 'Print a line for each role'
-complete -c rbac -n __fish_use_subcommand -a check -d 'Check an office'
-complete -c rbac -n __fish_use_subcommand -a migrate -d 'Migrate an office to version 2'
+complete -c rbac -n __fish_use_subcommand -a init -d 'Make a new, empty office'
+complete -c rbac -n __fish_use_subcommand -a replay -d 'Answer the request lines of standard input'
+complete -c rbac -n __fish_use_subcommand -a serve -d 'Answer requests over HTTP on 127.0.0.1'
+complete -c rbac -n __fish_use_subcommand -a import -d 'Assign the users of a CSV file to its roles'
+complete -c rbac -n __fish_use_subcommand -a export -d 'Write the assignments as CSV'
+complete -c rbac -n __fish_use_subcommand -a report -d 'Write how many users and permissions each role has'
+complete -c rbac -n __fish_use_subcommand -a check -d 'Check that the file holds a good office'
+complete -c rbac -n __fish_use_subcommand -a migrate -d 'Migrate an office of version 1 to version 2'
 complete -c rbac -n __fish_use_subcommand -a help -d 'Print the commands'
 
 complete -c rbac -s h -l help -d 'Print help'
+complete -c rbac -n __fish_use_subcommand -s V -l version -d 'Print version'
 complete -c rbac -n '__fish_seen_subcommand_from replay' -l memory -d 'Use a new office in memory'
 complete -c rbac -n '__fish_seen_subcommand_from serve' -l port -x -d 'The port of the server'
 complete -c rbac -n '__fish_seen_subcommand_from serve' -l limit -x -d 'The number of connections'

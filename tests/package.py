@@ -35,10 +35,13 @@ MOVED = {
     "usr/share/fish/vendor_completions.d/rbac.fish": "completions/rbac.fish",
 }
 
+# The options beside the commands: of each command the first, and of the program all.
+HELP, VERSION_OPTIONS = {"-h", "--help"}, set(command_line.VERSION_OPTION.split(", "))
+
 # Functions in place of those of zsh, which print what they are given.
 OF_ZSH = """
 compdef() { :; }
-_arguments() { if [[ $1 == -C ]]; then state=$wanted; else print -rl -- "$@"; fi; }
+_arguments() { if [[ $1 == -C ]]; then state=$wanted; fi; if [[ $1 != -C || $wanted == options ]]; then print -rl -- "$@"; fi; }
 _describe() { print -rl -- "${(@P)@[-1]}"; }
 """
 
@@ -379,7 +382,7 @@ def check_bash(bench):
     path, known = ROOT / "completions/rbac.bash", known_commands()
     if not there_is("bash"):
         return
-    bench.same("the commands by bash", by_bash(path, ["rbac", ""]), ({*known, "help", "-h", "--help"}, False))
+    bench.same("the commands by bash", by_bash(path, ["rbac", ""]), ({*known, "help"} | HELP | VERSION_OPTIONS, False))
     bench.same("the commands after help by bash", by_bash(path, ["rbac", "help", ""]), ({*known, "help"}, False))
     for command, (options, files) in known.items():
         wanted = ({*options, "--help"}, False)
@@ -395,8 +398,11 @@ def check_zsh(bench):
     path, known = ROOT / "completions/_rbac", known_commands()
     if not there_is("zsh"):
         return
-    listed = [line.partition(":")[0] for line in by_zsh(path, "command", [])]
-    bench.same("the commands by zsh", listed, [*known, "help"])
+    *listed, last = by_zsh(path, "command", [])
+    bench.same("the commands by zsh", listed, [f"{name}:{use}" for name, use, _ in command_line.commands()])
+    bench.same("the last command by zsh", last.partition(":")[0], "help")
+    listed = re.findall(r"^(?:\(.*?\))?(-[\w-]+)\[", "\n".join(by_zsh(path, "options", [])), re.M)
+    bench.same("the options by zsh", set(listed), HELP | VERSION_OPTIONS)
     bench.same("the commands after help by zsh", by_zsh(path, "argument", ["help"]), by_zsh(path, "command", []))
     for command, (options, files) in known.items():
         listed = by_zsh(path, "argument", [command])
@@ -416,6 +422,9 @@ def check_fish(bench):
     commands = by_fish(path, "rbac ", folder)
     bench.same("the commands by fish", set(commands), {*known, "help"})
     bench.same("the commands after help by fish", set(by_fish(path, "rbac help ", folder)), {*known, "help"})
+    uses = {name: use for name, use, _ in command_line.commands()}
+    bench.same("what fish says of the commands", {**commands, **uses}, commands)
+    bench.same("the options by fish", set(by_fish(path, "rbac --", folder)), {"--help", "--version"})
     for command, (options, files) in known.items():
         bench.same(f"the options of {command} by fish", set(by_fish(path, f"rbac {command} --", folder)), {*options, "--help"})
         offered = set(by_fish(path, f"rbac {command} o", folder))

@@ -44,6 +44,29 @@ refused replay extra --memory
 refused Replay --memory
 refused 'replay --memory'
 
+# The version is that of the file VERSION.
+timeout 60 "$program" --version >"$work/stdout" 2>"$work/stderr"
+status=$?
+if printf 'rbac %s\n' "$(cat "$tests/../VERSION")" | cmp - "$work/stdout"; then
+    ends "words '--version'" 0 ""
+else
+    fail "words '--version': the output is: $(cat "$work/stdout")"
+fi
+
+# The help lists each command with what it is for, and the help of the command begins with that.
+timeout 60 "$program" --help >"$work/help"
+for command in init replay serve import export report check migrate; do
+    listed=$(sed -n "s/^  $command  *//p" "$work/help")
+    timeout 60 "$program" "$command" --help >"$work/stdout" 2>"$work/stderr"
+    status=$?
+    said=$(head -n 1 "$work/stdout")
+    if [ -n "$listed" ] && [ "$said" = "$listed" ]; then
+        ends "the help of $command" 0 ""
+    else
+        fail "the help of $command begins with '$said', and the help lists it with '$listed'"
+    fi
+done
+
 timeout 60 "$program" replay --memory <"$first" >/dev/full 2>"$work/stderr"
 status=$?
 ends "a full standard output" 1 "rbac: stop Write after 0"

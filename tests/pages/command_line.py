@@ -1,4 +1,5 @@
-"""What the sources say of the command line: its commands, their arguments, and the numbers among these."""
+"""What the sources say of the command line: its commands and what they are for, their arguments, the numbers among these, and
+the version."""
 
 import re
 
@@ -6,6 +7,12 @@ from .sources import source
 
 # The letters that pages give to the numbers.
 LETTERS = {"port": "P", "limit": "N"}
+
+# The option that `clap` adds to a program with a version.
+VERSION_OPTION = "-V, --version"
+
+# How a command of the program is made: its variable, a function, and the name and the use of one with a file alone.
+MADE = r'let (\w+) = (\w+)\(\s*alloc(?:,\s*"(\w+)",\s*"([^"]*)",?\s*)?\)\?;'
 
 # The most that a number of a type can be.
 MOST = {"u16": 2**16 - 1, "u32": 2**32 - 1}
@@ -27,23 +34,35 @@ def argument(body):
     return f"--{name}" if "SetTrue" in body else f"--{name} {LETTERS[name]}"
 
 
+def commands():
+    """The commands in their order: the name of each, what its help says, and the body of the function that makes it."""
+    bodies = functions()
+    for caller in ("first_three", "first_six", "program_command"):
+        made = {name: (function, word or name, use) for name, function, word, use in re.findall(MADE, bodies[caller])}
+        for name in re.findall(r"\.subcommand\((\w+)\)", bodies[caller]):
+            function, word, use = made[name]
+            yield word, use or re.findall(r'\.about\("([^"]*)"\)', bodies[function])[0], bodies[function]
+
+
 def forms():
     """The forms of the command line, in their order: a command with its arguments. A replay has one form for each office."""
     bodies, lines = functions(), []
-    for caller in ("first_three", "first_six", "program_command"):
-        made = re.findall(r'let (\w+) = (\w+)\(alloc(?:, "(\w+)")?\)\?;', bodies[caller])
-        made = {name: (function, word or name) for name, function, word in made}
-        for name in re.findall(r"\.subcommand\((\w+)\)", bodies[caller]):
-            function, word = made[name]
-            words = [argument(bodies[one]) for one in re.findall(r"\.arg\((\w+)\(alloc\)\)", bodies[function])]
-            lines += [f"{word} {one}" for one in words] if word == "replay" else [" ".join([word, *words])]
+    for word, _, body in commands():
+        words = [argument(bodies[one]) for one in re.findall(r"\.arg\((\w+)\(alloc\)\)", body)]
+        lines += [f"{word} {one}" for one in words] if word == "replay" else [" ".join([word, *words])]
     return lines
 
 
 def options():
     """The options of the command line, as they are written in it."""
     told = [argument(body) for name, body in functions().items() if "Arg::new" in body]
-    return [option for option in told if option.startswith("--")]
+    return [*[option for option in told if option.startswith("--")], *([VERSION_OPTION] if version() else [])]
+
+
+def version():
+    """The version that the program prints, or an empty text if it prints none."""
+    (text,) = re.findall(r'^const VERSION: &str = "([^"]*)";', source("role_cli/src/command_line.rt"), re.M)
+    return text if ".version(VERSION)" in functions()["first_three"] else ""
 
 
 def ranges():

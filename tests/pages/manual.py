@@ -110,6 +110,7 @@ def check_macros(bench):
     first = rf'\.TH RBAC 1 \d{{4}}-\d\d-\d\d "Bitzolanu {re.escape(version)}" "User commands"'
     bench.same("the first line", bool(re.fullmatch(first, lines[0])), True)
     bench.same("the version", f"This page describes version {version}." in section("VERSION"), True)
+    bench.same("the version that the program prints", command_line.version(), version)
     used = [line[1:].split(" ")[0] for line in lines if line.startswith(".")]
     bench.same("unknown macros", set(used) - MACROS, set())
     bench.same("lines that begin with a quote, or are empty", [line for line in lines if not line or line[0] == "'"], [])
