@@ -186,5 +186,7 @@ def check_lines(bench):
     (table,) = markdown.tables(markdown.section(markdown.page("PROOFS.md"), "## What an auditor has to believe"))
     counts = {f"`{crate}`": lines_of(crate) for crate in sorted({crate for crate, _ in files()})}
     counts["all"] = tuple(map(sum, zip(*counts.values())))
-    wanted = {name: [f"{count:,}" for count in numbers] for name, numbers in counts.items()}
-    bench.same("the lines of definitions", {row[0]: row[1:4] for row in table}, wanted)
+    listed = {row[0]: row[1:4] for row in table}
+    bench.same("the crates with definitions", sorted(listed), sorted(counts))
+    for name, numbers in counts.items():
+        bench.same(f"the lines of definitions of {name}", listed.get(name), [f"{number:,}" for number in numbers])
