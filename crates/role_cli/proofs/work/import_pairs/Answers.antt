@@ -19,7 +19,7 @@ returns-clause-ok g c =
     if_ok-then c.import_line.result _ _ c.import_line.ensures.ok (λ line text. (
       import_text (tally_of_report c.in_ok-report.report),
       subst (λ answer. Performs (state g.S.Store) c.args.office.now (Change (content_of c.args.command.now)) answer c.apply.new.self) accepts
-          (command_done (state g.S.Store) c.args.office.now c.apply.new.self c.args.command.now c.apply.result e.closed e.answers e.clean e.done e.undone e.stop e.run c.in_ok-report.report is),
+          (command_done (state g.S.Store) c.args.office.now c.apply.new.self c.args.command.now c.apply.result e.closed e.answers e.clean e.done e.undone e.crash e.run c.in_ok-report.report is),
       text,
     ))
 
@@ -31,7 +31,7 @@ returns-clause-err g c =
       memory,
       (
         accepted_text (content_of c.args.command.now) (tally_of_report c.in_ok-report.report),
-        command_done (state g.S.Store) c.args.office.now c.apply.new.self c.args.command.now c.apply.result e.closed e.answers e.clean e.done e.undone e.stop e.run c.in_ok-report.report is,
+        command_done (state g.S.Store) c.args.office.now c.apply.new.self c.args.command.now c.apply.result e.closed e.answers e.clean e.done e.undone e.crash e.run c.in_ok-report.report is,
       ),
     ))
 
@@ -40,4 +40,4 @@ returns-in_err-report-clause-err g c =
     let is : c.apply.result ≡ Err c.in_err-report.field-0.0 = search rules in
     let told : c.from_residual.result ≡ Err c.in_err-report.field-0.0 = search rules in
     let e = c.apply.ensures in
-    rw told (inl (command_refused (state g.S.Store) c.args.office.now c.apply.new.self c.args.command.now c.apply.result e.closed e.answers e.clean e.done e.undone e.stop e.run c.in_err-report.field-0.0 is))
+    rw told (inl (command_refused (state g.S.Store) c.args.office.now c.apply.new.self c.args.command.now c.apply.result e.closed e.answers e.clean e.done e.undone e.crash e.run c.in_err-report.field-0.0 is))

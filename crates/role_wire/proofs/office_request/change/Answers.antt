@@ -12,11 +12,11 @@ returns-in_err-report-clause-refused g c =
     let told : c.from_residual.result ≡ Err c.in_err-report.field-0.0 = search rules in
     let e = c.apply.ensures in
     subst (λ r. IfErr r (λ refusal. Declines (state g.S.Store) c.args.office.now (Change (content_of c.args.command.now)) refusal c.apply.new.self)) (sym told)
-    (command_refused (state g.S.Store) c.args.office.now c.apply.new.self c.args.command.now c.apply.result e.closed e.answers e.clean e.done e.undone e.stop e.run c.in_err-report.field-0.0 is)
+    (command_refused (state g.S.Store) c.args.office.now c.apply.new.self c.args.command.now c.apply.result e.closed e.answers e.clean e.done e.undone e.crash e.run c.in_err-report.field-0.0 is)
 
 pub returns-clause-done : goal.returns-clause-done
 returns-clause-done g c =
     let is : c.apply.result ≡ Ok c.in_ok-report.report = search rules in
     let e = c.apply.ensures in
     subst (λ text. Performs (state g.S.Store) c.args.office.now (Change (content_of c.args.command.now)) text c.apply.new.self) (sym c.verdict_on.ensures)
-    (command_done (state g.S.Store) c.args.office.now c.apply.new.self c.args.command.now c.apply.result e.closed e.answers e.clean e.done e.undone e.stop e.run c.in_ok-report.report is)
+    (command_done (state g.S.Store) c.args.office.now c.apply.new.self c.args.command.now c.apply.result e.closed e.answers e.clean e.done e.undone e.crash e.run c.in_ok-report.report is)
