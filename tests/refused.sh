@@ -5,7 +5,7 @@
 # They are in the crates `memory_tests` and `office_tests`.
 
 # The built tests of the crates, which `rt ci` leaves there, are the programs.
-RBAC_PROGRAM=$(dirname "$0")/../crates/memory_tests/out/memory_calls_tests
+RBAC_PROGRAM=$(dirname "$0")/../crates/memory_tests/out/memory_tests_tests
 . "$(dirname "$0")/common"
 
 # More allocations than a test makes.
