@@ -14,9 +14,6 @@ CRATES = sources.ROOT / "crates"
 # The files that only list modules.
 LISTS = {"Lib", "private"}
 
-# A module of private contracts alone that is not in its folder specs/private/: to move it all crates above have to be proved.
-LEFT = [("admin_mgr", "Holders")]
-
 # How a definition begins. In a block of parameters it is indented.
 BEGINS = re.compile(r"( {0,2})(?:abbrev |unfoldable )?(?:pub (?:record |data )?([^\s:(]+)|([^\s:(]+)(?= : ))")
 
@@ -171,7 +168,7 @@ def check_private(bench):
     public, there = reached(), files()
     apart = {module for module, path in there.items() if path.parent.name == "private"}
     bench.same("modules in specs/private that a public contract reaches", sorted(apart & public), [])
-    bench.same("modules that are not there, and no public contract reaches", sorted(set(there) - public - apart), LEFT)
+    bench.same("modules that are not there, and no public contract reaches", sorted(set(there) - public - apart), [])
 
 
 def lines_of(crate):

@@ -5,7 +5,6 @@ pub mod Changes
 pub mod CommandContent
 pub mod CommandLaws
 pub mod Good
-pub mod Holders
 pub mod Laws
 pub mod OfficeRun
 pub mod PlanEffect

@@ -2,6 +2,7 @@
 pub mod BulkRemoval
 pub mod CheckTests
 pub mod HolderRoles
+pub mod Holders
 pub mod ImportPlan
 pub mod NumberedSeparation
 pub mod PlainPlan

@@ -6,7 +6,7 @@ ghost use Rattle.order_matrix.specs.Table.{table_of};
 ghost use Rattle.admin_mgr.specs.RbacState.{active_roles};
 ghost use Rattle.admin_mgr.specs.Authorization.{is_authorized};
 ghost use Rattle.admin_mgr.specs.private.HolderRoles.{is_reached};
-ghost use Rattle.admin_mgr.specs.Holders.{runs_of};
+ghost use Rattle.admin_mgr.specs.private.Holders.{runs_of};
 ghost use Rattle.admin_mgr.specs.StateWithRoom.{separation_of};
 ghost use Rattle.admin_mgr.specs.private.CheckTests.{late_refusal, are_kept, are_roles_there, has_cardinalities, have_authorized_users, have_unlocked_users};
 

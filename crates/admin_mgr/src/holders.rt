@@ -17,7 +17,7 @@ pub(crate) enum Runs<'a> {
 impl<'a> Iterator for Runs<'a> {
     type Item = &'a [(Name, Name)];
 
-    ghost use Rattle.admin_mgr.specs.Holders.{runs_left};
+    ghost use Rattle.admin_mgr.specs.private.Holders.{runs_left};
 
     ghost next_gives = { YieldsFirstRef runs_left };
 

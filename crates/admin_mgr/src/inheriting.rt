@@ -9,7 +9,7 @@ ghost use Rattle.std.specs.Option.{option_copied};
 ghost use Rattle.rbac_sets.specs.Sets.{Cardinality, Pair, all, contains, members, pair_cmp};
 ghost use Rattle.rbac_sets.specs.SortedSet.{set_of};
 ghost use Rattle.admin_mgr.specs.private.HolderRoles.{find_violated, is_reached, is_touched, run_of};
-ghost use Rattle.admin_mgr.specs.Holders.{runs_of};
+ghost use Rattle.admin_mgr.specs.private.Holders.{runs_of};
 ghost use Rattle.admin_mgr.specs.private.SeparationOfDuty.{sets_of};
 
 use crate::held::{is_reached, is_touched};

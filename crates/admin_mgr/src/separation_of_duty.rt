@@ -2,7 +2,7 @@
 ghost use Rattle.std.specs.Prelude.{◌≡◌};
 ghost use Rattle.rbac_sets.specs.Sets.{cardinality_cmp, pair_cmp};
 ghost use Rattle.rbac_sets.specs.SortedSet.{set_of};
-ghost use Rattle.admin_mgr.specs.Holders.{runs_left, runs_of};
+ghost use Rattle.admin_mgr.specs.private.Holders.{runs_left, runs_of};
 ghost use Rattle.admin_mgr.specs.RbacState.{cardinality_of};
 ghost use Rattle.admin_mgr.specs.private.SeparationOfDuty.{cardinality_rows, kind_of, member_rows, refusal_of, sets_of};
 

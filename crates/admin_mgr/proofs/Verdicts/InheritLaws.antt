@@ -23,7 +23,7 @@ use Rattle.admin_mgr.specs.Assignment.{may_go_on}
 use Rattle.admin_mgr.specs.After.{changed, after}
 use Rattle.admin_mgr.specs.Good.{IsGood}
 use Rattle.admin_mgr.specs.private.HolderRoles.{run_of, is_reached, reached_members, reached_with, is_touched, is_violated, naming_first}
-use Rattle.admin_mgr.specs.Holders.{runs_of}
+use Rattle.admin_mgr.specs.private.Holders.{runs_of}
 use Rattle.admin_mgr.proofs.Verdicts.AuthorizationLaws.{authorized_reached}
 use Rattle.admin_mgr.proofs.Verdicts.KeepLaws.{same_where, kept_members, kept_before}
 use Rattle.admin_mgr.proofs.StateAfter.SessionLaws.{none_ends_where}

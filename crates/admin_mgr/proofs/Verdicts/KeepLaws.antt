@@ -18,7 +18,7 @@ use Rattle.admin_mgr.specs.Separation.{is_kept_statically, is_kept_dynamically}
 use Rattle.admin_mgr.specs.private.SeparationOfDuty.{sets_of, is_kept}
 use Rattle.admin_mgr.specs.Good.{IsGood}
 use Rattle.admin_mgr.specs.private.HolderRoles.{run_of, is_reached, reached_roles, reached_members}
-use Rattle.admin_mgr.specs.Holders.{runs_of}
+use Rattle.admin_mgr.specs.private.Holders.{runs_of}
 use Rattle.admin_mgr.proofs.Verdicts.AuthorizationLaws.{authorized_roles_count, session_roles_count, reached_seconds}
 use Rattle.admin_mgr.proofs.Verdicts.SetCommandViolations.{kept_sets}
 

@@ -20,7 +20,7 @@ use Rattle.admin_mgr.specs.RowChecks.{IsComplete}
 use Rattle.admin_mgr.specs.StoredSets.{StoredSets}
 use Rattle.admin_mgr.specs.Good.{IsWellFormed}
 use Rattle.admin_mgr.specs.private.HolderRoles.{find_violated, is_reached, is_touched, reached_members, reached_with, run_of}
-use Rattle.admin_mgr.specs.Holders.{runs_of}
+use Rattle.admin_mgr.specs.private.Holders.{runs_of}
 use Rattle.admin_mgr.specs.private.NumberedSeparation.{first_violated_by, keep_all, keep_below}
 use Rattle.admin_mgr.specs.private.SeparationOfDuty.{is_kept, sets_of}
 use Rattle.admin_mgr.specs.private.CheckTests.{are_kept, are_roles_there, are_seconds_in}

@@ -1,5 +1,5 @@
 use Rattle.std.proofs.lemmas.Iterator.Consumers.{YieldsList-from_first, map_from_collect}
-use Rattle.admin_mgr.specs.Holders.{runs_left}
+use Rattle.admin_mgr.specs.private.Holders.{runs_left}
 use Rattle.admin_mgr.proofs.checking.all_runs.Goals as goal
 
 pub returns : goal.returns

@@ -1,7 +1,7 @@
 use Rattle.std.proofs.Common.{rules, ◌∙◌, ap}
 use Rattle.std.proofs.lemmas.Iterator.Consumers.{YieldsList-at, YieldsList-from_filter, YieldsList-from_first, map_from_collect}
 use Rattle.admin_mgr.specs.private.HolderRoles.{is_reached}
-use Rattle.admin_mgr.specs.Holders.{runs_left, runs_of}
+use Rattle.admin_mgr.specs.private.Holders.{runs_left, runs_of}
 use Rattle.admin_mgr.proofs.inheriting.runs_with_role.Goals as goal
 
 pub returns : goal.returns

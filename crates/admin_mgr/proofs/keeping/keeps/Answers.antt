@@ -3,7 +3,7 @@ use Rattle.std.proofs.lemmas.Iterator.Consumers.{YieldsList-from_first}
 use Rattle.std.proofs.lemmas.Iterator.Search.{all_from_yields_List}
 use Rattle.rbac_sets.specs.Sets.{name_cmp}
 use Rattle.rbac_sets.specs.SortedSet.{set_of}
-use Rattle.admin_mgr.specs.Holders.{runs_left, runs_of}
+use Rattle.admin_mgr.specs.private.Holders.{runs_left, runs_of}
 use Rattle.admin_mgr.proofs.Verdicts.KeepLaws.{kept_by_runs}
 use Rattle.admin_mgr.proofs.keeping.keeps.Goals as goal
 

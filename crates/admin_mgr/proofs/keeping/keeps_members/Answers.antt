@@ -2,7 +2,7 @@ use Rattle.std.proofs.Common.{rules, sym, ◌∙◌}
 use Rattle.std.proofs.lemmas.Iterator.Consumers.{YieldsList-from_first}
 use Rattle.std.proofs.lemmas.Iterator.Search.{all_from_yields_List}
 use Rattle.admin_mgr.specs.private.SeparationOfDuty.{sets_of}
-use Rattle.admin_mgr.specs.Holders.{runs_left}
+use Rattle.admin_mgr.specs.private.Holders.{runs_left}
 use Rattle.admin_mgr.proofs.Verdicts.KeepLaws.{kept_members}
 use Rattle.admin_mgr.proofs.keeping.keeps_members.Goals as goal
 

@@ -1,7 +1,7 @@
 use Rattle.std.proofs.Common.{rules, ◌∙◌, ap}
 use Rattle.std.proofs.lemmas.Iterator.Consumers.{YieldsList-from_first}
 use Rattle.std.proofs.lemmas.Iterator.Search.{all_from_yields_List}
-use Rattle.admin_mgr.specs.Holders.{runs_left, runs_of}
+use Rattle.admin_mgr.specs.private.Holders.{runs_left, runs_of}
 use Rattle.admin_mgr.proofs.Verdicts.KeepLaws.{with_member}
 use Rattle.admin_mgr.proofs.keeping.keeps_with.Goals as goal
 
