@@ -14,7 +14,7 @@ CRATES = sources.ROOT / "crates"
 # The files that only list modules.
 LISTS = {"Lib", "private"}
 
-# A module of private contracts alone that is not in its folder specs/private/: to move it all crates above have to be proved.
+# A module that no public contract reaches, and that is not in specs/private/ yet: moving it changes what a whole proof depends on.
 LEFT = [("admin_mgr", "Holders")]
 
 # How a definition begins. In a block of parameters it is indented.
