@@ -51,6 +51,8 @@ REFUSED = [
     "serve FILE --port 8080 --limit 4294967297",
     "serve FILE --port 8080 --limit -1",
     "serve FILE --port 8080 --limit many",
+    "serve --version",
+    "check FILE --version",
 ]
 
 # Whole command lines, and how many further arguments are tried behind each of them.
