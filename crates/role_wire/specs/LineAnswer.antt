@@ -1,4 +1,4 @@
--- How an office answers lines. The definitions in this file are used only in private contracts.
+-- How an office answers lines, as the definition of an office that answers lines has it.
 use Rattle.std.specs.Prelude.{◌≡◌, ◌⊎◌, true, ℕ, List, Result, Ok, Err, if◌then◌else◌}
 use Rattle.sqlite.specs.Held.{Held}
 use Rattle.sqlite.specs.State.{State}
