@@ -22,9 +22,8 @@ REPLYING = [
 
 # The greatest sizes of a request: the file of each, and its name there.
 SIZES = {
-    "bytes of a line, its LF not counted": ("role_wire/src/lines.rt", "LONGEST_LINE"),
-    "bytes of a body of JSON": ("role_http/src/judge.rt", "MOST_JSON"),
-    "bytes of a body of CSV": ("role_http/src/judge.rt", "MOST_CSV"),
+    "bytes of a line, its LF not counted": ("role_json/src/request.rt", "LONGEST_LINE"),
+    "bytes of a body of JSON": ("role_json/src/request.rt", "LONGEST_LINE"),
     "bytes of the head of a request": ("role_http/src/head.rt", "MOST_BYTES"),
     "fields of a head": ("role_http/src/head.rt", "MOST_FIELDS"),
 }
@@ -143,7 +142,7 @@ def limits():
 
 def sizes():
     """The greatest sizes of a request, by what they are of."""
-    told = {}
+    told = {"bytes of a body of CSV": limits()["byte"][0]}
     for words, (path, name) in SIZES.items():
         (number,) = found(rf"const {name}: \w+ = ([\d_]+);", path)
         told[words] = int(number)
@@ -164,9 +163,9 @@ def statuses():
 
 def codes_by_status(met):
     """The codes that are answered with each status. Of those that functions meet, what no arm names are conflicts."""
-    told = {}
-    for codes, name in found(r"^ +(\d[\d |]*) => StatusCode::(\w+),", "role_http/src/status.rt"):
-        told[STATUSES[name]] = {int(code) for code in codes.split(" | ")}
+    told, codes = {}, {name: code for code, (name, _) in refusals().items()}
+    for variants, name in found(r"^ +(Refusal::.*) => StatusCode::(\w+),", "role_http/src/status.rt"):
+        told[STATUSES[name]] = {codes[variant] for variant in re.findall(r"Refusal::(\w+)", variants)}
     (other,) = found(r"^ +_ => StatusCode::(\w+),", "role_http/src/status.rt")
     named = set().union(*told.values())
     return {**told, STATUSES[other]: set(met) - named}

@@ -9,8 +9,8 @@ ghost use Rattle.admin_mgr.specs.private.HolderRoles.{is_reached, reached_roles,
 use rbac_sets::{Name, PairSet};
 use role_order::RoleOrder;
 
-// Whether the holder of these pairs has the role.
-pub(crate) fn is_reached(order: &RoleOrder, held: &[(Name, Name)], role: &Name) -> bool
+/// Whether the role is the second name of one of the pairs, or a junior of one.
+pub fn is_reached(order: &RoleOrder, held: &[(Name, Name)], role: &Name) -> bool
     ensures { result ≡ is_reached order.now.edges held.now role.now }
 {
     held.iter().any(|pair| order.geq(&pair.1, role))

@@ -30,11 +30,12 @@
 //! ```
 #![tactic(auto)]
 
+pub use held::is_reached;
 pub use plan::{Plan, Report};
 pub use state::State;
 
 mod checking;
-mod held;
+pub mod held;
 mod holders;
 mod inheriting;
 mod judge;

@@ -2,34 +2,11 @@
 ghost use Rattle.std.specs.Prelude.{◌≡◌, ◌||◌, find, filter};
 ghost use Rattle.std.specs.List.{list_any, list_all};
 ghost use Rattle.std.specs.Option.{option_map};
-ghost use Rattle.rbac_sets.specs.Sets.{Pair, Cardinality, name_cmp, pair_cmp, cardinality_cmp, any, all, contains, members, same_name};
+ghost use Rattle.rbac_sets.specs.Sets.{Pair, Cardinality, name_cmp, pair_cmp, cardinality_cmp, all, contains, members, same_name};
 ghost use Rattle.rbac_sets.specs.SortedSet.{set_of};
 ghost use Rattle.admin_mgr.specs.private.CheckTests.{are_firsts_in, are_seconds_in};
 
-use rbac_sets::{CountSet, Name, NameSet, PairSet};
-
-// Whether the two names are equal.
-#[tactic(auto, using(rbac_sets::proofs::SetLaws::same_bytes))]
-pub(crate) fn is_same(a: &Name, b: &Name) -> bool
-    ensures { result ≡ same_name a.now b.now }
-{
-    a == b
-}
-
-// Whether a pair begins with this name.
-#[tactic(auto, using(rbac_sets::proofs::Lists::any_filter), unfolding(rbac_sets::specs::Sets::any))]
-pub(crate) fn has_first(pairs: &PairSet, first: &Name) -> bool
-    ensures { result ≡ any (λ (pair : Pair). same_name pair.0 first.now) (set_of pair_cmp pairs.now) }
-{
-    !pairs.with_first(first).is_empty()
-}
-
-// Whether a pair ends with this name.
-pub(crate) fn has_second(pairs: &[(Name, Name)], second: &Name) -> bool
-    ensures { result ≡ list_any (λ (pair : Pair). same_name pair.1 second.now) pairs.now }
-{
-    pairs.iter().any(|pair| is_same(&pair.1, second))
-}
+use rbac_sets::{CountSet, Name, NameSet, PairSet, is_same};
 
 // Whether a pair begins or ends with this name.
 pub(crate) fn has_part(pairs: &[(Name, Name)], name: &Name) -> bool

@@ -9,7 +9,7 @@ ghost use Rattle.role_order.specs.Order.{geq};
 ghost use Rattle.role_order.specs.private.Checked.{second_cmp};
 ghost use Rattle.order_matrix.specs.Table.{table_of, entry, reaches, count_above, MatchesOrder};
 
-use rbac_sets::{Name, Refusal};
+use rbac_sets::{Name, Refusal, is_same};
 use role_order::RoleOrder;
 use std::alloc::Global;
 use std::marker::Model;
@@ -116,7 +116,7 @@ fn is_at_or_above(run: &[(Name, Name)], role: &Name, next: usize, other: &Name) 
     requires { IsStrictlySortedBy second_cmp run.now }
     ensures { result ≡ (same_name other.now role.now || list_any (λ (pair : Pair). same_name other.now pair.1) run.now) }
 {
-    is_same(other, role) || has_second(run, next, other)
+    is_same(other, role) || has_second_near(run, next, other)
 }
 
 // Whether the row has an entry of this number, and it is `true`.
@@ -124,14 +124,6 @@ fn is_set(row: &[bool], number: usize) -> bool
     ensures { result ≡ get_or row.now number false }
 {
     number < row.len() && row[number]
-}
-
-// Whether the two names are equal.
-#[tactic(auto, using(rbac_sets::proofs::SetLaws::same_bytes))]
-fn is_same(a: &Name, b: &Name) -> bool
-    ensures { result ≡ same_name a.now b.now }
-{
-    a == b
 }
 
 // Whether the first name is less than the second in byte order.
@@ -150,7 +142,7 @@ fn is_second_at(run: &[(Name, Name)], at: usize, second: &Name) -> bool
 
 // Whether one of the pairs, which are in the order of their second names, has this second name. There is
 // no search if the place at which it would be inserted is `at`.
-fn has_second(run: &[(Name, Name)], at: usize, second: &Name) -> bool
+fn has_second_near(run: &[(Name, Name)], at: usize, second: &Name) -> bool
     requires { IsStrictlySortedBy second_cmp run.now }
     ensures { result ≡ list_any (λ (pair : Pair). same_name second.now pair.1) run.now }
 {

@@ -25,10 +25,10 @@
 
 pub use command::Command;
 pub use kind::Kind;
-pub use name::{FINGERPRINTS, Name};
+pub use name::{FINGERPRINTS, Name, is_same};
 pub use refusal::Refusal;
 pub use row::{Change, Row};
-pub use sets::{CountSet, GrantSet, NameSet, PairSet};
+pub use sets::{CountSet, GrantSet, NameSet, PairSet, has_first, has_second};
 pub use sink::{MemorySink, Sink, Writer, write_all};
 pub use sorted_set::{Entry, Prefix, Probe, SortedSet, place};
 pub use source::{Fault, MemorySource, Reader, Source};

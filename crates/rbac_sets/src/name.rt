@@ -1,9 +1,10 @@
 //! Names of users, roles, objects, operations, sessions and separation of duty sets.
-ghost use Rattle.std.specs.Prelude.{◌≡◌, ◌<◌, ◌⊎◌, ◌&&◌, true, false, Err, IfOk, IfErr, nat_le, length, slice_index_or};
+ghost use Rattle.std.specs.Prelude.{◌≡◌, ◌<◌, ◌⊎◌, ◌&&◌, ◌↔◌, IsTrue, true, false, Err, IfOk, IfErr, nat_le, length, slice_index_or};
 ghost use Rattle.std.specs.List.{list_all};
 ghost use Rattle.std.specs.Ordering.{nat_cmp};
 ghost use Rattle.std.specs.Cmp.Lexicographic.{slice_cmp};
 ghost use Rattle.rbac_sets.specs.Name.{fingerprint, first_bytes, has_name_length, is_name, is_printable};
+ghost use Rattle.rbac_sets.specs.Sets.{same_name};
 
 use crate::refusal::Refusal;
 use std::alloc::Global;
@@ -150,6 +151,15 @@ impl Ord for Name {
     fn cmp(&self, other: &Name) -> Ordering {
         order(self.as_str(), self.front, other.as_str(), other.front)
     }
+}
+
+/// Whether the two names are equal.
+#[tactic(auto, using(crate::proofs::SetLaws::same_bytes))]
+pub fn is_same(a: &Name, b: &Name) -> bool
+    ensures same { result ≡ same_name a.now b.now }
+    ensures equal { IsTrue result ↔ (a.now ≡ b.now) }
+{
+    a == b
 }
 
 // The order of two texts of names, byte by byte: that of the numbers of their first bytes, if these

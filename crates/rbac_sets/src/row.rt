@@ -122,28 +122,6 @@ impl Row {
         Row::PairRow(Row::ASSIGNMENT, user, role)
     }
 
-    /// The row of a pair of the role order: `asc` inherits from `desc`, another role, immediately or
-    /// through others.
-    pub fn closure_pair(asc: Name, desc: Name) -> Row
-        ensures { result ≡ PairRow Row.CLOSURE_PAIR asc desc }
-    {
-        Row::PairRow(Row::CLOSURE_PAIR, asc, desc)
-    }
-
-    /// The row of the member `role` of the static separation of duty set `set`.
-    pub fn static_member(set: Name, role: Name) -> Row
-        ensures { result ≡ PairRow Row.STATIC_MEMBER set role }
-    {
-        Row::PairRow(Row::STATIC_MEMBER, set, role)
-    }
-
-    /// The row of the member `role` of the dynamic separation of duty set `set`.
-    pub fn dynamic_member(set: Name, role: Name) -> Row
-        ensures { result ≡ PairRow Row.DYNAMIC_MEMBER set role }
-    {
-        Row::PairRow(Row::DYNAMIC_MEMBER, set, role)
-    }
-
     /// The row of the session `session` of `user`.
     pub fn session(session: Name, user: Name) -> Row
         ensures { result ≡ PairRow Row.SESSION session user }
@@ -163,20 +141,6 @@ impl Row {
         ensures { result ≡ GrantRow object operation role }
     {
         Row::GrantRow(object, operation, role)
-    }
-
-    /// The row of the cardinality of the static separation of duty set `set`.
-    pub fn static_cardinality(set: Name, cardinality: u32) -> Row
-        ensures { result ≡ SetRow Row.STATIC_CARDINALITY set cardinality }
-    {
-        Row::SetRow(Row::STATIC_CARDINALITY, set, cardinality)
-    }
-
-    /// The row of the cardinality of the dynamic separation of duty set `set`.
-    pub fn dynamic_cardinality(set: Name, cardinality: u32) -> Row
-        ensures { result ≡ SetRow Row.DYNAMIC_CARDINALITY set cardinality }
-    {
-        Row::SetRow(Row::DYNAMIC_CARDINALITY, set, cardinality)
     }
 
     /// The row of the lock of `user`.

@@ -1,7 +1,10 @@
 //! The sets of names, of pairs, of triples, and of names with a number.
 ghost use Rattle.std.specs.Prelude.{◌≡◌, IfOk, IfErr};
+ghost use Rattle.std.specs.List.{list_any};
+ghost use Rattle.rbac_sets.specs.Sets.{Pair, any, pair_cmp, same_name};
+ghost use Rattle.rbac_sets.specs.SortedSet.{set_of};
 
-use crate::name::Name;
+use crate::name::{Name, is_same};
 use crate::refusal::Refusal;
 use crate::sorted_set::{Entry, Prefix, Probe, SortedSet};
 use std::alloc::Global;
@@ -20,6 +23,21 @@ pub type GrantSet = SortedSet<(Name, Name, Name)>;
 /// A set of names with a number, such as the cardinalities of separation of duty sets, ordered by
 /// the name first.
 pub type CountSet = SortedSet<(Name, u32)>;
+
+/// Whether one of the pairs has this first name.
+#[tactic(auto, using(crate::proofs::Lists::any_filter), unfolding(crate::specs::Sets::any))]
+pub fn has_first(pairs: &PairSet, first: &Name) -> bool
+    ensures { result ≡ any (λ (pair : Pair). same_name pair.0 first.now) (set_of pair_cmp pairs.now) }
+{
+    !pairs.with_first(first).is_empty()
+}
+
+/// Whether one of the pairs, which may be in any order, has this second name.
+pub fn has_second(pairs: &[(Name, Name)], second: &Name) -> bool
+    ensures { result ≡ list_any (λ (pair : Pair). same_name pair.1 second.now) pairs.now }
+{
+    pairs.iter().any(|pair| is_same(&pair.1, second))
+}
 
 impl Entry for Name {
     ghost use Rattle.rbac_sets.specs.NameOrder.{name_exact};

@@ -15,7 +15,7 @@ use Rattle.rbac_sets.proofs.InOrder.{members-sorted}
 use Rattle.rbac_sets.proofs.Runs.{take_whole}
 use Rattle.rbac_sets.proofs.Lists.{any-push}
 use Rattle.role_order.specs.Order.{Geq, here, step, geq, IsClosure}
-use Rattle.role_order.proofs.Deciding.{geq-Decides}
+use Rattle.role_order.proofs.Deciding.{geq-Decides, below-are}
 use Rattle.role_order.proofs.Members.{same_or_other}
 use Rattle.admin_mgr.specs.RbacState.{RbacState}
 use Rattle.admin_mgr.specs.Authorization.{authorized_roles, session_roles, is_authorized, is_session_role}
@@ -51,34 +51,6 @@ joins_put start entries more items i x within is old sorted put = record {
 }
 
 -- ---- a role and its juniors
-
--- the role, and the second names of its run in the closure
-pub below-are : (edges pairs : Pairs) → IsClosure edges pairs → (role q : Bytes) → (same_name q role || list_any (λ (pair : Pair). same_name q pair.1) (run_of pairs role)) ≡ geq edges role q
-unfolding any
-below-are edges pairs closed role q =
-    let begins : Pair → Bool = λ pair. same_name pair.0 role in
-    let ends : Pair → Bool = λ pair. same_name q pair.1 in
-    let run = any-Decides pair_total pair_exact ends (retain pairs begins) in
-    let same = ap (list_any ends) (members-retain pair_total pair_exact pairs begins) in
-    both_ways _ _
-    (λ h. (geq-Decides edges role q).1 (elim (or_cases (same_name q role) _ h) [
-      | inl one ↦ subst (λ z. Geq edges role z) (sym ((tie_Decides name_total name_exact q role).0 one)) here
-      | inr other ↦
-          let found = run.0 (same ∙ other) in
-          let parts = and_parts _ _ (sym (contains-retain pair_total pair_exact pairs begins found.0) ∙ found.1) in
-          let first = (tie_Decides name_total name_exact found.0.0 role).0 parts.1 in
-          let second = (tie_Decides name_total name_exact q found.0.1).0 found.2 in
-          ((closed role q).0 (subst (λ (p : Pair). IsTrue (contains pairs p)) (λ i. (first i, sym second i)) parts.0)).1
-    ]))
-    (λ h. elim (same_or_other q role) [
-      | inl one ↦ or_left _ _ ((tie_Decides name_total name_exact q role).1 one)
-      | inr other ↦ or_right _ _ (sym same ∙ run.1 (
-        (role, q),
-        contains-retain pair_total pair_exact pairs begins (role, q)
-            ∙ and_from _ _ ((closed role q).1 (λ e. other (sym e), (geq-Decides edges role q).0 h)) ((tie_Decides name_total name_exact role role).1 refl),
-        (tie_Decides name_total name_exact q q).1 refl,
-      ))
-    ])
 
 -- the role, and its seniors
 pub above-are : (edges : Pairs) (above : Names) (role : Bytes) → ((p : Bytes) → IsTrue (contains above p) ↔ ((p ≢ role) × Geq edges p role))

@@ -13,11 +13,11 @@ use Rattle.rbac_sets.specs.NameOrder.{name_total, name_exact, pair_total, pair_e
 use Rattle.rbac_sets.proofs.SetLaws.{tie_Decides}
 use Rattle.role_order.specs.Order.{IsClosure}
 use Rattle.role_order.specs.private.Checked.{second_cmp}
+use Rattle.role_order.proofs.Deciding.{below-are}
 use Rattle.admin_mgr.specs.private.HolderRoles.{run_of, is_reached}
 use Rattle.rbac_sets.proofs.Members.{members-rise}
 use Rattle.review_mgr.specs.private.Intersection.{third_cmp, may_have, meets}
 use Rattle.review_mgr.specs.Review.{permission_of, is_grant_of}
-use Rattle.review_mgr.proofs.Below.{below-are}
 
 -- ---- what is less than all of the others is skipped
 

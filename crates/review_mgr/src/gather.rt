@@ -9,8 +9,8 @@ ghost use Rattle.role_order.specs.Order.{geq};
 ghost use Rattle.admin_mgr.specs.private.HolderRoles.{is_reached};
 ghost use Rattle.review_mgr.specs.Review.{is_grant_of, permission_of};
 
-use crate::lookup::{is_reached, is_same};
-use rbac_sets::{CountSet, Entry, GrantSet, Name, PairSet, Probe, Refusal, place};
+use admin_mgr::is_reached;
+use rbac_sets::{CountSet, Entry, GrantSet, Name, PairSet, Probe, Refusal, is_same, place};
 use role_order::RoleOrder;
 use std::alloc::Global;
 

@@ -10,7 +10,7 @@ ghost use Rattle.role_order.specs.private.Checked.{second_cmp};
 ghost use Rattle.review_mgr.specs.private.Intersection.{may_have, meets, third_cmp};
 
 use crate::fingerprints::{fingerprints_of, may_have};
-use crate::lookup::is_reached;
+use admin_mgr::is_reached;
 use rbac_sets::{Name, PairSet};
 use role_order::RoleOrder;
 use std::cmp::Ordering;

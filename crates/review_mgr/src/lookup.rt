@@ -1,31 +1,11 @@
 //! Lookups in a state.
 ghost use Rattle.std.specs.Prelude.{◌≡◌};
-ghost use Rattle.std.specs.List.{list_any};
-ghost use Rattle.rbac_sets.specs.Sets.{Pair, any, pair_cmp, same_name};
-ghost use Rattle.rbac_sets.specs.SortedSet.{set_of};
 ghost use Rattle.admin_mgr.specs.RbacState.{has_session, has_set};
-ghost use Rattle.admin_mgr.specs.private.HolderRoles.{is_reached, run_of};
+ghost use Rattle.admin_mgr.specs.private.HolderRoles.{run_of};
 ghost use Rattle.review_mgr.specs.Questions.{has_operation};
 
 use admin_mgr::State;
-use rbac_sets::{Name, PairSet};
-use role_order::RoleOrder;
-
-// Whether the two names are equal.
-#[tactic(auto, using(rbac_sets::proofs::SetLaws::same_bytes))]
-pub(crate) fn is_same(a: &Name, b: &Name) -> bool
-    ensures { result ≡ same_name a.now b.now }
-{
-    a == b
-}
-
-// Whether a pair begins with this name.
-#[tactic(auto, using(rbac_sets::proofs::Lists::any_filter), unfolding(rbac_sets::specs::Sets::any))]
-fn has_first(pairs: &PairSet, first: &Name) -> bool
-    ensures { result ≡ any (λ (pair : Pair). same_name pair.0 first.now) (set_of pair_cmp pairs.now) }
-{
-    !pairs.with_first(first).is_empty()
-}
+use rbac_sets::{Name, has_first, has_second};
 
 // Whether there is a session of this name.
 pub(crate) fn has_session(state: &State, session: &Name) -> bool
@@ -50,13 +30,6 @@ pub(crate) fn has_dsd_set(state: &State, set: &Name) -> bool
     state.dsd_n(set).is_some()
 }
 
-// Whether a pair ends with this name.
-pub(crate) fn has_second(pairs: &[(Name, Name)], second: &Name) -> bool
-    ensures { result ≡ list_any (λ (pair : Pair). same_name pair.1 second.now) pairs.now }
-{
-    pairs.iter().any(|pair| is_same(&pair.1, second))
-}
-
 // Whether some permission has the operation. The permission (object, operation) is tried first.
 pub(crate) fn has_operation(state: &State, object: &Name, operation: &Name) -> bool
     ensures { result ≡ has_operation state.now.facts operation.now }
@@ -77,11 +50,4 @@ pub(crate) fn activated_in<'a>(state: &'a State, session: &Name) -> &'a [(Name, 
     ensures { result.now ≡ run_of state.now.facts.active session.now }
 {
     state.active().with_first(session)
-}
-
-// Whether the second part of one of the pairs equals or dominates the role.
-pub(crate) fn is_reached(order: &RoleOrder, held: &[(Name, Name)], role: &Name) -> bool
-    ensures { result ≡ is_reached order.now.edges held.now role.now }
-{
-    held.iter().any(|pair| order.geq(&pair.1, role))
 }

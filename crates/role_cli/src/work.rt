@@ -21,7 +21,7 @@ use crate::choice::Choice;
 use crate::failure::Failure;
 use crate::serving::serve;
 use admin_mgr::Report;
-use rbac_sets::{Command, Refusal, Sink, Source, write_all};
+use rbac_sets::{Command, Kind, Refusal, Sink, Source, write_all};
 use review_mgr::report_roles;
 use role_tables::{Office, Unopened, create, migrate, open};
 use role_wire::{Cause, Stop, Verdict, answer_text, read_assignments, replay, write_assignments};
@@ -29,9 +29,6 @@ use sqlite::{Alter, Connection};
 use std::alloc::Global;
 use std::fs::File;
 use std::io::{self, ErrorKind, Read};
-
-/// How many bytes of a CSV file are read: one more than it may have.
-const MOST_BYTES: u64 = 2_097_153;
 
 /// Does the work of a subcommand over an open connection, whatever its store, and hands the connection
 /// back: creates, migrates or opens the office in its tables, does what the subcommand does, and writes
@@ -193,10 +190,11 @@ fn text_of(rt: &HostRuntime, path: &str) -> Result<Vec<u8>, Failure>
     }
 }
 
+// One byte more than a file of assignments may have is enough: such a text is refused.
 fn bytes_of(rt: &HostRuntime, path: &str) -> io::Result<Vec<u8>> {
     let mut bytes = Vec::new(rt.alloc());
     File::open(rt, path)?
-        .take(MOST_BYTES)
+        .take(u64::from(Kind::Byte.limit(2)) + 1)
         .read_to_end(&mut bytes)?;
     Ok(bytes)
 }

@@ -11,9 +11,6 @@ use std::alloc::Global;
 /// The most records after the header.
 const MOST_RECORDS: u32 = 10_000;
 
-/// The most bytes of a text.
-const MOST_BYTES: usize = 2_097_152;
-
 /// The assignments that a CSV text lists, as pairs of a user and a role in the order of its records.
 ///
 /// These are the pairs of the command importAssignments. They are not checked against an office, and
@@ -36,7 +33,7 @@ pub fn read_assignments(alloc: Global, text: &[u8]) -> Result<Vec<(Name, Name)>,
     ensures ok { IfOk result (λ pairs. assignments text.now ≡ Ok pairs.items) }
     ensures err { IfErr result (λ refusal. (refusal ≡ Refusal.Memory) ⊎ (assignments text.now ≡ Err refusal)) }
 {
-    if text.len() > MOST_BYTES {
+    if text.len() > Kind::Byte.limit(2) as usize {
         return Err(Refusal::TooMany(Kind::Byte));
     }
     let mut reader = reader_of(alloc, text);

@@ -2,7 +2,7 @@
 use Rattle.std.proofs.Common.{◌≡◌, ◌<◌, ◌∙◌, ◌-◌, ℕ, zero, suc, List, [], ◌∷◌, ◌++◌, true, false, cond, ◌⊎◌, length, Option, Some, None, ap, subst, refl, sym, rules, arith, inl, inr, codes}
 use Rattle.std.specs.Prelude.{◌&&◌, ◌==◌, not, option_and_then, option_map, ltb, leb}
 use Rattle.std.specs.List.{list_any, list_all}
-use Rattle.std.proofs.lemmas.Bool.{cases_Bool, and_parts, not-true, eqb-true}
+use Rattle.std.proofs.lemmas.Bool.{cases_Bool, and_parts, not-true, eqb-true, false_from_ne_true}
 use Rattle.matchit.specs.Rows.{RowsOf, param_token, catch_all_token}
 use Rattle.matchit.specs.Seek.{seek, step, own, or_else, first, has_slash, param_step}
 use Rattle.matchit.specs.Params as params
@@ -184,23 +184,14 @@ part-text part text =
 
 -- ---- the function of a target
 
-pub is_utf8-false : (bs : List ℕ) → (IsUtf8 bs → ⊥) → is_utf8 bs ≡ false
-is_utf8-false bs other =
-    elim (cases_Bool (is_utf8 bs)) [
-      | inl good ↦ absurd (other (IsUtf8-from_is_utf8 bs good))
-      | inr bad ↦ bad
-    ]
-
-pub ruleset utf8_steps = (is_utf8-false, is_utf8-from_IsUtf8)
-
-pub function_in-other : (target : List ℕ) → is_utf8 target ≡ false → function_in target ≡ None
+pub function_in-other : (target : List ℕ) → (IsUtf8 target → ⊥) → function_in target ≡ None
 unfolding function_in
-function_in-other target bad = rw bad refl
+function_in-other target other = rw (false_from_ne_true (is_utf8 target) (λ good. other (IsUtf8-from_is_utf8 target good))) refl
 
 -- no route, no function
-pub function_in-unrouted : (target : List ℕ) → is_utf8 target ≡ true → first routes target ≡ None → function_in target ≡ None
+pub function_in-unrouted : (target : List ℕ) → IsUtf8 target → first routes target ≡ None → function_in target ≡ None
 unfolding function_in
-function_in-unrouted target good none = rw good (by (part_of target) refl (sym (first-route target) ∙ none))
+function_in-unrouted target text none = rw (is_utf8-from_IsUtf8 target text) (by (part_of target) refl (sym (first-route target) ∙ none))
   where
     by : (o : Option (List ℕ)) → part_of target ≡ o → option_map (λ part. route) o ≡ None → option_and_then function_named (part_of target) ≡ None
     by None is e = rw is refl
@@ -213,21 +204,21 @@ pub record RouteParameter (target : List ℕ) (found : RouteOf (Unit {0})) (path
   pub named_part : named (codes "function") (walk found.pattern found.text path found.names 0 0) ≡ Some part
   pub all_text : AllText (walk found.pattern found.text path found.names 0 0)
 
-took-route : (target part : List ℕ) → is_utf8 target ≡ true → part_of target ≡ Some part → target ≡ codes "/v1/" ++ part → RouteParameter target route (codes "/v1/" ++ part)
+took-route : (target part : List ℕ) → IsUtf8 target → part_of target ≡ Some part → target ≡ codes "/v1/" ++ part → RouteParameter target route (codes "/v1/" ++ part)
 unfolding function_in
-took-route target part good is rest = record {
+took-route target part text is rest = record {
   part = part;
-  function = rw (good, is) refl;
+  function = rw (is_utf8-from_IsUtf8 target text, is) refl;
   named_part = ap (named (codes "function")) (walk-part part);
-  all_text = subst AllText (sym (walk-part part)) (IsUtf8-from_ascii (codes "function") (search rules), part-text part (subst IsUtf8 rest (IsUtf8-from_is_utf8 target good)), tt);
+  all_text = subst AllText (sym (walk-part part)) (IsUtf8-from_ascii (codes "function") (search rules), part-text part (subst IsUtf8 rest text), tt);
 }
 
-pub took : (target : List ℕ) (found : RouteOf (Unit {0})) (path : List ℕ) → is_utf8 target ≡ true → first routes target ≡ Some found → path ≡ target → RouteParameter target found path
-took target found path good is same = by (part_of target) refl (sym (first-route target) ∙ is)
+pub took : (target : List ℕ) (found : RouteOf (Unit {0})) (path : List ℕ) → IsUtf8 target → first routes target ≡ Some found → path ≡ target → RouteParameter target found path
+took target found path text is same = by (part_of target) refl (sym (first-route target) ∙ is)
   where
     by : (o : Option (List ℕ)) → part_of target ≡ o → option_map (λ part. route) o ≡ Some found → RouteParameter target found path
     by None e f = let no : ⊥ = cc f in absurd no
     by (Some part) e f =
         let is_route : route ≡ found = cc f in
         let rest : target ≡ codes "/v1/" ++ part = part-rest target part e in
-        subst (λ r. RouteParameter target r path) is_route (subst (λ p. RouteParameter target route p) (sym (same ∙ rest)) (took-route target part good e rest))
+        subst (λ r. RouteParameter target r path) is_route (subst (λ p. RouteParameter target route p) (sym (same ∙ rest)) (took-route target part text e rest))

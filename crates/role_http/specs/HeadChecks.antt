@@ -6,7 +6,9 @@ use Rattle.std.specs.Str.{bytes_eq, str_eq_ignore_ascii_case}
 use Rattle.std.specs.Str.Parse.{digits_value}
 use Rattle.httparse.specs.Grammar.{RequestHead}
 use Rattle.httparse.specs.Spans.{name_and_value}
+use Rattle.role_csv.specs.Assignments.{most_bytes}
 use Rattle.role_json.specs.Function.{takes_csv}
+use Rattle.role_json.specs.Request.{longest_line}
 use Rattle.role_json.specs.declared.function.Function.{Function}
 use Rattle.role_http.specs.Route.{function_in}
 
@@ -50,7 +52,7 @@ one_length before (value ∷ values) = if is_length value && agrees before value
 
 -- the most bytes of a body
 abbrev pub most_bytes_of : Function → ℕ
-most_bytes_of called = if takes_csv called then 2097152 else 65536
+most_bytes_of called = if takes_csv called then most_bytes else longest_line
 
 -- the number of bytes of a body, if it is at most `most`
 unfoldable pub length_of : ℕ → List ℕ → Result ℕ ℕ

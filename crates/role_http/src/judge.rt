@@ -5,18 +5,14 @@ ghost use Rattle.std.specs.List.{list_all};
 ghost use Rattle.std.specs.Str.{bytes_eq, str_eq_ignore_ascii_case};
 ghost use Rattle.httparse.specs.Grammar.{RequestHead};
 ghost use Rattle.httparse.specs.Spans.{IsHeaderWithin, IsRequestAt, IsRequestWithin, header_bytes};
+ghost use Rattle.role_csv.specs.Assignments.{most_bytes};
 ghost use Rattle.role_http.specs.Route.{function_in};
 ghost use Rattle.role_http.specs.HeadChecks.{agrees, has_field, is_length, judged, judged_head, length_of, most_bytes_of, one_length, values_of};
 
 use http::{Method, StatusCode};
 use httparse::spans::{HeaderSpan, RequestSpans};
-use role_json::Function;
-
-// The most bytes of a body of JSON.
-const MOST_JSON: u32 = 65_536;
-
-// The most bytes of a body of CSV.
-const MOST_CSV: u32 = 2_097_152;
+use rbac_sets::Kind;
+use role_json::{Function, LONGEST_LINE};
 
 /// The function that a head calls and the number of bytes that its body has, or the status by which the head
 /// is refused.
@@ -149,15 +145,15 @@ fn most_bytes_of(called: Function) -> u32
     ensures { result ≡ most_bytes_of called }
 {
     if called.takes_csv() {
-        MOST_CSV
+        Kind::Byte.limit(2)
     } else {
-        MOST_JSON
+        LONGEST_LINE as u32
     }
 }
 
 // The number that the digits denote, if it is at most `most`.
 fn length_of(most: u32, digits: &[u8]) -> Result<u32, StatusCode>
-    requires small { most ≤ 2097152 }
+    requires small { most ≤ most_bytes }
     requires digits { is_length digits.now ≡ true }
     ensures { result ≡ length_of most digits.now }
 {

@@ -1,6 +1,5 @@
 //! The one route of requests, `/v1/{function}`.
-ghost use Rattle.std.specs.Prelude.{◌≡◌, true, false, IfOk, IfErr, IfSome, IfNone};
-ghost use Rattle.std.specs.Str.{is_utf8};
+ghost use Rattle.std.specs.Prelude.{◌≡◌, IfOk, IfErr};
 ghost use Rattle.role_http.specs.Route.{function_in, routes};
 
 use matchit::Router;
@@ -30,7 +29,7 @@ pub(crate) fn function_of(router: &Router<()>, target: &[u8]) -> Option<Function
     requires { router.now ≡ routes }
     ensures { result ≡ function_in target.now }
 {
-    let Some(path) = text(target) else {
+    let Ok(path) = str::from_utf8(target) else {
         return None;
     };
     let Ok(found) = router.at(path) else {
@@ -40,13 +39,4 @@ pub(crate) fn function_of(router: &Router<()>, target: &[u8]) -> Option<Function
         return None;
     };
     Function::from_name(name)
-}
-
-// The bytes as text, or `None` if they aren't UTF-8.
-#[tactic(auto, using(crate::proofs::RouteLookup::utf8_steps))]
-fn text(bytes: &[u8]) -> Option<&str>
-    ensures some { IfSome result (λ text. (text.now ≡ bytes.entry.now) × (is_utf8 bytes.entry.now ≡ true)) }
-    ensures none { IfNone result (is_utf8 bytes.entry.now ≡ false) }
-{
-    str::from_utf8(bytes).ok()
 }

@@ -15,11 +15,11 @@ const UNKNOWN_FUNCTION: &str = "{\"code\":35,\"error\":\"UnknownFunction\"}";
 pub fn status_of(refusal: &Refusal) -> StatusCode
     ensures { result ≡ status_of refusal.now }
 {
-    match refusal.code() {
-        1 | 34 | 36 => StatusCode::BAD_REQUEST,
-        35 => StatusCode::NOT_FOUND,
-        40 => StatusCode::SERVICE_UNAVAILABLE,
-        41 | 42 => StatusCode::INTERNAL_SERVER_ERROR,
+    match refusal {
+        Refusal::BadName | Refusal::BadRequest | Refusal::BadCsv(_) => StatusCode::BAD_REQUEST,
+        Refusal::UnknownFunction => StatusCode::NOT_FOUND,
+        Refusal::Memory => StatusCode::SERVICE_UNAVAILABLE,
+        Refusal::Store | Refusal::Closed => StatusCode::INTERNAL_SERVER_ERROR,
         _ => StatusCode::CONFLICT,
     }
 }

@@ -1,13 +1,17 @@
 -- The test of the order, and the definitions of seniors and juniors.
-use Rattle.std.proofs.Common.{◌≡◌, ◌≢◌, ◌↔◌, ◌⊎◌, inl, inr, Bool, true, false, not, ◌&&◌, List, [], ◌∷◌, refl, sym, ◌∙◌, ap, subst}
+use Rattle.std.proofs.Common.{◌≡◌, ◌≢◌, ◌↔◌, ◌⊎◌, inl, inr, Bool, true, false, not, ◌&&◌, ◌||◌, List, [], ◌∷◌, refl, sym, ◌∙◌, ap, subst}
 use Rattle.std.specs.Prelude.{IsTrue}
 use Rattle.std.specs.Bool.{Decides}
+use Rattle.std.specs.Cmp.{both_ways}
+use Rattle.std.specs.List.{list_any}
 use Rattle.std.proofs.lemmas.Bool.{or_cases, or_left, or_right, and_parts, and_from, true≢false, false_from_ne_true}
-use Rattle.rbac_sets.specs.Sets.{Bytes, Pair, Names, Pairs, contains, insert, members, from_list, image, same_name}
+use Rattle.rbac_sets.specs.Sets.{Bytes, Pair, Names, Pairs, any, contains, insert, members, from_list, image, retain, same_name}
 use Rattle.rbac_sets.specs.NameOrder.{name_total, name_exact, pair_total, pair_exact}
-use Rattle.rbac_sets.proofs.SetLaws.{tie_Decides, from_members, image-Decides, contains-retain, contains-insert-Decides, same_members}
-use Rattle.role_order.specs.Order.{HasPair, Geq, geq_along, geq, seniors, juniors}
+use Rattle.rbac_sets.proofs.Members.{members-retain}
+use Rattle.rbac_sets.proofs.SetLaws.{any-Decides, tie_Decides, from_members, image-Decides, contains-retain, contains-insert-Decides, same_members}
+use Rattle.role_order.specs.Order.{HasPair, Geq, IsClosure, here, geq_along, geq, seniors, juniors}
 use Rattle.role_order.specs.Laws.{CrossesAt, TestDecides}
+use Rattle.role_order.specs.private.Runs.{run_of}
 use Rattle.role_order.proofs.Members.{AddsPair-insert, same_or_other}
 use Rattle.role_order.proofs.Leading.{Leads-from_eq, first_step, last_step}
 use Rattle.role_order.proofs.Closing.{Geq-none, crosses}
@@ -105,3 +109,31 @@ at_or_below-are edges r names are q =
       λ h. elim (put.0 (subst (λ (s : Names). IsTrue (contains s q)) are h)) [ inl e ↦ Leads-from_eq (sym e) | inr k ↦ ((juniors-are edges r q).0 k).1 ],
       λ l. subst (λ (s : Names). IsTrue (contains s q)) (sym are) (put.1 (elim (same_or_other r q) [ inl e ↦ inl (sym e) | inr n ↦ inr ((juniors-are edges r q).1 (n, l)) ])),
     )
+
+-- the role, and the second names of its run in the closure
+pub below-are : (edges pairs : Pairs) → IsClosure edges pairs → (role q : Bytes) → (same_name q role || list_any (λ (pair : Pair). same_name q pair.1) (run_of pairs role)) ≡ geq edges role q
+unfolding any
+below-are edges pairs closed role q =
+    let begins : Pair → Bool = λ pair. same_name pair.0 role in
+    let ends : Pair → Bool = λ pair. same_name q pair.1 in
+    let run = any-Decides pair_total pair_exact ends (retain pairs begins) in
+    let same = ap (list_any ends) (members-retain pair_total pair_exact pairs begins) in
+    both_ways _ _
+    (λ h. (geq-Decides edges role q).1 (elim (or_cases (same_name q role) _ h) [
+      | inl one ↦ subst (λ z. Geq edges role z) (sym ((tie_Decides name_total name_exact q role).0 one)) here
+      | inr other ↦
+          let found = run.0 (same ∙ other) in
+          let parts = and_parts _ _ (sym (contains-retain pair_total pair_exact pairs begins found.0) ∙ found.1) in
+          let first = (tie_Decides name_total name_exact found.0.0 role).0 parts.1 in
+          let second = (tie_Decides name_total name_exact q found.0.1).0 found.2 in
+          ((closed role q).0 (subst (λ (p : Pair). IsTrue (contains pairs p)) (λ i. (first i, sym second i)) parts.0)).1
+    ]))
+    (λ h. elim (same_or_other q role) [
+      | inl one ↦ or_left _ _ ((tie_Decides name_total name_exact q role).1 one)
+      | inr other ↦ or_right _ _ (sym same ∙ run.1 (
+        (role, q),
+        contains-retain pair_total pair_exact pairs begins (role, q)
+            ∙ and_from _ _ ((closed role q).1 (λ e. other (sym e), (geq-Decides edges role q).0 h)) ((tie_Decides name_total name_exact role role).1 refl),
+        (tie_Decides name_total name_exact q q).1 refl,
+      ))
+    ])

@@ -5,8 +5,8 @@ ghost use Rattle.rbac_sets.specs.Sets.{Bytes, Pair, name_cmp, pair_cmp, contains
 ghost use Rattle.rbac_sets.specs.SortedSet.{set_of};
 ghost use Rattle.role_order.specs.Order.{HasPair};
 
-use crate::naming::{is_same, run};
-use rbac_sets::{Entry, Name, NameSet, PairSet, Refusal, SortedSet};
+use crate::naming::run;
+use rbac_sets::{Entry, Name, NameSet, PairSet, Refusal, SortedSet, is_same};
 use std::alloc::Global;
 
 // Appends an entry that is greater than all that are there.
@@ -21,7 +21,7 @@ pub fn push<K: Entry>(set: &mut SortedSet<K>, entry: K) -> Result<(), Refusal>
 }
 
 // The names that have a pair with `second`.
-pub fn firsts_of(alloc: Global, pairs: &PairSet, second: &Name) -> Result<NameSet, Refusal>
+pub fn set_of_firsts(alloc: Global, pairs: &PairSet, second: &Name) -> Result<NameSet, Refusal>
     ensures names { IfOk result (λ names. (a : Bytes) → IsTrue (contains (set_of name_cmp names) a) ↔ HasPair (set_of pair_cmp pairs.now) a second.now) }
     ensures cause { IfErr result (λ refusal. refusal ≡ Refusal.Memory) }
 {
@@ -35,7 +35,7 @@ pub fn firsts_of(alloc: Global, pairs: &PairSet, second: &Name) -> Result<NameSe
 }
 
 // The names that `first` has a pair with.
-pub fn seconds_of(alloc: Global, pairs: &PairSet, first: &Name) -> Result<NameSet, Refusal>
+pub fn set_of_seconds(alloc: Global, pairs: &PairSet, first: &Name) -> Result<NameSet, Refusal>
     ensures names { IfOk result (λ names. (b : Bytes) → IsTrue (contains (set_of name_cmp names) b) ↔ HasPair (set_of pair_cmp pairs.now) first.now b) }
     ensures cause { IfErr result (λ refusal. refusal ≡ Refusal.Memory) }
 {

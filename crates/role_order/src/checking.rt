@@ -7,8 +7,8 @@ ghost use Rattle.role_order.specs.Order.{HasPair, IsAcyclic, IsClosure};
 ghost use Rattle.role_order.specs.private.Checked.{second_cmp, is_next, HasSecondsOf, HasFirstStep, HasRowOf, LeadsOn, AllLeadOn};
 
 use crate::building::push;
-use crate::naming::{is_geq, is_same, run};
-use rbac_sets::{Name, PairSet, Refusal};
+use crate::naming::{is_geq, run};
+use rbac_sets::{Name, PairSet, Refusal, is_same};
 use std::alloc::Global;
 
 // Whether no name has a pair with itself.

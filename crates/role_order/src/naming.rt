@@ -1,4 +1,4 @@
-//! Comparisons of names, and the runs of a set of pairs: those that begin with one name.
+//! Whether a name is another or has a pair with it, and the runs of a set of pairs: those that begin with one name.
 ghost use Rattle.std.specs.Prelude.{◌≡◌, ◌↔◌, ◌⊎◌, IsTrue, Contains, length};
 ghost use Rattle.std.specs.List.Sorted.{IsStrictlySortedBy};
 ghost use Rattle.rbac_sets.specs.Sets.{Pair, pair_cmp, contains};
@@ -7,14 +7,7 @@ ghost use Rattle.role_order.specs.Order.{HasPair};
 ghost use Rattle.role_order.specs.private.Checked.{second_cmp};
 ghost use Rattle.role_order.specs.private.Removal.{junior_count};
 
-use rbac_sets::{Name, PairSet};
-
-// Whether the two names are equal.
-pub fn is_same(a: &Name, b: &Name) -> bool
-    ensures { IsTrue result ↔ (a.now ≡ b.now) }
-{
-    a == b
-}
+use rbac_sets::{Name, PairSet, is_same};
 
 // Whether `a` is `b` or has a pair with it.
 pub fn is_geq(pairs: &PairSet, a: &Name, b: &Name) -> bool

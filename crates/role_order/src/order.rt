@@ -7,7 +7,7 @@ ghost use Rattle.role_order.specs.Order.{HasPair, Geq, geq, IsAcyclic, IsClosure
 ghost use Rattle.role_order.specs.Planned.{changed, Fits, IsPlanOf, HasRoom};
 ghost use Rattle.role_order.specs.private.Removal.{AreJuniorsFirst};
 
-use crate::building::{crossed_pairs, firsts_of, seconds_of};
+use crate::building::{crossed_pairs, set_of_firsts, set_of_seconds};
 use crate::checking::{has_cycle, is_closed_under};
 use crate::naming::is_geq;
 use crate::plan::OrderPlan;
@@ -107,7 +107,7 @@ impl RoleOrder {
         ensures members { IfOk result (λ names. (q : Bytes) → IsTrue (contains (set_of name_cmp names) q) ↔ ((r.now ≢ q) × Geq self.now.edges r.now q)) }
         ensures cause { IfErr result (λ refusal. refusal ≡ Refusal.Memory) }
     {
-        let names = seconds_of(alloc, &self.pairs, r)?;
+        let names = set_of_seconds(alloc, &self.pairs, r)?;
         Ok(names)
     }
 
@@ -121,7 +121,7 @@ impl RoleOrder {
         ensures members { IfOk result (λ names. (p : Bytes) → IsTrue (contains (set_of name_cmp names) p) ↔ ((p ≢ r.now) × Geq self.now.edges p r.now)) }
         ensures cause { IfErr result (λ refusal. refusal ≡ Refusal.Memory) }
     {
-        let names = firsts_of(alloc, &self.pairs, r)?;
+        let names = set_of_firsts(alloc, &self.pairs, r)?;
         Ok(names)
     }
 

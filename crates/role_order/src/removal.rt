@@ -9,8 +9,8 @@ ghost use Rattle.role_order.specs.private.Removal.{HasPath, AreSuspects, AreLost
 
 use crate::building::push;
 use crate::lost::LostPairs;
-use crate::naming::{is_same, run};
-use rbac_sets::{Name, NameSet, PairSet, Refusal};
+use crate::naming::run;
+use rbac_sets::{Name, NameSet, PairSet, Refusal, is_same};
 use std::alloc::Global;
 
 // Whether `z` is `b`, or has a pair with it that is not in `takes`.

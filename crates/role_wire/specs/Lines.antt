@@ -1,12 +1,9 @@
 -- The lines of an input.
 use Rattle.std.specs.Prelude.{◌≡◌, ◌≤◌, ℕ, Bool, not, ◌||◌, ◌==◌, nat_lt, List, [], ◌∷◌, ◌++◌, length, All, if◌then◌else◌}
 use Rattle.std.specs.List.{list_all, filter}
+pub use Rattle.role_json.specs.Request.{longest_line}
 
--- the maximum length of a line in bytes, without its LF
-abbrev pub longest_line : ℕ
-longest_line = 65536
-
--- no line is longer than that
+-- no line is longer than a request may be, without its LF
 abbrev pub AllFit : List (List ℕ) → Type 0
 AllFit lines = All (λ line. length line ≤ longest_line) lines
 

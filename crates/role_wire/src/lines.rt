@@ -8,12 +8,10 @@ ghost use Rattle.role_wire.specs.private.ReadProgress.{read_position_of, IsOpenL
 ghost use Rattle.role_wire.specs.Replay.{IsAtBound, IsReplayed, IsStopped, most_reads};
 
 use rbac_sets::{Fault, Sink, Source, write_all};
+use role_json::LONGEST_LINE;
 use std::alloc::Global;
 use std::fmt;
 use std::fmt::{Display, Formatter, Write};
-
-/// The maximum length of a line in bytes, without its LF.
-pub const LONGEST_LINE: usize = 65_536;
 
 /// The maximum number of bytes of one read.
 const PIECE: usize = 8_192;

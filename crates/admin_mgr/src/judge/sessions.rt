@@ -12,10 +12,10 @@ use crate::held::{first_with_all, first_with_one, is_reached};
 use crate::judge::naming::name_violated;
 use crate::judge::set_refusals::member_count;
 use crate::limits::{is_full, is_too_many};
-use crate::lookup::{are_in, has_first};
+use crate::lookup::are_in;
 use crate::separation_of_duty::SeparationOfDuty;
 use crate::state::State;
-use rbac_sets::{Kind, Name, NameSet, Refusal};
+use rbac_sets::{Kind, Name, NameSet, Refusal, has_first};
 use std::alloc::{AllocError, Global};
 
 // The verdict on CreateSession.

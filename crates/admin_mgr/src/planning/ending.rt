@@ -8,10 +8,9 @@ ghost use Rattle.admin_mgr.specs.private.HolderRoles.{run_of};
 ghost use Rattle.admin_mgr.specs.private.PlanChanges.{session_rows, ended_rows};
 ghost use Rattle.admin_mgr.specs.private.SessionContinuation.{is_held_without_role, is_held_without_pairs, goes_on_without_role, goes_on_without_pairs, stays};
 
-use crate::lookup::is_same;
 use crate::planning::rows::{take, take_pairs};
 use crate::state::State;
-use rbac_sets::{Change, Name, PairSet, Refusal, Row};
+use rbac_sets::{Change, Name, PairSet, Refusal, Row, is_same};
 use role_order::RoleOrder;
 use std::alloc::Global;
 

@@ -4,9 +4,11 @@
 //! since, so that the state is not copied.
 ghost use Rattle.std.specs.Prelude.{◌≡◌, ◌<◌, ◌&&◌, ◌++◌, map, not, nat_lt, IfOk, IfErr, OnOk, None, Some, false};
 ghost use Rattle.std.specs.Option.{option_copied};
+ghost use Rattle.rbac_sets.specs.Kind.{limit_of};
 ghost use Rattle.rbac_sets.specs.Sets.{IsDisjoint, contains, empty, pair_cmp};
 ghost use Rattle.rbac_sets.specs.SortedSet.{set_of};
 ghost use Rattle.rbac_sets.specs.declared.command.Command.TheVariants.{ImportAssignments};
+ghost use Rattle.rbac_sets.specs.declared.kind.Kind.TheVariants.{Record};
 ghost use Rattle.admin_mgr.specs.Assignment.{assignment_verdict};
 ghost use Rattle.admin_mgr.specs.Good.{IsGood};
 ghost use Rattle.admin_mgr.specs.private.HolderRoles.{is_reached, is_touched, reached_with, find_with_one};
@@ -86,7 +88,7 @@ impl Imported {
     ) -> Result<(), Refusal>
         requires good { IsGood (with_assignments state.now.facts (set_of pair_cmp self.old.added)) }
         requires apart { IsDisjoint state.now.facts.assignments (set_of pair_cmp self.old.added) }
-        requires few { (self.old.report.assigned < 10000) × (self.old.report.already < 10000) }
+        requires few { (self.old.report.assigned < limit_of Record 2) × (self.old.report.already < limit_of Record 2) }
         ensures ok { OnOk result (Follows (assignment_verdict (with_assignments state.now.facts (set_of pair_cmp self.old.added)) (user.now, role.now)) number (user.now, role.now) self.old self.new) }
         ensures cause { IfErr result (λ refusal. refusal ≡ Refusal.Memory) }
     {
@@ -99,7 +101,7 @@ impl Imported {
     // Assigns a pair.
     fn assign(&mut self, alloc: Global, user: &Name, role: &Name) -> Result<(), Refusal>
         requires absent { contains (set_of pair_cmp self.old.added) (user.now, role.now) ≡ false }
-        requires few { self.old.report.assigned < 10000 }
+        requires few { self.old.report.assigned < limit_of Record 2 }
         ensures ok { OnOk result (IsAssigned (user.now, role.now) self.old self.new) }
         ensures cause { IfErr result (λ refusal. refusal ≡ Refusal.Memory) }
     {
@@ -114,7 +116,7 @@ impl Imported {
 
     // Counts the refusal of the record of this number in the report.
     fn tell(&mut self, number: u32, refusal: &Refusal) -> Result<(), Refusal>
-        requires few { self.old.report.already < 10000 }
+        requires few { self.old.report.already < limit_of Record 2 }
         ensures ok { OnOk result (IsRefused number refusal.now self.old self.new) }
         ensures cause { IfErr result (λ refusal. refusal ≡ Refusal.Memory) }
     {

@@ -6,8 +6,7 @@ ghost use Rattle.rbac_sets.specs.declared.row.Row.TheVariants.{PairRow, GrantRow
 ghost use Rattle.rbac_sets.specs.declared.row.Change.TheVariants.{Put, Take};
 ghost use Rattle.admin_mgr.specs.private.PlanChanges.{pair_row, grant_row, take_all, put_all};
 
-use crate::lookup::is_same;
-use rbac_sets::{Change, Name, Refusal, Row};
+use rbac_sets::{Change, Name, Refusal, Row, is_same};
 use std::alloc::Global;
 
 // The row of a pair.

@@ -7,9 +7,9 @@ ghost use Rattle.admin_mgr.specs.RowChecks.{first_exceeded, has_more_with_first,
 ghost use Rattle.admin_mgr.specs.private.CheckTests.{early_refusal, have_one_user, have_sets, is_complete, is_core_complete, is_hierarchy_complete, are_sets_complete, are_sessions_complete};
 
 use crate::judge::set_refusals::{has_set, member_count};
-use crate::lookup::{are_among, are_firsts_in, are_seconds_in, has_first};
+use crate::lookup::{are_among, are_firsts_in, are_seconds_in};
 use crate::relations::gathered::StoredSets;
-use rbac_sets::{CountSet, GrantSet, Kind, NameSet, PairSet, Refusal};
+use rbac_sets::{CountSet, GrantSet, Kind, NameSet, PairSet, Refusal, has_first};
 
 // The kinds whose limits are checked, in this order.
 const LIMITED: [Kind; 12] = [

@@ -5,22 +5,22 @@ use Rattle.role_csv.proofs.Listing.{assignments-long, no_header, bad_header, goo
 use Rattle.role_csv.proofs.reading.read_assignments.Goals as goal
 use Rattle.role_csv.proofs.reading.read_assignments.Goals.{then-not-branch-via-then-not-branch, then-not-branch-via-else-not-branch+then-not-is_header}
 
-pub returns-then-text-gt-MOST_BYTES-clause-err : goal.returns-then-text-gt-MOST_BYTES-clause-err
-returns-then-text-gt-MOST_BYTES-clause-err c = inr (assignments-long c.args.text.now (omega (arith, c.if-text-gt-MOST_BYTES.true)))
+pub returns-then-text-limit-clause-err : goal.returns-then-text-limit-clause-err
+returns-then-text-limit-clause-err c = inr (assignments-long c.args.text.now (omega (arith, c.limit.ensures, c.if-text-limit.true)))
 
 pub returns-then-not-branch-clause-err : goal.returns-then-not-branch-clause-err
 returns-then-not-branch-clause-err c =
     inr (elim c.then-not-branch.branch [
       | then-not-branch-via-then-not-branch w ↦
-          no_header c.args.text.now c.if-text-gt-MOST_BYTES.false (c.in_ok-next_record.ensures.end w.if-not-branch.true c.args.text.now [] c.reader_of-reader.ensures)
+          no_header c.args.text.now (omega (arith, c.limit.ensures, c.if-text-limit.false)) (c.in_ok-next_record.ensures.end w.if-not-branch.true c.args.text.now [] c.reader_of-reader.ensures)
       | then-not-branch-via-else-not-branch+then-not-is_header w ↦
-          bad_header c.args.text.now (fields_of c.next_record.new.row) c.next_record.new.reader c.if-text-gt-MOST_BYTES.false
+          bad_header c.args.text.now (fields_of c.next_record.new.row) c.next_record.new.reader (omega (arith, c.limit.ensures, c.if-text-limit.false))
           (c.in_ok-next_record.ensures.more w.if-not-branch.false c.args.text.now [] c.reader_of-reader.ensures) (sym w.is_header.ensures ∙ w.if-not-is_header.true)
     ])
 
 pub loop-number-init : goal.loop-number-init
 loop-number-init c =
-    good_header c.args.text.now (fields_of c.next_record.new.row) c.next_record.new.reader c.new-pairs.result.items c.if-text-gt-MOST_BYTES.false
+    good_header c.args.text.now (fields_of c.next_record.new.row) c.next_record.new.reader c.new-pairs.result.items (omega (arith, c.limit.ensures, c.if-text-limit.false))
     (c.in_ok-next_record.ensures.more c.if-not-branch.false c.args.text.now [] c.reader_of-reader.ensures) (sym c.is_header.ensures ∙ c.if-not-is_header.false) c.new-pairs.ensures.items
 
 pub returns-then-not-branch-2-clause-ok : goal.returns-then-not-branch-2-clause-ok

@@ -16,11 +16,11 @@ loop-grant-preserved c =
       | then-is_same+in_ok-grant_row+in_ok-take w ↦ rw w.changes-is
           (listed_more _ _ (each_filter (λ (x : Triple). Take (GrantRow x.0 x.1 x.2)) (λ (x : Triple). same_name x.2 c.args.role.now)) _ _ _ c.args.grants.now c.loop-grant.grant-index c.grant-item.result c.loop-grant-test.true c.grant-item.is c.loop-grant.invariant
           (w.in_ok-take.ensures.ok ∙ ap (λ row. c.loop-grant.changes.items ++ Take row ∷ []) w.in_ok-grant_row.ensures.ok
-          ∙ ap (λ b. c.loop-grant.changes.items ++ cond b ((λ (x : Triple). Take (GrantRow x.0 x.1 x.2)) c.grant-item.result ∷ []) []) (sym (sym c.is_same.ensures ∙ w.if-is_same.true))))
+          ∙ ap (λ b. c.loop-grant.changes.items ++ cond b ((λ (x : Triple). Take (GrantRow x.0 x.1 x.2)) c.grant-item.result ∷ []) []) (sym (sym c.is_same.ensures.same ∙ w.if-is_same.true))))
       | else-is_same w ↦ rw w.changes-is
           (listed_more _ _ (each_filter (λ (x : Triple). Take (GrantRow x.0 x.1 x.2)) (λ (x : Triple). same_name x.2 c.args.role.now)) _ _ _ c.args.grants.now c.loop-grant.grant-index c.grant-item.result c.loop-grant-test.true c.grant-item.is c.loop-grant.invariant
           (sym (append-nil c.loop-grant.changes.items)
-          ∙ ap (λ b. c.loop-grant.changes.items ++ cond b ((λ (x : Triple). Take (GrantRow x.0 x.1 x.2)) c.grant-item.result ∷ []) []) (sym (sym c.is_same.ensures ∙ w.if-is_same.false))))
+          ∙ ap (λ b. c.loop-grant.changes.items ++ cond b ((λ (x : Triple). Take (GrantRow x.0 x.1 x.2)) c.grant-item.result ∷ []) []) (sym (sym c.is_same.ensures.same ∙ w.if-is_same.false))))
     ]
 
 pub returns-clause-ok : goal.returns-clause-ok

@@ -16,11 +16,11 @@ loop-pair-preserved c =
       | then-is_same+in_ok-pair_row+in_ok-take w ↦ rw w.changes-is
           (listed_more _ _ (each_filter (λ (x : Pair). Take (PairRow c.args.kind x.0 x.1)) (λ (x : Pair). same_name x.1 c.args.second.now)) _ _ _ c.args.pairs.now c.loop-pair.pair-index c.pair-item.result c.loop-pair-test.true c.pair-item.is c.loop-pair.invariant
           (w.in_ok-take.ensures.ok ∙ ap (λ row. c.loop-pair.changes.items ++ Take row ∷ []) w.in_ok-pair_row.ensures.ok
-          ∙ ap (λ b. c.loop-pair.changes.items ++ cond b ((λ (x : Pair). Take (PairRow c.args.kind x.0 x.1)) c.pair-item.result ∷ []) []) (sym (sym c.is_same.ensures ∙ w.if-is_same.true))))
+          ∙ ap (λ b. c.loop-pair.changes.items ++ cond b ((λ (x : Pair). Take (PairRow c.args.kind x.0 x.1)) c.pair-item.result ∷ []) []) (sym (sym c.is_same.ensures.same ∙ w.if-is_same.true))))
       | else-is_same w ↦ rw w.changes-is
           (listed_more _ _ (each_filter (λ (x : Pair). Take (PairRow c.args.kind x.0 x.1)) (λ (x : Pair). same_name x.1 c.args.second.now)) _ _ _ c.args.pairs.now c.loop-pair.pair-index c.pair-item.result c.loop-pair-test.true c.pair-item.is c.loop-pair.invariant
           (sym (append-nil c.loop-pair.changes.items)
-          ∙ ap (λ b. c.loop-pair.changes.items ++ cond b ((λ (x : Pair). Take (PairRow c.args.kind x.0 x.1)) c.pair-item.result ∷ []) []) (sym (sym c.is_same.ensures ∙ w.if-is_same.false))))
+          ∙ ap (λ b. c.loop-pair.changes.items ++ cond b ((λ (x : Pair). Take (PairRow c.args.kind x.0 x.1)) c.pair-item.result ∷ []) []) (sym (sym c.is_same.ensures.same ∙ w.if-is_same.false))))
     ]
 
 pub returns-clause-ok : goal.returns-clause-ok

@@ -5,7 +5,7 @@ use Rattle.rbac_sets.proofs.SetLaws.{contains-from_list}
 use Rattle.rbac_sets.proofs.InOrder.{search_finds, search_parts, contains-search}
 use Rattle.role_order.specs.private.Checked.{second_cmp}
 use Rattle.order_matrix.proofs.Rows.{none_at_gap, second_total}
-use Rattle.order_matrix.proofs.table.has_second.Goals as goal
+use Rattle.order_matrix.proofs.table.has_second_near.Goals as goal
 
 pub returns : goal.returns
 returns c =

@@ -6,7 +6,7 @@ use Rattle.rbac_sets.specs.SortedSet.{set_of}
 use Rattle.role_order.specs.Order.{HasPair}
 use Rattle.role_order.proofs.Members.{none_in}
 use Rattle.role_order.proofs.Gathering.{HasSecond, second_above, seconds_more}
-use Rattle.role_order.proofs.building.seconds_of.Goals as goal
+use Rattle.role_order.proofs.building.set_of_seconds.Goals as goal
 
 pub loop-pair-init : goal.loop-pair-init
 loop-pair-init c = λ y. (λ h. absurd (none_in _ c.new-names.ensures y h), λ h. absurd (omega (arith, h.1.1)))
