@@ -1,8 +1,14 @@
 -- Who is authorized for a role, and what a role and a session may do.
-use Rattle.std.specs.Prelude.{Bool}
+use Rattle.std.specs.Prelude.{Bool, List}
+use Rattle.std.specs.List.{list_any}
 use Rattle.rbac_sets.specs.Sets.{Bytes, Names, Pair, Pairs, Triple, any, image, contains, retain}
 use Rattle.role_order.specs.Order.{geq}
 use Rattle.admin_mgr.specs.RbacState.{RbacState, active_roles}
+
+-- whether the holder of these pairs (holder, role), a user or a session, has the role: it is the role of one of the pairs, or a
+-- junior of that role
+abbrev pub is_reached : Pairs → List Pair → Bytes → Bool
+is_reached edges held role = list_any (λ (pair : Pair). geq edges pair.1 role) held
 
 -- AuthorizedUsers, authorized_users: the users who are assigned to the role or to a senior of it
 unfoldable pub authorized_users : RbacState → Bytes → Names

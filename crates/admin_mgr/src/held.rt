@@ -4,12 +4,14 @@ ghost use Rattle.std.specs.Prelude.{◌≡◌, ◌&&◌, ◌||◌, not, nat_lt};
 ghost use Rattle.std.specs.Option.{option_copied};
 ghost use Rattle.rbac_sets.specs.Sets.{pair_cmp};
 ghost use Rattle.rbac_sets.specs.SortedSet.{set_of};
-ghost use Rattle.admin_mgr.specs.private.HolderRoles.{is_reached, reached_roles, reached_members, reached_with, is_reached_from, reached_from, is_touched, find_with_all, find_with_one};
+ghost use Rattle.admin_mgr.specs.Authorization.{is_reached};
+ghost use Rattle.admin_mgr.specs.private.HolderRoles.{reached_roles, reached_members, reached_with, is_reached_from, reached_from, is_touched, find_with_all, find_with_one};
 
 use rbac_sets::{Name, PairSet};
 use role_order::RoleOrder;
 
-/// Whether the role is the second name of one of the pairs, or a junior of one.
+/// Whether a holder, which is a user or a session, has the role: it is the role of one of its pairs
+/// (holder, role) in `held`, or a junior of one. It doesn't allocate.
 pub fn is_reached(order: &RoleOrder, held: &[(Name, Name)], role: &Name) -> bool
     ensures { result ≡ is_reached order.now.edges held.now role.now }
 {

@@ -8,11 +8,8 @@ use Rattle.rbac_sets.specs.Sets.{Bytes, Pair, Pairs, Cardinality, members}
 use Rattle.rbac_sets.specs.declared.refusal.Refusal.{Refusal}
 use Rattle.role_order.specs.Order.{geq}
 pub use Rattle.role_order.specs.private.Runs.{run_of}
+pub use Rattle.admin_mgr.specs.Authorization.{is_reached}
 use Rattle.admin_mgr.specs.RbacState.{Separation}
-
--- whether the holder of these pairs has the role: it is the role of one of the pairs, or a junior of that role
-abbrev pub is_reached : Pairs → List Pair → Bytes → Bool
-is_reached edges held role = list_any (λ (pair : Pair). geq edges pair.1 role) held
 
 -- how many of the roles the holder has
 abbrev pub reached_roles : Pairs → List Pair → List Bytes → ℕ
