@@ -18,7 +18,7 @@ use sqlite::{Alter, Connection};
 pub(crate) struct Metas {
     pub(crate) is_tagged: bool,
     pub(crate) unknown: Option<i64>,
-    pub(crate) is_second: bool,
+    pub(crate) has_version_2: bool,
     pub(crate) is_well_typed: bool,
     pub(crate) is_one: bool,
     is_empty: bool,
@@ -116,7 +116,7 @@ pub(crate) fn read_metas<S: Alter>(conn: &mut Connection<S>) -> Result<Metas, Re
     let mut seen = Metas {
         is_tagged: false,
         unknown: None,
-        is_second: false,
+        has_version_2: false,
         is_well_typed: true,
         is_one: false,
         is_empty: true,
