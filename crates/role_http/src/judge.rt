@@ -34,7 +34,7 @@ pub fn judge_head(
 }
 
 // The same for the parts of a head.
-#[tactic(auto, unfolding(crate::specs::Judging::judged))]
+#[tactic(auto, unfolding(crate::specs::HeadChecks::judged))]
 fn judge(
     method: &[u8],
     named: Option<Function>,
@@ -126,7 +126,7 @@ fn agrees(before: Option<&[u8]>, value: &[u8]) -> bool
 }
 
 // Whether the value has digits only, and at least one.
-#[tactic(auto, unfolding(crate::specs::Judging::is_length))]
+#[tactic(auto, unfolding(crate::specs::HeadChecks::is_length))]
 fn is_length(value: &[u8]) -> bool
     ensures { result ≡ is_length value.now }
 {

@@ -3,7 +3,7 @@ use Rattle.std.specs.Prelude.{◌≤◌}
 use Rattle.rbac_sets.specs.Sets.{pair_cmp, triple_cmp}
 use Rattle.rbac_sets.specs.SortedSet.{set_of}
 use Rattle.admin_mgr.specs.RbacState.{RbacState}
-use Rattle.admin_mgr.specs.declared.relations.together.BulkRemoval.{BulkRemoval}
+use Rattle.admin_mgr.specs.declared.relations.bulk_removal.BulkRemoval.{BulkRemoval}
 
 -- the state with these sets instead of its own
 abbrev pub with_sets : RbacState → BulkRemoval → RbacState
