@@ -188,8 +188,12 @@ func (n *Node) apply(entry ledger.Entry) error {
 		}
 		place := place
 		n.replay.Send(line, func(text []byte) {
-			if own != nil {
-				own.requests[place].answer(Answer{Text: text, Revision: entry.Revision, Place: place})
+			if own == nil {
+				return
+			}
+			own.requests[place].answer(Answer{Text: text, Revision: entry.Revision, Place: place})
+			if own.left--; own.left == 0 {
+				close(own.done)
 			}
 		})
 	}

@@ -35,20 +35,14 @@ func (n *Node) resume(ctx context.Context) error {
 }
 
 // restore makes the office in use from a snapshot, which has to be what it was, or an empty one if there is none.
-func (n *Node) restore(base ledger.Snapshot) error {
+func (n *Node) restore(base ledger.Snapshot) (err error) {
 	if err := os.MkdirAll(n.Scratch, 0o700); err != nil {
 		return err
 	}
-	var err error
 	if base.Digest == "" {
-		if err = office.Remove(n.file()); err == nil {
-			err = office.Init(n.Program, n.file())
-		}
-	} else if err = office.Copy(n.Store.Path(base), n.file()); err == nil {
-		var digest string
-		if digest, err = office.Digest(n.file()); err == nil && digest != base.Digest {
-			err = fmt.Errorf("snapshot %d has the digest %s and not %s: delete it", base.Revision, digest, base.Digest)
-		}
+		err = office.Init(n.Program, n.file())
+	} else {
+		err = n.Store.Restore(base, n.file())
 	}
 	if err == nil {
 		n.replay, err = office.Start(n.Program, n.file())

@@ -16,6 +16,8 @@ const (
 	// most is how many requests one batch takes, and mostBytes how many bytes of commands.
 	most      = 512
 	mostBytes = 512 << 10
+	// linger is how long a batch waits for clients that have just been answered, if no more than a few ask at all.
+	linger, few = time.Millisecond, 8
 	// beat is the time between two reads of the log if nobody asks.
 	beat = 500 * time.Millisecond
 )
@@ -92,16 +94,19 @@ func (n *Node) ask(ctx context.Context, line []byte, way chan<- *request) (Answe
 	}
 }
 
-// gather waits for a request, and takes all others that wait, as many as a batch may have. What nobody waits for any more
-// is left out: it was never on its way.
-func gather(ctx context.Context, from <-chan *request) (found []*request) {
+// gather waits for a number of requests, or for one if it is late, and takes all others that wait, as many as a batch may
+// have. What nobody waits for any more is left out: it was never on its way.
+func gather(ctx context.Context, from <-chan *request, least int, late <-chan time.Time) (found []*request) {
 	for bytes := 0; len(found) < most && bytes < mostBytes; {
 		var r *request
-		if len(found) == 0 {
+		if len(found) < least {
 			select {
 			case r = <-from:
+			case <-late:
+				least = 1
+				continue
 			case <-ctx.Done():
-				return nil
+				return found
 			}
 		} else {
 			select {
@@ -122,24 +127,31 @@ type batch struct {
 	id       string
 	requests []*request
 	lines    [][]byte
-	// seen says that the entry was fed to the replay.
+	// seen says that the entry was fed to the replay, and done is closed when all its commands were answered.
 	seen atomic.Bool
+	left int
+	done chan struct{}
 }
 
 // expect returns a batch under a new name, by which it is known when it comes from the log.
 func (n *Node) expect(ctx context.Context, requests []*request) (*batch, error) {
 	n.batches++
-	b := &batch{id: fmt.Sprintf("%s-%x-%d", n.Name, n.start.UnixNano(), n.batches), requests: requests}
+	id := fmt.Sprintf("%s-%x-%d", n.Name, n.start.UnixNano(), n.batches)
+	b := &batch{id: id, requests: requests, left: len(requests), done: make(chan struct{})}
 	for _, r := range requests {
 		b.lines = append(b.lines, r.line)
 	}
 	return b, n.do(ctx, func() error { n.pending[b.id] = b; return nil })
 }
 
-// appendCommands puts commands into the log. While a batch is on its way, those that come gather in the next one.
+// appendCommands puts commands into the log. Those that come while a batch is on its way go into the next one. If they are
+// few they wait for the clients that have just been answered, which mostly ask again at once: a batch costs etcd as much as
+// a larger one.
 func (n *Node) appendCommands(ctx context.Context) error {
+	var late <-chan time.Time
+	least := 1
 	for ctx.Err() == nil {
-		requests := gather(ctx, n.commands)
+		requests := gather(ctx, n.commands, least, late)
 		if len(requests) == 0 {
 			continue
 		}
@@ -147,6 +159,14 @@ func (n *Node) appendCommands(ctx context.Context) error {
 		b, err := n.expect(within, requests)
 		if err == nil {
 			err = n.appendBatch(within, b)
+		}
+		least = 1
+		if asked := len(requests) + len(n.commands); err == nil && asked <= few {
+			select {
+			case <-b.done:
+				least, late = asked, time.After(linger)
+			case <-within.Done():
+			}
 		}
 		cancel()
 		if err != nil && ctx.Err() == nil {
@@ -190,7 +210,7 @@ func (n *Node) appendBatch(ctx context.Context, b *batch) error {
 func (n *Node) confirm(ctx context.Context) error {
 	for ctx.Err() == nil {
 		waiting, end := context.WithTimeout(ctx, beat)
-		requests := gather(waiting, n.questions)
+		requests := gather(waiting, n.questions, 1, nil)
 		end()
 		read := time.Now()
 		within, cancel := context.WithTimeout(ctx, n.Timeout)

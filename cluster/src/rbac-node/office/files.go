@@ -28,8 +28,13 @@ SELECT 'set_row', * FROM set_row ORDER BY 1, 2, 3, 4;
 SELECT 'locked_row', * FROM locked_row ORDER BY 1, 2;
 `
 
-// Init makes a new office.
-func Init(program, file string) error { return run(program, "init", file) }
+// Init makes a new office in place of one that was there.
+func Init(program, file string) error {
+	if err := remove(file); err != nil {
+		return err
+	}
+	return run(program, "init", file)
+}
 
 // Inspect takes the log of an office into its file, and returns the digest of its rows if the file holds a good office.
 func Inspect(program, file string) (string, error) {
@@ -60,8 +65,8 @@ func Digest(file string) (string, error) {
 	return hex.EncodeToString(hash.Sum(nil)), nil
 }
 
-// Remove deletes an office, if it is there.
-func Remove(file string) error {
+// remove deletes an office, if it is there.
+func remove(file string) error {
 	for _, suffix := range []string{"", journal, "-journal"} {
 		if err := os.RemoveAll(file + suffix); err != nil {
 			return fmt.Errorf("remove: %w", err)
@@ -73,7 +78,7 @@ func Remove(file string) error {
 // Copy copies the file of an office and its log, if it has one, in place of what was there. No program may be writing
 // them: a replay that has answered all its lines doesn't. The copies are what a crash at this moment leaves.
 func Copy(from, to string) error {
-	if err := Remove(to); err != nil {
+	if err := remove(to); err != nil {
 		return err
 	}
 	for _, suffix := range []string{"", journal} {

@@ -106,6 +106,18 @@ func (s *Store) Finish(file string, snapshot ledger.Snapshot) (ledger.Snapshot, 
 	return snapshot, err
 }
 
+// Restore copies a snapshot to a file, unless it is no longer what it was.
+func (s *Store) Restore(snapshot ledger.Snapshot, file string) error {
+	if err := Copy(s.Path(snapshot), file); err != nil {
+		return err
+	}
+	digest, err := Digest(file)
+	if err == nil && digest != snapshot.Digest {
+		err = fmt.Errorf("snapshot %d has the digest %s and not %s: delete it", snapshot.Revision, digest, snapshot.Digest)
+	}
+	return err
+}
+
 // ServeHTTP gives the newest snapshot to another node.
 func (s *Store) ServeHTTP(w http.ResponseWriter, r *http.Request) {
 	found, err := s.List()
