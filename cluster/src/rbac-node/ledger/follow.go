@@ -38,6 +38,7 @@ func (l *Ledger) Follow(ctx context.Context, after int64, deliver func(Entry) er
 		if err := f.watch(ctx); err != nil {
 			return err
 		}
+		l.log.Info("following the log anew", zap.Int64("revision", f.after))
 	}
 	return ctx.Err()
 }
@@ -97,7 +98,6 @@ func (f *follower) watch(ctx context.Context) error {
 		select {
 		case <-ticker.C:
 			if f.after < wanted {
-				f.log.Info("following the log anew", zap.Int64("revision", f.after), zap.Int64("wanted", wanted))
 				return nil
 			}
 			wanted = f.head.Load()

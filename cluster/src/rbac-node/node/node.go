@@ -153,7 +153,7 @@ func (n *Node) feed(ctx context.Context) error {
 				return err
 			}
 		case r := <-n.locals:
-			n.answer([]*request{r})
+			n.pose([]*request{r})
 		case <-n.replay.Ended:
 			// Nobody knows which of the lines were done.
 			if !isFaulty("endless") {

@@ -221,7 +221,7 @@ func (n *Node) confirm(ctx context.Context) error {
 					if heard := int64(read.Sub(n.start)); heard > n.heard.Load() {
 						n.heard.Store(heard)
 					}
-					n.answer(requests)
+					n.pose(requests)
 					return nil
 				})
 			})
@@ -231,8 +231,8 @@ func (n *Node) confirm(ctx context.Context) error {
 	return nil
 }
 
-// answer gives the replay questions.
-func (n *Node) answer(questions []*request) {
+// pose gives the replay questions.
+func (n *Node) pose(questions []*request) {
 	revision, age := n.revision.Load(), n.age()
 	for _, q := range questions {
 		if q.ctx.Err() == nil {
