@@ -47,10 +47,13 @@ func parse(words []string) (settings, error) {
 	flags.StringVar(&s.etcd, "etcd", "http://127.0.0.1:2379", "URLs of the members of etcd, separated by commas")
 	flags.StringVar(&s.user, "etcd-user", "", "user of etcd")
 	flags.StringVar(&s.passwordFile, "etcd-password-file", "", "file with the password of that user")
-	for side, info := range map[string]*transport.TLSInfo{"tls": &s.clientTLS, "peer": &s.peerTLS, "etcd": &s.etcdTLS} {
-		flags.StringVar(&info.CertFile, side+"-cert", "", "certificate of this node on that side")
-		flags.StringVar(&info.KeyFile, side+"-key", "", "key of that certificate")
-		flags.StringVar(&info.TrustedCAFile, side+"-ca", "", "authority of the certificates of the other side")
+	for _, side := range []struct {
+		name, other string
+		info        *transport.TLSInfo
+	}{{"tls", "clients", &s.clientTLS}, {"peer", "other nodes", &s.peerTLS}, {"etcd", "etcd", &s.etcdTLS}} {
+		flags.StringVar(&side.info.CertFile, side.name+"-cert", "", "certificate of this node for "+side.other)
+		flags.StringVar(&side.info.KeyFile, side.name+"-key", "", "key of that certificate")
+		flags.StringVar(&side.info.TrustedCAFile, side.name+"-ca", "", "authority of the certificates of "+side.other)
 	}
 	if err := flags.Parse(words[1:]); err != nil {
 		return s, err
