@@ -16,8 +16,10 @@ const (
 	// most is how many requests one batch takes, and mostBytes how many bytes of commands.
 	most      = 512
 	mostBytes = 512 << 10
-	// linger is how long a batch waits for clients that have just been answered, if no more than a few ask at all.
-	linger, few = time.Millisecond, 8
+	// If no more than a few ask at all, a batch waits for the answers to the last one, unless they are slow, and then lingers
+	// for those who were answered.
+	few          = 8
+	slow, linger = 10 * time.Millisecond, time.Millisecond
 	// beat is the time between two reads of the log if nobody asks.
 	beat = 500 * time.Millisecond
 )
@@ -165,7 +167,7 @@ func (n *Node) appendCommands(ctx context.Context) error {
 			select {
 			case <-b.done:
 				least, late = asked, time.After(linger)
-			case <-within.Done():
+			case <-time.After(slow):
 			}
 		}
 		cancel()
