@@ -3,7 +3,6 @@ package ledger
 import (
 	"bytes"
 	"context"
-	"fmt"
 	"path"
 	"time"
 
@@ -53,32 +52,25 @@ type follower struct {
 // read delivers the entries that are keys now.
 func (f *follower) read(ctx context.Context) error {
 	for more := true; more; {
-		var reply *clientv3.TxnResponse
-		err := f.Retry(ctx, func(ctx context.Context) (err error) {
-			reply, err = f.kv.Txn(ctx).Then(
-				clientv3.OpGet("floor"),
-				clientv3.OpGet("log/", clientv3.WithPrefix(), clientv3.WithMinCreateRev(f.after+1),
-					clientv3.WithSort(clientv3.SortByCreateRevision, clientv3.SortAscend), clientv3.WithLimit(group)),
-			).Commit()
-			return err
-		})
+		reply, err := f.get(ctx, "log/", clientv3.WithPrefix(), clientv3.WithMinCreateRev(f.after+1),
+			clientv3.WithSort(clientv3.SortByCreateRevision, clientv3.SortAscend), clientv3.WithLimit(group))
 		if err != nil {
-			return fmt.Errorf("read of the log: %w", err)
+			return err
 		}
-		floor, err := floorOf(reply.Responses[0].GetResponseRange().Kvs)
+		// If nothing was trimmed until now, all that is wanted was there.
+		floor, _, _, err := f.Floor(ctx)
 		if err == nil && floor > f.after {
 			err = ErrTrimmed
 		}
 		if err != nil {
 			return err
 		}
-		entries := reply.Responses[1].GetResponseRange()
-		for _, kv := range entries.Kvs {
+		for _, kv := range reply.Kvs {
 			if err := f.hand(kv); err != nil {
 				return err
 			}
 		}
-		if more = entries.More; !more {
+		if more = reply.More; !more {
 			f.after = reply.Header.Revision
 		}
 	}

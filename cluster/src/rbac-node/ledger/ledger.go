@@ -68,23 +68,26 @@ func (l *Ledger) Append(ctx context.Context, id string, lines [][]byte, guard *i
 		clientv3.OpPut("log/"+id, string(bytes.Join(lines, []byte("\n")))),
 		clientv3.OpPut("head", ""),
 	).Commit()
-	if err == nil && reply.Succeeded {
-		return reply.Header.Revision, newest(reply.Responses[0].GetResponseRange().Kvs), nil
-	}
-	if err == nil {
-		// This is apart from the first transaction, since all members of etcd would have to keep and read it.
-		reply, err = l.kv.Txn(ctx).Then(
-			clientv3.OpGet("log/"+id, clientv3.WithKeysOnly()), clientv3.OpGet("floor"), clientv3.OpGet("head"),
-		).Commit()
-	}
 	if err != nil {
 		return 0, 0, fmt.Errorf("append: %w", err)
 	}
-	if newest(reply.Responses[0].GetResponseRange().Kvs) > 0 {
-		return 0, 0, nil
+	if reply.Succeeded {
+		return reply.Header.Revision, newest(reply.Responses[0].GetResponseRange().Kvs), nil
 	}
-	*guard = newest(reply.Responses[1].GetResponseRange().Kvs)
-	return 0, newest(reply.Responses[2].GetResponseRange().Kvs), ErrTrimmed
+	// This is apart from the transaction, since all members of etcd would have to keep and read it.
+	known, err := l.get(ctx, "log/"+id, clientv3.WithKeysOnly())
+	if err != nil || len(known.Kvs) > 0 {
+		return 0, 0, err
+	}
+	_, trimmed, _, err := l.Floor(ctx)
+	if err == nil {
+		before, err = l.Head(ctx)
+	}
+	if err != nil {
+		return 0, 0, err
+	}
+	*guard = trimmed // Only with ErrTrimmed, which makes the caller look whether the entry was there.
+	return 0, before, ErrTrimmed
 }
 
 // newest returns the revision at which the key of a read was last written, 0 if it is not there.
@@ -146,19 +149,12 @@ func (l *Ledger) Floor(ctx context.Context) (floor, guard, revision int64, err e
 	if err != nil {
 		return 0, 0, 0, err
 	}
-	floor, err = floorOf(reply.Kvs)
-	return floor, newest(reply.Kvs), reply.Header.Revision, err
-}
-
-func floorOf(kvs []*mvccpb.KeyValue) (int64, error) {
-	if len(kvs) == 0 {
-		return 0, nil
+	if len(reply.Kvs) > 0 {
+		if floor, err = strconv.ParseInt(string(reply.Kvs[0].Value), 10, 64); err != nil {
+			return 0, 0, 0, fmt.Errorf("floor: %w", err)
+		}
 	}
-	floor, err := strconv.ParseInt(string(kvs[0].Value), 10, 64)
-	if err != nil {
-		return 0, fmt.Errorf("floor: %w", err)
-	}
-	return floor, nil
+	return floor, newest(reply.Kvs), reply.Header.Revision, nil
 }
 
 // raise writes the floor, if a condition holds and nobody else has written it since the revision guard.
