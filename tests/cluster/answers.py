@@ -7,6 +7,7 @@ import socket
 from pages.api import all_pairs
 from program.heads import REFUSED
 
+from .heads import judge_differences
 from .machines import Cluster
 from .running import build
 
@@ -25,7 +26,7 @@ BODY = re.compile(rb"\{.*\}")
 
 
 def exchange(cluster, request, machine=0):
-    """The status and the body of a node's first answer to some bytes."""
+    """The status and the body of a node's first answer to some bytes, None if there is none."""
     host, port = cluster.network.address(machine, 8080).split(":")
     with socket.create_connection((host, int(port)), 10) as client:
         client.sendall(request)
@@ -34,7 +35,7 @@ def exchange(cluster, request, machine=0):
         while piece := client.recv(65_536):
             said += piece
     head, _, body = said.partition(b"\r\n\r\n")
-    return int(head.split()[1]), body
+    return int(head.split()[1]) if head else None, body
 
 
 def of_line(line):
@@ -54,6 +55,7 @@ def check_page(bench):
     """Each request of docs/API.md gets its answer there, and the status of its code."""
     with Cluster(bench.folder, build(bench.shared)) as cluster:
         judge_heads(bench, cluster)
+        judge_differences(bench, lambda request: exchange(cluster, request)[0])
         for line, answer in all_pairs():
             try:
                 value = json.loads(line)

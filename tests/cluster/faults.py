@@ -1,6 +1,5 @@
 """Faults of machines, at random."""
 
-import os
 import random
 import signal
 import time

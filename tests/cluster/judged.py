@@ -46,12 +46,13 @@ class Trial:
         for what, count in counts_of(histories).items():
             print(f"{count:9,}  {what}")
         print(f"{len(self.recorder.entries):9,}  entries of the log, trimmed up to {self.recorder.floor}", flush=True)
-        kept = [snapshots_of(self.cluster, i) for i in range(MACHINES)]
-        judge = Judge(self.recorder.entries, histories)
-        faults += judge.judge({revision for one in kept for revision in one})
         for i, node in enumerate(self.cluster.nodes):
             if node.stop(signal.SIGTERM) != 0:
                 faults.append(f"node {i} does not end in order")
+        # A node that runs deletes its oldest snapshot when it has finished another one.
+        kept = [snapshots_of(self.cluster, i) for i in range(MACHINES)]
+        judge = Judge(self.recorder.entries, histories)
+        faults += judge.judge({revision for one in kept for revision in one})
         wanted = sorted_rows(judge.state)
         faults += [f"the rows of node {i} differ" for i, path in enumerate(offices(self.cluster)) if rows_of(path) != wanted]
         for i, found in enumerate(kept):

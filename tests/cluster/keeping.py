@@ -11,7 +11,7 @@ from program.bench import PROGRAM
 
 from .answers import exchange, post
 from .machines import PREFIX, Cluster
-from .rows import rows_of, snapshots_of
+from .rows import digest_of, rows_of, snapshots_of
 from .running import build
 
 EVERY = 50
@@ -126,10 +126,7 @@ def judge_diverged(bench, cluster):
     newest = max(revisions(cluster, 2))
     says, path = snapshots_of(cluster, 2)[newest]
     tamper(path)
-    digest = subprocess.run(
-        [cluster.node, "digest", str(path)], capture_output=True, text=True, check=True
-    ).stdout.strip()
-    (path.parent / "meta.json").write_text(json.dumps({**says, "digest": digest}), encoding="ascii")
+    path.rename(path.with_name(f"{newest}-{says['commands']}-{digest_of(path)}"))
     cluster.nodes[2].start()
     cluster.until(lambda: not cluster.status(0).get("ready"), "node 0 refuses")
     cluster.until(lambda: not cluster.status(2).get("ready"), "node 2 refuses")

@@ -96,8 +96,15 @@ def check_commands(bench):
                     # The page says that b does the same, and that the members are started anew.
                     machines["b"].type("kill $MEMBER; wait; mkdir away; mv node etcd away")
                     start(member)
+                if "snapshot restore" in command:
+                    # The page says that all end, and that each has the file.
+                    everywhere("kill $NODE $MEMBER; wait; mkdir older; mv node etcd older; cp ../a/etcd.backup . 2> /dev/null")
+                    for other in "bc":
+                        bench.same(f"what {command} prints", machines[other].type(command), "")
                 bench.same(f"what {command} prints", machines[name].type(command), machines[name].here(shown))
-                if "adopt" in command:
+                if "node/snapshots" in command:
+                    start(member)
+                if "adopt" in command or "node/snapshots" in command:
                     start(node)
     finally:
         for machine in machines.values():

@@ -1,6 +1,6 @@
 """The rows of the offices that a cluster leaves, beside the model's."""
 
-import json
+import hashlib
 import sqlite3
 from pathlib import Path
 
@@ -15,6 +15,15 @@ def rows_of(path):
         return {table: sorted(database.execute(f"SELECT * FROM {table}")) for table in TABLES}
 
 
+def digest_of(path):
+    """The digest of the rows of an office, as a node makes it."""
+    digest = hashlib.sha256()
+    for table, found in rows_of(path).items():
+        for row in found:
+            digest.update("\t".join([table, *map(str, row)]).encode() + b"\n")
+    return digest.hexdigest()
+
+
 TABLES = ["meta_row", "name_row", "pair_row", "grant_row", "set_row", "locked_row"]
 
 
@@ -23,12 +32,11 @@ def sorted_rows(state):
 
 
 def snapshots_of(cluster, i):
-    """The snapshots of a node: their revisions, counts and files."""
+    """The snapshots of a node by their revisions: what their names say of them, and their files."""
     found = {}
-    for meta in Path(cluster.data(f"node{i}")).glob("snapshots/*/meta.json"):
-        if not meta.parent.name.startswith("making"):
-            says = json.loads(meta.read_text(encoding="ascii"))
-            found[says["revision"]] = (says, meta.parent / "office")
+    for path in Path(cluster.data(f"node{i}")).glob("snapshots/[0-9]*"):
+        revision, commands, digest = path.name.split("-")
+        found[int(revision)] = ({"revision": int(revision), "commands": int(commands), "digest": digest}, path)
     return found
 
 

@@ -21,7 +21,7 @@ def check_functions(bench):
 def check_texts(bench):
     """The page is short, and the unit of systemd runs what it says."""
     page = (TESTS.parent / "docs/CLUSTER.md").read_text(encoding="utf-8")
-    bench.same("a page of under 300 lines", page.count("\n") < 300, True)
+    bench.same("a page of under 340 lines", page.count("\n") < 340, True)
     settings = (SOURCES / "settings.go").read_text(encoding="utf-8")
     known = set(re.findall(r'&s\.\w+, "([a-z-]+)"', settings))
     known |= {f"{side}-{word}" for side in ("tls", "peer", "etcd") for word in ("cert", "key", "ca")}
@@ -46,7 +46,7 @@ OTHERS = {
 def check_metrics(bench):
     """The page lists each metric of the node, and no other one."""
     page = (TESTS.parent / "docs/CLUSTER.md").read_text(encoding="utf-8")
-    gauges = re.findall(r'gauge\("(\w+)"', (SOURCES / "node/metrics.go").read_text(encoding="utf-8"))
+    gauges = re.findall(r'gauge\("(\w+)"', (SOURCES / "node/status.go").read_text(encoding="utf-8"))
     counters = re.findall(r'Name: "(\w+)"', (SOURCES / "api/handler.go").read_text(encoding="utf-8"))
     known = {f"rbac_node_{name}" for name in gauges} | set(counters)
     bench.same("metrics of the page", sorted(set(re.findall(r"rbac_node_\w+", page))), sorted(known))
@@ -58,8 +58,8 @@ def check_limits(bench):
     sources = "".join(path.read_text(encoding="utf-8") for path in sorted(SOURCES.rglob("*.go")))
     for source, text in [
         ('"every", 10_000', "After each 10,000 commands"),
-        ("kept, announced = 3, 16", "A node keeps three snapshots"),
-        ("margin = 1", "those after the last snapshot but one"),
+        ("kept = 3", "A node keeps three snapshots"),
+        ("member.Snapshots[1].Revision", "those after the last snapshot but one"),
         ("longestLine   = 65_536", "a line of at most 65,536 bytes"),
         ('"timeout", 10*time.Second', "mostly within 10 seconds"),
         ("longest = 3 * time.Second", "`rbac_node_age_seconds` | it is above 3"),

@@ -2,10 +2,8 @@
 //
 //	rbac-node serve --name NAME --data FOLDER --etcd URL,.. --listen HOST:PORT --peer HOST:PORT --program RBAC
 //	rbac-node adopt --etcd URL,.. --data FOLDER --program RBAC OFFICE
-//	rbac-node digest OFFICE
 //
-// The second takes an office from its file into a new cluster, before its first command. The last prints the digest
-// of an office that no program has open. docs/CLUSTER.md says more.
+// The second takes an office from its file into a new cluster, before its first command. docs/CLUSTER.md says more.
 package main
 
 import (
@@ -14,14 +12,18 @@ import (
 	"fmt"
 	"os"
 	"os/signal"
+	"path/filepath"
 	"syscall"
 
 	"go.etcd.io/etcd/clientv3"
 	"go.uber.org/zap"
+	"go.uber.org/zap/zapcore"
 
 	"rbac-node/ledger"
-	"rbac-node/snapshot"
+	"rbac-node/office"
 )
+
+var errUsage = errors.New("usage: rbac-node serve|adopt [flags]; see rbac-node serve --help")
 
 func main() {
 	ctx, stop := signal.NotifyContext(context.Background(), syscall.SIGTERM, syscall.SIGINT)
@@ -38,14 +40,13 @@ func run(ctx context.Context, words []string) error {
 	if err != nil {
 		return err
 	}
-	if s.command == "digest" {
-		digest, err := snapshot.Digest(s.argument)
-		fmt.Println(digest)
-		return err
-	}
-	logger, err := newLogger()
+	// Each event is a line of JSON on standard error.
+	zapped := zap.NewProductionConfig()
+	zapped.EncoderConfig.EncodeTime = zapcore.ISO8601TimeEncoder
+	zapped.DisableCaller, zapped.DisableStacktrace = true, true
+	logger, err := zapped.Build(zap.Fields(zap.String("node", s.Name)))
 	if err != nil {
-		return err
+		return fmt.Errorf("logger: %w", err)
 	}
 	defer func() { _ = logger.Sync() }()
 	config, err := s.etcdConfig()
@@ -57,24 +58,38 @@ func run(ctx context.Context, words []string) error {
 		return fmt.Errorf("etcd: %w", err)
 	}
 	defer client.Close()
-	log := ledger.New(client, s.prefix)
+	log := ledger.New(client, s.prefix, logger)
 	if s.command == "adopt" {
 		return adopt(ctx, s, log)
 	}
-	return serve(ctx, s, client, log, logger)
+	return serve(ctx, s, log, logger)
 }
 
-// newLogger returns a logger that writes a line of JSON to standard error for each event.
-func newLogger() (*zap.Logger, error) {
-	config := zap.NewProductionConfig()
-	config.EncoderConfig.EncodeTime = zapTime
-	config.DisableCaller = true
-	config.DisableStacktrace = true
-	logger, err := config.Build()
+// adopt makes the office of a file the beginning of a new cluster.
+func adopt(ctx context.Context, s settings, log *ledger.Ledger) error {
+	store, err := office.Open(filepath.Join(s.Data, "snapshots"), s.Program)
 	if err != nil {
-		return nil, fmt.Errorf("logger: %w", err)
+		return err
 	}
-	return logger, nil
+	file, err := store.Begin()
+	if err != nil {
+		return err
+	}
+	defer os.RemoveAll(filepath.Dir(file))
+	if err := office.Copy(s.argument, file); err != nil {
+		return err
+	}
+	if _, err := office.Inspect(s.Program, file); err != nil {
+		return err
+	}
+	revision, err := log.Adopt(ctx)
+	if err != nil {
+		return err
+	}
+	snapshot, err := store.Finish(file, ledger.Snapshot{Revision: revision})
+	if err != nil {
+		return err
+	}
+	fmt.Printf("snapshot %d has the digest %s\n", snapshot.Revision, snapshot.Digest)
+	return nil
 }
-
-var errUsage = errors.New("usage: rbac-node serve|adopt|digest [flags]; see rbac-node serve --help")

@@ -2,7 +2,7 @@ package main
 
 import (
 	"context"
-	"encoding/json"
+	"errors"
 	"fmt"
 	"net"
 	"net/http"
@@ -13,159 +13,99 @@ import (
 	"github.com/prometheus/client_golang/prometheus"
 	"github.com/prometheus/client_golang/prometheus/collectors"
 	"github.com/prometheus/client_golang/prometheus/promhttp"
-	"go.etcd.io/etcd/clientv3"
+	"go.etcd.io/etcd/pkg/fileutil"
+	"go.etcd.io/etcd/pkg/transport"
 	"go.uber.org/zap"
+	"golang.org/x/sync/errgroup"
 
 	"rbac-node/api"
 	"rbac-node/ledger"
 	"rbac-node/node"
-	"rbac-node/office"
-	"rbac-node/snapshot"
 )
 
 // leaving is how long requests may take to end when the node ends.
 const leaving = 10 * time.Second
 
 // serve runs a node with its two servers until the context ends or something fails.
-func serve(ctx context.Context, s settings, client *clientv3.Client, log *ledger.Ledger, logger *zap.Logger) error {
-	logger = logger.With(zap.String("node", s.name))
-	if err := os.MkdirAll(s.data, 0o700); err != nil {
+func serve(ctx context.Context, s settings, log *ledger.Ledger, logger *zap.Logger) error {
+	if err := os.MkdirAll(s.Data, 0o700); err != nil {
 		return fmt.Errorf("data: %w", err)
 	}
-	lock, err := node.Lock(s.data)
+	lock, err := fileutil.TryLockFile(filepath.Join(s.Data, "lock"), os.O_RDWR|os.O_CREATE, 0o600)
 	if err != nil {
-		return err
+		return fmt.Errorf("lock of the folder, which no other node may use: %w", err)
 	}
 	defer lock.Close()
-	options, err := s.options()
+	n, err := node.New(s.Options, log, logger)
 	if err != nil {
 		return err
 	}
-	n, err := node.New(options, client, log, logger)
-	if err != nil {
-		return err
-	}
-	failed := make(chan error, 2)
-	servers := []*http.Server{newServer(s.listen, forClients(n)), newServer(s.peer, forPeers(n))}
-	for i, tls := range []pair{s.clientTLS, s.peerTLS} {
-		if err := start(servers[i], tls, failed); err != nil {
-			return err
-		}
-	}
-	logger.Info("started", zap.String("listen", s.listen), zap.String("peer", s.peer))
-
 	// The node goes on after the signal, until what was asked before is answered.
-	inner, end := context.WithCancel(context.Background())
+	life, end := context.WithCancel(context.Background())
 	defer end()
-	ended := make(chan error, 1)
-	go func() { ended <- n.Run(inner) }()
+	work, running := errgroup.WithContext(life)
+
+	registry := prometheus.NewRegistry()
+	registry.MustRegister(collectors.NewGoCollector(), collectors.NewProcessCollector(collectors.ProcessCollectorOpts{}))
+	n.Register(registry)
+	office := api.Handler(running, n, registry)
+	peers := http.NewServeMux()
+	peers.Handle("/snapshot", n.Store)
+	peers.Handle("/metrics", promhttp.HandlerFor(registry, promhttp.HandlerOpts{}))
+	peers.HandleFunc("/healthz", n.ServeHealth)
+	clients := http.HandlerFunc(func(w http.ResponseWriter, r *http.Request) {
+		if r.URL.Path == "/healthz" {
+			n.ServeHealth(w, r)
+			return
+		}
+		office.ServeHTTP(w, r) // A mux would redirect what it knows better.
+	})
+	forClients, err := start(work, s.listen, s.clientTLS, clients)
+	if err != nil {
+		return err
+	}
+	forPeers, err := start(work, s.peer, s.peerTLS, peers)
+	if err != nil {
+		return err
+	}
+	work.Go(func() error { return n.Run(running) })
+	logger.Info("started", zap.String("listen", s.listen), zap.String("peer", s.peer))
 	select {
 	case <-ctx.Done():
-	case err = <-failed:
-	case err = <-ended:
-		ended <- err
+	case <-running.Done():
 	}
 	within, cancel := context.WithTimeout(context.Background(), leaving)
 	defer cancel()
-	for _, server := range servers {
-		_ = server.Shutdown(within)
-	}
+	_ = forClients.Shutdown(within)
+	_ = forPeers.Shutdown(within)
 	end()
-	if last := <-ended; err == nil {
-		err = last
-	}
+	err = work.Wait()
 	logger.Info("ended", zap.Error(err))
 	return err
 }
 
-func newServer(address string, handler http.Handler) *http.Server {
-	return &http.Server{
-		Addr: address, Handler: handler, MaxHeaderBytes: 8192,
+// start lets a server listen, with TLS if it has a certificate.
+func start(work *errgroup.Group, address string, info transport.TLSInfo, handler http.Handler) (*http.Server, error) {
+	server := &http.Server{
+		Handler: handler, MaxHeaderBytes: 8192,
 		ReadHeaderTimeout: 5 * time.Second, ReadTimeout: 10 * time.Second, IdleTimeout: 2 * time.Minute,
 	}
-}
-
-// start lets a server listen, with TLS if it has a certificate.
-func start(server *http.Server, tls pair, failed chan<- error) error {
-	config, err := tls.config()
+	listener, err := net.Listen("tcp", address)
 	if err != nil {
-		return err
+		return nil, fmt.Errorf("listen: %w", err)
 	}
-	listener, err := net.Listen("tcp", server.Addr)
-	if err != nil {
-		return fmt.Errorf("listen: %w", err)
+	run := server.Serve
+	if has(info) {
+		if server.TLSConfig, err = info.ServerConfig(); err != nil {
+			return nil, fmt.Errorf("certificates for %s: %w", address, err)
+		}
+		run = func(listener net.Listener) error { return server.ServeTLS(listener, "", "") }
 	}
-	server.TLSConfig = config
-	go func() {
-		if config != nil {
-			failed <- server.ServeTLS(listener, "", "")
-		} else {
-			failed <- server.Serve(listener)
+	work.Go(func() error {
+		if err := run(listener); !errors.Is(err, http.ErrServerClosed) {
+			return err
 		}
-	}()
-	return nil
-}
-
-// forClients answers requests for the office, and says whether the node is ready.
-func forClients(n *node.Node) http.Handler {
-	asked := api.Handler(n)
-	return http.HandlerFunc(func(w http.ResponseWriter, r *http.Request) {
-		if r.URL.Path == "/healthz" {
-			health(n, w)
-			return
-		}
-		asked.ServeHTTP(w, r)
+		return nil
 	})
-}
-
-// forPeers gives other nodes the newest snapshot, and a monitor the metrics.
-func forPeers(n *node.Node) http.Handler {
-	registry := prometheus.NewRegistry()
-	registry.MustRegister(collectors.NewGoCollector(), collectors.NewProcessCollector(collectors.ProcessCollectorOpts{}))
-	registry.MustRegister(api.Collectors()...)
-	registry.MustRegister(n.Collectors()...)
-	mux := http.NewServeMux()
-	mux.Handle(snapshot.Path, n.Store())
-	mux.Handle("/metrics", promhttp.HandlerFor(registry, promhttp.HandlerOpts{}))
-	mux.HandleFunc("/healthz", func(w http.ResponseWriter, _ *http.Request) { health(n, w) })
-	return mux
-}
-
-// health says how the node is: with 200 if it has applied what the log had a moment ago, and with 503 if not.
-func health(n *node.Node, w http.ResponseWriter) {
-	status := n.Status()
-	w.Header().Set("Content-Type", "application/json")
-	if !status.Ready {
-		w.WriteHeader(http.StatusServiceUnavailable)
-	}
-	_ = json.NewEncoder(w).Encode(status)
-}
-
-// adopt makes the office of a file the beginning of a new cluster.
-func adopt(ctx context.Context, s settings, log *ledger.Ledger) error {
-	store, err := snapshot.Open(filepath.Join(s.data, "snapshots"), s.program)
-	if err != nil {
-		return err
-	}
-	file, err := store.Begin()
-	if err != nil {
-		return err
-	}
-	defer os.RemoveAll(filepath.Dir(file))
-	if err := office.Copy(s.argument, file); err != nil {
-		return err
-	}
-	if _, err := store.Inspect(file); err != nil {
-		return err
-	}
-	revision, err := log.Adopt(ctx)
-	if err != nil {
-		return err
-	}
-	meta, err := store.Finish(file, ledger.Snapshot{Revision: revision})
-	if err != nil {
-		return err
-	}
-	fmt.Printf("snapshot %d has the digest %s\n", meta.Revision, meta.Digest)
-	return nil
+	return server, nil
 }

@@ -20,14 +20,14 @@ const (
 `
 )
 
-// isQuestion has all functions, and says of each whether it is a question.
-var isQuestion = func() map[string]bool {
-	known := map[string]bool{}
+// kinds has all functions, and says of each which kind of request it is.
+var kinds = func() map[string]string {
+	known := map[string]string{}
 	for _, name := range strings.Fields(commands) {
-		known[name] = false
+		known[name] = "command"
 	}
 	for _, name := range strings.Fields(questions) {
-		known[name] = true
+		known[name] = "question"
 	}
 	return known
 }()

@@ -2,7 +2,10 @@
 package api
 
 import (
+	"bytes"
 	"context"
+	"encoding/json"
+	"errors"
 	"fmt"
 	"net/http"
 	"strconv"
@@ -13,79 +16,72 @@ import (
 	"rbac-node/node"
 )
 
-var (
-	answers = prometheus.NewCounterVec(prometheus.CounterOpts{
+// Handler answers requests from a node until the context ends, also if the client has ended its side of the connection, as
+// `rbac serve` does. Its metrics are in the registry.
+func Handler(ctx context.Context, n *node.Node, registry *prometheus.Registry) http.Handler {
+	answers := prometheus.NewCounterVec(prometheus.CounterOpts{
 		Name: "rbac_node_answers_total", Help: "Requests that were answered.",
 	}, []string{"kind", "status"})
-	seconds = prometheus.NewHistogramVec(prometheus.HistogramOpts{
+	seconds := prometheus.NewHistogramVec(prometheus.HistogramOpts{
 		Name: "rbac_node_answer_seconds", Help: "How long requests took.",
 		Buckets: prometheus.ExponentialBuckets(0.0005, 2, 15),
 	}, []string{"kind"})
-)
-
-// Collectors are the metrics of requests.
-func Collectors() []prometheus.Collector { return []prometheus.Collector{answers, seconds} }
-
-// Handler answers requests from a node.
-func Handler(n *node.Node) http.Handler {
+	registry.MustRegister(answers, seconds)
+	perform := map[string]func(context.Context, []byte) (node.Answer, error){
+		"command": n.Command, "question": n.Question, "local": n.LocalQuestion,
+	}
 	return http.HandlerFunc(func(w http.ResponseWriter, r *http.Request) {
 		start := time.Now()
-		kind, status := "none", 0
-		asked, err := read(r)
+		kind, line, err := read(r)
+		var answer node.Answer
 		if err == nil {
-			var answer node.Answer
-			if kind, answer, err = perform(n, asked); err == nil {
-				status = writeAnswer(w, answer, asked)
+			answer, err = perform[kind](ctx, line)
+		}
+		status := statusOf(answer.Text)
+		if err != nil {
+			status, answer.Text = refusalOf(err)
+		} else {
+			w.Header().Set("Office-Revision", strconv.FormatInt(answer.Revision, 10))
+			if kind == "command" {
+				w.Header().Set("Office-Place", strconv.Itoa(answer.Place))
+			} else {
+				w.Header().Set("Office-Age", strconv.FormatFloat(answer.Age.Seconds(), 'f', 3, 64))
 			}
 		}
-		if err != nil {
-			status = writeRefusal(w, refusalOf(err, node.ErrDiverged))
+		if status == http.StatusMethodNotAllowed {
+			w.Header().Set("Allow", http.MethodPost)
 		}
+		w.Header().Set("Content-Type", "application/json")
+		w.Header().Set("Content-Length", strconv.Itoa(len(answer.Text)))
+		w.WriteHeader(status)
+		_, _ = w.Write(answer.Text) // If it fails the client is gone.
 		answers.WithLabelValues(kind, strconv.Itoa(status)).Inc()
 		seconds.WithLabelValues(kind).Observe(time.Since(start).Seconds())
 	})
 }
 
-// perform asks the node, and says which kind of request that is. It goes on if the client has ended its side of the
-// connection, which ends the context of the request: `rbac serve` answers such a client too.
-func perform(n *node.Node, asked request) (string, node.Answer, error) {
-	ctx := context.Background()
-	switch {
-	case !asked.question:
-		answer, err := n.Command(ctx, asked.line)
-		return "command", answer, err
-	case asked.local:
-		answer, err := n.Question(ctx, asked.line, true)
-		return "local", answer, err
+// statusOf returns the status of an answer of the office.
+func statusOf(answer []byte) int {
+	if bytes.HasPrefix(answer, []byte(`{"ok":true`)) {
+		return http.StatusOK
 	}
-	answer, err := n.Question(ctx, asked.line, false)
-	return "question", answer, err
+	var refused struct{ Code int }
+	_ = json.Unmarshal(answer, &refused)
+	switch refused.Code {
+	case 1, 34, 36:
+		return http.StatusBadRequest
+	case 35:
+		return http.StatusNotFound
+	}
+	return http.StatusConflict
 }
 
-func writeAnswer(w http.ResponseWriter, answer node.Answer, asked request) int {
-	header := w.Header()
-	header.Set("Office-Revision", strconv.FormatInt(answer.Revision, 10))
-	if asked.question {
-		header.Set("Office-Age", strconv.FormatFloat(answer.Age.Seconds(), 'f', 3, 64))
-	} else {
-		header.Set("Office-Place", strconv.Itoa(answer.Place))
+// refusalOf returns the status and the text for a request to which the office gave no answer.
+func refusalOf(err error) (int, []byte) {
+	refused := refusal{http.StatusServiceUnavailable, 60, "Unavailable"}
+	if errors.Is(err, node.ErrDiverged) {
+		refused = refusal{http.StatusServiceUnavailable, 61, "Diverged"}
 	}
-	status := statusOf(answer.Text)
-	write(w, status, answer.Text)
-	return status
-}
-
-func writeRefusal(w http.ResponseWriter, r *refusal) int {
-	if r.status == http.StatusMethodNotAllowed {
-		w.Header().Set("Allow", http.MethodPost)
-	}
-	write(w, r.status, []byte(fmt.Sprintf(`{"code":%d,"error":"%s"}`, r.code, r.name)))
-	return r.status
-}
-
-func write(w http.ResponseWriter, status int, text []byte) {
-	w.Header().Set("Content-Type", "application/json")
-	w.Header().Set("Content-Length", strconv.Itoa(len(text)))
-	w.WriteHeader(status)
-	_, _ = w.Write(text) // If it fails the client is gone.
+	errors.As(err, &refused)
+	return refused.status, []byte(fmt.Sprintf(`{"code":%d,"error":"%s"}`, refused.code, refused.name))
 }

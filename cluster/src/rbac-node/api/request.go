@@ -3,7 +3,6 @@ package api
 import (
 	"bytes"
 	"encoding/json"
-	"errors"
 	"io"
 	"net/http"
 	"strings"
@@ -22,39 +21,25 @@ const (
 
 // A refusal is what the node itself answers, without the office.
 type refusal struct {
-	status int
-	code   int
-	name   string
+	status, code int
+	name         string
 }
 
-func (r *refusal) Error() string { return r.name }
+func (r refusal) Error() string { return r.name }
 
-func badRequest(status int) *refusal { return &refusal{status, 34, "BadRequest"} }
+func badRequest(status int) refusal { return refusal{status, 34, "BadRequest"} }
 
-// A request is a line for the office.
-type request struct {
-	function string
-	line     []byte
-	question bool
-	local    bool
-}
-
-// read judges the head of a request in the order of `rbac serve`, reads the body, and makes a line of the two.
-func read(r *http.Request) (request, error) {
+// read judges the head of a request in the order of `rbac serve`, reads the body, and makes a line of the two. It returns
+// which kind of request it is: a command, a question or a local one.
+func read(r *http.Request) (kind string, line []byte, err error) {
 	fields := 1 // The library keeps Host apart.
 	for _, values := range r.Header {
 		fields += len(values)
 	}
-	if fields > mostFields {
-		return request{}, badRequest(http.StatusRequestHeaderFieldsTooLarge)
-	}
-	if len(r.TransferEncoding) > 0 {
-		return request{}, badRequest(http.StatusNotImplemented)
-	}
 	function := strings.TrimPrefix(r.RequestURI, prefix)
-	question, known := isQuestion[function]
+	kind, known := kinds[function]
 	if !known || function == r.RequestURI {
-		return request{}, &refusal{http.StatusNotFound, 35, "UnknownFunction"}
+		kind, known = "none", false
 	}
 	longest := int64(longestBody)
 	if function == importer {
@@ -62,27 +47,31 @@ func read(r *http.Request) (request, error) {
 	}
 	consistency := r.Header.Get("Consistency")
 	switch {
+	case fields > mostFields:
+		return kind, nil, badRequest(http.StatusRequestHeaderFieldsTooLarge)
+	case len(r.TransferEncoding) > 0:
+		return kind, nil, badRequest(http.StatusNotImplemented)
+	case !known:
+		return kind, nil, refusal{http.StatusNotFound, 35, "UnknownFunction"}
 	case r.Method != http.MethodPost:
-		return request{}, badRequest(http.StatusMethodNotAllowed)
+		return kind, nil, badRequest(http.StatusMethodNotAllowed)
 	case r.ContentLength < 0 || r.ContentLength == 0 && r.Header.Get("Content-Length") == "" && r.ProtoMajor == 1:
-		return request{}, badRequest(http.StatusLengthRequired)
+		return kind, nil, badRequest(http.StatusLengthRequired)
 	case r.ContentLength > longest:
-		return request{}, badRequest(http.StatusRequestEntityTooLarge)
+		return kind, nil, badRequest(http.StatusRequestEntityTooLarge)
 	case consistency != "" && consistency != "local" && consistency != "linearizable":
-		return request{}, badRequest(http.StatusBadRequest)
+		return kind, nil, badRequest(http.StatusBadRequest)
+	case kind == "question" && consistency == "local":
+		kind = "local"
 	}
 	body, err := io.ReadAll(r.Body)
 	if err != nil {
-		return request{}, badRequest(http.StatusBadRequest)
+		return kind, nil, badRequest(http.StatusBadRequest)
 	}
-	line, err := lineOf(function, body)
-	if err != nil {
-		return request{}, err
+	if line, err = lineOf(function, body); err == nil && len(line) > longestLine {
+		err = badRequest(http.StatusRequestEntityTooLarge)
 	}
-	if len(line) > longestLine {
-		return request{}, badRequest(http.StatusRequestEntityTooLarge)
-	}
-	return request{function: function, line: line, question: question, local: consistency == "local"}, nil
+	return kind, line, err
 }
 
 // lineOf returns the line that asks for what a body asks a function for. Of a key that comes more than once the last
@@ -117,34 +106,4 @@ func lineOf(function string, body []byte) ([]byte, error) {
 	}
 	line.WriteString(`"fn":"` + function + `"}`)
 	return line.Bytes(), nil
-}
-
-// statusOf returns the status of an answer of the office.
-func statusOf(answer []byte) int {
-	if bytes.HasPrefix(answer, []byte(`{"ok":true`)) {
-		return http.StatusOK
-	}
-	var refused struct{ Code int }
-	if err := json.Unmarshal(answer, &refused); err != nil {
-		return http.StatusInternalServerError
-	}
-	switch refused.Code {
-	case 1, 34, 36:
-		return http.StatusBadRequest
-	case 35:
-		return http.StatusNotFound
-	}
-	return http.StatusConflict
-}
-
-// refusalOf returns what is answered if the office gave no answer.
-func refusalOf(err error, diverged error) *refusal {
-	var r *refusal
-	switch {
-	case errors.As(err, &r):
-		return r
-	case errors.Is(err, diverged):
-		return &refusal{http.StatusServiceUnavailable, 61, "Diverged"}
-	}
-	return &refusal{http.StatusServiceUnavailable, 60, "Unavailable"}
 }

@@ -53,8 +53,8 @@ func TestRead(t *testing.T) {
 		{"POST", "/v1/importAssignments", strings.Repeat("a", longestImport+1), http.StatusRequestEntityTooLarge},
 		{"POST", "/v1/importAssignments", strings.Repeat("a", longestLine-100), 0},
 	} {
-		_, err := read(httptest.NewRequest(one.method, one.target, strings.NewReader(one.body)))
-		var r *refusal
+		_, _, err := read(httptest.NewRequest(one.method, one.target, strings.NewReader(one.body)))
+		var r refusal
 		status := 0
 		if errors.As(err, &r) {
 			status = r.status

@@ -3,133 +3,112 @@ package ledger
 import (
 	"bytes"
 	"context"
-	"errors"
-	"strings"
+	"path"
 	"time"
 
 	"go.etcd.io/etcd/clientv3"
-	"go.etcd.io/etcd/etcdserver/api/v3rpc/rpctypes"
 	"go.etcd.io/etcd/mvcc/mvccpb"
+	"go.uber.org/zap"
 )
 
-// ErrTrimmed says that entries which are wanted are no longer in the log.
-var ErrTrimmed = errors.New("the log was trimmed past this revision")
+const (
+	// group is how many entries are read at once by a reader that is behind etcd's history.
+	group = 64
+	// patience is how long the log may be known to have more before it is followed anew.
+	patience = time.Second
+)
 
-// group is how many entries are read at once by a reader that is behind etcd's history.
-const group = 64
-
-// A Follower delivers the entries of the log in their order.
-type Follower struct {
-	ledger *Ledger
-	// after is the revision up to which all entries were delivered.
-	after   int64
-	deliver func(context.Context, Entry) error
-	again   chan struct{}
+// An Entry is a batch of commands with its place in the order.
+type Entry struct {
+	Revision int64
+	ID       string
+	Lines    [][]byte
 }
 
-// Follow returns a follower that delivers the entries after a revision.
-func (l *Ledger) Follow(after int64, deliver func(context.Context, Entry) error) *Follower {
-	return &Follower{ledger: l, after: after, deliver: deliver, again: make(chan struct{}, 1)}
-}
-
-// Again makes the follower watch anew, because it seems to hear nothing.
-func (f *Follower) Again() {
-	select {
-	case f.again <- struct{}{}:
-	default:
+// Follow delivers the entries after a revision, in their order, until the context ends, a delivery fails, or the log was
+// trimmed past what is wanted.
+func (l *Ledger) Follow(ctx context.Context, after int64, deliver func(Entry) error) error {
+	f := &follower{l, after, deliver}
+	for ; ctx.Err() == nil; time.Sleep(pause) {
+		// What etcd's history may lack after a compaction is read from the keys, and the rest is watched.
+		if err := f.read(ctx); err != nil {
+			return err
+		}
+		if err := f.watch(ctx); err != nil {
+			return err
+		}
+		l.log.Info("following the log anew", zap.Int64("revision", f.after))
 	}
+	return ctx.Err()
 }
 
-// Run delivers entries until the context ends, the log was trimmed past what is wanted, or a delivery fails.
-func (f *Follower) Run(ctx context.Context) error {
-	for {
-		compacted, err := f.watch(ctx)
-		if err == nil && compacted {
-			err = f.read(ctx)
+// A follower has delivered the entries up to the revision after.
+type follower struct {
+	*Ledger
+	after   int64
+	deliver func(Entry) error
+}
+
+// read delivers the entries that are keys now.
+func (f *follower) read(ctx context.Context) error {
+	for more := true; more; {
+		reply, err := f.get(ctx, "log/", clientv3.WithPrefix(), clientv3.WithMinCreateRev(f.after+1),
+			clientv3.WithSort(clientv3.SortByCreateRevision, clientv3.SortAscend), clientv3.WithLimit(group))
+		if err != nil {
+			return err
+		}
+		// If nothing was trimmed until now, all that is wanted was there.
+		floor, _, _, err := f.Floor(ctx)
+		if err == nil && floor > f.after {
+			err = ErrTrimmed
 		}
 		if err != nil {
 			return err
 		}
-		select {
-		case <-ctx.Done():
-			return ctx.Err()
-		case <-time.After(pause):
+		for _, kv := range reply.Kvs {
+			if err := f.hand(kv); err != nil {
+				return err
+			}
+		}
+		if more = reply.More; !more {
+			f.after = reply.Header.Revision
 		}
 	}
+	return nil
 }
 
-// watch delivers what etcd's watch says. It returns whether etcd's history was compacted past what is wanted. If the
-// watch ends for any other reason there is no error, and another one goes on from where it was.
-func (f *Follower) watch(ctx context.Context) (bool, error) {
+// watch delivers what etcd's watch says until it ends, or entries don't come that the log is known to have: a member of
+// etcd that hangs says nothing.
+func (f *follower) watch(ctx context.Context) error {
 	ctx, cancel := context.WithCancel(clientv3.WithRequireLeader(ctx))
 	defer cancel()
-	watch := f.ledger.client.Watch(ctx, f.ledger.Key("log/"), clientv3.WithPrefix(),
-		clientv3.WithRev(f.after+1), clientv3.WithFilterDelete())
-	for {
+	// The client itself, since that of a namespace hands each event on to another goroutine.
+	watch := f.client.Watch(ctx, f.prefix+"log/", clientv3.WithPrefix(), clientv3.WithRev(f.after+1), clientv3.WithFilterDelete())
+	ticker := time.NewTicker(patience)
+	defer ticker.Stop()
+	for wanted := int64(0); ; {
 		select {
-		case <-f.again:
-			return false, nil
-		case reply, ok := <-watch:
-			if !ok {
-				return false, ctx.Err()
+		case <-ticker.C:
+			if f.after < wanted {
+				return nil
 			}
-			if err := reply.Err(); err != nil {
-				return errors.Is(err, rpctypes.ErrCompacted), nil
+			wanted = f.head.Load()
+		case reply := <-watch:
+			if reply.Err() != nil || len(reply.Events) == 0 {
+				return ctx.Err()
 			}
 			for _, event := range reply.Events {
-				if err := f.hand(ctx, event.Kv); err != nil {
-					return false, err
+				if err := f.hand(event.Kv); err != nil {
+					return err
 				}
 			}
 		}
 	}
 }
 
-// read delivers the entries that are keys now, which a compaction of etcd's history leaves. If etcd doesn't answer it
-// delivers fewer, and the next watch finds that there are more.
-func (f *Follower) read(ctx context.Context) error {
-	for {
-		reply, err := f.ledger.client.Txn(ctx).Then(
-			clientv3.OpGet(f.ledger.Key("floor")),
-			clientv3.OpGet(f.ledger.Key("log/"), clientv3.WithPrefix(), clientv3.WithMinCreateRev(f.after+1),
-				clientv3.WithSort(clientv3.SortByCreateRevision, clientv3.SortAscend), clientv3.WithLimit(group)),
-		).Commit()
-		if err != nil {
-			return ctx.Err()
-		}
-		floor, err := floorIn(reply.Responses[0].GetResponseRange().Kvs)
-		switch {
-		case err != nil:
-			return err
-		case floor > f.after:
-			return ErrTrimmed
-		}
-		entries := reply.Responses[1].GetResponseRange()
-		for _, kv := range entries.Kvs {
-			if err := f.hand(ctx, kv); err != nil {
-				return err
-			}
-		}
-		if !entries.More {
-			f.after = reply.Header.Revision
-			return nil
-		}
-	}
-}
-
-// hand delivers one entry, if it wasn't delivered already.
-func (f *Follower) hand(ctx context.Context, kv *mvccpb.KeyValue) error {
-	if kv.CreateRevision <= f.after || kv.CreateRevision != kv.ModRevision {
-		return nil
-	}
-	entry := Entry{
-		Revision: kv.CreateRevision,
-		ID:       strings.TrimPrefix(string(kv.Key), f.ledger.Key("log/")),
-		Lines:    bytes.Split(kv.Value, []byte("\n")),
-	}
-	if err := f.deliver(ctx, entry); err != nil {
-		return err
-	}
-	f.after = entry.Revision
-	return nil
+// hand delivers one entry.
+func (f *follower) hand(kv *mvccpb.KeyValue) error {
+	id, lines := path.Base(string(kv.Key)), bytes.Split(kv.Value, []byte("\n"))
+	f.after = kv.CreateRevision
+	return f.deliver(Entry{Revision: kv.CreateRevision, ID: id, Lines: lines})
 }

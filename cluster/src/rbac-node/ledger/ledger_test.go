@@ -10,6 +10,7 @@ import (
 	"time"
 
 	"go.etcd.io/etcd/clientv3"
+	"go.uber.org/zap"
 )
 
 // newLedger returns the ledger of an etcd of its own.
@@ -37,15 +38,14 @@ func newLedger(t *testing.T) *Ledger {
 		t.Fatal(err)
 	}
 	t.Cleanup(func() { client.Close() })
-	return New(client, "test")
+	return New(client, "test", zap.NewNop())
 }
 
 func lines(text string) [][]byte { return [][]byte{[]byte(text), []byte(text + "2")} }
 
 func mustAppend(t *testing.T, l *Ledger, id string, guard int64) {
-	outcome, err := l.Append(context.Background(), id, lines(id), guard)
-	if err != nil || !outcome.Appended {
-		t.Fatalf("append of %s: %+v, %v", id, outcome, err)
+	if _, _, err := l.Append(context.Background(), id, lines(id), &guard); err != nil {
+		t.Fatalf("append of %s: %v", id, err)
 	}
 }
 
@@ -59,13 +59,13 @@ func all(t *testing.T, l *Ledger, after int64) ([]Entry, error) {
 	}
 	var found []Entry
 	done := errors.New("done")
-	err = l.Follow(after, func(_ context.Context, entry Entry) error {
+	err = l.Follow(ctx, after, func(entry Entry) error {
 		found = append(found, entry)
 		if entry.Revision == head {
 			return done
 		}
 		return nil
-	}).Run(ctx)
+	})
 	if errors.Is(err, done) {
 		err = nil
 	}
@@ -73,14 +73,20 @@ func all(t *testing.T, l *Ledger, after int64) ([]Entry, error) {
 }
 
 func TestAppendOnce(t *testing.T) {
-	l := newLedger(t)
-	for i := 0; i < 3; i++ {
-		mustAppend(t, l, "a", 0)
-		mustAppend(t, l, "b", 0)
+	l, ctx, guard := newLedger(t), context.Background(), int64(0)
+	first, _, err := l.Append(ctx, "a", lines("a"), &guard)
+	if err != nil {
+		t.Fatal(err)
+	}
+	if second, before, err := l.Append(ctx, "b", lines("b"), &guard); second <= first || before != first || err != nil {
+		t.Errorf("an append after %d: %d, %d, %v", first, second, before, err)
+	}
+	if again, _, err := l.Append(ctx, "a", lines("a"), &guard); again != 0 || err != nil {
+		t.Errorf("an append again: %d, %v", again, err)
 	}
 	entries, err := all(t, l, 0)
 	if err != nil || len(entries) != 2 || entries[0].ID != "a" || entries[1].ID != "b" {
-		t.Errorf("the log has %v, %v", entries, err)
+		t.Fatalf("the log has %v, %v", entries, err)
 	}
 	if text := string(entries[0].Lines[1]); len(entries[0].Lines) != 2 || text != "a2" {
 		t.Errorf("the second line is %s", text)
@@ -96,13 +102,13 @@ func TestAppendAfterTrim(t *testing.T) {
 	if deleted, err := l.Trim(ctx, entries[0].Revision); err != nil || deleted != 1 {
 		t.Fatalf("trim: %d, %v", deleted, err)
 	}
-	outcome, err := l.Append(ctx, "a", lines("a"), 0)
-	if err != nil || outcome.Appended || outcome.Guard == 0 || outcome.Head != entries[1].Revision {
-		t.Errorf("a late attempt: %+v, %v", outcome, err)
+	guard := int64(0)
+	if _, head, err := l.Append(ctx, "a", lines("a"), &guard); !errors.Is(err, ErrTrimmed) || guard == 0 || head != entries[1].Revision {
+		t.Errorf("a late attempt: %d, %d, %v", guard, head, err)
 	}
 	// What is there still counts as appended, and what is new gets in by the new guard.
 	mustAppend(t, l, "b", 0)
-	mustAppend(t, l, "c", outcome.Guard)
+	mustAppend(t, l, "c", guard)
 	found, err := all(t, l, entries[0].Revision)
 	if err != nil || len(found) != 2 || found[0].ID != "b" || found[1].ID != "c" {
 		t.Errorf("the log has %v, %v", found, err)
@@ -148,9 +154,8 @@ func TestAdopt(t *testing.T) {
 	if err != nil {
 		t.Fatal(err)
 	}
-	mark, err := l.Mark(ctx)
-	if err != nil || mark.Floor != floor {
-		t.Errorf("the floor is %d and not %d, %v", mark.Floor, floor, err)
+	if read, _, _, err := l.Floor(ctx); err != nil || read != floor {
+		t.Errorf("the floor is %d and not %d, %v", read, floor, err)
 	}
 	if _, err := l.Adopt(ctx); err == nil {
 		t.Error("a second office was adopted")

@@ -3,34 +3,21 @@ package node
 import (
 	"context"
 	"fmt"
-	"math"
-	"sort"
 	"time"
 
-	"go.etcd.io/etcd/clientv3/concurrency"
 	"go.uber.org/zap"
 
 	"rbac-node/ledger"
 	"rbac-node/office"
 )
 
-const (
-	// kept is how many snapshots a node keeps, and announced of how many it says the digests.
-	kept, announced = 3, 16
-	// comparing is the time between two looks whether nodes differ.
-	comparing = time.Second
-	// margin is how many intervals between snapshots the log keeps beyond what every node has in a snapshot.
-	margin = 1
-	// trimming is the time between two looks whether the log can be trimmed.
-	trimming = 5 * time.Second
-	// lease is how many seconds after its end a node is no longer the one that trims.
-	lease = 10
-)
+// between is the time between two looks at what other nodes say, and patience how long one may take.
+const between, patience = time.Second, 10 * time.Second
 
 // A copy of the office is to become a snapshot.
 type copied struct {
-	file string
-	meta ledger.Snapshot
+	file     string
+	snapshot ledger.Snapshot
 }
 
 // takeSnapshot copies the office while the replay has nothing to do. What takes long is done beside it. If an earlier
@@ -43,7 +30,7 @@ func (n *Node) takeSnapshot() error {
 	if err := n.replay.Drain(); err != nil {
 		return err
 	}
-	file, err := n.store.Begin()
+	file, err := n.Store.Begin()
 	if err != nil {
 		return err
 	}
@@ -54,59 +41,73 @@ func (n *Node) takeSnapshot() error {
 	return nil
 }
 
-// finishSnapshots checks the copies, and says in etcd which snapshots this node has.
-func (n *Node) finishSnapshots(ctx context.Context) error {
+// keep finishes snapshots, and looks again and again at what all nodes say of theirs.
+func (n *Node) keep(ctx context.Context) error {
+	ticker := time.NewTicker(between)
+	defer ticker.Stop()
 	for {
 		select {
 		case c := <-n.copies:
-			meta, err := n.store.Finish(c.file, c.meta)
+			snapshot, err := n.Store.Finish(c.file, c.snapshot)
+			if err == nil {
+				err = n.announce(ctx)
+			}
 			if err != nil {
 				return err
 			}
-			n.log.Info("snapshot", zap.Int64("revision", meta.Revision), zap.Int64("commands", meta.Count),
-				zap.String("digest", meta.Digest))
-			if err := n.store.Keep(kept); err != nil {
-				return err
+			n.log.Info("snapshot", zap.Int64("revision", snapshot.Revision), zap.Int64("commands", snapshot.Count),
+				zap.String("digest", snapshot.Digest))
+		case <-ticker.C:
+			within, cancel := context.WithTimeout(ctx, patience)
+			if err := n.look(within); err != nil && ctx.Err() == nil {
+				n.log.Warn("the log is not trimmed", zap.Error(err))
 			}
-			if err := n.register(ctx, meta); err != nil {
-				n.log.Warn("the snapshot is not announced", zap.Error(err))
-			}
+			cancel()
 		case <-ctx.Done():
 			return nil
 		}
 	}
 }
 
-// register says in etcd that this node has a snapshot, besides older ones.
-func (n *Node) register(ctx context.Context, meta ledger.Snapshot) error {
-	n.self.Name, n.self.Peer = n.options.Name, n.options.Peer
-	if meta.Digest != "" {
-		for n.self.Newest() >= meta.Revision && len(n.self.Snapshots) > 0 {
-			n.self.Snapshots = n.self.Snapshots[:len(n.self.Snapshots)-1]
-		}
-		n.self.Snapshots = append(n.self.Snapshots, meta)
+// announce says in etcd which snapshots this node has.
+func (n *Node) announce(ctx context.Context) error {
+	found, err := n.Store.List()
+	if err != nil {
+		return err
 	}
-	if len(n.self.Snapshots) > announced {
-		n.self.Snapshots = n.self.Snapshots[len(n.self.Snapshots)-announced:]
+	if len(found) > 0 {
+		n.snapshot.Store(found[0].Revision)
 	}
-	n.snapshot.Store(meta.Revision)
-	return n.ledger.Register(ctx, n.self)
+	return n.ledger.Register(ctx, ledger.Member{Name: n.Name, Peer: n.Peer, Snapshots: found})
 }
 
-// compare looks again and again whether nodes differ at the same revision. If this node does it refuses to serve.
-func (n *Node) compare(ctx context.Context) error {
-	for {
-		if members, err := n.ledger.Members(ctx); err == nil {
-			why := difference(members, n.options.Name)
-			if n.diverged.Swap(why) != why && why != "" {
-				n.log.Error("refusing to serve", zap.String("why", why))
-			}
-		}
-		select {
-		case <-time.After(comparing):
-		case <-ctx.Done():
-			return nil
-		}
+// look compares this node with the others, and deletes the entries that no registered node needs.
+func (n *Node) look(ctx context.Context) error {
+	members, err := n.ledger.Members(ctx)
+	if err != nil {
+		return err
+	}
+	n.compare(members)
+	floor := floorOf(members)
+	if floor <= n.floor {
+		return nil
+	}
+	deleted, err := n.ledger.Trim(ctx, floor)
+	if err != nil {
+		return err
+	}
+	n.floor = floor
+	if deleted > 0 {
+		n.log.Info("trimmed the log", zap.Int64("floor", floor), zap.Int("entries", deleted))
+	}
+	return nil
+}
+
+// compare lets this node refuse to serve while one of its snapshots differs from another's.
+func (n *Node) compare(members map[string]ledger.Member) {
+	why := difference(members, n.Name)
+	if n.diverged.Swap(why) != why && why != "" {
+		n.log.Error("refusing to serve", zap.String("why", why))
 	}
 }
 
@@ -126,83 +127,16 @@ func difference(members map[string]ledger.Member, name string) string {
 	return ""
 }
 
-// trim campaigns to be the one node that trims the log, and trims while it is.
-func (n *Node) trim(ctx context.Context) {
-	for ctx.Err() == nil {
-		if err := n.trimAsLeader(ctx); err != nil && ctx.Err() == nil {
-			n.log.Warn("the log is not trimmed", zap.Error(err))
-		}
-		select {
-		case <-ctx.Done():
-		case <-time.After(trimming):
-		}
-	}
-}
-
-func (n *Node) trimAsLeader(ctx context.Context) error {
-	session, err := concurrency.NewSession(n.etcd, concurrency.WithTTL(lease), concurrency.WithContext(ctx))
-	if err != nil {
-		return fmt.Errorf("session: %w", err)
-	}
-	defer session.Close()
-	if err := concurrency.NewElection(session, n.ledger.Key("trimmer")).Campaign(ctx, n.options.Name); err != nil {
-		return fmt.Errorf("election: %w", err)
-	}
-	n.log.Info("this node trims the log")
-	for {
-		if err := n.trimOnce(ctx); err != nil {
-			return err
-		}
-		select {
-		case <-session.Done():
-			return fmt.Errorf("the lease has ended")
-		case <-ctx.Done():
-			return nil
-		case <-time.After(trimming):
-		}
-	}
-}
-
-// trimOnce deletes the entries that every registered node has in a snapshot, but for the margin.
-func (n *Node) trimOnce(ctx context.Context) error {
-	ctx, cancel := context.WithTimeout(ctx, lease*time.Second)
-	defer cancel()
-	members, err := n.ledger.Members(ctx)
-	if err != nil {
-		return err
-	}
-	floor := floorOf(members)
-	if floor == 0 {
-		return nil
-	}
-	deleted, err := n.ledger.Trim(ctx, floor)
-	if deleted > 0 {
-		n.log.Info("trimmed the log", zap.Int64("floor", floor), zap.Int("entries", deleted))
-	}
-	return err
-}
-
-// floorOf returns the revision up to which the log can be trimmed, 0 if it can't: that of a snapshot that every node has or
-// has passed, with the margin.
-func floorOf(members map[string]ledger.Member) int64 {
-	least, known := int64(math.MaxInt64), map[int64]bool{}
+// floorOf returns the revision up to which the log can be trimmed, 0 if it can't: each node has kept a snapshot of that
+// revision or a later one, and a newer one as well.
+func floorOf(members map[string]ledger.Member) (floor int64) {
 	for _, member := range members {
-		if newest := member.Newest(); newest < least {
-			least = newest
+		if len(member.Snapshots) < 2 {
+			return 0
 		}
-		for _, s := range member.Snapshots {
-			known[s.Revision] = true
-		}
-	}
-	var places []int64
-	for revision := range known {
-		if revision <= least {
-			places = append(places, revision)
+		if last := member.Snapshots[1].Revision; floor == 0 || last < floor {
+			floor = last
 		}
 	}
-	if len(places) <= margin {
-		return 0
-	}
-	sort.Slice(places, func(i, j int) bool { return places[i] > places[j] })
-	return places[margin]
+	return floor
 }

@@ -27,11 +27,11 @@ func TestFloorOf(t *testing.T) {
 		floor int64
 	}{
 		{"nobody", members(), 0},
-		{"a node without a snapshot", members(member("a", at(5), at(9)), member("b")), 0},
+		{"a node without a snapshot", members(member("a", at(9), at(5)), member("b")), 0},
 		{"one snapshot", members(member("a", at(5))), 0},
-		{"the margin", members(member("a", at(5), at(9)), member("b", at(5), at(9))), 5},
-		{"a node that is behind", members(member("a", at(5), at(9), at(12)), member("b", at(5), at(9))), 5},
-		{"a node that has skipped a place", members(member("a", at(5), at(9)), member("b", at(10))), 5},
+		{"the last snapshot but one", members(member("a", at(9), at(5)), member("b", at(9), at(5))), 5},
+		{"a node that is behind", members(member("a", at(12), at(9), at(5)), member("b", at(9), at(5))), 5},
+		{"a node that has skipped a place", members(member("a", at(9), at(5)), member("b", at(10), at(7))), 5},
 	} {
 		if floor := floorOf(one.all); floor != one.floor {
 			t.Errorf("%s: %d and not %d", one.what, floor, one.floor)

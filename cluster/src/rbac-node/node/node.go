@@ -5,31 +5,35 @@
 package node
 
 import (
+	"bytes"
 	"context"
 	"errors"
 	"fmt"
 	"net/http"
-	"os"
 	"path/filepath"
-	"sync"
 	"sync/atomic"
-	"syscall"
 	"time"
 
-	"go.etcd.io/etcd/clientv3"
 	"go.uber.org/zap"
 	"golang.org/x/sync/errgroup"
 
 	"rbac-node/ledger"
 	"rbac-node/office"
-	"rbac-node/snapshot"
 )
 
-// ErrUnavailable says that there was no answer in time. A command may be done or not.
-var ErrUnavailable = errors.New("the log can't be reached, or this node is behind it")
+const (
+	// longestLine is the most bytes of a line that the replay takes.
+	longestLine = 65_536
+	// renewal is how many lines one run of the replay gets: it makes at most 1,000,000,000 reads.
+	renewal = 500_000_000
+)
 
-// ErrDiverged says that the snapshot of this node differs from another's at the same revision.
-var ErrDiverged = errors.New("snapshots of the same revision differ")
+var (
+	// ErrUnavailable says that there was no answer in time. A command may be done or not.
+	ErrUnavailable = errors.New("the log can't be reached, or this node is behind it")
+	// ErrDiverged says that the snapshot of this node differs from another's at the same revision.
+	ErrDiverged = errors.New("snapshots of the same revision differ")
+)
 
 // Options are what a node needs to know.
 type Options struct {
@@ -49,139 +53,190 @@ type Options struct {
 
 // A Node is one copy of the office.
 type Node struct {
-	options Options
-	etcd    *clientv3.Client
-	ledger  *ledger.Ledger
-	store   *snapshot.Store
-	log     *zap.Logger
-	start   time.Time
-	ended   chan struct{}
+	Options
+	// Store has the snapshots of the node.
+	Store  *office.Store
+	ledger *ledger.Ledger
+	log    *zap.Logger
+	start  time.Time
+	// batches is how many batches this run has made.
+	batches int
 
-	commands chan *command
-	unread   chan *question
-	groups   chan *group
-	entries  chan ledger.Entry
-	own      chan known
-	copies   chan copied
+	commands, questions, locals chan *request
+	copies                      chan copied
+	// work is what the goroutine that feeds the replay is to do.
+	work chan func() error
 
-	// guard is the revision of the last trim that this node knows of.
-	guard   atomic.Int64
-	mutex   sync.Mutex
+	// These belong to that goroutine. pending has the batches of this node that may come from the log, by their names, and
+	// held what waits until entries are fed.
+	replay  *office.Replay
 	pending map[string]*batch
+	held    []held
 
-	// These belong to the goroutine that feeds the replay.
-	replay   *office.Replay
-	follower *ledger.Follower
-	held     []*group
-	next     known
-
-	// self is what this node says of itself in etcd.
-	self ledger.Member
+	// guard belongs to the goroutine that appends, and is the revision of the last trim that it knows of. floor belongs to
+	// the one that keeps snapshots, and is how far it knows the log to be trimmed.
+	guard, floor int64
 
 	// revision and count are those of what was fed.
 	revision, count atomic.Int64
 	// heard is when the newest read of the log began whose entries are all fed, since the start, in nanoseconds.
 	heard    atomic.Int64
 	snapshot atomic.Int64
+	// diverged says where this node differs from another.
 	diverged atomic.Value
 }
 
+type held struct {
+	revision int64
+	then     func() error
+}
+
 // New returns a node over a log. It does nothing until it is run.
-func New(options Options, etcd *clientv3.Client, log *ledger.Ledger, logger *zap.Logger) (*Node, error) {
-	store, err := snapshot.Open(filepath.Join(options.Data, "snapshots"), options.Program)
+func New(options Options, log *ledger.Ledger, logger *zap.Logger) (*Node, error) {
+	store, err := office.Open(filepath.Join(options.Data, "snapshots"), options.Program)
 	if err != nil {
 		return nil, err
 	}
 	n := &Node{
-		options: options, etcd: etcd, ledger: log, store: store, log: logger, start: time.Now(),
-		ended:    make(chan struct{}),
-		commands: make(chan *command, most),
-		unread:   make(chan *question, most),
-		groups:   make(chan *group, most),
-		entries:  make(chan ledger.Entry, most),
-		own:      make(chan known),
-		copies:   make(chan copied, 1),
-		pending:  map[string]*batch{},
+		Options: options, Store: store, ledger: log, log: logger, start: time.Now(),
+		commands:  make(chan *request, most),
+		questions: make(chan *request, most),
+		locals:    make(chan *request, most),
+		copies:    make(chan copied, 1),
+		work:      make(chan func() error, most),
+		pending:   map[string]*batch{},
 	}
 	n.heard.Store(-1)
 	n.diverged.Store("")
 	return n, nil
 }
 
-// Store returns the snapshots of the node.
-func (n *Node) Store() *snapshot.Store { return n.store }
-
-// Lock makes sure that no other node uses the folder, as long as the process runs.
-func Lock(folder string) (*os.File, error) {
-	file, err := os.OpenFile(filepath.Join(folder, "lock"), os.O_RDWR|os.O_CREATE, 0o600)
-	if err != nil {
-		return nil, fmt.Errorf("lock: %w", err)
-	}
-	if err := syscall.Flock(int(file.Fd()), syscall.LOCK_EX|syscall.LOCK_NB); err != nil {
-		return nil, errors.New("another node uses the folder " + folder)
-	}
-	return file, nil
-}
-
 // Run keeps the copy until the context ends or something fails. After a failure the node has to be started anew: it
 // recovers from its newest snapshot then.
-func (n *Node) Run(ctx context.Context) error {
-	defer close(n.ended)
-	if err := n.resume(ctx); err != nil {
+func (n *Node) Run(life context.Context) error {
+	if err := n.resume(life); err != nil {
 		return err
 	}
-	work, ctx := errgroup.WithContext(ctx)
-	for _, part := range []func(context.Context) error{
-		n.feed, n.follow, n.appendBatches, n.confirm, n.confirm, n.finishSnapshots, n.compare,
-	} {
+	work, ctx := errgroup.WithContext(life)
+	follow := func(ctx context.Context) error {
+		return n.ledger.Follow(ctx, n.revision.Load(), func(entry ledger.Entry) error {
+			return n.do(ctx, func() error { return n.apply(entry) })
+		})
+	}
+	for _, part := range []func(context.Context) error{n.feed, follow, n.appendCommands, n.confirm, n.confirm, n.keep} {
 		part := part
 		work.Go(func() error { return part(ctx) })
 	}
-	go n.trim(ctx) // Nothing waits for its end: without etcd it would take until the client is closed.
 	err := work.Wait()
-	if closed := n.replay.Close(); err == nil || errors.Is(err, context.Canceled) {
-		err = closed
+	if closed := n.replay.Close(); life.Err() != nil {
+		return closed
 	}
 	return err
 }
 
-// follow hands the entries of the log to the goroutine that feeds the replay.
-func (n *Node) follow(ctx context.Context) error {
-	return n.follower.Run(ctx)
-}
-
-// A Status says how the node is.
-type Status struct {
-	Ready    bool    `json:"ready"`
-	Why      string  `json:"why,omitempty"`
-	Revision int64   `json:"revision"`
-	Count    int64   `json:"commands"`
-	Snapshot int64   `json:"snapshot"`
-	Age      float64 `json:"age"`
-}
-
-// longest is how long ago a node that is ready has heard from the log.
-const longest = 3 * time.Second
-
-// Status returns how the node is.
-func (n *Node) Status() Status {
-	s := Status{
-		Revision: n.revision.Load(), Count: n.count.Load(), Snapshot: n.snapshot.Load(), Age: n.age().Seconds(),
+// do lets the goroutine that feeds the replay do something, unless the context ends before it can begin.
+func (n *Node) do(ctx context.Context, work func() error) error {
+	select {
+	case n.work <- work:
+		return nil
+	case <-ctx.Done():
+		return ctx.Err()
 	}
-	switch why, _ := n.diverged.Load().(string); {
-	case why != "":
-		s.Why = why
-	case n.heard.Load() < 0:
-		s.Why = "starting: not all of the log is applied yet"
-	case n.age() > longest:
-		s.Why = fmt.Sprintf("heard nothing from the log for %.1f s", s.Age)
-	default:
-		s.Ready = true
-	}
-	return s
 }
 
-// age returns how old the state may be: the time since the last read of the log whose entries are all fed.
-func (n *Node) age() time.Duration {
-	return time.Since(n.start) - time.Duration(n.heard.Load())
+// feed gives the replay what there is until the context or the replay ends.
+func (n *Node) feed(ctx context.Context) error {
+	for {
+		select {
+		case work := <-n.work:
+			if err := work(); err != nil {
+				return err
+			}
+		case r := <-n.locals:
+			n.pose([]*request{r})
+		case <-n.replay.Ended:
+			// Nobody knows which of the lines were done.
+			if !isFaulty("endless") {
+				return fmt.Errorf("the replay has ended: %w", n.replay.Err())
+			}
+			if err := n.renew(); err != nil {
+				return err
+			}
+		case <-ctx.Done():
+			return nil
+		}
+		if len(n.work)+len(n.locals) == 0 {
+			n.replay.Flush()
+		}
+	}
 }
+
+// apply gives the replay the commands of an entry, unless it has had them.
+func (n *Node) apply(entry ledger.Entry) error {
+	if entry.Revision <= n.revision.Load() {
+		return nil
+	}
+	own := n.pending[entry.ID]
+	delete(n.pending, entry.ID)
+	if own != nil {
+		own.seen.Store(true) // Before anybody learns that the entry is fed.
+	}
+	for place, line := range entry.Lines {
+		if len(line) > longestLine || len(bytes.TrimSpace(line)) == 0 {
+			n.log.Error("a line of the log is no command", zap.Int64("revision", entry.Revision), zap.Int("place", place))
+			continue // All nodes pass it over. No node has written it.
+		}
+		place := place
+		n.replay.Send(line, func(text []byte) {
+			if own == nil {
+				return
+			}
+			own.requests[place].answer(Answer{Text: text, Revision: entry.Revision, Place: place})
+			if own.left--; own.left == 0 {
+				close(own.done)
+			}
+		})
+	}
+	before, after := n.count.Load(), n.count.Add(int64(len(entry.Lines)))
+	n.revision.Store(entry.Revision)
+	if before/n.Every != after/n.Every {
+		if err := n.takeSnapshot(); err != nil {
+			return err
+		}
+	}
+	if n.replay.Sent > renewal {
+		if err := n.renew(); err != nil {
+			return err
+		}
+	}
+	waiting := n.held
+	n.held = nil
+	for _, one := range waiting {
+		if err := n.after(one.revision, one.then); err != nil {
+			return err
+		}
+	}
+	return nil
+}
+
+// after does something once the entries up to a revision are fed.
+func (n *Node) after(revision int64, then func() error) error {
+	if revision <= n.revision.Load() {
+		return then()
+	}
+	n.held = append(n.held, held{revision, then})
+	return nil
+}
+
+// renew ends the replay and runs another one on the same file. All lines have their answers then.
+func (n *Node) renew() error {
+	if err := n.replay.Close(); err != nil && !isFaulty("endless") {
+		return err
+	}
+	replay, err := office.Start(n.Program, n.file())
+	n.replay = replay
+	return err
+}
+
+// file is the office in use.
+func (n *Node) file() string { return filepath.Join(n.Scratch, "office") }

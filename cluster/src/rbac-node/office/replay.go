@@ -1,4 +1,4 @@
-// Package office runs the proved program: a replay that answers lines from the office in a file.
+// Package office runs the proved program, and keeps offices in files.
 package office
 
 import (
@@ -8,7 +8,6 @@ import (
 	"fmt"
 	"io"
 	"os/exec"
-	"sync/atomic"
 	"syscall"
 )
 
@@ -23,14 +22,11 @@ type Replay struct {
 	lines   *bufio.Writer
 	waiting chan func(answer []byte)
 	stderr  bytes.Buffer
-
-	// sent is how many lines were sent, and answered how many of them have their answer. idle hears when all have.
-	sent     int64
-	answered atomic.Int64
-	idle     chan struct{}
-
-	ended chan struct{}
-	err   error
+	err     error
+	// Sent is how many lines were sent.
+	Sent int
+	// Ended is closed when the replay has ended.
+	Ended chan struct{}
 }
 
 // Start runs the replay. No signal of a terminal reaches it: it ends when its input does.
@@ -38,13 +34,12 @@ func Start(program, file string) (*Replay, error) {
 	r := &Replay{
 		command: exec.Command(program, "replay", file),
 		waiting: make(chan func([]byte), queue),
-		idle:    make(chan struct{}, 1),
-		ended:   make(chan struct{}),
+		Ended:   make(chan struct{}),
 	}
 	r.command.SysProcAttr = &syscall.SysProcAttr{Setpgid: true, Pdeathsig: syscall.SIGKILL}
 	r.command.Stderr = &r.stderr
-	var err error
-	if r.input, err = r.command.StdinPipe(); err != nil {
+	input, err := r.command.StdinPipe()
+	if err != nil {
 		return nil, fmt.Errorf("replay: %w", err)
 	}
 	output, err := r.command.StdoutPipe()
@@ -54,35 +49,19 @@ func Start(program, file string) (*Replay, error) {
 	if err := r.command.Start(); err != nil {
 		return nil, fmt.Errorf("replay: %w", err)
 	}
-	r.lines = bufio.NewWriterSize(r.input, 1<<16)
+	r.input, r.lines = input, bufio.NewWriterSize(input, 1<<16)
 	go r.read(bufio.NewReaderSize(output, 1<<16))
 	return r, nil
 }
 
-// read hands each answer to whoever waits for it. The replay answers each line, unless it ends.
+// read hands each answer to whoever waits for it, until the replay ends.
 func (r *Replay) read(output *bufio.Reader) {
-	defer close(r.ended)
-	for {
-		answer, err := output.ReadBytes('\n')
-		if err != nil {
-			r.end(output)
-			return
-		}
+	defer close(r.Ended)
+	answer, err := output.ReadBytes('\n')
+	for ; err == nil; answer, err = output.ReadBytes('\n') {
 		(<-r.waiting)(answer[:len(answer)-1])
-		r.answered.Add(1)
-		if len(r.waiting) == 0 {
-			select {
-			case r.idle <- struct{}{}:
-			default:
-			}
-		}
 	}
-}
-
-// end waits for the process, and keeps why it ended.
-func (r *Replay) end(output io.Reader) {
-	_, _ = io.Copy(io.Discard, output)
-	err := r.command.Wait()
+	err = r.command.Wait()
 	if err == nil && len(r.waiting) > 0 {
 		err = errors.New("it left lines without an answer")
 	}
@@ -97,45 +76,38 @@ func (r *Replay) Send(line []byte, answered func(answer []byte)) {
 	select {
 	case r.waiting <- answered:
 	default:
-		// What is buffered has to be written, or nothing would make room.
-		_ = r.lines.Flush()
+		r.Flush() // What is buffered has to be written, or nothing would make room.
 		select {
 		case r.waiting <- answered:
-		case <-r.ended:
+		case <-r.Ended:
 			return
 		}
 	}
-	r.sent++
+	r.Sent++
 	// A failure to write is an end of the replay, which the reader notices.
 	_, _ = r.lines.Write(line)
 	_ = r.lines.WriteByte('\n')
 }
-
-// Sent returns how many lines were sent.
-func (r *Replay) Sent() int64 { return r.sent }
 
 // Flush lets the replay see the lines that were sent.
 func (r *Replay) Flush() { _ = r.lines.Flush() }
 
 // Drain waits until all lines have their answers. Until the next line the replay writes nothing.
 func (r *Replay) Drain() error {
+	drained := make(chan struct{})
+	r.Send([]byte("{}"), func([]byte) { close(drained) }) // It is refused, and changes nothing.
 	r.Flush()
-	for r.answered.Load() < r.sent {
-		select {
-		case <-r.idle:
-		case <-r.ended:
-			return r.Err()
-		}
+	select {
+	case <-drained:
+		return nil
+	case <-r.Ended:
+		return r.Err()
 	}
-	return nil
 }
 
-// Ended is closed when the replay has ended.
-func (r *Replay) Ended() <-chan struct{} { return r.ended }
-
-// Err returns why the replay has ended, nil if its input had ended and all was answered.
+// Err waits for the end of the replay, and returns nil if its input had ended and all was answered.
 func (r *Replay) Err() error {
-	<-r.ended
+	<-r.Ended
 	return r.err
 }
 

@@ -50,13 +50,13 @@ func TestReplayAnswersInOrder(t *testing.T) {
 	if err := Copy(file, copied); err != nil {
 		t.Fatal(err)
 	}
-	if err := Check(program(t), copied); err != nil {
+	if _, err := Inspect(program(t), copied); err != nil {
 		t.Errorf("the copy of an office that is at rest: %v", err)
 	}
 	if err := r.Close(); err != nil {
 		t.Error(err)
 	}
-	if _, err := os.Stat(file + Log); err == nil {
+	if _, err := os.Stat(file + journal); err == nil {
 		t.Error("a log is left")
 	}
 }
@@ -66,7 +66,7 @@ func TestReplayThatIsKilled(t *testing.T) {
 	if err := r.command.Process.Signal(syscall.SIGKILL); err != nil {
 		t.Fatal(err)
 	}
-	<-r.Ended()
+	<-r.Ended
 	if r.Err() == nil {
 		t.Error("the end is not noticed")
 	}

@@ -1,23 +1,17 @@
-package snapshot
+package office
 
 import (
 	"context"
 	"net/http"
 	"net/http/httptest"
-	"os"
 	"path/filepath"
 	"testing"
 
 	"rbac-node/ledger"
-	"rbac-node/office"
 )
 
 func newStore(t *testing.T) *Store {
-	program := os.Getenv("RBAC_PROGRAM")
-	if program == "" {
-		t.Skip("RBAC_PROGRAM is not set")
-	}
-	s, err := Open(filepath.Join(t.TempDir(), "a folder?"), program)
+	s, err := Open(filepath.Join(t.TempDir(), "a folder?"), program(t))
 	if err != nil {
 		t.Fatal(err)
 	}
@@ -30,7 +24,7 @@ func add(t *testing.T, s *Store, revision int64) ledger.Snapshot {
 	if err != nil {
 		t.Fatal(err)
 	}
-	if err := office.Init(s.program, file); err != nil {
+	if err := Init(s.program, file); err != nil {
 		t.Fatal(err)
 	}
 	meta, err := s.Finish(file, ledger.Snapshot{Revision: revision, Count: 7})
@@ -42,21 +36,18 @@ func add(t *testing.T, s *Store, revision int64) ledger.Snapshot {
 
 func TestStore(t *testing.T) {
 	s := newStore(t)
-	if _, ok, err := s.Newest(); ok || err != nil {
-		t.Errorf("an empty store has %v, %v", ok, err)
+	if found, err := s.List(); len(found) > 0 || err != nil {
+		t.Errorf("an empty store has %v, %v", found, err)
 	}
-	for _, revision := range []int64{9, 10, 100} {
+	for _, revision := range []int64{8, 9, 10, 100} {
 		add(t, s, revision)
 	}
-	if err := s.Keep(2); err != nil {
-		t.Fatal(err)
+	found, err := s.List()
+	if err != nil || len(found) != kept || found[0].Revision != 100 || found[2].Revision != 9 {
+		t.Errorf("there are %+v, %v", found, err)
 	}
-	newest, ok, err := s.Newest()
-	if !ok || err != nil || newest.Revision != 100 || newest.Count != 7 || newest.Digest == "" {
-		t.Errorf("the newest is %+v, %v", newest, err)
-	}
-	if _, err := os.Stat(s.Office(9)); err == nil {
-		t.Error("an old one is left")
+	if newest := found[0]; newest.Count != 7 || newest.Digest == "" {
+		t.Errorf("the newest is %+v", newest)
 	}
 	if _, err := s.Begin(); err != nil {
 		t.Fatal(err)
@@ -86,24 +77,24 @@ func TestFetch(t *testing.T) {
 // A snapshot that is not what it says is not taken.
 func TestFetchRefuses(t *testing.T) {
 	from, to := newStore(t), newStore(t)
-	add(t, from, 12)
+	path := from.Path(add(t, from, 12))
 	for what, change := range map[string]http.HandlerFunc{
 		"it is cut short": func(w http.ResponseWriter, _ *http.Request) {
-			w.Header().Set(about, `{"revision":12,"commands":7,"digest":""}`)
+			w.Header().Set(about, "12-7-00")
 			_, _ = w.Write([]byte("SQLite format 3"))
 		},
 		"the digest is another": func(w http.ResponseWriter, r *http.Request) {
-			w.Header().Set(about, `{"revision":12,"commands":7,"digest":"00"}`)
-			http.ServeFile(w, r, from.Office(12))
+			w.Header().Set(about, "12-7-00")
+			http.ServeFile(w, r, path)
 		},
-		"nothing is said of it": func(w http.ResponseWriter, r *http.Request) { http.ServeFile(w, r, from.Office(12)) },
+		"nothing is said of it": func(w http.ResponseWriter, r *http.Request) { http.ServeFile(w, r, path) },
 	} {
 		server := httptest.NewServer(change)
 		if _, err := to.Fetch(context.Background(), server.Client(), server.URL); err == nil {
 			t.Errorf("%s: it was taken", what)
 		}
 		server.Close()
-		if _, ok, _ := to.Newest(); ok {
+		if found, _ := to.List(); len(found) > 0 {
 			t.Errorf("%s: it is there", what)
 		}
 	}
