@@ -82,25 +82,26 @@ def keys_of(reader, known):
     return keys
 
 
-def keys_in(path):
-    """The keys that each function has in a source, with their types."""
-    names, known, keys = functions(), readers(), {}
-    for variant, reader, words in found(r"Function::(\w+) => \{\s+let [^=]+ = (\w+)\(([^)]*)\)\?;", path):
+def keys_for(request):
+    """The keys of each function whose call is this variant of `Request`, `Change` or `Ask`, with their types."""
+    names, known, keys, path = functions(), readers(), {}, "role_json/src/calls.rt"
+    pattern = rf"Function::(\w+) => \{{\s+let [^=]+ = (\w+)\(([^)]*)\)\?;(?:(?!Function::).)*Request::{request}\("
+    for variant, reader, words in found(pattern, path, re.S):
         told = [(key, "text") for key in re.findall(r'"(\w+)"', words)]
         keys[names[variant]] = told or keys_of(reader, known)
-    for variant in re.findall(r"Function::(\w+) => Ok\(Some\(Query::\w+\)\)", source(path)):
+    for variant in re.findall(rf"Function::(\w+) => Ok\(Request::{request}\(", source(path)):
         keys[names[variant]] = []
     return keys
 
 
 def command_keys():
     """The keys of each command, with their types."""
-    return keys_in("role_json/src/commands.rt")
+    return keys_for("Change")
 
 
 def question_keys():
     """The keys of each question, with their types."""
-    return keys_in("role_json/src/queries.rt")
+    return keys_for("Ask")
 
 
 def values():

@@ -5,20 +5,18 @@ use Rattle.std.specs.Prelude.{Result, ◌||◌, codes, if◌then◌else◌, is_s
 use Rattle.std.specs.List.{list_all}
 use Rattle.serde_json.specs.Data.{Data}
 use Rattle.serde_json.specs.Find.{as_object}
-use Rattle.rbac_sets.specs.CommandContent.{CommandContent, Import}
+use Rattle.rbac_sets.specs.CommandContent.{Import}
 use Rattle.rbac_sets.specs.Name.{is_name}
 use Rattle.rbac_sets.specs.Sets.{Bytes, Pair}
 use Rattle.rbac_sets.specs.declared.refusal.Refusal.{Refusal}
 use Rattle.rbac_sets.specs.declared.refusal.Refusal.TheVariants.{BadName, BadRequest, UnknownFunction}
-use Rattle.review_mgr.specs.declared.query.Query.{Query}
 use Rattle.role_csv.specs.Assignments.{assignments}
 use Rattle.role_csv.specs.TextLaws.{refuses_texts}
 use Rattle.role_csv.proofs.Refusing.{refusals_of_texts}
-use Rattle.role_json.specs.Commands.{command_to, hierarchy_command_to, separation_command_to, session_command_to}
+use Rattle.role_json.specs.Calls.{request_to}
 use Rattle.role_json.specs.Fields.{access_at, activation_at, assignment_at, cardinality_at, grant_at, inheritance_at, set_cardinality_at, member_at, name, name_at, name_set, names_at, new_session_at, new_session_keys, owned_session_at, permission_at, roles_at, separation_at, separation_keys, text_at, three_texts_at, three_names_at, three_names}
 use Rattle.role_json.specs.Function.{function_named, takes_csv}
-use Rattle.role_json.specs.Queries.{query_to, separation_query_to}
-use Rattle.role_json.specs.Request.{an_object, body_request, body_to, command_or, json_body, json_of, request, request_to}
+use Rattle.role_json.specs.Request.{an_object, body_request, body_to, json_body, json_of, request}
 use Rattle.role_json.specs.RequestLaws.{refuses_arguments, refuses_bodies, refuses_requests, RefusalsOfBodies, RefusalsOfLines, RefusalsOfNamedBodies, CallsNothing, UnknownCallsNothing}
 use Rattle.role_json.specs.RequestContent.{RequestContent, Change}
 use Rattle.role_json.specs.Steps.{◌>>=◌, or_refuse}
@@ -31,12 +29,6 @@ use Rattle.role_json.specs.declared.function.Function.TheVariants.{AddUser, Dele
 abbrev Tells : {A : Type 0} → (Refusal → Bool) → Result A Refusal → Type 0
 Tells may (Ok value) = Unit {0}
 Tells may (Err refusal) = may refusal ≡ true
-
--- the same, but the value must not be `None`
-abbrev Gives : {A : Type 0} → (Refusal → Bool) → Result (Option A) Refusal → Type 0
-Gives may (Ok (Some value)) = Unit {0}
-Gives may (Ok None) = ⊥
-Gives may (Err refusal) = may refusal ≡ true
 
 -- a refusal that is returned is of this kind
 refusal_allowed : {A : Type 0} (may : Refusal → Bool) (result : Result A Refusal) (refusal : Refusal) → Tells may result → result ≡ Err refusal → may refusal ≡ true
@@ -62,9 +54,9 @@ module _ (may : Refusal → Bool) where
   next (Err refusal) f told more = told
 
   -- a value computed from another
-  then_some : {A B : Type 0} (first : Result A Refusal) (g : A → B) → Tells may first → Gives may (first >>= λ a. Ok (Some (g a)))
-  then_some (Ok a) g told = tt
-  then_some (Err refusal) g told = told
+  then_made : {A B : Type 0} (first : Result A Refusal) (g : A → B) → Tells may first → Tells may (first >>= λ a. Ok (g a))
+  then_made (Ok a) g told = tt
+  then_made (Err refusal) g told = told
 
   -- a value that must not be `None`
   wanted : {A : Type 0} (refusal : Refusal) (found : Option A) → may refusal ≡ true → Tells may (or_refuse refusal found)
@@ -139,86 +131,66 @@ module _ (may : Refusal → Bool) where
 
     -- ---- a call
 
-    -- of a function that is a command
-    by_command : (called : Function) (value : Data) → Gives may (command_to called value) → Tells may (request_to called value)
-    unfolding request_to
-    by_command called value gives = by (command_to called value) gives
-      where
-        by : (asked : Result (Option CommandContent) Refusal) → Gives may asked → Tells may (asked >>= command_or (query_to called value))
-        by (Ok (Some command)) gives = tt
-        by (Ok None) gives = absurd gives
-        by (Err refusal) gives = gives
-
-    -- of a function that is a question
-    by_query : (called : Function) (value : Data) → command_to called value ≡ Ok None → Gives may (query_to called value) → Tells may (request_to called value)
-    unfolding request_to
-    by_query called value none gives = rw none (by (query_to called value) gives)
-      where
-        by : (query : Result (Option Query) Refusal) → Gives may query → Tells may (command_or query None)
-        by (Ok (Some query)) gives = tt
-        by (Ok None) gives = absurd gives
-        by (Err refusal) gives = gives
-
     -- each function except the import
     call_told : (called : Function) (value : Data) → takes_csv called ≡ false → Tells may (request_to called value)
-    unfolding command_to hierarchy_command_to separation_command_to session_command_to query_to separation_query_to permission_at assignment_at inheritance_at member_at owned_session_at grant_at activation_at access_at
-    call_told AddUser value plain = by_command _ _ (then_some _ _ (name_told _ value))
-    call_told DeleteUser value plain = by_command _ _ (then_some _ _ (name_told _ value))
-    call_told AddRole value plain = by_command _ _ (then_some _ _ (name_told _ value))
-    call_told DeleteRole value plain = by_command _ _ (then_some _ _ (name_told _ value))
-    call_told AddPermObj value plain = by_command _ _ (then_some _ _ (name_told _ value))
-    call_told DeletePermObj value plain = by_command _ _ (then_some _ _ (name_told _ value))
-    call_told AddPermission value plain = by_command _ _ (then_some _ _ (names_told _ _ value))
-    call_told DeletePermission value plain = by_command _ _ (then_some _ _ (names_told _ _ value))
-    call_told GrantPermission value plain = by_command _ _ (then_some _ _ (three_told _ _ _ value))
-    call_told RevokePermission value plain = by_command _ _ (then_some _ _ (three_told _ _ _ value))
-    call_told AssignUser value plain = by_command _ _ (then_some _ _ (names_told _ _ value))
-    call_told DeassignUser value plain = by_command _ _ (then_some _ _ (names_told _ _ value))
-    call_told AddInheritance value plain = by_command _ _ (then_some _ _ (names_told _ _ value))
-    call_told DeleteInheritance value plain = by_command _ _ (then_some _ _ (names_told _ _ value))
-    call_told AddAscendant value plain = by_command _ _ (then_some _ _ (names_told _ _ value))
-    call_told AddDescendant value plain = by_command _ _ (then_some _ _ (names_told _ _ value))
-    call_told CreateSsdSet value plain = by_command _ _ (then_some _ _ (separation_told value))
-    call_told AddSsdRoleMember value plain = by_command _ _ (then_some _ _ (names_told _ _ value))
-    call_told DeleteSsdRoleMember value plain = by_command _ _ (then_some _ _ (names_told _ _ value))
-    call_told SetSsdSetCardinality value plain = by_command _ _ (then_some _ _ (set_cardinality_told value))
-    call_told DeleteSsdSet value plain = by_command _ _ (then_some _ _ (name_told _ value))
-    call_told CreateDsdSet value plain = by_command _ _ (then_some _ _ (separation_told value))
-    call_told AddDsdRoleMember value plain = by_command _ _ (then_some _ _ (names_told _ _ value))
-    call_told DeleteDsdRoleMember value plain = by_command _ _ (then_some _ _ (names_told _ _ value))
-    call_told SetDsdSetCardinality value plain = by_command _ _ (then_some _ _ (set_cardinality_told value))
-    call_told DeleteDsdSet value plain = by_command _ _ (then_some _ _ (name_told _ value))
-    call_told CreateSession value plain = by_command _ _ (then_some _ _ (new_session_told value))
-    call_told DeleteSession value plain = by_command _ _ (then_some _ _ (names_told _ _ value))
-    call_told AddActiveRole value plain = by_command _ _ (then_some _ _ (three_told _ _ _ value))
-    call_told DropActiveRole value plain = by_command _ _ (then_some _ _ (three_told _ _ _ value))
-    call_told LockUserAccount value plain = by_command _ _ (then_some _ _ (name_told _ value))
-    call_told UnlockUserAccount value plain = by_command _ _ (then_some _ _ (name_told _ value))
+    unfolding request_to permission_at assignment_at inheritance_at member_at owned_session_at grant_at activation_at access_at
+    call_told AddUser value plain = then_made _ _ (name_told _ value)
+    call_told DeleteUser value plain = then_made _ _ (name_told _ value)
+    call_told AddRole value plain = then_made _ _ (name_told _ value)
+    call_told DeleteRole value plain = then_made _ _ (name_told _ value)
+    call_told AddPermObj value plain = then_made _ _ (name_told _ value)
+    call_told DeletePermObj value plain = then_made _ _ (name_told _ value)
+    call_told AddPermission value plain = then_made _ _ (names_told _ _ value)
+    call_told DeletePermission value plain = then_made _ _ (names_told _ _ value)
+    call_told GrantPermission value plain = then_made _ _ (three_told _ _ _ value)
+    call_told RevokePermission value plain = then_made _ _ (three_told _ _ _ value)
+    call_told AssignUser value plain = then_made _ _ (names_told _ _ value)
+    call_told DeassignUser value plain = then_made _ _ (names_told _ _ value)
+    call_told AddInheritance value plain = then_made _ _ (names_told _ _ value)
+    call_told DeleteInheritance value plain = then_made _ _ (names_told _ _ value)
+    call_told AddAscendant value plain = then_made _ _ (names_told _ _ value)
+    call_told AddDescendant value plain = then_made _ _ (names_told _ _ value)
+    call_told CreateSsdSet value plain = then_made _ _ (separation_told value)
+    call_told AddSsdRoleMember value plain = then_made _ _ (names_told _ _ value)
+    call_told DeleteSsdRoleMember value plain = then_made _ _ (names_told _ _ value)
+    call_told SetSsdSetCardinality value plain = then_made _ _ (set_cardinality_told value)
+    call_told DeleteSsdSet value plain = then_made _ _ (name_told _ value)
+    call_told CreateDsdSet value plain = then_made _ _ (separation_told value)
+    call_told AddDsdRoleMember value plain = then_made _ _ (names_told _ _ value)
+    call_told DeleteDsdRoleMember value plain = then_made _ _ (names_told _ _ value)
+    call_told SetDsdSetCardinality value plain = then_made _ _ (set_cardinality_told value)
+    call_told DeleteDsdSet value plain = then_made _ _ (name_told _ value)
+    call_told CreateSession value plain = then_made _ _ (new_session_told value)
+    call_told DeleteSession value plain = then_made _ _ (names_told _ _ value)
+    call_told AddActiveRole value plain = then_made _ _ (three_told _ _ _ value)
+    call_told DropActiveRole value plain = then_made _ _ (three_told _ _ _ value)
+    call_told LockUserAccount value plain = then_made _ _ (name_told _ value)
+    call_told UnlockUserAccount value plain = then_made _ _ (name_told _ value)
     call_told ImportAssignments value plain = absurd (cc)
-    call_told CheckAccess value plain = by_query _ _ refl (then_some _ _ (three_told _ _ _ value))
-    call_told AssignedUsers value plain = by_query _ _ refl (then_some _ _ (name_told _ value))
-    call_told AssignedRoles value plain = by_query _ _ refl (then_some _ _ (name_told _ value))
-    call_told AuthorizedUsers value plain = by_query _ _ refl (then_some _ _ (name_told _ value))
-    call_told AuthorizedRoles value plain = by_query _ _ refl (then_some _ _ (name_told _ value))
-    call_told RolePermissions value plain = by_query _ _ refl (then_some _ _ (name_told _ value))
-    call_told UserPermissions value plain = by_query _ _ refl (then_some _ _ (name_told _ value))
-    call_told SessionRoles value plain = by_query _ _ refl (then_some _ _ (name_told _ value))
-    call_told SessionPermissions value plain = by_query _ _ refl (then_some _ _ (name_told _ value))
-    call_told RoleOperationsOnObject value plain = by_query _ _ refl (then_some _ _ (names_told _ _ value))
-    call_told UserOperationsOnObject value plain = by_query _ _ refl (then_some _ _ (names_told _ _ value))
-    call_told SsdRoleSets value plain = by_query _ _ refl tt
-    call_told SsdRoleSetRoles value plain = by_query _ _ refl (then_some _ _ (name_told _ value))
-    call_told SsdRoleSetCardinality value plain = by_query _ _ refl (then_some _ _ (name_told _ value))
-    call_told DsdRoleSets value plain = by_query _ _ refl tt
-    call_told DsdRoleSetRoles value plain = by_query _ _ refl (then_some _ _ (name_told _ value))
-    call_told DsdRoleSetCardinality value plain = by_query _ _ refl (then_some _ _ (name_told _ value))
-    call_told PermissionRoles value plain = by_query _ _ refl (then_some _ _ (names_told _ _ value))
+    call_told CheckAccess value plain = then_made _ _ (three_told _ _ _ value)
+    call_told AssignedUsers value plain = then_made _ _ (name_told _ value)
+    call_told AssignedRoles value plain = then_made _ _ (name_told _ value)
+    call_told AuthorizedUsers value plain = then_made _ _ (name_told _ value)
+    call_told AuthorizedRoles value plain = then_made _ _ (name_told _ value)
+    call_told RolePermissions value plain = then_made _ _ (name_told _ value)
+    call_told UserPermissions value plain = then_made _ _ (name_told _ value)
+    call_told SessionRoles value plain = then_made _ _ (name_told _ value)
+    call_told SessionPermissions value plain = then_made _ _ (name_told _ value)
+    call_told RoleOperationsOnObject value plain = then_made _ _ (names_told _ _ value)
+    call_told UserOperationsOnObject value plain = then_made _ _ (names_told _ _ value)
+    call_told SsdRoleSets value plain = tt
+    call_told SsdRoleSetRoles value plain = then_made _ _ (name_told _ value)
+    call_told SsdRoleSetCardinality value plain = then_made _ _ (name_told _ value)
+    call_told DsdRoleSets value plain = tt
+    call_told DsdRoleSetRoles value plain = then_made _ _ (name_told _ value)
+    call_told DsdRoleSetCardinality value plain = then_made _ _ (name_told _ value)
+    call_told PermissionRoles value plain = then_made _ _ (names_told _ _ value)
 
     -- an import, whose text may be refused
     import_told : (called : Function) (value : Data) → takes_csv called ≡ true → ((refusal : Refusal) → refuses_texts refusal ≡ true → may refusal ≡ true) → Tells may (request_to called value)
-    unfolding command_to
+    unfolding request_to
     import_told ImportAssignments value csv texts =
-        by_command _ _ (then_some _ _ (next _ _ (text_told _ value) (λ text. wider refuses_texts may (assignments text) texts (csv_told text))))
+        then_made _ _ (next _ _ (text_told _ value) (λ text. wider refuses_texts may (assignments text) texts (csv_told text)))
     import_told _ value csv texts = absurd (cc)
 
     -- every function

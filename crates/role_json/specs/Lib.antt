@@ -1,8 +1,7 @@
 pub mod Answer
-pub mod Commands
+pub mod Calls
 pub mod Fields
 pub mod Function
-pub mod Queries
 pub mod Request
 pub mod RequestContent
 pub mod RequestLaws

@@ -1,19 +1,17 @@
 -- What a line of JSON, or a body, asks for.
-use Rattle.std.specs.Prelude.{ℕ, List, ◌&&◌, length, nat_eq, nat_le, codes, Option, Some, None, is_some, option_map, Result, Ok, Err, if◌then◌else◌}
+use Rattle.std.specs.Prelude.{ℕ, List, ◌&&◌, length, nat_eq, nat_le, codes, None, is_some, Result, Ok, Err, if◌then◌else◌}
 use Rattle.std.specs.Str.{is_utf8}
 use Rattle.serde_json.specs.Data.{Data}
 use Rattle.serde_json.specs.Find.{as_object}
 use Rattle.serde_json.specs.Read.{read}
-use Rattle.rbac_sets.specs.CommandContent.{CommandContent, Import}
+use Rattle.rbac_sets.specs.CommandContent.{Import}
 use Rattle.rbac_sets.specs.declared.refusal.Refusal.{Refusal}
 use Rattle.rbac_sets.specs.declared.refusal.Refusal.TheVariants.{BadRequest, UnknownFunction}
-use Rattle.review_mgr.specs.declared.query.Query.{Query}
 use Rattle.role_csv.specs.Assignments.{assignments}
-use Rattle.role_json.specs.Commands.{command_to}
+use Rattle.role_json.specs.Calls.{request_to}
 use Rattle.role_json.specs.Fields.{text_at}
 use Rattle.role_json.specs.Function.{function_named, takes_csv}
-use Rattle.role_json.specs.Queries.{query_to}
-use Rattle.role_json.specs.RequestContent.{RequestContent, Change, Ask}
+use Rattle.role_json.specs.RequestContent.{RequestContent, Change}
 use Rattle.role_json.specs.Steps.{◌>>=◌, or_refuse}
 use Rattle.role_json.specs.declared.function.Function.{Function}
 
@@ -25,15 +23,6 @@ longest_line = 65536
 -- occurrence counts
 unfoldable pub json_of : List ℕ → Result Data Refusal
 json_of line = or_refuse BadRequest (if nat_le (length line) longest_line && is_utf8 line then read line else None)
-
--- the command if there is one, otherwise the question; each function is one of the two
-abbrev pub command_or : Result (Option Query) Refusal → Option CommandContent → Result RequestContent Refusal
-command_or query (Some command) = Ok (Change command)
-command_or query None = query >>= λ asked. or_refuse UnknownFunction (option_map Ask asked)
-
--- what a call of a function asks for with the arguments in `value`
-unfoldable pub request_to : Function → Data → Result RequestContent Refusal
-request_to called value = command_to called value >>= command_or (query_to called value)
 
 -- what a line asks for
 unfoldable pub request : List ℕ → Result RequestContent Refusal

@@ -24,9 +24,8 @@ pub use function::Function;
 pub use request::{LONGEST_LINE, Request, body_to, read_body, read_request};
 
 pub mod answer;
-mod commands;
+mod calls;
 mod fields;
 pub mod function;
 pub mod laws;
-mod queries;
 pub mod request;

@@ -1,13 +1,12 @@
 //! Requests, and how they are read from a line of JSON or from a body.
 ghost use Rattle.std.specs.Prelude.{◌≡◌, ◌⊎◌, Ok, Err, IfOk, IfErr};
 ghost use Rattle.serde_json.specs.View.{view};
-ghost use Rattle.role_json.specs.Request.{body_request, body_to, json_of, request, request_to};
+ghost use Rattle.role_json.specs.Request.{body_request, body_to, json_of, request};
 ghost use Rattle.role_json.specs.RequestContent.{requested};
 
-use crate::commands::command_to;
+use crate::calls::request_to;
 use crate::fields::text_at;
 use crate::function::Function;
-use crate::queries::query_to;
 use rbac_sets::{Command, Refusal};
 use review_mgr::Query;
 use role_csv::read_assignments;
@@ -111,21 +110,6 @@ pub fn body_to(alloc: Global, called: Function, body: &[u8]) -> Result<Request, 
         return Err(Refusal::BadRequest);
     }
     request_to(alloc, called, &value)
-}
-
-// The request of a call of the function with the arguments in `value`.
-#[tactic(auto, unfolding(crate::specs::Request::request_to))]
-fn request_to(alloc: Global, called: Function, value: &Value) -> Result<Request, Refusal>
-    ensures ok { IfOk result (λ read. request_to called (view value.now) ≡ Ok (requested read)) }
-    ensures err { IfErr result (λ refusal. (refusal ≡ Refusal.Memory) ⊎ (request_to called (view value.now) ≡ Err refusal)) }
-{
-    if let Some(command) = command_to(alloc, called, value)? {
-        return Ok(Request::Change(command));
-    }
-    match query_to(alloc, called, value)? {
-        Some(query) => Ok(Request::Ask(query)),
-        None => Err(Refusal::UnknownFunction),
-    }
 }
 
 // The JSON value of a line.
