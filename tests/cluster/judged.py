@@ -19,6 +19,10 @@ CLIENTS = 9
 # How often a cluster is judged, after how many faults, and the seconds between them.
 SHORT, LONG = (1, 80, 0.4), (10, 100, 0.6)
 
+# The commands from one snapshot to the next. The log is trimmed up to the last snapshot but one, so the recorder, which may have to
+# wait for a member that is paused, has the time of as many commands to read an entry.
+EVERY = 2500
+
 
 class Trial:
     """Clients at work on a cluster, until it is judged."""
@@ -76,7 +80,7 @@ def check_faults(bench):
 def judge_faults(bench, folder, node, count, between):
     seed = random.randrange(10**6)
     print(f"seed {seed}")
-    with Cluster(folder, node) as cluster:
+    with Cluster(folder, node, every=EVERY) as cluster:
         trial, faults = Trial(cluster, seed), Faults(cluster, seed)
         time.sleep(2)
         for rare in (Faults.cut, Faults.lose_node, Faults.lose_member, Faults.cut):
@@ -107,7 +111,7 @@ def check_wrong_nodes(bench):
     for wrong, kinds in WRONG.items():
         folder = bench.folder / wrong
         folder.mkdir()
-        with Cluster(folder, node, fault=wrong) as cluster:
+        with Cluster(folder, node, every=EVERY, fault=wrong) as cluster:
             trial, faults = Trial(cluster, 1), Faults(cluster, 1)
             faults.patience = 0
             time.sleep(2)

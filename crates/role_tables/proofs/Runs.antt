@@ -31,13 +31,13 @@ use Rattle.role_tables.proofs.OfficeHistory.Induction.{event_with}
 module _ {S : Type 0} (shown : Held S → State) where
   -- an office that was opened begins a run
   pub begins : (office : OfficeModel S) (start : RbacState) → office.facts ≡ start → office.is_closed ≡ false → AreNamed start → (HasCleanDisk (shown office.conn) → IsDurable (shown office.conn) start) → IsInRun shown start [] office
-  begins office start facts works named durable = record {
+  begins office start facts works named stored = record {
     possible = (start, refl);
     state = facts;
     closed = works;
-    durable = λ clean _. subst (IsDurable (shown office.conn)) (sym facts) (stands clean);
-    held = λ clean is_open. subst (HoldsState (shown office.conn).now) (sym facts) (stands clean).held;
-    left = λ clean trees may. (start, refl, (stands clean).left trees may);
+    durable = λ clean _. subst (IsDurable (shown office.conn)) (sym facts) (stored clean);
+    held = λ clean is_open. subst (HoldsState (shown office.conn).now) (sym facts) (stored clean).held;
+    left = λ clean trees may. (start, refl, (stored clean).left trees may);
     names = λ T left. subst AreNamed (sym left) named;
   }
 

@@ -48,7 +48,7 @@ mapped f (x ∷ xs) y = ap (λ l. f x ∷ l) (mapped f xs y)
 pub gathers_more : (kind : StoredTable) (xs : List Row) (y : Row) (a b c : Gathering) → Gathers kind xs a b → Gathers kind (y ∷ []) b c → Gathers kind (xs ++ y ∷ []) a c
 gathers_more kind xs y a b c one two = record {
   whole = joined (is_well_typed kind) c.is_well_typed b.is_well_typed a.is_well_typed two.whole one.whole;
-  named = λ whole. joined (has_names kind) c.recall_names b.is_named a.is_named (two.named whole) (one.named (was_whole whole));
+  named = λ whole. joined (has_names kind) c.is_named b.is_named a.is_named (two.named whole) (one.named (was_whole whole));
   rows = λ whole named. two.rows whole named ∙ ap (λ l. l ++ row_in kind y ∷ []) (one.rows (was_whole whole) (was_named whole named)) ∙ append_assoc a.rows.items _ _ ∙ ap (λ l. a.rows.items ++ l) (sym (mapped (row_in kind) xs y));
 }
   where
@@ -58,7 +58,7 @@ gathers_more kind xs y a b c one two = record {
     was_whole : IsTrue c.is_well_typed → IsTrue b.is_well_typed
     was_whole whole = (and_parts b.is_well_typed (list_all (is_well_typed kind) (y ∷ [])) (sym two.whole ∙ whole)).0
 
-    was_named : IsTrue c.is_well_typed → IsTrue c.recall_names → IsTrue b.is_named
+    was_named : IsTrue c.is_well_typed → IsTrue c.is_named → IsTrue b.is_named
     was_named whole named = (and_parts b.is_named (list_all (has_names kind) (y ∷ [])) (sym (two.named whole) ∙ named)).0
 
 -- ---- the query

@@ -60,7 +60,7 @@ parts_both w v n m r q a b c one two = record {
     was_whole : IsTrue c.is_well_typed → IsTrue b.is_well_typed
     was_whole whole = (and_parts b.is_well_typed v (sym two.whole ∙ whole)).0
 
-    was_named : IsTrue c.is_well_typed → IsTrue c.recall_names → IsTrue b.is_named
+    was_named : IsTrue c.is_well_typed → IsTrue c.is_named → IsTrue b.is_named
     was_named whole named = (and_parts b.is_named m (sym (two.named whole) ∙ named)).0
 
 pub part_alone : (w n : Bool) (r : List stored.Row) (a b : Gathering) → GathersPart w n r a b → GathersPart (w && true) (n && true) (r ++ []) a b
