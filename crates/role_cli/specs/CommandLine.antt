@@ -58,10 +58,13 @@ serve = with_rule (with_rule (with_rule (new_app (codes "serve")) file) port) li
 abbrev pub import_of : App
 import_of = with_rule (with_rule (new_app (codes "import")) file) csv
 
--- the program, with `--version`, and with its first three subcommands
+-- the program with `--version`, and without its subcommands, one of which is required
+abbrev pub bare_program : App
+bare_program = on_top (λ s. record s { subcommand_required = true; has_version = true }) (new_app (codes "rbac"))
+
+-- with its first three subcommands
 abbrev pub first_three : App
-first_three = with_subcommand (with_subcommand (with_subcommand
-    (on_top (λ s. record s { subcommand_required = true; has_version = true }) (new_app (codes "rbac")))
+first_three = with_subcommand (with_subcommand (with_subcommand bare_program
     (of_file (codes "init")).top) replay.top) serve.top
 
 -- with its first six

@@ -2,7 +2,7 @@
 ghost use Rattle.std.specs.Prelude.{◌≡◌, false, IfOk};
 ghost use Rattle.clap.specs.Words.{app_of, rule_of};
 ghost use Rattle.clap.specs.declared.builder.command.Command.TheViews.{out-Command};
-ghost use Rattle.role_cli.specs.CommandLine.{csv, file, first_six, first_three, import_of, in_memory, limit, maybe_file, of_file, port, program, replay, serve};
+ghost use Rattle.role_cli.specs.CommandLine.{bare_program, csv, file, first_six, first_three, import_of, in_memory, limit, maybe_file, of_file, port, program, replay, serve};
 
 use clap::{Arg, ArgAction, Command, value_parser};
 use std::alloc::{AllocError, Global};
@@ -139,6 +139,17 @@ fn import_command<'a>(alloc: Global) -> Result<Command<'a>, AllocError>
         .arg(csv_arg(alloc))
 }
 
+// The program without subcommands, one of which is required.
+fn bare_program<'a>(alloc: Global) -> Command<'a>
+    ensures { app_of result ≡ bare_program }
+{
+    Command::new(alloc, "rbac")
+        .version(VERSION)
+        .about(ABOUT)
+        .after_help(EXAMPLES)
+        .subcommand_required(true)
+}
+
 // The program with its first three subcommands.
 fn first_three<'a>(alloc: Global) -> Result<Command<'a>, AllocError>
     ensures { IfOk result (λ c. app_of c ≡ first_three) }
@@ -146,11 +157,7 @@ fn first_three<'a>(alloc: Global) -> Result<Command<'a>, AllocError>
     let init = file_command(alloc, "init", "Make a new, empty office")?;
     let replay = replay_command(alloc)?;
     let serve = serve_command(alloc)?;
-    let rbac = Command::new(alloc, "rbac")
-        .version(VERSION)
-        .about(ABOUT)
-        .after_help(EXAMPLES)
-        .subcommand_required(true);
+    let rbac = bare_program(alloc);
     rbac.subcommand(init)?.subcommand(replay)?.subcommand(serve)
 }
 

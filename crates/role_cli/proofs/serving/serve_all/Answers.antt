@@ -4,15 +4,14 @@ use Rattle.role_cli.proofs.Served.{not_closing, open_then, served_then}
 use Rattle.role_cli.proofs.serving.serve_all.Goals as goal
 
 pub returns-in-Err-clause-ended : goal.returns-in-Err-clause-ended
-returns-in-Err-clause-ended g c = ([], refl, c.in-Err.ensures.cause, refl)
+returns-in-Err-clause-ended g c = ([], refl, (c.in-Err.ensures.cause, refl))
 
 -- No further connection could be accepted.
 pub returns-in_default-clause-ended : goal.returns-in_default-clause-ended
 returns-in_default-clause-ended g c = (
   c.loop.invariant.0,
   c.loop.invariant.1,
-  omega (arith, c.loop.invariant.2),
-  c.loop.invariant.3,
+  (omega (arith, c.loop.invariant.2), c.loop.invariant.3),
 )
 
 -- The last connection closed the office.
@@ -22,8 +21,7 @@ returns-then-eq-clause-ended g c =
     let closes : c.serve_stream.result ≡ Some 500 = search rules in (
       statuses ++ c.serve_stream.result ∷ [],
       served_then (state g.S.Store) _ _ _ statuses c.serve_stream.result c.loop.invariant.1 c.serve_stream.ensures,
-      omega (arith, length-append statuses (c.serve_stream.result ∷ []), c.loop.invariant.2),
-      (statuses, ap (λ (status : Option ℕ). statuses ++ status ∷ []) closes, c.loop.invariant.3),
+      (omega (arith, length-append statuses (c.serve_stream.result ∷ []), c.loop.invariant.2), (statuses, ap (λ (status : Option ℕ). statuses ++ status ∷ []) closes, c.loop.invariant.3)),
     )
 
 pub loop-init : goal.loop-init
@@ -40,4 +38,4 @@ loop-preserved g c =
     )
 
 pub returns-clause-all : goal.returns-clause-all
-returns-clause-all g c = (c.loop.invariant.0, c.loop.invariant.1, omega (arith, c.loop.invariant.2), c.loop.invariant.3)
+returns-clause-all g c = (c.loop.invariant.0, c.loop.invariant.1, (omega (arith, c.loop.invariant.2), c.loop.invariant.3))
