@@ -9,7 +9,7 @@ use Rattle.role_cli.specs.ArgumentChoice.{IsEntered, IsWhole, requires_file}
 use Rattle.role_cli.proofs.GivenValues.{Each, Enters, Fits, enters, entered_gives, entered_named}
 
 top_fits : Each (Fits (built program).top.rules) (built program).top.rules
-top_fits = ((refl, refl, refl, refl), tt)
+top_fits = ((refl, refl, refl, refl), ((refl, refl, refl, refl), tt))
 
 whole : (m : Text × List Row) → Enters (built program).subs false (Some m) → IsWhole m.0 m.1
 whole m e = record {
