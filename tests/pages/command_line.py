@@ -62,7 +62,7 @@ def options():
 def version():
     """The version that the program prints, or an empty text if it prints none."""
     (text,) = re.findall(r'^const VERSION: &str = "([^"]*)";', source("role_cli/src/command_line.rt"), re.M)
-    return text if ".version(VERSION)" in functions()["first_three"] else ""
+    return text if ".version(VERSION)" in functions()["bare_program"] else ""
 
 
 def ranges():
