@@ -25,7 +25,13 @@ DONE = reply(200, b'{"ok":true}')
 KILLING = (signal.SIGKILL, signal.SIGTERM, signal.SIGINT, signal.SIGHUP)
 
 # What stands in the place of the copying of a file, so that a script can be met while it copies.
-ENDLESS = "import shutil, time\nshutil.copyfile = lambda *_: time.sleep(600)\n"
+# It waits in short steps: Python looks at a signal that comes just before a sleep only after the sleep.
+ENDLESS = """import shutil, time
+def copyfile(*_):
+    while True:
+        time.sleep(0.01)
+shutil.copyfile = copyfile
+"""
 SLOW = "import shutil, time\nold = shutil.copyfile\nshutil.copyfile = lambda *given: (old(*given), time.sleep(2))\n"
 CHANGING = """import shutil
 old = shutil.copyfile
