@@ -1,19 +1,25 @@
 -- What the program writes to standard error.
 use Rattle.std.specs.Prelude.{⊤, ◌≡◌, ◌⊎◌, ◌++◌, ℕ, List, Option, codes}
 use Rattle.std.specs.Io.KnownBytes.{Appends}
+use Rattle.rbac_sets.specs.declared.refusal.Refusal.{Refusal}
 use Rattle.rbac_sets.specs.declared.refusal.Refusal.TheVariants.{Memory}
 use Rattle.role_json.specs.Answer.{refusal_text}
 use Rattle.role_cli.specs.Work.{WritesPart}
 use Rattle.role_cli.specs.declared.failure.Failure.{Failure}
 use Rattle.role_cli.specs.declared.failure.Failure.TheVariants.{Refused, Stopped, NotListening, NotAccepting, Closed}
 
+-- the line that reports a refusal
+abbrev pub refusal_line : Refusal → List ℕ
+refusal_line refusal = codes "rbac: " ++ (refusal_text refusal ++ codes "\n")
+
 -- the line that reports that an allocation failed
 abbrev pub no_memory_line : List ℕ
-no_memory_line = codes "rbac: " ++ (refusal_text Memory ++ codes "\n")
+no_memory_line = refusal_line Memory
 
--- The line reports the failure. The lines of a refusal and of a replay that stopped are not specified here; they are tested.
+-- The line reports the failure, or that the line of a refusal could not be allocated. The line of a replay that stopped is not
+-- specified here; it is tested.
 abbrev pub IsLineOf : Failure → List ℕ → Type 0
-IsLineOf (Refused refusal) line = ⊤
+IsLineOf (Refused refusal) line = (line ≡ refusal_line refusal) ⊎ (line ≡ no_memory_line)
 IsLineOf (Stopped stop) line = ⊤
 IsLineOf NotListening line = line ≡ codes "rbac: cannot listen\n"
 IsLineOf NotAccepting line = line ≡ codes "rbac: cannot accept\n"

@@ -1,7 +1,7 @@
 //! Why the program failed, and the line that reports it.
-ghost use Rattle.std.specs.Prelude.{⊤, ◌⊎◌};
+ghost use Rattle.std.specs.Prelude.{⊤, ◌≡◌, ◌⊎◌, IfOk, string_bytes};
 ghost use Rattle.rbac_sets.specs.Stream.{HasRisen};
-ghost use Rattle.role_cli.specs.ErrorOutput.{IsLineOf, SaysSome, Says, no_memory_line};
+ghost use Rattle.role_cli.specs.ErrorOutput.{IsLineOf, SaysSome, Says, no_memory_line, refusal_line};
 
 use rbac_sets::{Refusal, Sink, write_all};
 use role_wire::{Stop, Verdict, answer_text};
@@ -70,10 +70,12 @@ fn report_refusal<E: Sink>(alloc: Global, refusal: Refusal, err: &mut E)
 }
 
 // The line of a refusal.
-fn refusal_line(alloc: Global, refusal: Refusal) -> Result<String, Refusal> {
+fn refusal_line(alloc: Global, refusal: Refusal) -> Result<String, Refusal>
+    ensures { IfOk result (λ line. string_bytes line ≡ refusal_line refusal) }
+{
     let mut line = String::from_str(alloc, "rbac: ")?;
     line.push_str(answer_text(alloc, &Verdict::Refused(refusal))?.as_str())?;
-    line.push('\n')?;
+    line.push_str("\n")?;
     Ok(line)
 }
 

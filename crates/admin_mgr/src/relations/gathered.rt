@@ -10,33 +10,20 @@ ghost use Rattle.admin_mgr.specs.RowChecks.{AreReadable};
 
 use crate::judge::set_refusals::has_set;
 use crate::relations::Relations;
-use rbac_sets::{CountSet, Entry, GrantSet, NameSet, PairSet, Refusal, Row, SortedSet};
+use rbac_sets::{Entry, PairSet, Refusal, Row, SortedSet};
 use role_order::RoleOrder;
 use std::alloc::Global;
 use std::marker::Model;
 
 mod checks;
 
-// The sets and relations that rows make, and the closure pairs that are stored beside the edges of the role
-// hierarchy.
+// The sets and relations that rows make. Their role hierarchy is empty: its edges, and the closure pairs that are stored
+// beside them, are here until they are checked.
 #[derive(Drop)]
 pub(crate) struct StoredSets {
-    version: u32,
-    users: NameSet,
-    locked: NameSet,
-    roles: NameSet,
-    objects: NameSet,
-    permissions: PairSet,
-    assignments: PairSet,
-    grants: GrantSet,
+    relations: Relations,
     edges: PairSet,
     pairs: PairSet,
-    sessions: PairSet,
-    active: PairSet,
-    ssd_members: PairSet,
-    ssd_cardinalities: CountSet,
-    dsd_members: PairSet,
-    dsd_cardinalities: CountSet,
 }
 
 impl Model for StoredSets {
@@ -57,22 +44,9 @@ impl StoredSets {
         ensures { result ≡ gathered version [] }
     {
         StoredSets {
-            version,
-            users: NameSet::new(alloc),
-            locked: NameSet::new(alloc),
-            roles: NameSet::new(alloc),
-            objects: NameSet::new(alloc),
-            permissions: PairSet::new(alloc),
-            assignments: PairSet::new(alloc),
-            grants: GrantSet::new(alloc),
+            relations: Relations::empty(alloc, version),
             edges: PairSet::new(alloc),
             pairs: PairSet::new(alloc),
-            sessions: PairSet::new(alloc),
-            active: PairSet::new(alloc),
-            ssd_members: PairSet::new(alloc),
-            ssd_cardinalities: CountSet::new(alloc),
-            dsd_members: PairSet::new(alloc),
-            dsd_cardinalities: CountSet::new(alloc),
         }
     }
 
@@ -117,48 +91,20 @@ impl StoredSets {
             ⊎ ((refusal ≡ Refusal.Damaged 6) × IsAcyclic self.facts.edges × (IsClosure self.facts.edges self.pairs → ⊥)))) }
     {
         let StoredSets {
-            version,
-            users,
-            locked,
-            roles,
-            objects,
-            permissions,
-            assignments,
-            grants,
+            mut relations,
             edges,
             pairs,
-            sessions,
-            active,
-            ssd_members,
-            ssd_cardinalities,
-            dsd_members,
-            dsd_cardinalities,
         } = self;
         let order = RoleOrder::of_rows(alloc, edges, pairs)?;
-        Ok(Relations {
-            version,
-            users,
-            locked,
-            roles,
-            objects,
-            permissions,
-            assignments,
-            grants,
-            order,
-            sessions,
-            active,
-            ssd_members,
-            ssd_cardinalities,
-            dsd_members,
-            dsd_cardinalities,
-        })
+        relations.order = order;
+        Ok(relations)
     }
 
     // Whether the version allows the row and there is no row with its key.
     fn fits(&self, row: &Row) -> bool
         ensures { result ≡ (is_known self.now.facts.version row.now && not (has_key self.now row.now)) }
     {
-        is_known(self.version, row) && !self.has_key(row)
+        is_known(self.relations.version, row) && !self.has_key(row)
     }
 
     // Whether there is a row with the key of this one.
@@ -167,24 +113,24 @@ impl StoredSets {
         ensures { result ≡ has_key self.now row.now }
     {
         match row {
-            Row::NameRow(Row::USER, name) => self.users.contains(name),
-            Row::NameRow(Row::ROLE, name) => self.roles.contains(name),
-            Row::NameRow(Row::OBJECT, name) => self.objects.contains(name),
-            Row::PairRow(Row::PERMISSION, a, b) => self.permissions.contains((a, b)),
-            Row::PairRow(Row::ASSIGNMENT, a, b) => self.assignments.contains((a, b)),
+            Row::NameRow(Row::USER, name) => self.relations.users.contains(name),
+            Row::NameRow(Row::ROLE, name) => self.relations.roles.contains(name),
+            Row::NameRow(Row::OBJECT, name) => self.relations.objects.contains(name),
+            Row::PairRow(Row::PERMISSION, a, b) => self.relations.permissions.contains((a, b)),
+            Row::PairRow(Row::ASSIGNMENT, a, b) => self.relations.assignments.contains((a, b)),
             Row::PairRow(Row::INHERITANCE, a, b) => self.edges.contains((a, b)),
             Row::PairRow(Row::CLOSURE_PAIR, a, b) => self.pairs.contains((a, b)),
-            Row::PairRow(Row::STATIC_MEMBER, a, b) => self.ssd_members.contains((a, b)),
-            Row::PairRow(Row::DYNAMIC_MEMBER, a, b) => self.dsd_members.contains((a, b)),
-            Row::PairRow(Row::SESSION, a, b) => self.sessions.contains((a, b)),
-            Row::PairRow(Row::ACTIVATED_ROLE, a, b) => self.active.contains((a, b)),
-            Row::GrantRow(a, b, c) => self.grants.contains((a, b, c)),
-            Row::SetRow(Row::STATIC_CARDINALITY, name, _) => has_set(&self.ssd_cardinalities, name),
+            Row::PairRow(Row::STATIC_MEMBER, a, b) => self.relations.ssd_members.contains((a, b)),
+            Row::PairRow(Row::DYNAMIC_MEMBER, a, b) => self.relations.dsd_members.contains((a, b)),
+            Row::PairRow(Row::SESSION, a, b) => self.relations.sessions.contains((a, b)),
+            Row::PairRow(Row::ACTIVATED_ROLE, a, b) => self.relations.active.contains((a, b)),
+            Row::GrantRow(a, b, c) => self.relations.grants.contains((a, b, c)),
+            Row::SetRow(Row::STATIC_CARDINALITY, name, _) => has_set(&self.relations.ssd_cardinalities, name),
             Row::SetRow(Row::DYNAMIC_CARDINALITY, name, _) => has_set(
-                &self.dsd_cardinalities,
+                &self.relations.dsd_cardinalities,
                 name,
             ),
-            Row::LockedRow(name) => self.locked.contains(name),
+            Row::LockedRow(name) => self.relations.locked.contains(name),
             _ => false,
         }
     }
@@ -197,27 +143,27 @@ impl StoredSets {
         ensures cause { IfErr result (λ refusal. refusal ≡ Refusal.Memory) }
     {
         match row {
-            Row::NameRow(Row::USER, name) => put(&mut self.users, name),
-            Row::NameRow(Row::ROLE, name) => put(&mut self.roles, name),
-            Row::NameRow(Row::OBJECT, name) => put(&mut self.objects, name),
-            Row::PairRow(Row::PERMISSION, a, b) => put(&mut self.permissions, (a, b)),
-            Row::PairRow(Row::ASSIGNMENT, a, b) => put(&mut self.assignments, (a, b)),
+            Row::NameRow(Row::USER, name) => put(&mut self.relations.users, name),
+            Row::NameRow(Row::ROLE, name) => put(&mut self.relations.roles, name),
+            Row::NameRow(Row::OBJECT, name) => put(&mut self.relations.objects, name),
+            Row::PairRow(Row::PERMISSION, a, b) => put(&mut self.relations.permissions, (a, b)),
+            Row::PairRow(Row::ASSIGNMENT, a, b) => put(&mut self.relations.assignments, (a, b)),
             Row::PairRow(Row::INHERITANCE, a, b) => put(&mut self.edges, (a, b)),
             Row::PairRow(Row::CLOSURE_PAIR, a, b) => put(&mut self.pairs, (a, b)),
-            Row::PairRow(Row::STATIC_MEMBER, a, b) => put(&mut self.ssd_members, (a, b)),
-            Row::PairRow(Row::DYNAMIC_MEMBER, a, b) => put(&mut self.dsd_members, (a, b)),
-            Row::PairRow(Row::SESSION, a, b) => put(&mut self.sessions, (a, b)),
-            Row::PairRow(Row::ACTIVATED_ROLE, a, b) => put(&mut self.active, (a, b)),
-            Row::GrantRow(a, b, c) => put(&mut self.grants, (a, b, c)),
+            Row::PairRow(Row::STATIC_MEMBER, a, b) => put(&mut self.relations.ssd_members, (a, b)),
+            Row::PairRow(Row::DYNAMIC_MEMBER, a, b) => put(&mut self.relations.dsd_members, (a, b)),
+            Row::PairRow(Row::SESSION, a, b) => put(&mut self.relations.sessions, (a, b)),
+            Row::PairRow(Row::ACTIVATED_ROLE, a, b) => put(&mut self.relations.active, (a, b)),
+            Row::GrantRow(a, b, c) => put(&mut self.relations.grants, (a, b, c)),
             Row::SetRow(Row::STATIC_CARDINALITY, name, n) => put(
-                &mut self.ssd_cardinalities,
+                &mut self.relations.ssd_cardinalities,
                 (name, n),
             ),
             Row::SetRow(Row::DYNAMIC_CARDINALITY, name, n) => put(
-                &mut self.dsd_cardinalities,
+                &mut self.relations.dsd_cardinalities,
                 (name, n),
             ),
-            Row::LockedRow(name) => put(&mut self.locked, name),
+            Row::LockedRow(name) => put(&mut self.relations.locked, name),
             _ => Ok(()),
         }
     }

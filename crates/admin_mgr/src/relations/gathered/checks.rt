@@ -59,23 +59,23 @@ impl StoredSets {
         requires { (self.now.facts.version ≡ 1) ⊎ (self.now.facts.version ≡ 2) }
         ensures { result ≡ is_exceeded self.now.facts kind }
     {
-        let limit = kind.limit(self.version) as usize;
+        let limit = kind.limit(self.relations.version) as usize;
         match kind {
-            Kind::User => self.users.len() > limit,
-            Kind::Role => self.roles.len() > limit,
-            Kind::Object => self.objects.len() > limit,
-            Kind::Permission => self.permissions.len() > limit,
-            Kind::Grant => self.grants.len() > limit,
-            Kind::Assignment => self.assignments.len() > limit,
+            Kind::User => self.relations.users.len() > limit,
+            Kind::Role => self.relations.roles.len() > limit,
+            Kind::Object => self.relations.objects.len() > limit,
+            Kind::Permission => self.relations.permissions.len() > limit,
+            Kind::Grant => self.relations.grants.len() > limit,
+            Kind::Assignment => self.relations.assignments.len() > limit,
             Kind::Edge => self.edges.len() > limit,
-            Kind::SsdSet => self.ssd_cardinalities.len() > limit,
-            Kind::DsdSet => self.dsd_cardinalities.len() > limit,
+            Kind::SsdSet => self.relations.ssd_cardinalities.len() > limit,
+            Kind::DsdSet => self.relations.dsd_cardinalities.len() > limit,
             Kind::Member => {
-                has_more_with_first(&self.ssd_members, limit)
-                    || has_more_with_first(&self.dsd_members, limit)
+                has_more_with_first(&self.relations.ssd_members, limit)
+                    || has_more_with_first(&self.relations.dsd_members, limit)
             }
-            Kind::Session => self.sessions.len() > limit,
-            Kind::ActiveRole => has_more_with_first(&self.active, limit),
+            Kind::Session => self.relations.sessions.len() > limit,
+            Kind::ActiveRole => has_more_with_first(&self.relations.active, limit),
             Kind::Record | Kind::Byte => false,
         }
     }
@@ -94,41 +94,41 @@ impl StoredSets {
     fn is_core_complete(&self) -> bool
         ensures { result ≡ is_core_complete self.now.facts }
     {
-        are_firsts_in(&self.objects, &self.permissions)
-            && have_permissions(&self.permissions, &self.grants)
-            && have_roles(&self.roles, &self.grants)
-            && are_firsts_in(&self.users, &self.assignments)
-            && are_seconds_in(&self.roles, &self.assignments)
-            && are_among(&self.locked, &self.users)
+        are_firsts_in(&self.relations.objects, &self.relations.permissions)
+            && have_permissions(&self.relations.permissions, &self.relations.grants)
+            && have_roles(&self.relations.roles, &self.relations.grants)
+            && are_firsts_in(&self.relations.users, &self.relations.assignments)
+            && are_seconds_in(&self.relations.roles, &self.relations.assignments)
+            && are_among(&self.relations.locked, &self.relations.users)
     }
 
     // Whether the roles of edges and closure pairs exist.
     fn is_hierarchy_complete(&self) -> bool
         ensures { result ≡ is_hierarchy_complete self.now }
     {
-        are_firsts_in(&self.roles, &self.edges)
-            && are_seconds_in(&self.roles, &self.edges)
-            && are_firsts_in(&self.roles, &self.pairs)
-            && are_seconds_in(&self.roles, &self.pairs)
+        are_firsts_in(&self.relations.roles, &self.edges)
+            && are_seconds_in(&self.relations.roles, &self.edges)
+            && are_firsts_in(&self.relations.roles, &self.pairs)
+            && are_seconds_in(&self.relations.roles, &self.pairs)
     }
 
     // Whether the sets and roles of members of separation of duty sets exist.
     fn are_sets_complete(&self) -> bool
         ensures { result ≡ are_sets_complete self.now.facts }
     {
-        have_sets(&self.ssd_members, &self.ssd_cardinalities)
-            && are_seconds_in(&self.roles, &self.ssd_members)
-            && have_sets(&self.dsd_members, &self.dsd_cardinalities)
-            && are_seconds_in(&self.roles, &self.dsd_members)
+        have_sets(&self.relations.ssd_members, &self.relations.ssd_cardinalities)
+            && are_seconds_in(&self.relations.roles, &self.relations.ssd_members)
+            && have_sets(&self.relations.dsd_members, &self.relations.dsd_cardinalities)
+            && are_seconds_in(&self.relations.roles, &self.relations.dsd_members)
     }
 
     // Whether the users of sessions, and the sessions and roles of activated roles, exist.
     fn are_sessions_complete(&self) -> bool
         ensures { result ≡ are_sessions_complete self.now.facts }
     {
-        are_seconds_in(&self.users, &self.sessions)
-            && have_sessions(&self.active, &self.sessions)
-            && are_seconds_in(&self.roles, &self.active)
+        are_seconds_in(&self.relations.users, &self.relations.sessions)
+            && have_sessions(&self.relations.active, &self.relations.sessions)
+            && are_seconds_in(&self.relations.roles, &self.relations.active)
     }
 
     // Whether each session has one user.
@@ -136,10 +136,10 @@ impl StoredSets {
     fn have_one_user(&self) -> bool
         ensures { result ≡ have_one_user self.now.facts }
     {
-        self.sessions
+        self.relations.sessions
             .as_slice()
             .iter()
-            .all(|session| member_count(&self.sessions, &session.0) <= 1)
+            .all(|session| member_count(&self.relations.sessions, &session.0) <= 1)
     }
 }
 
