@@ -12,9 +12,11 @@ pub on_ok-holds : {T E : Type 0} (r : Result T E) (P : Type 0) → IsOk r → On
 on_ok-holds (Ok t) P is_ok holds = holds
 on_ok-holds (Err e) P is_ok holds = absurd (true≢false (sym is_ok))
 
-pub if_err-both : {T E : Type 0} (r : Result T E) (P Q : E → Type 0) → IsErr r → IfErr r P → IfErr r Q → (e : E) × P e × Q e
-if_err-both (Ok t) P Q is_err one other = absurd (true≢false (sym is_err))
-if_err-both (Err e) P Q is_err one other = (e, one, other)
+-- an error with a fact, and with two more under a condition
+pub if_err-all : {T E : Type 0} (r : Result T E) (P : E → Type 0) (C : Type 0) (Q R : E → Type 0) → IsErr r → IfErr r P → (C → IfErr r Q) → (C → IfErr r R)
+    → (e : E) × P e × (C → Q e × R e)
+if_err-all (Ok t) P C Q R is_err one two three = absurd (true≢false (sym is_err))
+if_err-all (Err e) P C Q R is_err one two three = (e, one, λ holds. (two holds, three holds))
 
 -- two facts of a value together
 pub if_ok-join : {T E : Type 0} (r : Result T E) (P Q Z : T → Type 0) → IfOk r P → IfOk r Q → ((t : T) → P t → Q t → Z t) → IfOk r Z

@@ -54,13 +54,16 @@ pub fn run_on_path<D: Start, R: Source, W: Sink>(
     source: &mut R,
     out: &mut W,
 ) -> Result<(Result<(), Failure>, Connection<FileStore<FileFrom<D>>>), Failure>
-    ensures done { IfOk result (λ worked. HasCleanDisk (file_state worked.1) → OnOk worked.0 (WorksOnFiles ⟦<FileFrom<D> as Disk>⟧ (image_at D.Start) (λ before. Works (state (over_files {g = ⟦<FileFrom<D> as Disk>⟧})) choice.now before
+    ensures done { IfOk result (λ worked. HasCleanDisk (file_state worked.1) → OnOk worked.0 (WorksOnFiles ⟦<FileFrom<D> as Disk>⟧ (image_at D.Start)
+        (λ before. Works (state (over_files {g = ⟦<FileFrom<D> as Disk>⟧})) choice.now before
         (λ first last. Does (state (over_files {g = ⟦<FileFrom<D> as Disk>⟧})) choice.now first (R.remaining source.old) (R.remaining source.new) (W.written out.old) (W.written out.new) last) worked.1))) }
-    ensures failed { IfOk result (λ worked. HasCleanDisk (file_state worked.1) → IfErr worked.0 (λ failure. WorksOnFiles ⟦<FileFrom<D> as Disk>⟧ (image_at D.Start) (λ before. FailsOn (state (over_files {g = ⟦<FileFrom<D> as Disk>⟧})) choice.now before failure
+    ensures failed { IfOk result (λ worked. HasCleanDisk (file_state worked.1) → IfErr worked.0 (λ failure. WorksOnFiles ⟦<FileFrom<D> as Disk>⟧ (image_at D.Start)
+        (λ before. FailsOn (state (over_files {g = ⟦<FileFrom<D> as Disk>⟧})) choice.now before failure
         (R.remaining source.old) (R.remaining source.new) (W.written out.old) (W.written out.new) worked.1))) }
 
     // Whatever the disk returns, the work is done over an office of some good state.
-    ensures some { IfOk result (λ worked. OnOk worked.0 (DoesOverSome (state (over_files {g = ⟦<FileFrom<D> as Disk>⟧})) choice.now (R.remaining source.old) (R.remaining source.new) (W.written out.old) (W.written out.new))) }
+    ensures some { IfOk result (λ worked. OnOk worked.0 (DoesOverSome (state (over_files {g = ⟦<FileFrom<D> as Disk>⟧})) choice.now
+        (R.remaining source.old) (R.remaining source.new) (W.written out.old) (W.written out.new))) }
     ensures unopened { OnErr result ((source.new ≡ source.old) × (out.new ≡ out.old)) }
     ensures unread { reads_input choice.now ≡ false → source.new ≡ source.old }
     ensures reads { R.reads source.new ≤ R.reads source.old + most_reads }

@@ -50,14 +50,15 @@ pub fn run<R: Source, W: Sink, E: Sink>(
         × (reads_input choice ≡ false → source.new ≡ source.old)) }
     ensures refused { result ≡ 2 → (source.new ≡ source.old) × (out.new ≡ out.old) }
     ensures unchosen { result ≡ 2 → (takes program (map (λ s. s.now) words.entry.now) ≡ false) ⊎ ReplaysBothOrNeither (subcommand_of program (map (λ s. s.now) words.entry.now)) }
-    ensures stopped { result ≡ 1 → ((source.new ≡ source.old) × (out.new ≡ out.old))
-        ⊎ ((choice : Choice) × Chooses (subcommand_of program (map (λ s. s.now) words.entry.now)) choice × (reads_input choice ≡ false → source.new ≡ source.old) × (is_memory_replay choice ≡ true → (failure : Failure)
-        × FailsInMemory ⟦<MemoryFile as Disk>⟧ failure ((source.new ≡ source.old) × (out.new ≡ out.old)) (R.remaining source.old) (R.remaining source.new) (W.written out.old) (W.written out.new)
+    ensures stopped { result ≡ 1 → (failure : Failure)
+        × SaysSome (IsLineOf failure) (E.written err.old) (E.written err.new) (HasRisen (E.failed err.old) (E.failed err.new) ⊎ HasRisen (E.idle err.old) (E.idle err.new))
+        × (((source.new ≡ source.old) × (out.new ≡ out.old))
+        ⊎ ((choice : Choice) × Chooses (subcommand_of program (map (λ s. s.now) words.entry.now)) choice × (reads_input choice ≡ false → source.new ≡ source.old)
+        × (is_memory_replay choice ≡ true → FailsInMemory ⟦<MemoryFile as Disk>⟧ failure
+        ((source.new ≡ source.old) × (out.new ≡ out.old)) (R.remaining source.old) (R.remaining source.new) (W.written out.old) (W.written out.new)
         × IsCaused failure
         (HasRisen (W.failed out.old) (W.failed out.new) ⊎ HasRisen (W.idle out.old) (W.idle out.new))
-        (HasRisen (R.failed source.old) (R.failed source.new) ⊎ IsAtBound (R.reads source.old) (R.reads source.new)))) }
-    ensures reported { result ≡ 1 → (failure : Failure) × SaysSome (IsLineOf failure) (E.written err.old) (E.written err.new)
-        (HasRisen (E.failed err.old) (E.failed err.new) ⊎ HasRisen (E.idle err.old) (E.idle err.new)) }
+        (HasRisen (R.failed source.old) (R.failed source.new) ⊎ IsAtBound (R.reads source.old) (R.reads source.new))))) }
     ensures silent { result ≡ 0 → err.new ≡ err.old }
     ensures reads { R.reads source.new ≤ R.reads source.old + most_reads }
 {
@@ -112,8 +113,8 @@ fn status_of<E: Sink>(alloc: Global, done: Result<(), Failure>, err: &mut E) -> 
     ensures done { (result ≡ 0) ↔ IsOk done }
     ensures stopped { result ≡ 1 → IsErr done }
     ensures status { (result ≡ 0) ⊎ (result ≡ 1) }
-    ensures reported { result ≡ 1 → (failure : Failure) × SaysSome (IsLineOf failure) (E.written err.old) (E.written err.new)
-        (HasRisen (E.failed err.old) (E.failed err.new) ⊎ HasRisen (E.idle err.old) (E.idle err.new)) }
+    ensures reported { result ≡ 1 → IfErr done (λ failure. SaysSome (IsLineOf failure)
+        (E.written err.old) (E.written err.new) (HasRisen (E.failed err.old) (E.failed err.new) ⊎ HasRisen (E.idle err.old) (E.idle err.new))) }
     ensures silent { result ≡ 0 → err.new ≡ err.old }
 {
     match done {

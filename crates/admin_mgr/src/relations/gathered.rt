@@ -125,7 +125,10 @@ impl StoredSets {
             Row::PairRow(Row::SESSION, a, b) => self.relations.sessions.contains((a, b)),
             Row::PairRow(Row::ACTIVATED_ROLE, a, b) => self.relations.active.contains((a, b)),
             Row::GrantRow(a, b, c) => self.relations.grants.contains((a, b, c)),
-            Row::SetRow(Row::STATIC_CARDINALITY, name, _) => has_set(&self.relations.ssd_cardinalities, name),
+            Row::SetRow(Row::STATIC_CARDINALITY, name, _) => has_set(
+                &self.relations.ssd_cardinalities,
+                name,
+            ),
             Row::SetRow(Row::DYNAMIC_CARDINALITY, name, _) => has_set(
                 &self.relations.dsd_cardinalities,
                 name,

@@ -116,9 +116,14 @@ impl StoredSets {
     fn are_sets_complete(&self) -> bool
         ensures { result ≡ are_sets_complete self.now.facts }
     {
-        have_sets(&self.relations.ssd_members, &self.relations.ssd_cardinalities)
-            && are_seconds_in(&self.relations.roles, &self.relations.ssd_members)
-            && have_sets(&self.relations.dsd_members, &self.relations.dsd_cardinalities)
+        have_sets(
+            &self.relations.ssd_members,
+            &self.relations.ssd_cardinalities,
+        ) && are_seconds_in(&self.relations.roles, &self.relations.ssd_members)
+            && have_sets(
+                &self.relations.dsd_members,
+                &self.relations.dsd_cardinalities,
+            )
             && are_seconds_in(&self.relations.roles, &self.relations.dsd_members)
     }
 
@@ -136,10 +141,10 @@ impl StoredSets {
     fn have_one_user(&self) -> bool
         ensures { result ≡ have_one_user self.now.facts }
     {
-        self.relations.sessions
-            .as_slice()
-            .iter()
-            .all(|session| member_count(&self.relations.sessions, &session.0) <= 1)
+        self.relations.sessions.as_slice().iter().all(|session| member_count(
+            &self.relations.sessions,
+            &session.0,
+        ) <= 1)
     }
 }
 
