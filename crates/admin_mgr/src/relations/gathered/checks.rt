@@ -141,10 +141,11 @@ impl StoredSets {
     fn have_one_user(&self) -> bool
         ensures { result ≡ have_one_user self.now.facts }
     {
-        self.relations.sessions.as_slice().iter().all(|session| member_count(
-            &self.relations.sessions,
-            &session.0,
-        ) <= 1)
+        let sessions = &self.relations.sessions;
+        sessions
+            .as_slice()
+            .iter()
+            .all(|session| member_count(sessions, &session.0) <= 1)
     }
 }
 
