@@ -14,7 +14,7 @@ returns-in-Ok-clause-done g c zero =
 pub returns-in-Ok-clause-stopped : goal.returns-in-Ok-clause-stopped
 returns-in-Ok-clause-stopped g c one =
     let failed = if_err-all c.done.result _ _ _ _ (c.status_of.ensures.stopped one) (c.status_of.ensures.reported one) c.done.ensures.stopped c.done.ensures.caused in
-    (failed.0, failed.1.0, inr (c.in-Ok.choice, c.in-Ok.ensures.ok, c.done.ensures.unread, failed.1.1))
+    (failed.0, failed.1, inr (c.in-Ok.choice, c.in-Ok.ensures.ok, c.done.ensures.unread, failed.2))
 
 -- An allocation failed before anything was chosen.
 pub returns-in-Err-Memory-clause-stopped : goal.returns-in-Err-Memory-clause-stopped
