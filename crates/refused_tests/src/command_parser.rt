@@ -1,5 +1,5 @@
-//! Parses the commands of test scripts, here and in tests/office of the repository. A text that is no command is
-//! refused with `BadRequest`.
+//! Parses the commands of test scripts, here and in tests/office, tests/tables and tests/wire of the repository, which
+//! copy this file. A text that is no command is refused with `BadRequest`.
 //!
 //! A command is written as its function and its arguments in order, separated by white space. A list of roles is
 //! written `a,b,c`, and the empty list `-`. A record of an import is written `ann/clerk`.

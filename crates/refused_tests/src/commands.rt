@@ -1,7 +1,4 @@
-//! Commands with failing allocations.
-//!
-//! The test passes with enough memory. `tests/refused.sh` runs it again and again, and in each run fails one
-//! allocation, each in turn.
+//! Commands: after a failed allocation the state is the one before, and the same command is accepted later.
 use super::command_parser::read_command;
 use admin_mgr::State;
 use rbac_sets::{Command, CountSet, GrantSet, Name, NameSet, PairSet, Refusal};
@@ -195,7 +192,7 @@ fn apply(alloc: Global, state: &mut State, command: &Command) -> Result<(), Refu
 }
 
 // Parses a command, and applies it.
-pub(super) fn obey(alloc: Global, state: &mut State, text: &str) -> Result<(), Refusal> {
+fn obey(alloc: Global, state: &mut State, text: &str) -> Result<(), Refusal> {
     let command = read_command(alloc, text)?;
     let done = apply(alloc, state, &command);
     drop(command);

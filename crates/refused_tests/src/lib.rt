@@ -1,12 +1,12 @@
-//! Calls the public functions of `role_tables` and `role_wire` that allocate, with enough memory, and checks their
-//! results: a body that reports a failed allocation instead would be proved as well. The tests are apart from
-//! `memory_tests` and `wire_tests`, which need no store: without one those are proved sooner, and needn't wait for
-//! `role_wire`.
+//! Tests that pass whichever of their allocations fails: `commands` on a state, lines and a request (`requests`) on an
+//! office in memory. tests/refused.sh of the repository runs them again and again, and in each run fails one
+//! allocation, each in turn. It runs what `rt ci` has built, so these tests are proved. All others are built without
+//! proof, in tests/office, tests/tables and tests/wire.
 #![tactic(auto)]
 
 #[cfg(test)]
-mod refused;
+mod command_parser;
 #[cfg(test)]
-mod replaying;
+mod commands;
 #[cfg(test)]
-mod tables;
+mod requests;

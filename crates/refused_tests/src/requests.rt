@@ -1,10 +1,8 @@
-//! Lines and a request. tests/refused.sh of the repository fails each of their allocations in turn: these tests pass
-//! whichever allocation fails.
-use super::replaying::{DONE, REQUEST, empty_office};
+//! Lines and a request: after a failed allocation what was answered is done, and of the rest at most the next line.
 use rbac_sets::{MemorySink, MemorySource};
-use role_tables::Office;
+use role_tables::{Office, create};
 use role_wire::{Cause, Served, Stop, replay, serve_one};
-use sqlite::MemStore;
+use sqlite::{Connection, MemStore};
 use std::alloc::Global;
 
 const LINES: &str = r#"{"fn":"addUser","user":"ann"}
@@ -22,11 +20,22 @@ const WRITTEN: [&str; 5] = [
     "{\"ok\":true}\n{\"ok\":true}\n{\"ok\":true}\n{\"ok\":true,\"value\":[\"ann\"]}\n",
 ];
 
+const REQUEST: &str = "POST /v1/addUser HTTP/1.1\r\nContent-Length: 14\r\n\r\n{\"user\":\"ann\"}";
+
+const DONE: &str = "HTTP/1.1 200 OK\r\nContent-Type: application/json\r\nContent-Length: 11\r\n\
+    Connection: close\r\n\r\n{\"ok\":true}";
+
 const NO_MEMORY: &str = "HTTP/1.1 503 Service Unavailable\r\nContent-Type: application/json\r\n\
     Content-Length: 28\r\nConnection: close\r\n\r\n{\"code\":40,\"error\":\"Memory\"}";
 
 const STORE: &str = "HTTP/1.1 500 Internal Server Error\r\nContent-Type: application/json\r\n\
     Content-Length: 27\r\nConnection: close\r\n\r\n{\"code\":41,\"error\":\"Store\"}";
+
+// An empty office in memory.
+fn empty_office(alloc: Global) -> Option<Office<MemStore>> {
+    let conn = Connection::open_in_memory(alloc).ok()?;
+    create(alloc, conn).ok()
+}
 
 // Whether the office is open, and has done the first `count` lines.
 fn has_done(office: &Office<MemStore>, count: usize) -> bool {

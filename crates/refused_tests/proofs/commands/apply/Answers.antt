@@ -1,7 +1,7 @@
 use Rattle.std.proofs.Common.{sym, subst}
 use Rattle.admin_mgr.specs.PlanEffect.{LeadsTo}
 use Rattle.admin_mgr.specs.After.{after}
-use Rattle.memory_tests.proofs.state.refused.apply.Goals as goal
+use Rattle.refused_tests.proofs.commands.apply.Goals as goal
 
 -- The plan still leads to the state after the command once room is made.
 pub commit-requires-clause-planned : goal.commit-requires-clause-planned
