@@ -7,8 +7,8 @@ from . import markdown, sources
 PAGE = markdown.page("ARCHITECTURE.md")
 CRATES = sources.ROOT / "crates"
 
-# Crates of one file, and crates of tests alone, have no part.
-WITHOUT = {"rbac", "memory_tests", "wire_tests", "office_tests", "cli_tests"}
+# The crate of one file, and the crate of tests alone, have no part.
+WITHOUT = {"rbac", "refused_tests"}
 
 # What each crate has besides: the list of its modules.
 BESIDE = "lib.rt"

@@ -30,7 +30,7 @@ DECIDING += ["PostgreSQL, pg_has_role", "PostgreSQL, a stored closure", "Casbin,
 ROWS = ("addUser", "assignUser")
 
 # Crates that prove nothing by themselves.
-UNPROVED = {"rbac", "memory_tests", "wire_tests", "office_tests", "cli_tests"}
+UNPROVED = {"rbac", "refused_tests"}
 
 
 def crates():
