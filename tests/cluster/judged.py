@@ -19,9 +19,9 @@ CLIENTS = 9
 # How often a cluster is judged, after how many faults, and the seconds between them.
 SHORT, LONG = (1, 80, 0.4), (10, 100, 0.6)
 
-# The commands from one snapshot to the next. The log is trimmed up to the last snapshot but one, so the recorder, which may have to
-# wait for a member that is paused, has the time of as many commands to read an entry.
-EVERY = 2500
+# The commands from one snapshot to the next. What came after the last snapshot but one is kept, so the recorder, which may have to
+# wait for a member that is paused, has the time of as many commands to read an entry. The second trim deletes the first entries.
+EVERY = 1200
 
 
 class Trial:

@@ -41,6 +41,7 @@ def floor(cluster):
 def check_keeping(bench):
     with Cluster(bench.folder, build(bench.shared), every=EVERY) as cluster:
         judge_snapshots(bench, cluster)
+        judge_trimmed(bench, cluster)
         judge_history(bench, cluster)
         judge_replaced(bench, cluster)
         judge_removed(bench, cluster)
@@ -63,7 +64,18 @@ def judge_snapshots(bench, cluster):
         bench.same(f"the rows at {revision}", rows_of(path), rows_of(found[1][revision][1]))
         bench.same(f"the digest at {revision}", says["digest"], found[2][revision][0]["digest"])
         bench.same(f"rbac check at {revision}", bench.run(["check", str(path)]).out, b"good\n")
-    cluster.until(lambda: floor(cluster) == sorted(found[0])[-2], "the log is trimmed up to the last snapshot but one")
+
+
+def judge_trimmed(bench, cluster):
+    """What was in the log at one trim is deleted by the next one, once each node has two newer snapshots."""
+    cluster.until(lambda: cluster.ctl("get", f"{PREFIX}/floor"), "the first trim")
+    bench.same("it deletes nothing", len(cluster.read_log()[0]), 4 * EVERY)
+    add_users(cluster, "t", 2 * EVERY)
+    cluster.until(lambda: floor(cluster), "the log is trimmed")
+    entries, end = cluster.read_log()
+    bench.same("what came after the last snapshot but one is kept", end < revisions(cluster, 0)[-2], True)
+    bench.same("the entries that are kept", 2 * EVERY <= len(entries) < 5 * EVERY, True)
+    bench.same("none of them is below the floor", entries[0][0] > end, True)
 
 
 def judge_history(bench, cluster):

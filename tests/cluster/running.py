@@ -16,7 +16,7 @@ from program.bench import PROGRAM, TESTS, Bench
 OF_SOURCES = ["sources"]
 OF_CLUSTERS = ["program", "page", "answers", "secured", "keeping", "judged"]
 
-NEEDED = ["go.etcd.io/etcd/clientv3", "github.com/mattn/go-sqlite3", "github.com/prometheus/client_golang/prometheus"]
+NEEDED = ["go.etcd.io/etcd/clientv3", "github.com/prometheus/client_golang/prometheus"]
 
 # A member of etcd syncs each entry: files in memory let the test do more.
 IN_MEMORY = "/dev/shm"
