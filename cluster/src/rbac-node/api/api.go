@@ -37,15 +37,15 @@ const (
 )
 
 // kinds has all functions, and says of each which kind of request it is.
-var kinds = map[string]node.Kind{}
-
-func init() {
+var kinds = func() map[string]node.Kind {
+	known := map[string]node.Kind{}
 	for kind, names := range map[node.Kind]string{node.Command: commands, node.Question: questions} {
 		for _, name := range strings.Fields(names) {
-			kinds[name] = kind
+			known[name] = kind
 		}
 	}
-}
+	return known
+}()
 
 const (
 	importer = "importAssignments"

@@ -25,8 +25,6 @@ import (
 	"go.etcd.io/etcd/etcdserver/api/v3rpc/rpctypes"
 	"go.etcd.io/etcd/mvcc/mvccpb"
 	"go.uber.org/zap"
-
-	"rbac-node/fault"
 )
 
 const (
@@ -54,8 +52,6 @@ type Ledger struct {
 	log *zap.Logger
 	// generation is the newest one that is known, and head the newest revision of an entry.
 	generation, head atomic.Int64
-	// term is that of the last reply of etcd, and used the one to whose leader requests go, 0 if they go to all members.
-	term, used atomic.Uint64
 }
 
 // New returns the ledger below a prefix of etcd's keys.
@@ -77,11 +73,9 @@ func (l *Ledger) commit(ctx context.Context, what string, shape func(clientv3.Tx
 		reply, err := shape(l.kv.Txn(limited)).Commit()
 		cancel()
 		if err == nil {
-			l.term.Store(reply.Header.RaftTerm)
 			return reply, nil
 		}
 		l.client.SetEndpoints(l.members...)
-		l.used.Store(0)
 		if ctx.Err() != nil {
 			return nil, fmt.Errorf("%s: %w", what, err)
 		}
@@ -128,7 +122,7 @@ func keyOf(generation int64) string { return fmt.Sprintf("log/%020d/", generatio
 // UseLeader lets requests go to the member of etcd that leads, to which the others would pass them on. After a request that
 // fails they go to all members.
 func (l *Ledger) UseLeader(ctx context.Context) {
-	if l.used.Load() == l.term.Load() {
+	if len(l.client.Endpoints()) == 1 {
 		return
 	}
 	for _, member := range l.members {
@@ -137,7 +131,6 @@ func (l *Ledger) UseLeader(ctx context.Context) {
 		cancel()
 		if err == nil && status.Leader == status.Header.MemberId {
 			l.client.SetEndpoints(member)
-			l.used.Store(status.RaftTerm)
 			return
 		}
 	}
@@ -151,13 +144,9 @@ func (l *Ledger) Append(ctx context.Context, id string, lines [][]byte) (revisio
 		tried := l.generation.Load()
 		key := keyOf(tried) + id
 		reply, err := l.commit(ctx, "append", func(t clientv3.Txn) clientv3.Txn {
-			t = t.If(clientv3.Compare(clientv3.Version(key), "=", 0), isAt("floor", tried)).Then(
+			return t.If(clientv3.Compare(clientv3.Version(key), "=", 0), isAt("floor", tried)).Then(
 				clientv3.OpGet("head"), clientv3.OpPut(key, string(bytes.Join(lines, []byte("\n")))), clientv3.OpPut("head", ""),
 			).Else(clientv3.OpGet("floor"), clientv3.OpGet(key, clientv3.WithKeysOnly()))
-			if fault.Is("twice") {
-				key += "x"
-			}
-			return t
 		})
 		switch {
 		case err != nil:

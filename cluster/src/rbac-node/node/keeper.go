@@ -45,6 +45,8 @@ func (n *Node) takeSnapshot() error {
 
 // keep finishes snapshots, and looks again and again at what all nodes say of theirs.
 func (n *Node) keep(ctx context.Context) error {
+	ticker := time.NewTicker(between)
+	defer ticker.Stop()
 	for {
 		select {
 		case finish := <-n.copies:
@@ -56,7 +58,7 @@ func (n *Node) keep(ctx context.Context) error {
 				return err
 			}
 			n.log.Info("snapshot", zap.Int64("revision", s.Revision), zap.Int64("commands", s.Count), zap.String("digest", s.Digest))
-		case <-time.After(between):
+		case <-ticker.C:
 			within, cancel := context.WithTimeout(ctx, patience)
 			n.ledger.UseLeader(within)
 			if err := n.look(within); err != nil && ctx.Err() == nil {

@@ -17,7 +17,6 @@ import (
 	"go.uber.org/zap"
 	"golang.org/x/sync/errgroup"
 
-	"rbac-node/fault"
 	"rbac-node/ledger"
 	"rbac-node/office"
 )
@@ -152,9 +151,7 @@ func (n *Node) feed(ctx context.Context) error {
 			n.pose(r)
 		case <-n.replay.Ended:
 			// Nobody knows which of the lines were done.
-			if n.err = fmt.Errorf("the replay has ended: %w", n.replay.Close()); fault.Is("endless") {
-				n.replay, n.err = office.Start(n.Program, n.file())
-			}
+			n.err = fmt.Errorf("the replay has ended: %w", n.replay.Close())
 		case <-ctx.Done():
 			return nil
 		}

@@ -7,7 +7,6 @@ import (
 
 	"go.uber.org/zap"
 
-	"rbac-node/fault"
 	"rbac-node/ledger"
 )
 
@@ -43,19 +42,12 @@ func (n *Node) Ask(ctx context.Context, kind Kind, line []byte) (Answer, error) 
 	if n.diverged.Load() != "" {
 		return Answer{}, diverged
 	}
-	if kind == Question && fault.Is("stale") {
-		kind = Local
-	}
 	if kind == Local && n.heard.Load() < 0 {
 		return Answer{}, unavailable
 	}
 	within, cancel := context.WithTimeout(ctx, n.Timeout)
 	defer cancel()
 	r := &request{within, line, make(chan Answer, 1)}
-	if kind == Command && fault.Is("early") {
-		n.asked[kind] <- &request{ctx, line, r.reply}
-		return Answer{Text: []byte(`{"ok":true}`), Revision: n.revision.Load() + 1}, nil
-	}
 	select {
 	case n.asked[kind] <- r:
 		select {
