@@ -23,6 +23,7 @@ import (
 	"go.etcd.io/etcd/clientv3"
 	"go.etcd.io/etcd/clientv3/namespace"
 	"go.etcd.io/etcd/etcdserver/api/v3rpc/rpctypes"
+	"go.etcd.io/etcd/etcdserver/etcdserverpb"
 	"go.etcd.io/etcd/mvcc/mvccpb"
 	"go.uber.org/zap"
 )
@@ -125,13 +126,20 @@ func (l *Ledger) UseLeader(ctx context.Context) {
 	if len(l.client.Endpoints()) == 1 {
 		return
 	}
-	for _, member := range l.members {
-		limited, cancel := context.WithTimeout(ctx, attempt)
-		status, err := l.client.Status(limited, member)
-		cancel()
-		if err == nil && status.Leader == status.Header.MemberId {
-			l.client.SetEndpoints(member)
-			return
+	limited, cancel := context.WithTimeout(ctx, attempt)
+	defer cancel()
+	// The client's own Status would make a connection, and wait for it.
+	maintenance := etcdserverpb.NewMaintenanceClient(l.client.ActiveConnection())
+	status, failed := maintenance.Status(limited, &etcdserverpb.StatusRequest{})
+	list, err := l.client.MemberList(limited)
+	if failed != nil || err != nil {
+		return
+	}
+	for _, member := range list.Members {
+		for _, url := range l.members {
+			if member.ID == status.Leader && len(member.ClientURLs) > 0 && member.ClientURLs[0] == url {
+				l.client.SetEndpoints(url)
+			}
 		}
 	}
 }
@@ -175,10 +183,11 @@ func (l *Ledger) Head(ctx context.Context) (int64, error) {
 }
 
 // Trim deletes all generations but the newest and begins another one, if that of a state has begun before a revision up to
-// which nobody needs entries, and is still the newest. It lets etcd forget its history as well, and returns whether it did so.
-func (l *Ledger) Trim(ctx context.Context, s State, needless int64) (bool, error) {
+// which nobody needs entries, and is still the newest. It lets etcd forget its history as well. It returns the new floor, 0
+// if nothing was deleted.
+func (l *Ledger) Trim(ctx context.Context, s State, needless int64) (floor int64, err error) {
 	if s.generation >= needless {
-		return false, nil
+		return 0, nil
 	}
 	reply, err := l.commit(ctx, "trim", func(t clientv3.Txn) clientv3.Txn {
 		return t.If(isAt("floor", s.generation)).Then(
@@ -187,13 +196,12 @@ func (l *Ledger) Trim(ctx context.Context, s State, needless int64) (bool, error
 		)
 	})
 	if err != nil || !reply.Succeeded {
-		return false, err
+		return 0, err
 	}
-	_, err = l.client.Compact(ctx, s.generation)
-	if err != nil && !errors.Is(err, rpctypes.ErrCompacted) {
-		return false, fmt.Errorf("compaction: %w", err)
+	if _, err := l.client.Compact(ctx, s.generation); err != nil && !errors.Is(err, rpctypes.ErrCompacted) {
+		return 0, fmt.Errorf("compaction: %w", err)
 	}
-	return true, nil
+	return s.generation, nil
 }
 
 // Adopt lets an empty log begin behind a snapshot that holds what an office was before. It returns the revision of that

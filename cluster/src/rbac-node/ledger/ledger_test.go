@@ -110,9 +110,13 @@ func mustState(t *testing.T, l *Ledger) State {
 	return s
 }
 
-func mustTrim(t *testing.T, l *Ledger, needless int64, wanted bool) {
-	if trimmed, err := l.Trim(context.Background(), mustState(t, l), needless); trimmed != wanted || err != nil {
-		t.Fatalf("a trim of what is needless up to %d: %v, %v", needless, trimmed, err)
+// mustTrim trims the log, and checks whether a generation begins by that.
+func mustTrim(t *testing.T, l *Ledger, needless int64, begins bool) {
+	before := mustState(t, l)
+	floor, err := l.Trim(context.Background(), before, needless)
+	after := mustState(t, l)
+	if err != nil || (after.generation > before.generation) != begins || begins && floor != before.generation || after.Floor < floor {
+		t.Fatalf("a trim of what is needless up to %d: %d, %v, %+v and then %+v", needless, floor, err, before, after)
 	}
 }
 
@@ -124,8 +128,8 @@ func TestAppendAfterTrim(t *testing.T) {
 	mustTrim(t, l, 0, false)
 	old := mustState(t, l)
 	mustTrim(t, l, head(t, l), true)
-	if again, err := l.Trim(ctx, old, head(t, l)); again || err != nil {
-		t.Errorf("a trim that another node has just done: %v, %v", again, err)
+	if again, err := l.Trim(ctx, old, head(t, l)); again != 0 || err != nil {
+		t.Errorf("a trim that another node has just done: %d, %v", again, err)
 	}
 	// In an earlier generation that is still there it counts as appended, and what is not there gets into the newest.
 	if again, _, err := late.Append(ctx, "a", lines("a")); again != 0 || err != nil {
@@ -182,15 +186,11 @@ func TestFollowAfterCompaction(t *testing.T) {
 	}
 }
 
-// Requests that go to the leader go to all members after one that failed.
+// After a request that failed they go to all members, and then to the leader again.
 func TestUseLeader(t *testing.T) {
 	l, ctx := newLedger(t), context.Background()
-	l.members = append([]string{"http://127.0.0.1:1"}, l.members...)
 	head(t, l)
-	l.UseLeader(ctx)
-	if used := l.client.Endpoints(); len(used) != 1 || used[0] != l.members[1] {
-		t.Errorf("used are %v", used)
-	}
+	l.members = append([]string{"http://127.0.0.1:1"}, l.members...)
 	over, cancel := context.WithCancel(ctx)
 	cancel()
 	if _, err := l.Head(over); err == nil {
@@ -198,6 +198,11 @@ func TestUseLeader(t *testing.T) {
 	}
 	if used := l.client.Endpoints(); len(used) != 2 {
 		t.Errorf("after a failure used are %v", used)
+	}
+	head(t, l)
+	l.UseLeader(ctx)
+	if used := l.client.Endpoints(); len(used) != 1 || used[0] != l.members[1] {
+		t.Errorf("used are %v", used)
 	}
 }
 

@@ -93,9 +93,9 @@ func (n *Node) look(ctx context.Context) error {
 	if n.diverged.Swap(why) != why && why != "" {
 		n.log.Error("refusing to serve", zap.String("why", why))
 	}
-	trimmed, err := n.ledger.Trim(ctx, state, needless(state.Members))
-	if trimmed {
-		n.log.Info("trimmed the log", zap.Int64("before", state.Floor))
+	floor, err := n.ledger.Trim(ctx, state, needless(state.Members))
+	if floor > 0 {
+		n.log.Info("trimmed the log", zap.Int64("floor", floor))
 	}
 	return err
 }
