@@ -12,16 +12,16 @@ from .judging import Judge, Recorder, counts_of
 from .machines import SECONDS, Cluster
 from .networks import MACHINES
 from .rows import offices, rows_of, snapshots_of, sorted_rows
-from .running import build
+from .running import build, build_wrong
 
 CLIENTS = 9
 
 # How often a cluster is judged, after how many faults, and the seconds between them.
 SHORT, LONG = (1, 80, 0.4), (10, 100, 0.6)
 
-# The commands from one snapshot to the next. The log is trimmed up to the last snapshot but one, so the recorder, which may have to
-# wait for a member that is paused, has the time of as many commands to read an entry.
-EVERY = 2500
+# The commands from one snapshot to the next. What came after the last snapshot but one is kept, so the recorder, which may have to
+# wait for a member that is paused, has the time of as many commands to read an entry. The second trim deletes the first entries.
+EVERY = 1200
 
 
 class Trial:
@@ -96,22 +96,37 @@ def judge_faults(bench, folder, node, count, between):
         bench.judge("as many kills and pauses as wanted", [] if kills >= 0.75 * count else [f"only {kills}"])
 
 
-# Wrong nodes of a test build, each with the faults of machines by which it shows.
+# Wrong nodes, each by an edit of the sources, and the faults of machines by which it shows.
 WRONG = {
-    "twice": [Faults.pause_member],
-    "stale": [Faults.pause_node],
-    "early": [Faults.pause_member],
-    "endless": [Faults.kill_busy_replay],
+    # It appends under another name again.
+    "twice": ([Faults.pause_member], "ledger/ledger.go", "return t.If(clientv3.Compare", """defer func() { key += "x" }()
+return t.If(clientv3.Compare"""),
+    # It answers questions from its own state at once.
+    "stale": ([Faults.pause_node], "node/requests.go", "if kind == Local &&", """if kind == Question {
+kind = Local
 }
+if kind == Local &&"""),
+    # It answers before the log has the command.
+    "early": ([Faults.pause_member], "node/requests.go", "r := &request{within, line, make(chan Answer, 1)}", """r := &request{ctx, line, make(chan Answer, 1)}
+if kind == Command {
+n.asked[kind] <- r
+return Answer{Text: []byte(`{"ok":true}`), Revision: n.revision.Load() + 1}, nil
+}"""),
+    # It goes on after its replay has ended.
+    "endless": ([Faults.kill_busy_replay], "node/node.go", "case <-ctx.Done():\n\t\t\treturn nil\n", """
+n.replay, n.err = office.Start(n.Program, n.file())
+case <-ctx.Done():
+return nil
+"""),
+}  # fmt: skip
 
 
 def check_wrong_nodes(bench):
     """Each wrong node is caught, and by answers alone, not by the fault that shows it."""
-    node = build(bench.shared, "faulty")
-    for wrong, kinds in WRONG.items():
+    for wrong, (kinds, *edit) in WRONG.items():
         folder = bench.folder / wrong
         folder.mkdir()
-        with Cluster(folder, node, every=EVERY, fault=wrong) as cluster:
+        with Cluster(folder, build_wrong(folder, *edit), every=EVERY) as cluster:
             trial, faults = Trial(cluster, 1), Faults(cluster, 1)
             faults.patience = 0
             time.sleep(2)

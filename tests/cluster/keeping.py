@@ -41,6 +41,7 @@ def floor(cluster):
 def check_keeping(bench):
     with Cluster(bench.folder, build(bench.shared), every=EVERY) as cluster:
         judge_snapshots(bench, cluster)
+        judge_trimmed(bench, cluster)
         judge_history(bench, cluster)
         judge_replaced(bench, cluster)
         judge_removed(bench, cluster)
@@ -63,7 +64,23 @@ def judge_snapshots(bench, cluster):
         bench.same(f"the rows at {revision}", rows_of(path), rows_of(found[1][revision][1]))
         bench.same(f"the digest at {revision}", says["digest"], found[2][revision][0]["digest"])
         bench.same(f"rbac check at {revision}", bench.run(["check", str(path)]).out, b"good\n")
-    cluster.until(lambda: floor(cluster) == sorted(found[0])[-2], "the log is trimmed up to the last snapshot but one")
+
+
+def trims(cluster, revision):
+    """Adds commands, and says whether the log is trimmed beyond a revision."""
+    add_users(cluster, f"t{time.monotonic_ns()}-", EVERY)
+    return floor(cluster) > revision
+
+
+def judge_trimmed(bench, cluster):
+    """What was in the log at one trim is deleted by the next one, once each node has two newer snapshots."""
+    cluster.until(lambda: trims(cluster, 0), "the log is trimmed")
+    entries, end = cluster.read_log()
+    last_but_one = revisions(cluster, 0)[-2]
+    bench.same("none of the entries is below the floor", entries[0][0] > end, True)
+    bench.same("the floor is below the last snapshot but one", end < last_but_one, True)
+    kept = sum(revision > last_but_one for revision, _ in entries)
+    bench.same("what came after that snapshot is kept", kept >= EVERY, True)
 
 
 def judge_history(bench, cluster):
@@ -93,7 +110,9 @@ def judge_removed(bench, cluster):
     time.sleep(7)
     bench.same("the log is kept", floor(cluster) <= max(revisions(cluster, 2)), True)
     cluster.ctl("del", f"{PREFIX}/nodes/n2")
-    cluster.until(lambda: floor(cluster) > max(revisions(cluster, 2)) > before, "the log is trimmed")
+    newest = max(revisions(cluster, 2))
+    cluster.until(lambda: trims(cluster, newest), "the log is trimmed")
+    bench.same("it was trimmed before", 0 < before < newest, True)
     cluster.nodes[2].start()
     cluster.until(cluster.ready, "the node is ready")
     bench.same("it has fetched a snapshot", "fetched a snapshot" in log_of(cluster, 2), True)

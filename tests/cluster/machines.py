@@ -24,8 +24,8 @@ RESTART = 0.2
 class Process:
     """A program that is started again if it ends, unless it is meant to."""
 
-    def __init__(self, words, log, environment=None):
-        self.words, self.log, self.environment = words, log, environment
+    def __init__(self, words, log):
+        self.words, self.log = words, log
         self.process, self.wanted, self.lock = None, False, threading.Lock()
         self.ends = 0
 
@@ -35,9 +35,7 @@ class Process:
             self.wanted = True
             if self.process is None or self.process.poll() is not None:
                 with open(self.log, "ab") as log:
-                    self.process = subprocess.Popen(
-                        self.words, stdin=subprocess.DEVNULL, stdout=log, stderr=log, env=self.environment
-                    )
+                    self.process = subprocess.Popen(self.words, stdin=subprocess.DEVNULL, stdout=log, stderr=log)
 
     def send(self, number):
         """Sends a signal, if the program runs."""
@@ -85,11 +83,10 @@ class Process:
 class Cluster:
     """The machines of one test, in a folder."""
 
-    def __init__(self, folder, node, every=500, fault=None, timeout="4s", more=()):
+    def __init__(self, folder, node, every=500, timeout="4s", more=()):
         self.folder, self.node = folder, node
         self.network = network()
         self.every, self.timeout, self.more = every, timeout, more
-        self.environment = {**os.environ, "RBAC_NODE_FAULT": fault or ""}
         self.members = [self.member(i) for i in range(MACHINES)]
         self.nodes = [self.node_of(i) for i in range(MACHINES)]
         self.done = threading.Event()
@@ -149,7 +146,7 @@ class Cluster:
             "--etcd", self.etcd(), "--listen", self.network.address(i, 8080), "--peer", self.network.address(i, 8081),
             "--program", PROGRAM, "--every", str(self.every), "--timeout", self.timeout, "--prefix", PREFIX, *self.more,
         ]  # fmt: skip
-        return Process(words, self.data(f"node{i}.log"), self.environment)
+        return Process(words, self.data(f"node{i}.log"))
 
     def supervise(self):
         while not self.done.wait(0.05):

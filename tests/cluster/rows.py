@@ -42,4 +42,4 @@ def snapshots_of(cluster, i):
 
 def offices(cluster):
     """The file of each node that has ended in order."""
-    return [cluster.data(f"node{i}/office") for i in range(MACHINES)]
+    return [cluster.data(f"node{i}/office/office") for i in range(MACHINES)]

@@ -16,7 +16,7 @@ from program.bench import PROGRAM, TESTS, Bench
 OF_SOURCES = ["sources"]
 OF_CLUSTERS = ["program", "page", "answers", "secured", "keeping", "judged"]
 
-NEEDED = ["go.etcd.io/etcd/clientv3", "github.com/mattn/go-sqlite3", "github.com/prometheus/client_golang/prometheus"]
+NEEDED = ["go.etcd.io/etcd/clientv3", "github.com/prometheus/client_golang/prometheus"]
 
 # A member of etcd syncs each entry: files in memory let the test do more.
 IN_MEMORY = "/dev/shm"
@@ -28,11 +28,23 @@ def missing():
     return found + [name for name in NEEDED if not os.path.isdir(f"/usr/share/gocode/src/{name}")]
 
 
-def build(folder, tag=""):
-    """Builds rbac-node into a folder, and returns its path."""
-    path = str(folder / f"rbac-node{tag}")
-    subprocess.run([TESTS.parent / "bin/node", "--build", path, tag], check=True, stdout=sys.stderr)
+def build(folder, root=TESTS.parent):
+    """Builds rbac-node of a repository into a folder, and returns its path."""
+    path = str(folder / "rbac-node")
+    subprocess.run([root / "bin/node", "--build", path], check=True, stdout=sys.stderr)
     return path
+
+
+def build_wrong(folder, file, old, new):
+    """Builds rbac-node with an edit of its sources into a folder, and returns its path."""
+    for part in ("bin", "cluster"):
+        shutil.copytree(TESTS.parent / part, folder / part)
+    source = folder / "cluster/src/rbac-node" / file
+    text = source.read_text(encoding="utf-8")
+    if text.count(old) != 1:
+        raise ValueError(f"{file} has {text.count(old)} times {old}")
+    source.write_text(text.replace(old, new), encoding="utf-8")
+    return build(folder, folder)
 
 
 def checks_of(modules, word):

@@ -83,6 +83,12 @@ class Secured:
         finally:
             connection.close()
 
+    def trims(self, port, log):
+        """Gives a node a command, and says whether it has trimmed the log."""
+        self.ask(port, "POST", "/v1/addUser", json.dumps({"user": f"t{time.monotonic_ns()}"}))
+        with open(log, encoding="utf-8") as file:
+            return "trimmed the log" in file.read()
+
 
 def http_2(bench, port):
     """The version of HTTP and the status by which a command is answered to a client that offers HTTP/2."""
@@ -126,8 +132,7 @@ def check_secured(bench):
                 bench.same(f"{path} for a client with the certificate {name!r}", given[0], None)
         bench.same("the snapshot", secured.ask(peer, "GET", "/snapshot")[1][:15], b"SQLite format 3")
         bench.same("no user is added", secured.ask(here, "POST", "/v1/assignedRoles", '{"user":"mallory"}')[0], 409)
-        log = bench.path("node0.log")
-        wait(lambda: "trimmed the log" in open(log, encoding="utf-8").read(), "the log is trimmed")
+        wait(lambda: secured.trims(here, bench.path("node0.log")), "the log is trimmed")
         secured.node(1, program)
         wait(lambda: secured.ask(secured.ports[1][0], "GET", "/healthz")[0] == 200, "the new node is ready")
         said = open(bench.path("node1.log"), encoding="utf-8").read()

@@ -10,7 +10,7 @@ SOURCES = TESTS.parent / "cluster/src/rbac-node"
 
 def check_functions(bench):
     """The functions of the node are those of the pages, commands apart from questions."""
-    text = (SOURCES / "api/functions.go").read_text(encoding="utf-8")
+    text = (SOURCES / "api/api.go").read_text(encoding="utf-8")
     paths = json.loads((TESTS.parent / "docs/openapi.json").read_text(encoding="utf-8"))["paths"]
     for kind in ("commands", "questions"):
         given = re.search(rf"{kind} += `(.*?)`", text, re.S)[1].split()
@@ -22,7 +22,7 @@ def check_texts(bench):
     """The page is short, and the unit of systemd runs what it says."""
     page = (TESTS.parent / "docs/CLUSTER.md").read_text(encoding="utf-8")
     bench.same("a page of under 340 lines", page.count("\n") < 340, True)
-    settings = (SOURCES / "settings.go").read_text(encoding="utf-8")
+    settings = (SOURCES / "main.go").read_text(encoding="utf-8")
     known = set(re.findall(r'&s\.\w+, "([a-z-]+)"', settings))
     known |= {f"{side}-{word}" for side in ("tls", "peer", "etcd") for word in ("cert", "key", "ca")}
     unit = (TESTS.parent / "deploy/rbac-node.service").read_text(encoding="utf-8")
@@ -46,8 +46,8 @@ OTHERS = {
 def check_metrics(bench):
     """The page lists each metric of the node, and no other one."""
     page = (TESTS.parent / "docs/CLUSTER.md").read_text(encoding="utf-8")
-    gauges = re.findall(r'gauge\("(\w+)"', (SOURCES / "node/status.go").read_text(encoding="utf-8"))
-    counters = re.findall(r'Name: "(\w+)"', (SOURCES / "api/handler.go").read_text(encoding="utf-8"))
+    gauges = re.findall(r'gauge\("(\w+)"', (SOURCES / "node/keeper.go").read_text(encoding="utf-8"))
+    counters = re.findall(r'Name: "(rbac_\w+)"', (SOURCES / "api/api.go").read_text(encoding="utf-8"))
     known = {f"rbac_node_{name}" for name in gauges} | set(counters)
     bench.same("metrics of the page", sorted(set(re.findall(r"rbac_node_\w+", page))), sorted(known))
 
@@ -60,7 +60,7 @@ def check_limits(bench):
         ('"every", 10_000', "After each 10,000 commands"),
         ("kept = 3", "A node keeps three snapshots"),
         ("member.Snapshots[1].Revision", "those after the last snapshot but one"),
-        ("longestLine   = 65_536", "a line of at most 65,536 bytes"),
+        ("LongestLine = 65_536", "a line of at most 65,536 bytes"),
         ('"timeout", 10*time.Second', "mostly within 10 seconds"),
         ("longest = 3 * time.Second", "`rbac_node_age_seconds` | it is above 3"),
         ('60, "Unavailable"', '503 with `{"code":60,"error":"Unavailable"}`'),

@@ -1,9 +1,12 @@
 // Package ledger keeps the commands of an office in etcd, in the order that all nodes apply them in.
 //
-// An entry is a batch of command lines under a key of its own, log/ID. The revision at which etcd created the key is the
-// entry's place in the order. Entries stay as keys until they are trimmed, so that a compaction of etcd's history by
-// anybody loses none of them. The key head was last written with the newest entry, and the key floor says up to which
-// revision entries were deleted.
+// An entry is a batch of command lines under a key of its own, log/GENERATION/ID. The revision at which etcd created the key
+// is the entry's place in the order. Entries stay as keys until they are trimmed, so that a compaction of etcd's history by
+// anybody loses none of them. The key head is written with each entry: its revision is that of the newest one.
+//
+// A write of the key floor begins a generation, whose number is the revision of that write. It is 0 before the first one. An
+// entry is appended only to the newest generation, so all entries of earlier ones have lower revisions than that number. The
+// value of floor is the number below which generations were deleted.
 package ledger
 
 import (
@@ -12,6 +15,7 @@ import (
 	"encoding/json"
 	"errors"
 	"fmt"
+	"path"
 	"strconv"
 	"sync/atomic"
 	"time"
@@ -19,198 +23,201 @@ import (
 	"go.etcd.io/etcd/clientv3"
 	"go.etcd.io/etcd/clientv3/namespace"
 	"go.etcd.io/etcd/etcdserver/api/v3rpc/rpctypes"
+	"go.etcd.io/etcd/etcdserver/etcdserverpb"
 	"go.etcd.io/etcd/mvcc/mvccpb"
 	"go.uber.org/zap"
 )
 
 const (
-	// attempt and longest are how long the first request to etcd and each later one may take. A request that hangs is
-	// made again, mostly to another member; each takes twice as long as the one before, so that a slow etcd isn't asked
-	// too often.
+	// attempt and longest are how long the first request to etcd and each later one may take. Each may take twice as long
+	// as the one before, so that a slow etcd isn't asked too often.
 	attempt, longest = 500 * time.Millisecond, 4 * time.Second
 	// pause is the time between two attempts.
 	pause = 20 * time.Millisecond
-	// deletions is how many keys one transaction of etcd may delete.
-	deletions = 100
+	// group is how many entries are read at once by a reader that is behind etcd's history.
+	group = 64
+	// patience is how long the log may be known to have more before it is followed anew.
+	patience = time.Second
 )
+
+// ErrTrimmed says that entries were deleted that are still wanted.
+var ErrTrimmed = errors.New("the log was trimmed meanwhile")
 
 // A Ledger is the log of one office in etcd.
 type Ledger struct {
-	client *clientv3.Client
-	prefix string
+	client  *clientv3.Client
+	members []string
+	prefix  string
 	// kv is the client below the prefix.
 	kv  clientv3.KV
 	log *zap.Logger
-	// head is the newest revision of an entry that is known.
-	head atomic.Int64
+	// generation is the newest one that is known, and head the newest revision of an entry.
+	generation, head atomic.Int64
 }
 
 // New returns the ledger below a prefix of etcd's keys.
 func New(client *clientv3.Client, prefix string, log *zap.Logger) *Ledger {
 	prefix += "/"
-	return &Ledger{client: client, prefix: prefix, kv: namespace.NewKV(client, prefix), log: log}
+	return &Ledger{
+		client: client, members: client.Endpoints(), prefix: prefix, kv: namespace.NewKV(client, prefix), log: log,
+	}
 }
 
-// ErrTrimmed says that entries were deleted meanwhile.
-var ErrTrimmed = errors.New("the log was trimmed meanwhile")
-
-// Append makes one attempt to put an entry into the log. The entry gets in only if its key is new and nothing was trimmed
-// since the revision guard. So an attempt that is delivered late never appends a second time, even if the entry was
-// applied and trimmed meanwhile. It returns the revision of the entry and that of the one before it, or 0 if an earlier
-// attempt has put it there. After ErrTrimmed, with another guard, nobody knows that: the caller has to apply the log up to
-// that revision before it tries again.
-func (l *Ledger) Append(ctx context.Context, id string, lines [][]byte, guard *int64) (revision, before int64, err error) {
-	reply, err := l.kv.Txn(ctx).If(
-		clientv3.Compare(clientv3.Version("log/"+id), "=", 0),
-		clientv3.Compare(clientv3.ModRevision("floor"), "=", *guard),
-	).Then(
-		clientv3.OpGet("head"),
-		clientv3.OpPut("log/"+id, string(bytes.Join(lines, []byte("\n")))),
-		clientv3.OpPut("head", ""),
-	).Commit()
-	if err != nil {
-		return 0, 0, fmt.Errorf("append: %w", err)
+// commit makes a transaction of etcd that may be made twice: it tries until a member answers or the context ends. A read is
+// one that a quorum confirms.
+func (l *Ledger) commit(ctx context.Context, what string, shape func(clientv3.Txn) clientv3.Txn) (*clientv3.TxnResponse, error) {
+	for within := attempt; ; within *= 2 {
+		if within > longest {
+			within = longest
+		}
+		limited, cancel := context.WithTimeout(ctx, within)
+		reply, err := shape(l.kv.Txn(limited)).Commit()
+		cancel()
+		if err == nil {
+			return reply, nil
+		}
+		l.client.SetEndpoints(l.members...)
+		if ctx.Err() != nil {
+			return nil, fmt.Errorf("%s: %w", what, err)
+		}
+		l.log.Warn("asking etcd again", zap.String("what", what), zap.Error(err))
+		time.Sleep(pause)
 	}
-	if reply.Succeeded {
-		return reply.Header.Revision, newest(reply.Responses[0].GetResponseRange().Kvs), nil
-	}
-	// This is apart from the transaction, since all members of etcd would have to keep and read it.
-	known, err := l.get(ctx, "log/"+id, clientv3.WithKeysOnly())
-	if err != nil || len(known.Kvs) > 0 {
-		return 0, 0, err
-	}
-	_, trimmed, _, err := l.Floor(ctx)
-	if err == nil {
-		before, err = l.Head(ctx)
-	}
-	if err != nil {
-		return 0, 0, err
-	}
-	*guard = trimmed // Only with ErrTrimmed, which makes the caller look whether the entry was there.
-	return 0, before, ErrTrimmed
 }
 
-// newest returns the revision at which the key of a read was last written, 0 if it is not there.
-func newest(kvs []*mvccpb.KeyValue) int64 {
+// do makes one without a condition.
+func (l *Ledger) do(ctx context.Context, what string, ops ...clientv3.Op) (*clientv3.TxnResponse, error) {
+	return l.commit(ctx, what, func(t clientv3.Txn) clientv3.Txn { return t.Then(ops...) })
+}
+
+// read returns what an operation of a transaction has read.
+func read(reply *clientv3.TxnResponse, op int) []*mvccpb.KeyValue {
+	return reply.Responses[op].GetResponseRange().Kvs
+}
+
+// revisionOf returns the revision at which the key of a read was last written, 0 if it is not there.
+func revisionOf(kvs []*mvccpb.KeyValue) int64 {
 	if len(kvs) == 0 {
 		return 0
 	}
 	return kvs[0].ModRevision
 }
 
-// Retry makes attempts until one succeeds or the context ends. It returns the last error then.
-func (l *Ledger) Retry(ctx context.Context, try func(context.Context) error) error {
-	for within := attempt; ; within *= 2 {
-		if within > longest {
-			within = longest
-		}
-		limited, cancel := context.WithTimeout(ctx, within)
-		err := try(limited)
-		cancel()
-		if err == nil {
-			return nil
-		}
-		if ctx.Err() == nil {
-			l.log.Warn("asking etcd again", zap.Error(err))
-		}
-		select {
-		case <-ctx.Done():
-			return err
-		case <-time.After(pause):
-		}
+// floorOf returns the floor that a transaction has read first.
+func floorOf(reply *clientv3.TxnResponse) (int64, error) {
+	kvs := read(reply, 0)
+	if len(kvs) == 0 {
+		return 0, nil
 	}
+	return strconv.ParseInt(string(kvs[0].Value), 10, 64)
 }
 
-// get reads a key as a quorum of etcd confirms it.
-func (l *Ledger) get(ctx context.Context, key string, opts ...clientv3.OpOption) (reply *clientv3.GetResponse, err error) {
-	err = l.Retry(ctx, func(ctx context.Context) (err error) {
-		reply, err = l.kv.Get(ctx, key, opts...)
-		return err
-	})
-	if err != nil {
-		return nil, fmt.Errorf("read of %s: %w", key, err)
-	}
-	return reply, nil
+// isAt is the condition that a key was last written at a revision.
+func isAt(key string, revision int64) clientv3.Cmp {
+	return clientv3.Compare(clientv3.ModRevision(key), "=", revision)
 }
 
-// Head returns the revision of the newest entry. It tries until the context ends.
-func (l *Ledger) Head(ctx context.Context) (int64, error) {
-	reply, err := l.get(ctx, "head")
-	if err != nil {
-		return 0, err
-	}
-	l.head.Store(newest(reply.Kvs))
-	return newest(reply.Kvs), nil
-}
+// keyOf returns how the keys of a generation begin. They sort as the generations do.
+func keyOf(generation int64) string { return fmt.Sprintf("log/%020d/", generation) }
 
-// Floor returns the revision up to which entries may be gone, the one at which that was written, and that of etcd.
-func (l *Ledger) Floor(ctx context.Context) (floor, guard, revision int64, err error) {
-	reply, err := l.get(ctx, "floor")
-	if err != nil {
-		return 0, 0, 0, err
+// UseLeader lets requests go to the member of etcd that leads, to which the others would pass them on. After a request that
+// fails they go to all members.
+func (l *Ledger) UseLeader(ctx context.Context) {
+	if len(l.client.Endpoints()) == 1 {
+		return
 	}
-	if len(reply.Kvs) > 0 {
-		if floor, err = strconv.ParseInt(string(reply.Kvs[0].Value), 10, 64); err != nil {
-			return 0, 0, 0, fmt.Errorf("floor: %w", err)
-		}
+	limited, cancel := context.WithTimeout(ctx, attempt)
+	defer cancel()
+	// The client's own Status would make a connection, and wait for it.
+	maintenance := etcdserverpb.NewMaintenanceClient(l.client.ActiveConnection())
+	status, failed := maintenance.Status(limited, &etcdserverpb.StatusRequest{})
+	list, err := l.client.MemberList(limited)
+	if failed != nil || err != nil {
+		return
 	}
-	return floor, newest(reply.Kvs), reply.Header.Revision, nil
-}
-
-// raise writes the floor, if a condition holds and nobody else has written it since the revision guard.
-func (l *Ledger) raise(ctx context.Context, floor, guard int64, also ...clientv3.Cmp) (bool, error) {
-	known := clientv3.Compare(clientv3.ModRevision("floor"), "=", guard)
-	write := clientv3.OpPut("floor", strconv.FormatInt(floor, 10))
-	reply, err := l.kv.Txn(ctx).If(append(also, known)...).Then(write).Commit()
-	if err != nil {
-		return false, fmt.Errorf("write of the floor: %w", err)
-	}
-	return reply.Succeeded, nil
-}
-
-// Trim deletes the entries up to a revision, and lets etcd forget its history up to there, unless another node does so.
-// First the floor is written: from then on no attempt to append that began before can succeed, and no reader takes what is
-// left for all. It returns how many entries were deleted.
-func (l *Ledger) Trim(ctx context.Context, floor int64) (int, error) {
-	before, guard, _, err := l.Floor(ctx)
-	if err != nil || floor <= before {
-		return 0, err
-	}
-	if ok, err := l.raise(ctx, floor, guard); err != nil || !ok {
-		return 0, err
-	}
-	reply, err := l.get(ctx, "log/", clientv3.WithPrefix(), clientv3.WithKeysOnly(), clientv3.WithMaxCreateRev(floor))
-	if err != nil {
-		return 0, err
-	}
-	var ops []clientv3.Op
-	for i, kv := range reply.Kvs {
-		ops = append(ops, clientv3.OpDelete(string(kv.Key)))
-		if len(ops) == deletions || i == len(reply.Kvs)-1 {
-			if _, err := l.kv.Txn(ctx).Then(ops...).Commit(); err != nil {
-				return 0, fmt.Errorf("trim: %w", err)
+	for _, member := range list.Members {
+		for _, url := range l.members {
+			if member.ID == status.Leader && len(member.ClientURLs) > 0 && member.ClientURLs[0] == url {
+				l.client.SetEndpoints(url)
 			}
-			ops = nil
 		}
 	}
-	if _, err := l.client.Compact(ctx, floor); err != nil && !errors.Is(err, rpctypes.ErrCompacted) {
+}
+
+// Append puts an entry into the log, once however often it has to be tried. An attempt that is delivered late never appends
+// a second time: it succeeds only if its key is new, and no other generation has begun since. Append returns the revision
+// of the entry and that of the one before it, or 0 if the entry is in the log by an attempt whose reply was lost.
+func (l *Ledger) Append(ctx context.Context, id string, lines [][]byte) (revision, before int64, err error) {
+	for {
+		tried := l.generation.Load()
+		key := keyOf(tried) + id
+		reply, err := l.commit(ctx, "append", func(t clientv3.Txn) clientv3.Txn {
+			return t.If(clientv3.Compare(clientv3.Version(key), "=", 0), isAt("floor", tried)).Then(
+				clientv3.OpGet("head"), clientv3.OpPut(key, string(bytes.Join(lines, []byte("\n")))), clientv3.OpPut("head", ""),
+			).Else(clientv3.OpGet("floor"), clientv3.OpGet(key, clientv3.WithKeysOnly()))
+		})
+		switch {
+		case err != nil:
+			return 0, 0, err
+		case reply.Succeeded:
+			return reply.Header.Revision, revisionOf(read(reply, 0)), nil
+		case len(read(reply, 1)) > 0:
+			return 0, 0, nil
+		}
+		// The generation has ended without this entry, unless it is deleted already.
+		l.generation.Store(revisionOf(read(reply, 0)))
+		if floor, err := floorOf(reply); err != nil || floor > tried {
+			return 0, 0, fmt.Errorf("append: %w: %v", ErrTrimmed, err)
+		}
+	}
+}
+
+// Head returns the revision of the newest entry.
+func (l *Ledger) Head(ctx context.Context) (int64, error) {
+	reply, err := l.do(ctx, "read of the head", clientv3.OpGet("head"))
+	if err != nil {
+		return 0, err
+	}
+	l.head.Store(revisionOf(read(reply, 0)))
+	return l.head.Load(), nil
+}
+
+// Trim deletes all generations but the newest and begins another one, if that of a state has begun before a revision up to
+// which nobody needs entries, and is still the newest. It lets etcd forget its history as well. It returns the new floor, 0
+// if nothing was deleted.
+func (l *Ledger) Trim(ctx context.Context, s State, needless int64) (floor int64, err error) {
+	if s.generation >= needless {
+		return 0, nil
+	}
+	reply, err := l.commit(ctx, "trim", func(t clientv3.Txn) clientv3.Txn {
+		return t.If(isAt("floor", s.generation)).Then(
+			clientv3.OpPut("floor", strconv.FormatInt(s.generation, 10)),
+			clientv3.OpDelete("log/", clientv3.WithRange(keyOf(s.generation))),
+		)
+	})
+	if err != nil || !reply.Succeeded {
+		return 0, err
+	}
+	if _, err := l.client.Compact(ctx, s.generation); err != nil && !errors.Is(err, rpctypes.ErrCompacted) {
 		return 0, fmt.Errorf("compaction: %w", err)
 	}
-	return len(reply.Kvs), nil
+	return s.generation, nil
 }
 
 // Adopt lets an empty log begin behind a snapshot that holds what an office was before. It returns the revision of that
 // snapshot. Nodes without it have to fetch it.
 func (l *Ledger) Adopt(ctx context.Context) (int64, error) {
-	_, _, revision, err := l.Floor(ctx)
+	s, err := l.State(ctx)
 	if err != nil {
 		return 0, err
 	}
-	ok, err := l.raise(ctx, revision, 0, clientv3.Compare(clientv3.ModRevision("head"), "=", 0))
-	if err == nil && !ok {
+	reply, err := l.commit(ctx, "adoption", func(t clientv3.Txn) clientv3.Txn {
+		return t.If(isAt("head", 0), isAt("floor", 0)).Then(clientv3.OpPut("floor", strconv.FormatInt(s.Revision, 10)))
+	})
+	if err == nil && !reply.Succeeded {
 		err = errors.New("the log has commands already: an office can be adopted only before the first one")
 	}
-	return revision, err
+	return s.Revision, err
 }
 
 // A Snapshot says which state one holds: the revision of the last entry in it, how many commands are, and a digest of its rows.
@@ -233,30 +240,114 @@ type Member struct {
 func (l *Ledger) Register(ctx context.Context, member Member) error {
 	text, err := json.Marshal(member)
 	if err == nil {
-		err = l.Retry(ctx, func(ctx context.Context) error {
-			_, err := l.kv.Put(ctx, "nodes/"+member.Name, string(text))
-			return err
-		})
+		_, err = l.do(ctx, "registration", clientv3.OpPut("nodes/"+member.Name, string(text)))
 	}
+	return err
+}
+
+// A State is what etcd has beside the entries: the revision up to which they may be gone, the newest generation, the nodes
+// that are registered, and the revision at which it was read.
+type State struct {
+	Floor, generation, Revision int64
+	Members                     []Member
+}
+
+// State reads the state.
+func (l *Ledger) State(ctx context.Context) (s State, err error) {
+	reply, err := l.do(ctx, "read of the nodes", clientv3.OpGet("floor"), clientv3.OpGet("nodes/", clientv3.WithPrefix()))
 	if err != nil {
-		return fmt.Errorf("registration: %w", err)
+		return s, err
+	}
+	s = State{generation: revisionOf(read(reply, 0)), Revision: reply.Header.Revision}
+	l.generation.Store(s.generation)
+	s.Floor, err = floorOf(reply)
+	for _, kv := range read(reply, 1) {
+		var member Member
+		if err := json.Unmarshal(kv.Value, &member); err != nil {
+			return s, fmt.Errorf("%s: %w", kv.Key, err)
+		}
+		s.Members = append(s.Members, member)
+	}
+	return s, err
+}
+
+// An Entry is a batch of commands with its place in the order.
+type Entry struct {
+	Revision int64
+	ID       string
+	Lines    [][]byte
+}
+
+// Follow delivers the entries after a revision, in their order, until the context ends, a delivery fails, or the log was
+// trimmed past what is wanted.
+func (l *Ledger) Follow(ctx context.Context, after int64, deliver func(Entry) error) error {
+	f := &follower{l, after, deliver}
+	for {
+		// What etcd's history may lack after a compaction is read from the keys, and the rest is watched.
+		reply, err := l.do(ctx, "read of the log", clientv3.OpGet("floor"), clientv3.OpGet("log/", clientv3.WithPrefix(),
+			clientv3.WithMinCreateRev(f.after+1), clientv3.WithSort(clientv3.SortByCreateRevision, clientv3.SortAscend),
+			clientv3.WithLimit(group)))
+		if err != nil {
+			return err
+		}
+		if floor, err := floorOf(reply); err != nil || floor > f.after {
+			return ErrTrimmed
+		}
+		err = f.hand(read(reply, 1)...)
+		if err == nil && !reply.Responses[1].GetResponseRange().More {
+			err = f.watch(ctx, reply.Header.Revision+1)
+			l.log.Info("following the log anew", zap.Int64("revision", f.after))
+			time.Sleep(pause)
+		}
+		if err != nil {
+			return err
+		}
+	}
+}
+
+// A follower has delivered the entries up to the revision after.
+type follower struct {
+	*Ledger
+	after   int64
+	deliver func(Entry) error
+}
+
+// hand delivers entries.
+func (f *follower) hand(kvs ...*mvccpb.KeyValue) error {
+	for _, kv := range kvs {
+		f.after = kv.CreateRevision
+		if err := f.deliver(Entry{f.after, path.Base(string(kv.Key)), bytes.Split(kv.Value, []byte("\n"))}); err != nil {
+			return err
+		}
 	}
 	return nil
 }
 
-// Members returns all nodes that are registered, by their names.
-func (l *Ledger) Members(ctx context.Context) (map[string]Member, error) {
-	reply, err := l.get(ctx, "nodes/", clientv3.WithPrefix())
-	if err != nil {
-		return nil, err
-	}
-	members := map[string]Member{}
-	for _, kv := range reply.Kvs {
-		var member Member
-		if err := json.Unmarshal(kv.Value, &member); err != nil {
-			return nil, fmt.Errorf("%s: %w", kv.Key, err)
+// watch delivers what etcd's watch says until it ends, or entries don't come that the log is known to have: a member of
+// etcd that hangs says nothing.
+func (f *follower) watch(ctx context.Context, from int64) error {
+	ctx, cancel := context.WithCancel(clientv3.WithRequireLeader(ctx))
+	defer cancel()
+	// The client itself, since that of a namespace hands each event on to another goroutine.
+	watch := f.client.Watch(ctx, f.prefix+"log/", clientv3.WithPrefix(), clientv3.WithRev(from), clientv3.WithFilterDelete())
+	ticker := time.NewTicker(patience)
+	defer ticker.Stop()
+	for wanted := int64(0); ; {
+		select {
+		case <-ticker.C:
+			if f.after < wanted {
+				return nil
+			}
+			wanted = f.head.Load()
+		case reply := <-watch:
+			if reply.Err() != nil || len(reply.Events) == 0 {
+				return ctx.Err()
+			}
+			for _, event := range reply.Events {
+				if err := f.hand(event.Kv); err != nil {
+					return err
+				}
+			}
 		}
-		members[member.Name] = member
 	}
-	return members, nil
 }

@@ -43,8 +43,8 @@ func newLedger(t *testing.T) *Ledger {
 
 func lines(text string) [][]byte { return [][]byte{[]byte(text), []byte(text + "2")} }
 
-func mustAppend(t *testing.T, l *Ledger, id string, guard int64) {
-	if _, _, err := l.Append(context.Background(), id, lines(id), &guard); err != nil {
+func mustAppend(t *testing.T, l *Ledger, id string) {
+	if _, _, err := l.Append(context.Background(), id, lines(id)); err != nil {
 		t.Fatalf("append of %s: %v", id, err)
 	}
 }
@@ -73,15 +73,15 @@ func all(t *testing.T, l *Ledger, after int64) ([]Entry, error) {
 }
 
 func TestAppendOnce(t *testing.T) {
-	l, ctx, guard := newLedger(t), context.Background(), int64(0)
-	first, _, err := l.Append(ctx, "a", lines("a"), &guard)
+	l, ctx := newLedger(t), context.Background()
+	first, _, err := l.Append(ctx, "a", lines("a"))
 	if err != nil {
 		t.Fatal(err)
 	}
-	if second, before, err := l.Append(ctx, "b", lines("b"), &guard); second <= first || before != first || err != nil {
+	if second, before, err := l.Append(ctx, "b", lines("b")); second <= first || before != first || err != nil {
 		t.Errorf("an append after %d: %d, %d, %v", first, second, before, err)
 	}
-	if again, _, err := l.Append(ctx, "a", lines("a"), &guard); again != 0 || err != nil {
+	if again, _, err := l.Append(ctx, "a", lines("a")); again != 0 || err != nil {
 		t.Errorf("an append again: %d, %v", again, err)
 	}
 	entries, err := all(t, l, 0)
@@ -93,24 +93,57 @@ func TestAppendOnce(t *testing.T) {
 	}
 }
 
+// head returns the revision of the newest entry.
+func head(t *testing.T, l *Ledger) int64 {
+	revision, err := l.Head(context.Background())
+	if err != nil {
+		t.Fatal(err)
+	}
+	return revision
+}
+
+func mustState(t *testing.T, l *Ledger) State {
+	s, err := l.State(context.Background())
+	if err != nil {
+		t.Fatal(err)
+	}
+	return s
+}
+
+// mustTrim trims the log, and checks whether a generation begins by that.
+func mustTrim(t *testing.T, l *Ledger, needless int64, begins bool) {
+	before := mustState(t, l)
+	floor, err := l.Trim(context.Background(), before, needless)
+	after := mustState(t, l)
+	if err != nil || (after.generation > before.generation) != begins || begins && floor != before.generation || after.Floor < floor {
+		t.Fatalf("a trim of what is needless up to %d: %d, %v, %+v and then %+v", needless, floor, err, before, after)
+	}
+}
+
 // An attempt that is delivered after its entry was trimmed doesn't append again.
 func TestAppendAfterTrim(t *testing.T) {
 	l, ctx := newLedger(t), context.Background()
-	mustAppend(t, l, "a", 0)
-	mustAppend(t, l, "b", 0)
-	entries, _ := all(t, l, 0)
-	if deleted, err := l.Trim(ctx, entries[0].Revision); err != nil || deleted != 1 {
-		t.Fatalf("trim: %d, %v", deleted, err)
+	late := New(l.client, "test", zap.NewNop())
+	mustAppend(t, l, "a")
+	mustTrim(t, l, 0, false)
+	old := mustState(t, l)
+	mustTrim(t, l, head(t, l), true)
+	if again, err := l.Trim(ctx, old, head(t, l)); again != 0 || err != nil {
+		t.Errorf("a trim that another node has just done: %d, %v", again, err)
 	}
-	guard := int64(0)
-	if _, head, err := l.Append(ctx, "a", lines("a"), &guard); !errors.Is(err, ErrTrimmed) || guard == 0 || head != entries[1].Revision {
-		t.Errorf("a late attempt: %d, %d, %v", guard, head, err)
+	// In an earlier generation that is still there it counts as appended, and what is not there gets into the newest.
+	if again, _, err := late.Append(ctx, "a", lines("a")); again != 0 || err != nil {
+		t.Errorf("a late attempt: %d, %v", again, err)
 	}
-	// What is there still counts as appended, and what is new gets in by the new guard.
-	mustAppend(t, l, "b", 0)
-	mustAppend(t, l, "c", guard)
-	found, err := all(t, l, entries[0].Revision)
-	if err != nil || len(found) != 2 || found[0].ID != "b" || found[1].ID != "c" {
+	mustAppend(t, New(l.client, "test", zap.NewNop()), "b")
+	late.generation.Store(0)
+	mustTrim(t, l, head(t, l), true)
+	if _, _, err := late.Append(ctx, "a", lines("a")); !errors.Is(err, ErrTrimmed) {
+		t.Errorf("an attempt after its generation was deleted: %v", err)
+	}
+	mustAppend(t, late, "c")
+	found, err := all(t, l, mustState(t, l).Floor)
+	if err != nil || len(found) == 0 || found[len(found)-1].ID != "c" || found[0].ID == "a" {
 		t.Errorf("the log has %v, %v", found, err)
 	}
 }
@@ -119,7 +152,10 @@ func TestAppendAfterTrim(t *testing.T) {
 func TestFollowAfterCompaction(t *testing.T) {
 	l, ctx := newLedger(t), context.Background()
 	for i := 0; i < 3*group; i++ {
-		mustAppend(t, l, fmt.Sprintf("e%d", i), 0)
+		if i == 2*group {
+			mustTrim(t, l, head(t, l), true)
+		}
+		mustAppend(t, l, fmt.Sprintf("e%d", i))
 	}
 	before, err := all(t, l, 0)
 	if err != nil {
@@ -137,14 +173,36 @@ func TestFollowAfterCompaction(t *testing.T) {
 			t.Fatalf("entry %d is %v and not %v", i, entry, before[i])
 		}
 	}
-	if _, err := l.Trim(ctx, before[100].Revision); err != nil {
-		t.Fatal(err)
+	// Nobody needs what was there when the second generation began.
+	mustTrim(t, l, before[2*group].Revision, true)
+	if floor := mustState(t, l).Floor; floor <= before[2*group-1].Revision || floor >= before[2*group].Revision {
+		t.Fatalf("the floor is %d", floor)
 	}
 	if _, err := all(t, l, before[50].Revision); !errors.Is(err, ErrTrimmed) {
 		t.Errorf("what was trimmed: %v", err)
 	}
-	if rest, err := all(t, l, before[100].Revision); err != nil || len(rest) != 3*group-101 {
+	if rest, err := all(t, l, before[2*group].Revision); err != nil || len(rest) != group-1 {
 		t.Errorf("%d entries are left, %v", len(rest), err)
+	}
+}
+
+// After a request that failed they go to all members, and then to the leader again.
+func TestUseLeader(t *testing.T) {
+	l, ctx := newLedger(t), context.Background()
+	head(t, l)
+	l.members = append([]string{"http://127.0.0.1:1"}, l.members...)
+	over, cancel := context.WithCancel(ctx)
+	cancel()
+	if _, err := l.Head(over); err == nil {
+		t.Error("a read after the end of its context")
+	}
+	if used := l.client.Endpoints(); len(used) != 2 {
+		t.Errorf("after a failure used are %v", used)
+	}
+	head(t, l)
+	l.UseLeader(ctx)
+	if used := l.client.Endpoints(); len(used) != 1 || used[0] != l.members[1] {
+		t.Errorf("used are %v", used)
 	}
 }
 
@@ -154,8 +212,8 @@ func TestAdopt(t *testing.T) {
 	if err != nil {
 		t.Fatal(err)
 	}
-	if read, _, _, err := l.Floor(ctx); err != nil || read != floor {
-		t.Errorf("the floor is %d and not %d, %v", read, floor, err)
+	if read := mustState(t, l).Floor; read != floor {
+		t.Errorf("the floor is %d and not %d", read, floor)
 	}
 	if _, err := l.Adopt(ctx); err == nil {
 		t.Error("a second office was adopted")

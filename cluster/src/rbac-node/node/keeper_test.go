@@ -10,21 +10,15 @@ func member(name string, snapshots ...ledger.Snapshot) ledger.Member {
 	return ledger.Member{Name: name, Snapshots: snapshots}
 }
 
-func members(all ...ledger.Member) map[string]ledger.Member {
-	found := map[string]ledger.Member{}
-	for _, one := range all {
-		found[one.Name] = one
-	}
-	return found
-}
+func members(all ...ledger.Member) []ledger.Member { return all }
 
 func at(revision int64) ledger.Snapshot { return ledger.Snapshot{Revision: revision, Digest: "d"} }
 
-func TestFloorOf(t *testing.T) {
+func TestNeedless(t *testing.T) {
 	for _, one := range []struct {
-		what  string
-		all   map[string]ledger.Member
-		floor int64
+		what     string
+		all      []ledger.Member
+		revision int64
 	}{
 		{"nobody", members(), 0},
 		{"a node without a snapshot", members(member("a", at(9), at(5)), member("b")), 0},
@@ -33,8 +27,8 @@ func TestFloorOf(t *testing.T) {
 		{"a node that is behind", members(member("a", at(12), at(9), at(5)), member("b", at(9), at(5))), 5},
 		{"a node that has skipped a place", members(member("a", at(9), at(5)), member("b", at(10), at(7))), 5},
 	} {
-		if floor := floorOf(one.all); floor != one.floor {
-			t.Errorf("%s: %d and not %d", one.what, floor, one.floor)
+		if revision := needless(one.all); revision != one.revision {
+			t.Errorf("%s: %d and not %d", one.what, revision, one.revision)
 		}
 	}
 }

@@ -7,10 +7,10 @@ package node
 import (
 	"bytes"
 	"context"
-	"errors"
 	"fmt"
 	"net/http"
 	"path/filepath"
+	"sync"
 	"sync/atomic"
 	"time"
 
@@ -22,32 +22,37 @@ import (
 )
 
 const (
-	// longestLine is the most bytes of a line that the replay takes.
-	longestLine = 65_536
-	// renewal is how many lines one run of the replay gets: it makes at most 1,000,000,000 reads.
-	renewal = 500_000_000
+	// LongestLine is the most bytes of a line that the replay takes.
+	LongestLine = 65_536
+	// most is how many requests one batch takes, and mostBytes how many bytes of commands.
+	most, mostBytes = 512, 512 << 10
+	// If no more than a few clients ask, a batch lingers for those of the one before.
+	few, linger = 8, time.Millisecond
+	// beat is the time between two reads of the log if nobody asks.
+	beat = 500 * time.Millisecond
 )
+
+// A Refusal is what the node itself answers, without the office: a status of HTTP, a code and its name.
+type Refusal struct {
+	Status, Code int
+	Name         string
+}
+
+func (r Refusal) Error() string { return r.Name }
 
 var (
-	// ErrUnavailable says that there was no answer in time. A command may be done or not.
-	ErrUnavailable = errors.New("the log can't be reached, or this node is behind it")
-	// ErrDiverged says that the snapshot of this node differs from another's at the same revision.
-	ErrDiverged = errors.New("snapshots of the same revision differ")
+	// unavailable says that there was no answer in time. A command may be done or not.
+	unavailable = Refusal{http.StatusServiceUnavailable, 60, "Unavailable"}
+	// diverged says that the snapshot of this node differs from another's at the same revision.
+	diverged = Refusal{http.StatusServiceUnavailable, 61, "Diverged"}
 )
 
-// Options are what a node needs to know.
+// Options are what the command line says of a node.
 type Options struct {
-	// Name is that of the node, and Peer the URL at which others fetch its snapshots.
-	Name, Peer string
-	// Data is the folder of the snapshots, and Scratch that of the office in use, which is made anew at each start.
-	Data, Scratch string
-	// Program is the path of rbac.
-	Program string
-	// Every is how many commands there are from one snapshot to the next. It is the same on all nodes.
-	Every int64
-	// Timeout is how long a request waits for its answer.
-	Timeout time.Duration
-	// Fetch is the client by which snapshots are fetched.
+	Name, Peer, Data, Scratch, Program string
+	Every                              int64
+	Timeout                            time.Duration
+	// Fetch is the client by which snapshots of other nodes are fetched.
 	Fetch *http.Client
 }
 
@@ -59,56 +64,46 @@ type Node struct {
 	ledger *ledger.Ledger
 	log    *zap.Logger
 	start  time.Time
-	// batches is how many batches this run has made.
-	batches int
+	// asked has the requests that wait to be sent on their way, by their kinds.
+	asked map[Kind]chan *request
+	// copies has what makes a snapshot of a copy of the office.
+	copies chan func() (ledger.Snapshot, error)
+	// pending has the batches of this node that may come from the log, by their names.
+	pending sync.Map
 
-	commands, questions, locals chan *request
-	copies                      chan copied
-	// work is what the goroutine that feeds the replay is to do.
-	work chan func() error
+	// work is what the goroutine that feeds the replay is to do. The others belong to it: held is what waits until entries
+	// are fed, and err why the goroutine is to end.
+	work   chan func()
+	replay *office.Replay
+	held   []held
+	err    error
 
-	// These belong to that goroutine. pending has the batches of this node that may come from the log, by their names, and
-	// held what waits until entries are fed.
-	replay  *office.Replay
-	pending map[string]*batch
-	held    []held
-
-	// guard belongs to the goroutine that appends, and is the revision of the last trim that it knows of. floor belongs to
-	// the one that keeps snapshots, and is how far it knows the log to be trimmed.
-	guard, floor int64
-
-	// revision and count are those of what was fed.
-	revision, count atomic.Int64
-	// heard is when the newest read of the log began whose entries are all fed, since the start, in nanoseconds.
-	heard    atomic.Int64
-	snapshot atomic.Int64
+	// revision and count are those of what was fed, and snapshot is the revision of the newest snapshot. heard is when the
+	// newest read of the log began whose entries are all fed, in nanoseconds since the start.
+	revision, count, snapshot, heard atomic.Int64
 	// diverged says where this node differs from another.
 	diverged atomic.Value
 }
 
 type held struct {
 	revision int64
-	then     func() error
+	then     func()
 }
 
 // New returns a node over a log. It does nothing until it is run.
 func New(options Options, log *ledger.Ledger, logger *zap.Logger) (*Node, error) {
-	store, err := office.Open(filepath.Join(options.Data, "snapshots"), options.Program)
-	if err != nil {
-		return nil, err
-	}
+	store, err := office.Open(options.Data, options.Program)
 	n := &Node{
-		Options: options, Store: store, ledger: log, log: logger, start: time.Now(),
-		commands:  make(chan *request, most),
-		questions: make(chan *request, most),
-		locals:    make(chan *request, most),
-		copies:    make(chan copied, 1),
-		work:      make(chan func() error, most),
-		pending:   map[string]*batch{},
+		Options: options, Store: store, ledger: log, log: logger, start: time.Now(), asked: map[Kind]chan *request{},
+		copies: make(chan func() (ledger.Snapshot, error), 1), work: make(chan func(), most),
+	}
+	for _, kind := range []Kind{Command, Question, Local} {
+		n.asked[kind] = make(chan *request, most)
 	}
 	n.heard.Store(-1)
 	n.diverged.Store("")
-	return n, nil
+	n.register()
+	return n, err
 }
 
 // Run keeps the copy until the context ends or something fails. After a failure the node has to be started anew: it
@@ -118,12 +113,7 @@ func (n *Node) Run(life context.Context) error {
 		return err
 	}
 	work, ctx := errgroup.WithContext(life)
-	follow := func(ctx context.Context) error {
-		return n.ledger.Follow(ctx, n.revision.Load(), func(entry ledger.Entry) error {
-			return n.do(ctx, func() error { return n.apply(entry) })
-		})
-	}
-	for _, part := range []func(context.Context) error{n.feed, follow, n.appendCommands, n.confirm, n.confirm, n.keep} {
+	for _, part := range []func(context.Context) error{n.feed, n.follow, n.appendCommands, n.confirm, n.confirm, n.keep} {
 		part := part
 		work.Go(func() error { return part(ctx) })
 	}
@@ -134,8 +124,15 @@ func (n *Node) Run(life context.Context) error {
 	return err
 }
 
+// follow feeds the entries of the log.
+func (n *Node) follow(ctx context.Context) error {
+	return n.ledger.Follow(ctx, n.revision.Load(), func(entry ledger.Entry) error {
+		return n.do(ctx, func() { n.apply(entry) })
+	})
+}
+
 // do lets the goroutine that feeds the replay do something, unless the context ends before it can begin.
-func (n *Node) do(ctx context.Context, work func() error) error {
+func (n *Node) do(ctx context.Context, work func()) error {
 	select {
 	case n.work <- work:
 		return nil
@@ -146,97 +143,74 @@ func (n *Node) do(ctx context.Context, work func() error) error {
 
 // feed gives the replay what there is until the context or the replay ends.
 func (n *Node) feed(ctx context.Context) error {
-	for {
+	for n.err == nil {
 		select {
 		case work := <-n.work:
-			if err := work(); err != nil {
-				return err
-			}
-		case r := <-n.locals:
-			n.pose([]*request{r})
+			work()
+		case r := <-n.asked[Local]:
+			n.pose(r)
 		case <-n.replay.Ended:
 			// Nobody knows which of the lines were done.
-			if !isFaulty("endless") {
-				return fmt.Errorf("the replay has ended: %w", n.replay.Err())
-			}
-			if err := n.renew(); err != nil {
-				return err
-			}
+			n.err = fmt.Errorf("the replay has ended: %w", n.replay.Close())
 		case <-ctx.Done():
 			return nil
 		}
-		if len(n.work)+len(n.locals) == 0 {
+		if len(n.work)+len(n.asked[Local]) == 0 {
 			n.replay.Flush()
 		}
 	}
+	return n.err
 }
 
 // apply gives the replay the commands of an entry, unless it has had them.
-func (n *Node) apply(entry ledger.Entry) error {
+func (n *Node) apply(entry ledger.Entry) {
 	if entry.Revision <= n.revision.Load() {
-		return nil
+		return
 	}
-	own := n.pending[entry.ID]
-	delete(n.pending, entry.ID)
-	if own != nil {
-		own.seen.Store(true) // Before anybody learns that the entry is fed.
-	}
+	found, _ := n.pending.LoadAndDelete(entry.ID)
+	own, _ := found.(*batch)
 	for place, line := range entry.Lines {
-		if len(line) > longestLine || len(bytes.TrimSpace(line)) == 0 {
+		if len(line) > LongestLine || len(bytes.TrimSpace(line)) == 0 {
 			n.log.Error("a line of the log is no command", zap.Int64("revision", entry.Revision), zap.Int("place", place))
 			continue // All nodes pass it over. No node has written it.
 		}
 		place := place
 		n.replay.Send(line, func(text []byte) {
-			if own == nil {
-				return
-			}
-			own.requests[place].answer(Answer{Text: text, Revision: entry.Revision, Place: place})
-			if own.left--; own.left == 0 {
-				close(own.done)
+			if own != nil {
+				own.answer(Answer{Text: text, Revision: entry.Revision, Place: place})
 			}
 		})
 	}
 	before, after := n.count.Load(), n.count.Add(int64(len(entry.Lines)))
 	n.revision.Store(entry.Revision)
 	if before/n.Every != after/n.Every {
-		if err := n.takeSnapshot(); err != nil {
-			return err
-		}
-	}
-	if n.replay.Sent > renewal {
-		if err := n.renew(); err != nil {
-			return err
-		}
+		n.err = n.takeSnapshot()
 	}
 	waiting := n.held
 	n.held = nil
 	for _, one := range waiting {
-		if err := n.after(one.revision, one.then); err != nil {
-			return err
-		}
+		n.after(one.revision, one.then)
 	}
-	return nil
 }
 
 // after does something once the entries up to a revision are fed.
-func (n *Node) after(revision int64, then func() error) error {
+func (n *Node) after(revision int64, then func()) {
 	if revision <= n.revision.Load() {
-		return then()
+		then()
+	} else {
+		n.held = append(n.held, held{revision, then})
 	}
-	n.held = append(n.held, held{revision, then})
-	return nil
 }
 
-// renew ends the replay and runs another one on the same file. All lines have their answers then.
-func (n *Node) renew() error {
-	if err := n.replay.Close(); err != nil && !isFaulty("endless") {
-		return err
+// pose gives the replay questions.
+func (n *Node) pose(questions ...*request) {
+	revision, age := n.revision.Load(), n.age()
+	for _, q := range questions {
+		if reply := q.reply; q.ctx.Err() == nil {
+			n.replay.Send(q.line, func(text []byte) { reply <- Answer{Text: text, Revision: revision, Age: age} })
+		}
 	}
-	replay, err := office.Start(n.Program, n.file())
-	n.replay = replay
-	return err
 }
 
 // file is the office in use.
-func (n *Node) file() string { return filepath.Join(n.Scratch, "office") }
+func (n *Node) file() string { return filepath.Join(n.Scratch, "office", "office") }

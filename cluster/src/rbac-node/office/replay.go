@@ -23,8 +23,6 @@ type Replay struct {
 	waiting chan func(answer []byte)
 	stderr  bytes.Buffer
 	err     error
-	// Sent is how many lines were sent.
-	Sent int
 	// Ended is closed when the replay has ended.
 	Ended chan struct{}
 }
@@ -32,22 +30,17 @@ type Replay struct {
 // Start runs the replay. No signal of a terminal reaches it: it ends when its input does.
 func Start(program, file string) (*Replay, error) {
 	r := &Replay{
-		command: exec.Command(program, "replay", file),
-		waiting: make(chan func([]byte), queue),
-		Ended:   make(chan struct{}),
+		command: exec.Command(program, "replay", file), waiting: make(chan func([]byte), queue), Ended: make(chan struct{}),
 	}
 	r.command.SysProcAttr = &syscall.SysProcAttr{Setpgid: true, Pdeathsig: syscall.SIGKILL}
 	r.command.Stderr = &r.stderr
-	input, err := r.command.StdinPipe()
-	if err != nil {
-		return nil, fmt.Errorf("replay: %w", err)
-	}
+	input, failed := r.command.StdinPipe()
 	output, err := r.command.StdoutPipe()
-	if err != nil {
-		return nil, fmt.Errorf("replay: %w", err)
+	if err == nil && failed == nil {
+		err = r.command.Start()
 	}
-	if err := r.command.Start(); err != nil {
-		return nil, fmt.Errorf("replay: %w", err)
+	if err != nil || failed != nil {
+		return nil, fmt.Errorf("replay: %v, %v", failed, err)
 	}
 	r.input, r.lines = input, bufio.NewWriterSize(input, 1<<16)
 	go r.read(bufio.NewReaderSize(output, 1<<16))
@@ -73,17 +66,14 @@ func (r *Replay) read(output *bufio.Reader) {
 // Send writes a line, which has no LF. Its answer goes to the function, which must not wait for anything. If the replay
 // has ended nobody gets an answer: see Ended.
 func (r *Replay) Send(line []byte, answered func(answer []byte)) {
+	if len(r.waiting) == queue {
+		r.Flush() // What is buffered has to be written, or nothing would make room.
+	}
 	select {
 	case r.waiting <- answered:
-	default:
-		r.Flush() // What is buffered has to be written, or nothing would make room.
-		select {
-		case r.waiting <- answered:
-		case <-r.Ended:
-			return
-		}
+	case <-r.Ended:
+		return
 	}
-	r.Sent++
 	// A failure to write is an end of the replay, which the reader notices.
 	_, _ = r.lines.Write(line)
 	_ = r.lines.WriteByte('\n')
@@ -92,28 +82,10 @@ func (r *Replay) Send(line []byte, answered func(answer []byte)) {
 // Flush lets the replay see the lines that were sent.
 func (r *Replay) Flush() { _ = r.lines.Flush() }
 
-// Drain waits until all lines have their answers. Until the next line the replay writes nothing.
-func (r *Replay) Drain() error {
-	drained := make(chan struct{})
-	r.Send([]byte("{}"), func([]byte) { close(drained) }) // It is refused, and changes nothing.
-	r.Flush()
-	select {
-	case <-drained:
-		return nil
-	case <-r.Ended:
-		return r.Err()
-	}
-}
-
-// Err waits for the end of the replay, and returns nil if its input had ended and all was answered.
-func (r *Replay) Err() error {
-	<-r.Ended
-	return r.err
-}
-
 // Close ends the input of the replay, and waits until it has answered all lines and left one file.
 func (r *Replay) Close() error {
 	r.Flush()
 	_ = r.input.Close()
-	return r.Err()
+	<-r.Ended
+	return r.err
 }

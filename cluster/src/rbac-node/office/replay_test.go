@@ -20,7 +20,7 @@ func program(t *testing.T) string {
 
 func start(t *testing.T) (*Replay, string) {
 	file := filepath.Join(t.TempDir(), "office")
-	if err := Init(program(t), file); err != nil {
+	if err := Run(program(t), "init", file); err != nil {
 		t.Fatal(err)
 	}
 	r, err := Start(program(t), file)
@@ -40,24 +40,17 @@ func TestReplayAnswersInOrder(t *testing.T) {
 		})
 	}
 	r.Send([]byte(`{"fn":"addUser","user":"ann"}`), func(answer []byte) { answers = append(answers, string(answer)) })
-	if err := r.Drain(); err != nil {
+	if err := r.Close(); err != nil {
 		t.Fatal(err)
 	}
 	if len(answers) != count+1 || answers[0] != `{"code":2,"error":"NoUser"}` || answers[count] != `{"ok":true}` {
 		t.Errorf("%d answers, the last is %s", len(answers), answers[len(answers)-1])
 	}
-	copied := filepath.Join(t.TempDir(), "office")
-	if err := Copy(file, copied); err != nil {
-		t.Fatal(err)
+	if left, _ := filepath.Glob(file + "?*"); len(left) > 0 {
+		t.Errorf("%v is left beside the file", left)
 	}
-	if _, err := Inspect(program(t), copied); err != nil {
-		t.Errorf("the copy of an office that is at rest: %v", err)
-	}
-	if err := r.Close(); err != nil {
-		t.Error(err)
-	}
-	if _, err := os.Stat(file + journal); err == nil {
-		t.Error("a log is left")
+	if err := Run(program(t), "check", file); err != nil {
+		t.Errorf("the file: %v", err)
 	}
 }
 
@@ -67,19 +60,16 @@ func TestReplayThatIsKilled(t *testing.T) {
 		t.Fatal(err)
 	}
 	<-r.Ended
-	if r.Err() == nil {
-		t.Error("the end is not noticed")
-	}
 	r.Send([]byte("{}"), func([]byte) { t.Error("there is an answer") })
-	if r.Drain() == nil {
-		t.Error("the end is not noticed by Drain")
+	if r.Close() == nil {
+		t.Error("the end is not noticed")
 	}
 }
 
 func TestReplayThatStops(t *testing.T) {
 	r, _ := start(t)
 	r.Send([]byte(strings.Repeat("x", 65_537)), func([]byte) { t.Error("there is an answer") })
-	if err := r.Drain(); err == nil || !strings.Contains(err.Error(), "stop Line 1") {
+	if err := r.Close(); err == nil || !strings.Contains(err.Error(), "stop Line 1") {
 		t.Errorf("why it ended: %v", err)
 	}
 }

@@ -1,10 +1,16 @@
 package office
 
 import (
+	"bytes"
 	"context"
+	"crypto/sha256"
+	"encoding/hex"
 	"fmt"
+	"io"
 	"net/http"
+	"net/url"
 	"os"
+	"os/exec"
 	"path/filepath"
 	"sort"
 	"strings"
@@ -12,30 +18,66 @@ import (
 	"rbac-node/ledger"
 )
 
-// kept is how many snapshots a store keeps.
-const kept = 3
+const (
+	// kept is how many snapshots a store keeps.
+	kept = 3
+	// making is how the name of a snapshot begins that isn't finished.
+	making = "making-"
+	// about is the field in the head of a reply that says which snapshot it is.
+	about = "Snapshot"
+)
 
-// making is how the name of a snapshot begins that isn't finished.
-const making = "making-"
+// rows prints all rows of an office of version 2, each table in its order. No name has the character between two values.
+const rows = `.bail on
+.mode tabs
+SELECT 'meta_row', * FROM meta_row ORDER BY 1, 2, 3;
+SELECT 'name_row', * FROM name_row ORDER BY 1, 2, 3;
+SELECT 'pair_row', * FROM pair_row ORDER BY 1, 2, 3, 4;
+SELECT 'grant_row', * FROM grant_row ORDER BY 1, 2, 3, 4;
+SELECT 'set_row', * FROM set_row ORDER BY 1, 2, 3, 4;
+SELECT 'locked_row', * FROM locked_row ORDER BY 1, 2;
+`
 
-// about is the field in the head of a reply that says which snapshot it is.
-const about = "Snapshot"
+// Run runs a command of the program on the file of an office: init or check.
+func Run(program, command, file string) error {
+	if said, err := exec.Command(program, command, file).CombinedOutput(); err != nil {
+		return fmt.Errorf("%s %s: %w: %s", command, file, err, said)
+	}
+	return nil
+}
+
+// Digest returns a digest of the rows of an office, which no program has open. Offices with the same rows have the same
+// digest, however their files came about.
+func Digest(file string) (string, error) {
+	hash, said := sha256.New(), bytes.Buffer{}
+	source := url.URL{Scheme: "file", Opaque: (&url.URL{Path: file}).EscapedPath(), RawQuery: "immutable=1"}
+	command := exec.Command("sqlite3", "-batch", "-readonly", source.String())
+	command.Stdin, command.Stdout, command.Stderr = strings.NewReader(rows), hash, &said
+	if err := command.Run(); err != nil || said.Len() > 0 {
+		return "", fmt.Errorf("digest by sqlite3: %v: %s", err, bytes.TrimSpace(said.Bytes()))
+	}
+	return hex.EncodeToString(hash.Sum(nil)), nil
+}
 
 // A Store is a folder of snapshots. Each is the file of an office, and has what is known of it as its name.
-type Store struct{ folder, program string }
+type Store struct {
+	dir     *os.File
+	program string
+}
 
-// Open returns the store in a folder, which it makes. It deletes what a crash left unfinished.
-func Open(folder, program string) (*Store, error) {
-	if err := os.MkdirAll(folder, 0o700); err != nil {
+// Open returns the store of a node, which it makes in the folder of the node. It deletes what a crash left unfinished.
+func Open(data, program string) (*Store, error) {
+	folder := filepath.Join(data, "snapshots")
+	err := os.MkdirAll(folder, 0o700)
+	left, _ := filepath.Glob(filepath.Join(folder, making+"*"))
+	for i := 0; i < len(left) && err == nil; i++ {
+		err = os.RemoveAll(left[i])
+	}
+	if err != nil {
 		return nil, fmt.Errorf("snapshots: %w", err)
 	}
-	left, _ := filepath.Glob(filepath.Join(folder, making+"*"))
-	for _, path := range left {
-		if err := os.RemoveAll(path); err != nil {
-			return nil, fmt.Errorf("snapshots: %w", err)
-		}
-	}
-	return &Store{folder, program}, nil
+	dir, err := os.Open(folder)
+	return &Store{dir, program}, err
 }
 
 // nameOf and parse write and read the name of a snapshot.
@@ -43,19 +85,19 @@ func nameOf(s ledger.Snapshot) string { return fmt.Sprintf("%d-%d-%s", s.Revisio
 
 func parse(name string) (s ledger.Snapshot, err error) {
 	if _, err = fmt.Sscanf(name, "%d-%d-%s", &s.Revision, &s.Count, &s.Digest); err != nil {
-		return s, fmt.Errorf("%q is no name of a snapshot: %w", name, err)
+		err = fmt.Errorf("%q is no name of a snapshot: %w", name, err)
 	}
-	return s, nil
+	return s, err
 }
 
 // Path returns the path of a snapshot.
 func (s *Store) Path(snapshot ledger.Snapshot) string {
-	return filepath.Join(s.folder, nameOf(snapshot))
+	return filepath.Join(s.dir.Name(), nameOf(snapshot))
 }
 
 // List returns all snapshots, the newest first.
 func (s *Store) List() ([]ledger.Snapshot, error) {
-	entries, err := os.ReadDir(s.folder)
+	entries, err := os.ReadDir(s.dir.Name())
 	if err != nil {
 		return nil, fmt.Errorf("snapshots: %w", err)
 	}
@@ -69,32 +111,46 @@ func (s *Store) List() ([]ledger.Snapshot, error) {
 	return found, nil
 }
 
-// Begin returns the path at which the file of a new snapshot is to be made.
-func (s *Store) Begin() (string, error) {
-	folder, err := os.MkdirTemp(s.folder, making)
+// Begin copies an office, which no program has open, to a file that is to become a snapshot.
+func (s *Store) Begin(file string) (string, error) {
+	source, err := os.Open(file)
 	if err != nil {
-		return "", fmt.Errorf("snapshots: %w", err)
+		return "", err
 	}
-	return filepath.Join(folder, "office"), nil
+	defer source.Close()
+	return s.save(source)
 }
 
-// Finish takes a file that was made for a snapshot, once it is a good office and has the digest, if that is known. The
-// snapshot is durable then, and the oldest ones are deleted. If anything is wrong the file is.
+// save writes a file that is to become a snapshot.
+func (s *Store) save(from io.Reader) (string, error) {
+	file, err := os.CreateTemp(s.dir.Name(), making)
+	if err != nil {
+		return "", err
+	}
+	defer file.Close()
+	if _, err = io.Copy(file, from); err == nil {
+		err = file.Sync()
+	}
+	return file.Name(), err
+}
+
+// Finish makes a file a snapshot once it is a good office and has the digest, if that is known. The snapshot is durable
+// then, and the oldest ones are deleted. If anything is wrong the file is.
 func (s *Store) Finish(file string, snapshot ledger.Snapshot) (ledger.Snapshot, error) {
-	defer os.RemoveAll(filepath.Dir(file))
-	digest, err := Inspect(s.program, file)
+	defer os.Remove(file)
+	if err := Run(s.program, "check", file); err != nil {
+		return snapshot, err
+	}
+	digest, err := Digest(file)
 	if err == nil && snapshot.Digest != "" && snapshot.Digest != digest {
 		err = fmt.Errorf("the digest is %s and not %s", digest, snapshot.Digest)
 	}
 	snapshot.Digest = digest
 	if err == nil {
-		err = sync(file)
-	}
-	if err == nil {
 		err = os.Rename(file, s.Path(snapshot))
 	}
 	if err == nil {
-		err = sync(s.folder)
+		err = s.dir.Sync()
 	}
 	if err != nil {
 		return snapshot, fmt.Errorf("snapshot %d: %w", snapshot.Revision, err)
@@ -108,12 +164,16 @@ func (s *Store) Finish(file string, snapshot ledger.Snapshot) (ledger.Snapshot, 
 
 // Restore copies a snapshot to a file, unless it is no longer what it was.
 func (s *Store) Restore(snapshot ledger.Snapshot, file string) error {
-	if err := Copy(s.Path(snapshot), file); err != nil {
-		return err
-	}
-	digest, err := Digest(file)
+	digest, err := Digest(s.Path(snapshot))
 	if err == nil && digest != snapshot.Digest {
 		err = fmt.Errorf("snapshot %d has the digest %s and not %s: delete it", snapshot.Revision, digest, snapshot.Digest)
+	}
+	if err != nil {
+		return err
+	}
+	text, err := os.ReadFile(s.Path(snapshot))
+	if err == nil {
+		err = os.WriteFile(file, text, 0o600)
 	}
 	return err
 }
@@ -132,30 +192,25 @@ func (s *Store) ServeHTTP(w http.ResponseWriter, r *http.Request) {
 
 // Fetch takes the newest snapshot of another node into the store, if it is what it says. What is cut short has another
 // digest.
-func (s *Store) Fetch(ctx context.Context, client *http.Client, peer string) (ledger.Snapshot, error) {
-	var snapshot ledger.Snapshot
+func (s *Store) Fetch(ctx context.Context, client *http.Client, peer string) (snapshot ledger.Snapshot, err error) {
 	request, err := http.NewRequestWithContext(ctx, http.MethodGet, strings.TrimSuffix(peer, "/")+"/snapshot", nil)
-	if err != nil {
-		return snapshot, fmt.Errorf("fetch: %w", err)
-	}
-	reply, err := client.Do(request)
-	if err != nil {
-		return snapshot, fmt.Errorf("fetch: %w", err)
-	}
-	defer reply.Body.Close()
-	if reply.StatusCode != http.StatusOK {
-		return snapshot, fmt.Errorf("fetch from %s: %s", peer, reply.Status)
-	}
-	if snapshot, err = parse(reply.Header.Get(about)); err != nil {
-		return snapshot, fmt.Errorf("fetch from %s: %w", peer, err)
-	}
-	file, err := s.Begin()
 	if err != nil {
 		return snapshot, err
 	}
-	defer os.RemoveAll(filepath.Dir(file))
-	if err := save(file, reply.Body); err != nil {
-		return snapshot, fmt.Errorf("fetch from %s: %w", peer, err)
+	reply, err := client.Do(request)
+	if err != nil {
+		return snapshot, err
+	}
+	defer reply.Body.Close()
+	if reply.StatusCode != http.StatusOK {
+		return snapshot, fmt.Errorf("get %s: %s", request.URL, reply.Status)
+	}
+	if snapshot, err = parse(reply.Header.Get(about)); err != nil {
+		return snapshot, err
+	}
+	file, err := s.save(reply.Body)
+	if err != nil {
+		return snapshot, err
 	}
 	return s.Finish(file, snapshot)
 }

@@ -20,11 +20,12 @@ func newStore(t *testing.T) *Store {
 
 // add makes a snapshot of an empty office.
 func add(t *testing.T, s *Store, revision int64) ledger.Snapshot {
-	file, err := s.Begin()
-	if err != nil {
+	made := filepath.Join(t.TempDir(), "office")
+	if err := Run(s.program, "init", made); err != nil {
 		t.Fatal(err)
 	}
-	if err := Init(s.program, file); err != nil {
+	file, err := s.Begin(made)
+	if err != nil {
 		t.Fatal(err)
 	}
 	meta, err := s.Finish(file, ledger.Snapshot{Revision: revision, Count: 7})
@@ -49,13 +50,13 @@ func TestStore(t *testing.T) {
 	if newest := found[0]; newest.Count != 7 || newest.Digest == "" {
 		t.Errorf("the newest is %+v", newest)
 	}
-	if _, err := s.Begin(); err != nil {
+	if _, err := s.Begin(s.Path(found[0])); err != nil {
 		t.Fatal(err)
 	}
-	if s, err = Open(s.folder, s.program); err != nil {
+	if s, err = Open(filepath.Dir(s.dir.Name()), s.program); err != nil {
 		t.Fatal(err)
 	}
-	if left, _ := filepath.Glob(filepath.Join(s.folder, making+"*")); len(left) > 0 {
+	if left, _ := filepath.Glob(filepath.Join(s.dir.Name(), making+"*")); len(left) > 0 {
 		t.Errorf("%v is left", left)
 	}
 }

@@ -6,6 +6,8 @@ import (
 	"net/http/httptest"
 	"strings"
 	"testing"
+
+	"rbac-node/node"
 )
 
 func TestLineOf(t *testing.T) {
@@ -51,13 +53,13 @@ func TestRead(t *testing.T) {
 		{"POST", "/v1/addUser", `{"user":"` + strings.Repeat("a", longestBody) + `"}`, http.StatusRequestEntityTooLarge},
 		{"POST", "/v1/addUser", `{"user":"` + strings.Repeat("a", longestBody-11) + `"}`, http.StatusRequestEntityTooLarge},
 		{"POST", "/v1/importAssignments", strings.Repeat("a", longestImport+1), http.StatusRequestEntityTooLarge},
-		{"POST", "/v1/importAssignments", strings.Repeat("a", longestLine-100), 0},
+		{"POST", "/v1/importAssignments", strings.Repeat("a", node.LongestLine-100), 0},
 	} {
 		_, _, err := read(httptest.NewRequest(one.method, one.target, strings.NewReader(one.body)))
-		var r refusal
+		var r node.Refusal
 		status := 0
 		if errors.As(err, &r) {
-			status = r.status
+			status = r.Status
 		}
 		if status != one.status {
 			t.Errorf("%s %s %.20s: %d and not %d", one.method, one.target, one.body, status, one.status)
