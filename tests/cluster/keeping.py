@@ -161,7 +161,7 @@ def judge_diverged(bench, cluster):
     cluster.nodes[2].start()
     cluster.until(cluster.ready, "all are ready")
     add_users(cluster, "d", 2)
-    bench.same("the users", len(set(cluster.status(i)["commands"] for i in range(3))), 1)
+    cluster.until(lambda: len({cluster.status(i)["commands"] for i in range(3)}) == 1, "all have all commands")
 
 
 def check_ends(bench):
