@@ -1,9 +1,11 @@
 -- What the program writes to standard error.
-use Rattle.std.specs.Prelude.{⊤, ◌≡◌, ◌⊎◌, ◌++◌, ℕ, List, Option, codes}
+use Rattle.std.specs.Prelude.{◌≡◌, ◌⊎◌, ◌++◌, ℕ, List, Option, codes}
 use Rattle.std.specs.Io.KnownBytes.{Appends}
 use Rattle.rbac_sets.specs.declared.refusal.Refusal.{Refusal}
 use Rattle.rbac_sets.specs.declared.refusal.Refusal.TheVariants.{Memory}
 use Rattle.role_json.specs.Answer.{refusal_text}
+use Rattle.role_wire.specs.Stop.{stop_text}
+use Rattle.role_wire.specs.declared.lines.Stop.{Stop}
 use Rattle.role_cli.specs.Work.{WritesPart}
 use Rattle.role_cli.specs.declared.failure.Failure.{Failure}
 use Rattle.role_cli.specs.declared.failure.Failure.TheVariants.{Refused, Stopped, NotListening, NotAccepting, Closed}
@@ -16,11 +18,15 @@ refusal_line refusal = codes "rbac: " ++ (refusal_text refusal ++ codes "\n")
 abbrev pub no_memory_line : List ℕ
 no_memory_line = refusal_line Memory
 
--- The line reports the failure, or that the line of a refusal could not be allocated. The line of a replay that stopped is not
--- specified here; it is tested.
+-- the line that reports that a replay stopped
+abbrev pub stop_line : Stop → List ℕ
+stop_line stop = codes "rbac: " ++ (stop_text stop ++ codes "\n")
+
+-- The line reports the failure. Or it says less: that the line of a refusal could not be allocated, or that a replay stopped, if
+-- its text could not be formatted.
 abbrev pub IsLineOf : Failure → List ℕ → Type 0
 IsLineOf (Refused refusal) line = (line ≡ refusal_line refusal) ⊎ (line ≡ no_memory_line)
-IsLineOf (Stopped stop) line = ⊤
+IsLineOf (Stopped stop) line = (line ≡ stop_line stop) ⊎ (line ≡ codes "rbac: stop\n")
 IsLineOf NotListening line = line ≡ codes "rbac: cannot listen\n"
 IsLineOf NotAccepting line = line ≡ codes "rbac: cannot accept\n"
 IsLineOf Closed line = line ≡ codes "rbac: closed\n"

@@ -1,12 +1,13 @@
 //! Why the program failed, and the line that reports it.
-ghost use Rattle.std.specs.Prelude.{⊤, ◌≡◌, ◌⊎◌, IfOk, string_bytes};
+ghost use Rattle.std.specs.Prelude.{◌≡◌, ◌⊎◌, IfOk, string_bytes};
 ghost use Rattle.rbac_sets.specs.Stream.{HasRisen};
 ghost use Rattle.role_cli.specs.ErrorOutput.{IsLineOf, SaysSome, Says, no_memory_line, refusal_line};
 
+use arrayvec::ArrayString;
 use rbac_sets::{Refusal, Sink, write_all};
 use role_wire::{Stop, Verdict, answer_text};
 use std::alloc::Global;
-use std::io::{Cursor, Write};
+use std::fmt::Write;
 
 /// The greatest length of the line that reports a stop, in bytes.
 const LONGEST_STOP: usize = 96;
@@ -81,11 +82,12 @@ fn refusal_line(alloc: Global, refusal: Refusal) -> Result<String, Refusal>
 
 // Writes the line of a stop. It doesn't allocate, since that may be what failed.
 fn report_stop<E: Sink>(err: &mut E, stop: &Stop)
-    ensures { SaysSome (λ _. ⊤) (E.written err.old) (E.written err.new) (HasRisen (E.failed err.old) (E.failed err.new) ⊎ HasRisen (E.idle err.old) (E.idle err.new)) }
+    ensures { SaysSome (IsLineOf (Failure.Stopped stop.now)) (E.written err.old) (E.written err.new) (HasRisen (E.failed err.old) (E.failed err.new) ⊎ HasRisen (E.idle err.old) (E.idle err.new)) }
 {
-    let mut line = Cursor::new([0u8; LONGEST_STOP]);
+    let mut line = ArrayString::<LONGEST_STOP>::new();
     if writeln!(line, "rbac: {stop}").is_ok() {
-        let length = (line.position() as usize).min(LONGEST_STOP);
-        write(err, &line.get_ref()[..length]);
+        write(err, line.as_str().as_bytes());
+    } else {
+        write(err, b"rbac: stop\n");
     }
 }
