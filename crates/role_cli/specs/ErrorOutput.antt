@@ -22,11 +22,10 @@ no_memory_line = refusal_line Memory
 abbrev pub stop_line : Stop → List ℕ
 stop_line stop = codes "rbac: " ++ (stop_text stop ++ codes "\n")
 
--- The line reports the failure. Or it says less: that the line of a refusal could not be allocated, or that a replay stopped, if
--- its text could not be formatted.
+-- The line reports the failure, or that there was no memory for the line of a refusal or of a stop.
 abbrev pub IsLineOf : Failure → List ℕ → Type 0
 IsLineOf (Refused refusal) line = (line ≡ refusal_line refusal) ⊎ (line ≡ no_memory_line)
-IsLineOf (Stopped stop) line = (line ≡ stop_line stop) ⊎ (line ≡ codes "rbac: stop\n")
+IsLineOf (Stopped stop) line = (line ≡ stop_line stop) ⊎ (line ≡ no_memory_line)
 IsLineOf NotListening line = line ≡ codes "rbac: cannot listen\n"
 IsLineOf NotAccepting line = line ≡ codes "rbac: cannot accept\n"
 IsLineOf Closed line = line ≡ codes "rbac: closed\n"

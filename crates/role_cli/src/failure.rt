@@ -32,7 +32,7 @@ pub enum Failure {
 
 impl Failure {
     /// Writes the one line that reports the failure to `err`. If writing fails, the rest of the line is
-    /// lost. If the line of a refusal can't be allocated, the line reports that.
+    /// lost. If there is no memory for the line of a refusal or a stop, the line reports that.
     pub fn report<E: Sink>(self, alloc: Global, err: &mut E)
         ensures { SaysSome (IsLineOf self) (E.written err.old) (E.written err.new) (HasRisen (E.failed err.old) (E.failed err.new) ⊎ HasRisen (E.idle err.old) (E.idle err.new)) }
     {
@@ -88,6 +88,6 @@ fn report_stop<E: Sink>(err: &mut E, stop: &Stop)
     if writeln!(line, "rbac: {stop}").is_ok() {
         write(err, line.as_str().as_bytes());
     } else {
-        write(err, b"rbac: stop\n");
+        report_no_memory(err);
     }
 }
