@@ -65,6 +65,7 @@ pub fn run_on_path<D: Start, R: Source, W: Sink>(
     ensures some { IfOk result (λ worked. OnOk worked.0 (DoesOverSome (state (over_files {g = ⟦<FileFrom<D> as Disk>⟧})) choice.now
         (R.remaining source.old) (R.remaining source.new) (W.written out.old) (W.written out.new))) }
     ensures unopened { OnErr result ((source.new ≡ source.old) × (out.new ≡ out.old)) }
+    ensures cause { IfErr result (λ failure. failure ≡ Failure.Refused Refusal.Store) }
     ensures unread { reads_input choice.now ≡ false → source.new ≡ source.old }
     ensures reads { R.reads source.new ≤ R.reads source.old + most_reads }
 {
