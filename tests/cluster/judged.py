@@ -121,16 +121,23 @@ return nil
 }  # fmt: skip
 
 
+def faults_of(folder, node, kinds, seed):
+    """What is wrong after some faults of these kinds. That it takes long to recover doesn't count."""
+    folder.mkdir()
+    with Cluster(folder, node, every=EVERY) as cluster:
+        trial, faults = Trial(cluster, seed), Faults(cluster, seed)
+        faults.patience = 0
+        time.sleep(2)
+        faults.run(kinds, 8, 0.3)
+        return [fault for fault in trial.judge(10) if not fault.startswith("not in 10 seconds")]
+
+
 def check_wrong_nodes(bench):
-    """Each wrong node is caught, and by answers alone, not by the fault that shows it."""
+    """Each wrong node is caught, and by answers alone. It may show its fault at the second or third try only."""
     for wrong, (kinds, *edit) in WRONG.items():
         folder = bench.folder / wrong
         folder.mkdir()
-        with Cluster(folder, build_wrong(folder, *edit), every=EVERY) as cluster:
-            trial, faults = Trial(cluster, 1), Faults(cluster, 1)
-            faults.patience = 0
-            time.sleep(2)
-            faults.run(kinds, 8, 0.3)
-            found = [fault for fault in trial.judge(10) if not fault.startswith("not in 10 seconds")]
+        node = build_wrong(folder, *edit)
+        found = next((it for it in (faults_of(folder / str(seed), node, kinds, seed) for seed in (1, 2, 3)) if it), [])
         print(f"the node that is wrong by {wrong!r}: {len(found)} faults, such as {found[0][:300] if found else None}")
         bench.judge(f"the node that is wrong by {wrong!r} is caught", [] if found else ["no fault was found"])
