@@ -68,6 +68,10 @@ class Build:
         """Returns the built library of a crate."""
         return f"{self.at(crate)}/{crate.name}.rlib"
 
+    def program(self, crate):
+        """Returns the executable of a crate that is a program."""
+        return f"{self.at(crate)}/{crate.name}"
+
     def key(self, crate):
         """Returns a digest of all that the crate is built from."""
         return hashlib.sha256(repr((kit.identity(), crate.digest(), [self.sums[it.name] for it in crate.below()])).encode()).hexdigest()
@@ -100,10 +104,10 @@ class Build:
             self.rattle(crate, "build", *words, *cut, "-o", self.library(crate))
         else:
             toolchain = ["--toolchain", f"{self.kit}/toolchain"]
-            self.rattle(crate, "build", *words, *toolchain, "--backend", "llvm", "-o", f"{at}/rbac.o")
+            self.rattle(crate, "build", *words, *toolchain, "--backend", "llvm", "-o", f"{self.program(crate)}.o")
             with_c = [f"{self.kit}/c/{it}" for it in ("libos_c.a", "liblibc_c.a")]
             link = [f"{self.kit}/bin/rattle-link", "--target", "x86_64-unknown-linux-gnu", *toolchain]
-            subprocess.run([*link, "-o", f"{at}/rbac", f"{at}/rbac.o", *with_c], check=True, stdin=subprocess.DEVNULL)
+            subprocess.run([*link, "-o", self.program(crate), f"{self.program(crate)}.o", *with_c], check=True, stdin=subprocess.DEVNULL)
         shutil.rmtree(f"{at}/checked")
 
     def make(self, crate, jobs):
@@ -172,8 +176,7 @@ def main():
     say(f"proving {len(build.crates)} crates and building the program. {LASTS}")
     try:
         build.run()
-        made = f"{build.at(program)}/rbac"
-        subprocess.run([f"{kit.TOP}/bin/release", "--record", made, claimed, f"{kit.TOP}/out/release"], check=True)
+        subprocess.run([f"{kit.TOP}/bin/release", "--record", build.program(program), claimed, f"{kit.TOP}/out/release"], check=True)
         if digest() != claimed:
             raise Failed("the sources changed meanwhile: build again")
     except (Failed, OSError, subprocess.CalledProcessError) as error:

@@ -1,13 +1,16 @@
 -- Room is used up one entry at a time.
 use Rattle.std.proofs.Common.{◌≡◌, ℕ, ◌+◌, ◌≤◌, ◌<◌, Bool, true, false, nat_eq, List, [], ◌∷◌, Some, None, length, get_or, set, refl, sym, ◌∙◌, ap, subst, arith}
 use Rattle.std.specs.Prelude.{if◌then◌else◌}
+use Rattle.std.specs.List.{list_all}
 use Rattle.std.proofs.lemmas.Bool.{eqb-true, eq-eqb, true≢false}
 use Rattle.std.proofs.lemmas.List.{get_or-set_same, get_or-set_other, length-set}
 use Rattle.rbac_sets.specs.declared.row.Change.{Change}
+use Rattle.rbac_sets.specs.declared.row.Change.TheVariants.{Put, Take}
 use Rattle.rbac_sets.specs.declared.table.Table.{Table}
 use Rattle.rbac_sets.specs.declared.table.TheConstants.Table.{COUNT}
 use Rattle.rbac_sets.specs.Table.{number_of, is_number}
 use Rattle.admin_mgr.specs.RowUpdates.{table_put, puts_at, puts_of, HasRoom, UsesRoom}
+use Rattle.admin_mgr.specs.private.PlanChanges.{is_take}
 
 -- the room for the table of this number
 abbrev pub room_of : List (ℕ × ℕ) → ℕ → ℕ
@@ -55,6 +58,17 @@ room_left change changes (old ∷ olds) (new ∷ news) fits spends = (
 pub room_first : (change : Change) (changes : List Change) (rooms : List (ℕ × ℕ)) → HasRoom rooms (change ∷ changes) → HasRoom rooms (change ∷ [])
 room_first change changes [] fits = tt
 room_first change changes (room ∷ rooms) fits = (omega (arith, fits.0), room_first change changes rooms fits.1)
+
+-- changes that only take rows put none into any table
+puts_none : (changes : List Change) (number : ℕ) → list_all is_take changes ≡ true → puts_of number changes ≡ 0
+puts_none [] number takes = refl
+puts_none (Put row ∷ changes) number takes = absurd (true≢false (sym takes))
+puts_none (Take row ∷ changes) number takes = omega (arith, puts_none changes number takes)
+
+-- so they need no room
+pub takes_need_none : (changes : List Change) (rooms : List (ℕ × ℕ)) → list_all is_take changes ≡ true → HasRoom rooms changes
+takes_need_none changes [] takes = tt
+takes_need_none changes (table ∷ tables) takes = (omega (arith, puts_none changes table.0 takes), takes_need_none changes tables takes)
 
 -- ---- how many rows are inserted into each table
 

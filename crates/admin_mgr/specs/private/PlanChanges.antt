@@ -1,6 +1,6 @@
 -- The changes of a plan, row by row: lists of rows to take or to put, the rows of sessions that end, locks, and the row of an
 -- edge with the closure pairs that change with it.
-use Rattle.std.specs.Prelude.{ℕ, Bool, not, List, [], ◌∷◌, map, filter, if◌then◌else◌}
+use Rattle.std.specs.Prelude.{ℕ, Bool, true, false, not, List, [], ◌∷◌, map, filter, if◌then◌else◌}
 use Rattle.std.specs.List.{flat_map}
 use Rattle.rbac_sets.specs.Sets.{Bytes, Pair, Triple, Pairs, contains, members}
 use Rattle.rbac_sets.specs.declared.row.Row.{Row}
@@ -10,6 +10,11 @@ use Rattle.rbac_sets.specs.declared.row.Change.{Change}
 use Rattle.rbac_sets.specs.declared.row.Change.TheVariants.{Put, Take}
 use Rattle.admin_mgr.specs.RbacState.{RbacState}
 use Rattle.admin_mgr.specs.private.HolderRoles.{run_of}
+
+-- whether the change takes a row
+abbrev pub is_take : Change → Bool
+is_take (Put row) = false
+is_take (Take row) = true
 
 -- the row of a pair, of this kind
 abbrev pub pair_row : ℕ → Pair → Row

@@ -1,5 +1,6 @@
 //! Changes of the sets and relations in place, in room that was made before.
 ghost use Rattle.std.specs.Prelude.{◌≡◌, List, ◌∷◌, [], ◌<◌, ◌≤◌, ℕ, Some, IfErr, OnOk, get_or, length, take, drop, IsTrue, ◌↔◌};
+ghost use Rattle.std.specs.List.{list_all};
 ghost use Rattle.rbac_sets.specs.declared.table.TheConstants.Table.{COUNT};
 ghost use Rattle.rbac_sets.specs.declared.row.TheConstants.Row.{ACTIVATED_ROLE};
 ghost use Rattle.rbac_sets.specs.declared.row.Change.{Change};
@@ -8,7 +9,7 @@ ghost use Rattle.role_order.specs.Planned.{Fits, changed};
 ghost use Rattle.admin_mgr.specs.RowUpdates.{with_row, without_row, with_edges, after_change, after_changes, IsFree, AreFree, HasRoom, UsesRoom, table_put, puts_of};
 ghost use Rattle.admin_mgr.specs.PlanEffect.{order_of, HasRoomIn};
 ghost use Rattle.admin_mgr.specs.Changes.{takes};
-ghost use Rattle.admin_mgr.specs.private.PlanChanges.{pair_row, take_all};
+ghost use Rattle.admin_mgr.specs.private.PlanChanges.{is_take, pair_row, take_all};
 
 use crate::relations::Relations;
 use crate::relations::bulk_removal::BulkRemoval;
@@ -23,6 +24,9 @@ impl Relations {
         ensures room { OnOk result (HasRoom self.new.room changes.now) }
         ensures cause { IfErr result (λ refusal. refusal ≡ Refusal.Memory) }
     {
+        if are_takes(changes) {
+            return Ok(());
+        }
         let puts = count_puts(changes);
         self.users.reserve(puts[Table::Users.number()])?;
         self.roles.reserve(puts[Table::Roles.number()])?;
@@ -54,9 +58,23 @@ impl Relations {
         self.order.make_room(plan)
     }
 
-    // Makes the changes one after the other, except those of rows of the role hierarchy. Rows that are taken
-    // one after the other are taken together.
-    pub(crate) fn change(&mut self, changes: Vec<Change>)
+    // Makes the changes one after the other, except those of rows of the role hierarchy.
+    #[tactic(auto, unfolding(crate::specs::RowUpdates::after_changes))]
+    pub(crate) fn change(&mut self, mut changes: Vec<Change>)
+        requires free { AreFree self.old.facts changes.items }
+        requires room { HasRoom self.old.room changes.items }
+        ensures facts { self.new.facts ≡ after_changes self.old.facts changes.items }
+        ensures order { order_of self.new ≡ order_of self.old }
+    {
+        if changes.len() > 1 {
+            self.change_in_turn(changes);
+        } else if let Some(change) = changes.pop() {
+            self.apply(change);
+        }
+    }
+
+    // The same of any number of changes. Rows that are taken one after the other are taken together.
+    fn change_in_turn(&mut self, changes: Vec<Change>)
         requires free { AreFree self.old.facts changes.items }
         requires room { HasRoom self.old.room changes.items }
         ensures facts { self.new.facts ≡ after_changes self.old.facts changes.items }
@@ -223,6 +241,15 @@ fn pass(changes: &mut VecDeque<Change>, count: usize)
     if count > 0 {
         changes.drain(..count);
     }
+}
+
+// Whether each change takes a row.
+fn are_takes(changes: &[Change]) -> bool
+    ensures { result ≡ list_all is_take changes.now }
+{
+    changes
+        .iter()
+        .all(|change| matches!(change, Change::Take(_)))
 }
 
 // How many of the changes put a row into each table, by the table's number.

@@ -1,7 +1,7 @@
 use Rattle.std.proofs.Common.{◌≡◌, length}
 use Rattle.admin_mgr.specs.RowUpdates.{after_changes, AreFree, HasRoom}
 use Rattle.admin_mgr.specs.PlanEffect.{order_of}
-use Rattle.admin_mgr.proofs.relations.Relations.change.Given as goal
+use Rattle.admin_mgr.proofs.relations.Relations.change_in_turn.Given as goal
 
 abbrev pub invariant-loop-self : goal.invariant-loop-self
 invariant-loop-self l = (after_changes l.self.facts l.changes.items ≡ after_changes l.fn.self.facts l.fn.changes.items)

@@ -3,7 +3,7 @@ use Rattle.admin_mgr.specs.RowUpdates.{after_changes, AreFree, HasRoom}
 use Rattle.std.proofs.lemmas.List.{nil_from_length}
 use Rattle.admin_mgr.proofs.PlanRows.RoomLaws.{room_first, room_left}
 use Rattle.admin_mgr.proofs.PlanRows.RemovedTogether.{made_first, room_behind}
-use Rattle.admin_mgr.proofs.relations.Relations.change.Goals as goal
+use Rattle.admin_mgr.proofs.relations.Relations.change_in_turn.Goals as goal
 
 pub apply-requires-clause-free : goal.apply-requires-clause-free
 apply-requires-clause-free c =
