@@ -8,6 +8,7 @@ more allocations are tried. `refuse.c` is loaded into the program and fails one 
 output, or with status 1 and one line (40, 41, `stop Memory` or `stop Store` after so many answers) behind a prefix of its
 answers; a request gets its reply, 503, 500 or nothing. An office in a file is then the one before or after, and the same run
 without a failure completes the rest. If a run makes more allocations than are tried, those that are tried are spread evenly.
+Of three rows in memory each allocation is tried.
 """
 
 import os
@@ -35,6 +36,9 @@ ROWS = sorted(path for path in (TESTS / "rows").rglob("*.jsonl") if path.parent.
 PARTS = 4
 TRIED = {"subcommand": 240, "memory": 16, "opening": 2, "file": 6}
 MORE_TRIED = {"subcommand": 20_000, "memory": 10_000, "opening": 8, "file": 10_000}
+
+# The rows of which each allocation is tried, over an office in memory.
+WHOLE_ROWS = ["rows/first-run.jsonl", "rows/access.jsonl", "rows/bad-requests.jsonl"]
 
 # Longer rows are for `--long` only, and this many allocations of each are tried.
 LONG_ROW = 5_000
@@ -175,9 +179,9 @@ def refuse_row_over_file(bench, row, of_opening, most):
     return counts
 
 
-def refuse_row_in_memory(bench, row, most):
-    """Refuses allocations of a replay of a row over an office in memory."""
-    refuser, model, counts = Refuser(bench), Replay(), Counter()
+def refuse_row_in_memory(bench, row, most, part=0, parts=1):
+    """Refuses a part of the allocations of a replay of a row over an office in memory."""
+    refuser, model, counts, noticed = Refuser(bench), Replay(), Counter(), 0
     given = (TESTS / row).read_bytes()
     whole = Done(b"".join(model.answers(given)), model.message(), 1 if model.stop else 0)
 
@@ -185,7 +189,7 @@ def refuse_row_in_memory(bench, row, most):
         return refuser.run(["replay", "--memory"], given, **refuser.settings(number))
 
     count = number_of_allocations(lambda number: run(number) and refuser.told is not None)
-    for number in tried(count, most):
+    for number in tried(count, most, part, parts):
         done = run(number)
         what = f"{row} in memory, allocation {number} of {count} refused"
         bench.same(f"{what}: it was asked for", refuser.told, "")
@@ -193,6 +197,8 @@ def refuse_row_in_memory(bench, row, most):
         bench.judge(f"{what}: what it prints", faults)
         counts[f"replay --memory: ended with {end_of(done)}"] += 1
         counts["allocations refused in memory"] += 1
+        noticed += done != whole
+    bench.judge(f"{row} in memory: failed allocations are noticed", [] if noticed else ["each run went on"])
     # A pipe gives a long input in other pieces from run to run, and that makes some allocations more or fewer.
     bench.same(f"{row} in memory, nothing refused", run(MOST), whole)
     return counts
@@ -249,8 +255,11 @@ def jobs(is_long):
     found += [(refuse_server, part, most["subcommand"]) for part in range(PARTS)]
     for path in ROWS:
         row, size = str(path.relative_to(TESTS)), path.stat().st_size
-        if size <= LONG_ROW:
+        if row in WHOLE_ROWS:
+            found += [(refuse_row_in_memory, row, MOST, part, PARTS) for part in range(PARTS)]
+        elif size <= LONG_ROW:
             found += [(refuse_row_in_memory, row, most["memory"])]
+        if size <= LONG_ROW:
             found += [(refuse_row_over_file, row, most["opening"], most["file"])]
         elif is_long:
             found += [(refuse_row_in_memory, row, OF_LONG_ROW), (refuse_row_over_file, row, 0, OF_LONG_ROW)]

@@ -11,6 +11,24 @@ RBAC_PROGRAM=$(dirname "$0")/../crates/refused_tests/out/refused_tests_tests
 # More allocations than a test makes.
 most=100000
 
+# make_shim: builds refuse.c, by which `refusing` refuses an allocation.
+make_shim() {
+    cc -O1 -Wall -Wextra -Werror -shared -fPIC -o "$work/refuse.so" "$tests/refuse.c" || {
+        fail "refuse.c cannot be built"
+        finish
+    }
+}
+
+# refusing NUMBER COMMAND..: runs the program of the command with its allocation of this number failing.
+# Afterwards the file $work/refused is there, unless the program asked for fewer.
+refusing() {
+    at=$1
+    shift
+    rm -f "$work/refused"
+    # `env` gives the shim to the program alone, and not to `timeout`.
+    timeout 60 env REFUSE="$at" REFUSED="$work/refused" LD_PRELOAD="$work/refuse.so" "$@"
+}
+
 # refuse_each TEST LEAST: the test has to make LEAST allocations at least.
 refuse_each() {
     number=0

@@ -170,7 +170,9 @@ printf '\377' | dd of="$copy/release/rbac" bs=1 seek=$((size / 2)) conv=notrunc 
 check_status 0 'a forged manifest, without the build beside it'
 if "$copy/bin/release" --check "$work/built" >"$work/said" || [ $? -ne 2 ]; then
     fail 'a program that claims these sources and is not their build is not refused'
-elif "$copy/bin/release" --record "$program" "$("$copy/bin/release" --digest)" "$copy/release" &&
+elif pretends rt 'another kit' && ! "$copy/bin/release" --check "$work/built" | grep -q 'by another kit: it is of unknown,'; then
+    fail 'a program that another kit has built is refused without naming the kits'
+elif rm "$work/commands/rt" && "$copy/bin/release" --record "$program" "$("$copy/bin/release" --digest)" "$copy/release" &&
     "$copy/bin/release" --check "$work/built" >"$work/said"; then
     pass
 else
