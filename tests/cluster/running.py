@@ -14,7 +14,7 @@ from program.bench import PROGRAM, TESTS, Bench
 
 # What needs nothing but the sources, and what needs etcd and a built node.
 OF_SOURCES = ["sources"]
-OF_CLUSTERS = ["program", "page", "answers", "secured", "keeping", "judged"]
+OF_CLUSTERS = ["program", "page", "booted", "answers", "secured", "keeping", "judged"]
 
 NEEDED = ["go.etcd.io/etcd/clientv3", "github.com/prometheus/client_golang/prometheus"]
 

@@ -106,6 +106,33 @@ Seccomp:2
 NRestarts=1
 """
 
+# With a unit for one connection it is started again after that. If it does not take its words, it is not.
+LIMITED = """
+setting=/etc/systemd/system/rbac.service.d/port.conf
+serve_at() {
+    mkdir -p "${setting%/*}"
+    echo '[Service]' > "$setting"
+    sed -n "s/^ExecStart=.*/ExecStart=\\n&/; s/--port 8080 --limit 1000000/--port $1 --limit 1/p" \\
+        /etc/systemd/system/rbac.service >> "$setting"
+    systemctl daemon-reload
+    systemctl restart rbac || true
+}
+serve_at 8080
+answers; answers
+systemctl show rbac -p Result
+serve_at none
+for turn in $(seq 100); do ! systemctl -q is-failed rbac || break; sleep 0.1; done
+systemctl show rbac -p ActiveState
+systemctl show rbac -p ExecMainStatus
+rm -r "${setting%/*}"
+systemctl daemon-reload
+"""
+
+WAS_LIMITED = """Result=success
+ActiveState=failed
+ExecMainStatus=2
+"""
+
 # After the upgrade the server answers, and after its end the office is good.
 ENDED = """
 answers; ask assignedRoles
@@ -175,7 +202,7 @@ def by_systemd(bench):
     """systemd runs the unit as the commands of the page install it: it sees its own files alone, and is started again."""
     if not (is_root() and has("unshare", "mount", "systemd-nspawn", "useradd", "runuser", "systemctl", "curl")):
         return
-    first = ["set -e", block_with("useradd "), FOUND, ASKING, RUNNING]
+    first = ["set -e", block_with("useradd "), FOUND, ASKING, RUNNING, LIMITED]
     script = [*first, block_with("systemctl restart "), cron(), ENDED, CHECKED]
     done = on_layer(bench, BOOTED, "\n".join(script))
     if not done:
@@ -185,8 +212,10 @@ def by_systemd(bench):
     bench.same("what is there after installing", out[: len(INSTALLED)], INSTALLED)
     rest = out[len(INSTALLED) :]
     bench.same("what the server does, and sees", rest[: len(RAN)], RAN)
+    rest = rest[len(RAN) :]
+    bench.same("what follows its last connection, and words that it does not take", rest[: len(WAS_LIMITED)], WAS_LIMITED)
     ended = '{"ok":true,"value":[]}\nResult=success\ngood\n2\n'
-    bench.same("the end", same_backup(bench, rest[len(RAN) :]), ended)
+    bench.same("the end", same_backup(bench, rest[len(WAS_LIMITED) :]), ended)
 
 
 # Runs bin/setup as if nginx and HAProxy were missing. What stands for apt-get prints its words, and whether servers may start.

@@ -45,16 +45,14 @@ type settings struct {
 }
 
 func main() {
-	ctx, stop := signal.NotifyContext(context.Background(), syscall.SIGTERM, syscall.SIGINT)
-	defer stop()
-	if err := run(ctx, os.Args[1:]); err != nil {
+	if err := run(os.Args[1:]); err != nil {
 		fmt.Fprintln(os.Stderr, "rbac-node:", err)
 		os.Exit(1)
 	}
 }
 
 // run does what the command line asks for.
-func run(ctx context.Context, words []string) error {
+func run(words []string) error {
 	if len(words) == 0 {
 		words = []string{""}
 	}
@@ -85,6 +83,9 @@ func run(ctx context.Context, words []string) error {
 		return fmt.Errorf("etcd: %w", err)
 	}
 	defer client.Close()
+	// Until here a signal ends the process at once, even while etcd does not answer.
+	ctx, stop := signal.NotifyContext(context.Background(), syscall.SIGTERM, syscall.SIGINT)
+	defer stop()
 	log := ledger.New(client, s.prefix, logger)
 	if words[0] == "adopt" {
 		return adopt(ctx, s, log, flags.Arg(0))
@@ -231,6 +232,10 @@ func serve(ctx context.Context, s settings, log *ledger.Ledger, logger *zap.Logg
 	_ = forPeers.Shutdown(within)
 	end()
 	err = work.Wait()
+	if ctx.Err() != nil && errors.Is(err, context.Canceled) {
+		// The signal came while the node was recovering.
+		err = nil
+	}
 	logger.Info("ended", zap.Error(err))
 	return err
 }

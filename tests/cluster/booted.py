@@ -1,0 +1,70 @@
+"""The unit of the node under a systemd that is booted on a layer above the files of this machine, with one member of etcd."""
+
+from pathlib import Path
+
+from deploy.common import has, is_root
+from deploy.installed import BOOTED, on_layer
+from pages import markdown
+
+from .running import build
+
+# As bin/setup and bin/node would leave it. No unit may wait for a network that is not there.
+BEFORE = """
+set -e
+NAME=a ME=127.0.0.1 PEERS=a=http://127.0.0.1:2380 ETCD=http://127.0.0.1:2379
+for unit in NetworkManager systemd-networkd ifupdown; do
+    ln -sf /dev/null "/etc/systemd/system/$unit-wait-online.service"
+done
+cd /mnt/repository
+install -m 755 rbac-node /usr/local/bin/rbac-node
+"""
+
+# What the node answers, when it is started again, how many files it may open, and how it ends.
+ASKING = """
+healthy() { curl -s -f "http://$ME:8080/healthz" > /dev/null; }
+ready() { for turn in $(seq 100); do ! healthy || return 0; sleep 0.1; done; echo 'no node'; }
+ask() { curl -s -w '\\n' -d '{"user":"ann"}' "http://$ME:8080/v1/$1"; }
+of_node() { systemctl show rbac-node -p "$1"; }
+process() { systemctl show rbac-node -p MainPID --value; }
+ready; ask addUser
+stat -c '%n %U %a' /var/lib/rbac-node
+awk '/open files/ { print ($4 == $5) }' "/proc/$(process)/limits"
+systemctl restart rbac-node; ready; ask addUser
+systemctl kill -s KILL rbac-node; ready; ask addUser; of_node NRestarts
+kill -9 "$(pgrep -x -P "$(process)" rbac)"; sleep 0.5; ready; ask addUser; of_node NRestarts
+systemctl stop rbac-node; of_node Result; of_node ExecMainStatus
+systemctl stop etcd; systemctl start rbac-node; systemctl stop rbac-node; of_node Result
+"""
+
+EXISTS = '{"code":3,"error":"UserExists"}'
+
+SAID = f"""{{"ok":true}}
+/var/lib/rbac-node rbac 700
+1
+{EXISTS}
+{EXISTS}
+NRestarts=1
+{EXISTS}
+NRestarts=2
+Result=success
+ExecMainStatus=0
+Result=success
+"""
+
+
+def check_unit(bench):
+    """The commands of the page make a node that systemd runs: it is started again, and ends with status 0."""
+    needed = ["unshare", "mount", "systemd-nspawn", "useradd", "systemctl", "curl", "pgrep"]
+    if not (is_root() and has(*needed)):
+        return
+    if not Path("/lib/systemd/system/etcd.service").exists():
+        print("left out: the unit of the node under systemd, since there is no unit of etcd", flush=True)
+        return
+    installing, starting = markdown.blocks(markdown.page("CLUSTER.md"), "text")
+    bench.same("what the test does in its own way", [line.split()[0] for line in installing[:2]], ["bin/setup", "bin/node"])
+    script = "\n".join([BEFORE, *installing[2:], *starting, ASKING])
+    done = on_layer(bench, BOOTED, script, build(bench.shared))
+    if not done:
+        print("left out: systemd, which can't be booted here", flush=True)
+        return
+    bench.same("what the node does", done.out.decode(), SAID)
