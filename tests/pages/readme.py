@@ -60,6 +60,12 @@ def check_two_commands(bench):
     bench.same("the page names the gate", f"`{second} --proofs`" in PAGE, True)
 
 
+def check_kit(bench):
+    """The page names the kit that built the committed program."""
+    (kit,) = re.findall(r"^kit (.*)$", (ROOT / "release/manifest").read_text(encoding="utf-8"), re.M)
+    bench.same("the kit", re.findall(r"the kit `([^`]*)` \(`rt version`\)", PAGE), [kit])
+
+
 def check_first_minutes(bench):
     """The commands of the five minutes print what the page says."""
     text = markdown.section(PAGE, "## Five minutes to a checked decision")
