@@ -106,7 +106,7 @@ Seccomp:2
 NRestarts=1
 """
 
-# With a unit for one connection it is started again after that. If it does not take its words, it is not.
+# With a unit for one connection it is started again after that one. If its arguments are refused, it is not started again.
 LIMITED = """
 setting=/etc/systemd/system/rbac.service.d/port.conf
 serve_at() {
@@ -213,7 +213,7 @@ def by_systemd(bench):
     rest = out[len(INSTALLED) :]
     bench.same("what the server does, and sees", rest[: len(RAN)], RAN)
     rest = rest[len(RAN) :]
-    bench.same("what follows its last connection, and words that it does not take", rest[: len(WAS_LIMITED)], WAS_LIMITED)
+    bench.same("what follows its last connection, and arguments that are refused", rest[: len(WAS_LIMITED)], WAS_LIMITED)
     ended = '{"ok":true,"value":[]}\nResult=success\ngood\n2\n'
     bench.same("the end", same_backup(bench, rest[len(WAS_LIMITED) :]), ended)
 
