@@ -8,7 +8,7 @@ use crate::failure::Failure;
 use crate::memory_file::MemoryFile;
 use rbac_sets::{Refusal, Sink, Source};
 use role_tables::{Office, create};
-use role_wire::{Count, replay};
+use role_wire::replay;
 use sqlite::{Connection, FileStore, Files, Options};
 use sqlite_disk::Disk;
 use std::alloc::Global;
@@ -35,7 +35,7 @@ pub(crate) fn replay_memory<R: Source, W: Sink>(
     alloc: Global,
     source: &mut R,
     sink: &mut W,
-) -> Result<Count, Failure>
+) -> Result<(), Failure>
     ensures done { OnOk result (ReplaysInMemory ⟦<MemoryFile as Disk>⟧ (R.remaining source.old) (R.remaining source.new) (W.written sink.old) (W.written sink.new)) }
     ensures stopped { IfErr result (λ failure. FailsInMemory ⟦<MemoryFile as Disk>⟧ failure ((source.new ≡ source.old) × (sink.new ≡ sink.old))
         (R.remaining source.old) (R.remaining source.new) (W.written sink.old) (W.written sink.new)) }
@@ -46,7 +46,7 @@ pub(crate) fn replay_memory<R: Source, W: Sink>(
 {
     let mut office = new_office(alloc)?;
     match replay(alloc, &mut office, source, sink) {
-        Ok(count) => Ok(count),
+        Ok(_) => Ok(()),
         Err(stop) => Err(Failure::Stopped(stop)),
     }
 }

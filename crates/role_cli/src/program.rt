@@ -93,10 +93,7 @@ fn done<R: Source, W: Sink>(
     ensures reads { R.reads source.new ≤ R.reads source.old + most_reads }
 {
     match choice {
-        Choice::Replay(Place::Memory) => match replay_memory(rt.alloc(), source, out) {
-            Ok(_) => Ok(()),
-            Err(failure) => Err(failure),
-        },
+        Choice::Replay(Place::Memory) => replay_memory(rt.alloc(), source, out),
         Choice::Init(file)
         | Choice::Replay(Place::File(file))
         | Choice::Serve(file, _, _)

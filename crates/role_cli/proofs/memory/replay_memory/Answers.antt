@@ -10,4 +10,4 @@ returns-clause-stopped g c =
 pub returns-in-Ok-clause-done : goal.returns-in-Ok-clause-done
 returns-in-Ok-clause-done g c =
     let (input, consumes, answered, reaches) = c.in-Ok.ensures.ok in
-    (c.in_ok-office.office, c.replay.new.office, c.in_ok-office.ensures.ok, (input, consumes, c.in-Ok.ensures.end, (c.in-Ok.count.answered, answered), reaches))
+    (c.in_ok-office.office, c.replay.new.office, c.in_ok-office.ensures.ok, (input, consumes, c.in-Ok.ensures.end, (_, answered), reaches))
