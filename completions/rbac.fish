@@ -1,10 +1,10 @@
 # Completions of rbac for fish. tests/package.py compares them with the sources of the command line.
 
 complete -c rbac -n __fish_use_subcommand -f
-complete -c rbac -n __fish_use_subcommand -a init -d 'Make a new, empty office'
+complete -c rbac -n __fish_use_subcommand -a init -d 'Create an empty office'
 complete -c rbac -n __fish_use_subcommand -a replay -d 'Answer the request lines of standard input'
 complete -c rbac -n __fish_use_subcommand -a serve -d 'Answer requests over HTTP on 127.0.0.1'
-complete -c rbac -n __fish_use_subcommand -a import -d 'Assign the users of a CSV file to its roles'
+complete -c rbac -n __fish_use_subcommand -a import -d 'Assign users to roles, as a CSV file lists them'
 complete -c rbac -n __fish_use_subcommand -a export -d 'Write the assignments as CSV'
 complete -c rbac -n __fish_use_subcommand -a report -d 'Write how many users and permissions each role has'
 complete -c rbac -n __fish_use_subcommand -a check -d 'Check that the file holds a good office'

@@ -21,11 +21,11 @@ def long_head(length):
 
 # By the words of the page: the statuses of `rbac serve` and of a node, and requests. No status is no answer.
 HEADS = {
-    "no `Host`, two, or one that is no host": (200, 400, [request(host=""), request("Host: b"), request(host="Host: a b")]),
-    "`Expect`, but for `100-continue`": (200, 417, [request("Expect: x")]),
+    "no `Host`, two of them, or one that is not a host name": (200, 400, [request(host=""), request("Host: b"), request(host="Host: a b")]),
+    "`Expect` with a value other than `100-continue`": (200, 417, [request("Expect: x")]),
     "HTTP/1.2 to HTTP/1.9": (400, 200, [request(line=LINE[:-1] + "2"), request(line=LINE[:-1] + "9")]),
     "HTTP/0.9, or HTTP/2.0 in the line": (400, 505, [request(line=LINE[:-3] + "0.9"), request(line=LINE[:-3] + "2.0")]),
-    "a field without a name, or that begins with a blank": (400, 200, [request("X: y", ": y"), request("X: y", " z")]),
+    "a field without a name, or one that begins with a space": (400, 200, [request("X: y", ": y"), request("X: y", " z")]),
     "a length without a digit": (400, 411, [request(length="Content-Length: ")]),
     "a length of 20 digits or more": (413, 400, [request(length="Content-Length: " + "9" * 20)]),
     "8,193 to 12,000 bytes": (431, 200, [long_head(8_193), long_head(12_000)]),

@@ -23,7 +23,7 @@ class Machine:
 
     def __init__(self, bench, name, addresses):
         self.name, self.addresses = name, addresses
-        folder = bench.folder / name
+        self.folder = folder = bench.folder / name
         folder.mkdir()
         (folder / ".curlrc").write_text("silent\n", encoding="ascii")
         programs = bench.folder / "bin"
@@ -44,12 +44,16 @@ class Machine:
         said, deadline = b"", time.monotonic() + SECONDS
         while END not in said:
             if not select.select([self.shell.stdout], [], [], deadline - time.monotonic())[0]:
-                raise TimeoutError(f"{text} has printed {said} in {SECONDS} seconds")
+                raise TimeoutError(f"{text} has printed {said} in {SECONDS} seconds{self.logs()}")
             piece = os.read(self.shell.stdout.fileno(), 65_536)
             if not piece:
                 raise EOFError(f"the shell has ended with {text}")
             said += piece
         return said.replace(END, b"").decode()
+
+    def logs(self):
+        """What the programs of the machine have written last, for the report of a failure."""
+        return "".join(f"\n{it.name}:\n{it.read_text(errors='replace')[-2000:]}" for it in sorted(self.folder.glob("*.log")))
 
     def close(self):
         os.killpg(self.shell.pid, signal.SIGKILL)

@@ -106,7 +106,7 @@ def check_more_words(bench):
 
 def check_no_text(bench):
     """An argument that is no UTF-8 is refused with status 2, whichever it is."""
-    path, line = Office(bench).path, b"rbac: a word is not UTF-8\n"
+    path, line = Office(bench).path, b"rbac: an argument is not UTF-8\n"
     for words in ([b"\xff"], ["check", b"\xff"], ["check", path, b"\xc3"], [b"check\xe9", path]):
         bench.ends(words, err=line, status=2, keeps=True, what=f"words {words}")
 

@@ -10,11 +10,11 @@ fn main(rt: HostRuntime) -> ExitCode {
     match run(&rt) {
         Ok(status) => ExitCode::from(status),
         Err(error) if error.kind() == ErrorKind::OutOfMemory => {
-            tell(&rt, b"rbac: {\"code\":40,\"error\":\"Memory\"}\n");
+            report(&rt, b"rbac: {\"code\":40,\"error\":\"Memory\"}\n");
             ExitCode::from(1)
         }
         Err(_) => {
-            tell(&rt, b"rbac: a word is not UTF-8\n");
+            report(&rt, b"rbac: an argument is not UTF-8\n");
             ExitCode::from(2)
         }
     }
@@ -22,13 +22,13 @@ fn main(rt: HostRuntime) -> ExitCode {
 
 // Does what the arguments ask for, and returns the exit status.
 fn run(rt: &HostRuntime) -> io::Result<u8> {
-    let mut words = Vec::new(rt.alloc());
-    for word in env::args(rt)? {
-        words.push(word)?;
+    let mut arguments = Vec::new(rt.alloc());
+    for argument in env::args(rt)? {
+        arguments.push(argument)?;
     }
     let mut texts = Vec::new(rt.alloc());
-    for word in &words {
-        texts.push(word.as_str())?;
+    for argument in &arguments {
+        texts.push(argument.as_str())?;
     }
     let mut source = Reader::new(rt.stdin());
     let mut out = Writer::new(rt.stdout());
@@ -37,6 +37,6 @@ fn run(rt: &HostRuntime) -> io::Result<u8> {
 }
 
 // Writes a line to standard error. If that fails, nothing else changes.
-fn tell(rt: &HostRuntime, line: &[u8]) {
+fn report(rt: &HostRuntime, line: &[u8]) {
     let _ = write_all(&mut Writer::new(rt.stderr()), line);
 }

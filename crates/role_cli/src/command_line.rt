@@ -134,7 +134,7 @@ fn import_command<'a>(alloc: Global) -> Result<Command<'a>, AllocError>
     ensures own { IfOk result (λ c. (out-Command c).has_globals ≡ false) }
 {
     Command::new(alloc, "import")
-        .about("Assign the users of a CSV file to its roles")
+        .about("Assign users to roles, as a CSV file lists them")
         .arg(file_arg(alloc))?
         .arg(csv_arg(alloc))
 }
@@ -154,7 +154,7 @@ fn bare_program<'a>(alloc: Global) -> Command<'a>
 fn first_three<'a>(alloc: Global) -> Result<Command<'a>, AllocError>
     ensures { IfOk result (λ c. app_of c ≡ first_three) }
 {
-    let init = file_command(alloc, "init", "Make a new, empty office")?;
+    let init = file_command(alloc, "init", "Create an empty office")?;
     let replay = replay_command(alloc)?;
     let serve = serve_command(alloc)?;
     let rbac = bare_program(alloc);
