@@ -88,7 +88,7 @@ class Build:
                     if found:
                         self.doing[crate.name] = found[2], found[1]
         if ran.returncode:
-            raise Failed(f"{crate.name}: rattle {verb} ended with status {ran.returncode}; {self.at(crate)}/log has its words")
+            raise Failed(f"{crate.name}: rattle {verb} ended with status {ran.returncode}; {self.at(crate)}/log has its output")
 
     def prove(self, crate, jobs):
         """Proves a crate and builds its library, or of the program the object file and the executable."""

@@ -118,15 +118,6 @@ def check_connections(bench):
     bench.same("whether a whole request, a part of one, and one that is left are done", said, [True, False, False])
 
 
-def check_repeated(bench):
-    """What the page says of repeated commands are the codes that docs/INTEGRATING.md has for each command."""
-    (said,) = re.findall(r"^If the answer to a command was lost.*?\n\n", REFUSALS, re.M | re.S)
-    here = re.findall(r"\b\d+\b", said.partition("INTEGRATING")[0])
-    (table,) = markdown.tables(markdown.section(markdown.page("INTEGRATING.md"), "## 3. After a timeout"))
-    there = {code for row in table for code in re.findall(r"\b\d+\b", f"{row[1]} {row[3]}")}
-    bench.same("the codes", sorted(here, key=int), sorted(there, key=int))
-
-
 def check_functions(bench):
     """Each command and each question has its part, and nothing else has one."""
     known = list(sources.functions().values())

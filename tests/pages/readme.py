@@ -63,7 +63,7 @@ def check_two_commands(bench):
 def check_kit(bench):
     """The page names the kit that built the committed program."""
     (kit,) = re.findall(r"^kit (.*)$", (ROOT / "release/manifest").read_text(encoding="utf-8"), re.M)
-    bench.same("the kit", re.findall(r"the kit `([^`]*)`\s\(`rt version`\)", PAGE), [kit])
+    bench.same("the kit", re.findall(r"`rt version` prints `([^`]*)`", PAGE), [kit])
 
 
 def check_first_minutes(bench):
