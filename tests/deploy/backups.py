@@ -7,14 +7,16 @@ import os
 import resource
 import shutil
 import signal
+import socket
 import sqlite3
 import subprocess
+import sys
 from contextlib import closing, contextmanager
 
 from program import damaged
 from program.bench import PROGRAM, SECONDS
 from program.offices import change, read_rows, same_rows, small_office, told_of
-from program.web import Server, post, reply
+from program.web import Server, free_port, post, reply
 
 from .common import DEPLOY, has, is_paused, is_root, run, wait_until
 
@@ -177,6 +179,38 @@ def copying(bench, server, text, *words):
             script.kill()
 
 
+# A parent that stops itself while its child is stopped, and then does not see its end, as runuser does.
+LIKE_RUNUSER = """import os, signal, sys
+child = os.fork()
+if child == 0:
+    os.execv(sys.argv[1], sys.argv[1:])
+while True:
+    _, status = os.waitpid(child, os.WUNTRACED)
+    if not os.WIFSTOPPED(status):
+        sys.exit(os.waitstatus_to_exitcode(status))
+    os.kill(os.getpid(), signal.SIGSTOP)
+    os.kill(child, signal.SIGCONT)
+"""
+
+
+def stopping_parent(bench):
+    """A parent that stops itself when the server is paused goes on with the server, and sees its end."""
+    office = small_office(bench)
+    folder_for(bench)
+    words = [sys.executable, "-c", LIKE_RUNUSER, PROGRAM, "serve", office.path, "--port", str(free_port()), "--limit", "1"]
+    with subprocess.Popen(words, stdin=subprocess.DEVNULL, stdout=subprocess.PIPE) as parent:
+        try:
+            address = parent.stdout.readline().split(b":")[-1]
+            path = made_by(bench, backup(bench))
+            with socket.create_connection(("127.0.0.1", int(address)), SECONDS):
+                pass
+            bench.same("the status of the parent", parent.wait(SECONDS), 0)
+        finally:
+            parent.kill()
+            parent.send_signal(signal.SIGCONT)
+    told_of(bench, path, office.model.state)
+
+
 def killed_script(bench):
     """Whatever ends the script or its group of processes while it copies, the server goes on, and the next backup is whole."""
     office = small_office(bench)
@@ -310,6 +344,7 @@ JOBS = [
     for job in (
         long_pause,
         killed_script,
+        stopping_parent,
         small_disk,
         refusals,
         last_stay,
