@@ -184,10 +184,20 @@ class Lines(Client):
                 return _value(function, None, text), text
             except Refused:
                 raise
+            except Unanswered as error:
+                raise type(error)(f"{error}{self._end_child()}") from error
             except BaseException:
-                self._child.kill()
-                self.close()
+                self._end_child()
                 raise
+
+    def _end_child(self) -> str:
+        """Ends the child. Returns with which status it had ended before by itself, to be added to an error; or nothing."""
+        status = None
+        with contextlib.suppress(subprocess.TimeoutExpired):
+            status = self._child.wait(0.1)
+        self._child.kill()
+        self.close()
+        return "" if status is None else f": the child has ended with status {status}, and its standard error says why"
 
     def _answer(self, line: bytes, deadline: float) -> bytes:
         """Sends a line and returns its answer. Nothing may come before the line is sent, and nothing after the answer."""

@@ -143,7 +143,12 @@ def no_office(bench):
     """A child that can't open its office answers nothing."""
     quiet = ["sh", "-c", 'exec "$@" 2> /dev/null', "sh", PROGRAM]
     with rbac.Lines([*quiet, "replay", bench.path("nothing")], PATIENT) as client:
-        bench.same("a decision", raised(client.check_access, *CHECK) in ("Unanswered", "Unreachable"), True)
+        try:
+            client.check_access(*CHECK)
+        except rbac.Unanswered as error:
+            bench.same("what is said of a child that has ended", "the child has ended with status 1" in str(error), True)
+        else:
+            bench.same("a decision without an office", True, False)
     bench.same("a program that is not there", raised_by_start(), FileNotFoundError)
 
 
