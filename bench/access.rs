@@ -1,5 +1,5 @@
 //! The floor of `access.rt.bench` in plain Rust: decisions over sorted vectors of texts with the
-//! closure stored. It reads the same lines and prints the same ones, by two ways to decide: `floor`
+//! closure stored. It reads the same lines and prints the same ones, in two ways to decide: `floor`
 //! asks for no more than the answer, and `same` makes the tests of the proved one in their order.
 
 use std::io::stdin;

@@ -1,4 +1,4 @@
-//! The limit of `access.rt.bench`: what a decision takes if names are numbers in hash tables, and the juniors
+//! The limit of `access.rt.bench`: what a decision costs if names are numbers in hash tables, and the juniors
 //! of each role, the roles of each session and the grants of each permission are bit sets. It reads the same
 //! lines and prints the same ones. It has no plans, no limits and no separation of duty.
 
@@ -28,11 +28,11 @@ struct Office {
     roles: Names,
     objects: Names,
     operations: Names,
-    /// Of each role its juniors and itself.
+    /// For each role, its juniors and itself.
     below: Vec<RoleSet>,
-    /// Of each session its activated roles and their juniors.
+    /// For each session, its activated roles and their juniors.
     sessions: HashMap<String, RoleSet>,
-    /// Of each permission, by its object and its operation, the roles to which it is granted.
+    /// For each permission, by its object and its operation, the roles to which it is granted.
     granted: HashMap<(usize, usize), RoleSet>,
 }
 
@@ -93,7 +93,7 @@ impl Office {
         (self.objects.number(object), self.operations.number(operation))
     }
 
-    /// Adds an inheritance. There is no session yet, whose roles would be more by it.
+    /// Adds an inheritance. There is no session yet that would get more roles by it.
     fn add_inheritance(&mut self, asc: &str, desc: &str) {
         assert!(self.sessions.is_empty());
         let (asc, desc) = (self.roles.number(asc), self.roles.number(desc));

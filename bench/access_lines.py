@@ -84,7 +84,7 @@ def table_rows(grants):
 def limit_lines(roles, edges, asked, sessions):
     """An office of these roles and inheritances, with 2,000 objects, 5,000 permissions, 20,000 grants and 1,000
     sessions. The first permissions are granted to the lists of roles of `asked`, and in the sessions the lists of
-    roles of `sessions` are activated by turns. The other grants are spread."""
+    roles of `sessions` are activated in turn. The other grants are spread."""
     yield from (f"- addRole {role}" for role in roles)
     yield from (f"- addInheritance {asc} {desc}" for asc, desc in edges)
     yield from (f"- addPermObj object{number:04}" for number in range(2_000))

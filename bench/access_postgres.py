@@ -1,11 +1,11 @@
 #!/usr/bin/env python3
 """bench/access_postgres.py FOLDER: the decisions of `access` by a PostgreSQL server of its own, over a local socket.
 
-It reads rows.csv and questions.csv, and asks in two ways: `member` by pg_has_role, with users and roles as roles of
-PostgreSQL and each is granted to those that have it, and `stored-closure` by the statement of access_sqlite.py. It
-prints for each way how many answers were right, and the nanoseconds of that number. The answers are compared by
-one statement over all questions; the time is that of pgbench with one client, which sends the first questions as
-prepared statements. The server is stopped at the end, and its folder is removed.
+It reads rows.csv and questions.csv, and asks in two ways: `member` uses pg_has_role, with users and roles as roles of
+PostgreSQL, each granted to those that have it; `stored-closure` uses the statement of access_sqlite.py. For each way it
+prints how many answers were right, and the nanoseconds for that number of answers. One statement over all questions
+compares the answers; the time is that of pgbench with one client, which sends the first questions as prepared
+statements. The server is stopped at the end, and its folder is removed.
 """
 
 import csv
@@ -41,7 +41,7 @@ COLUMNS = {
     "operation": "asked.operation",
     "object": "asked.object",
 }
-# How many questions are timed, and how often each in a round. The first time includes their preparation.
+# How many questions are timed, and how often each is asked in a round. The first time includes their preparation.
 QUESTIONS = 1_000
 TIMES = 50
 ROUNDS = 3
@@ -92,7 +92,7 @@ class Server:
         shutil.rmtree(self.folder)
 
     def query(self, statements):
-        """Runs statements, and returns what they give, without headings."""
+        """Runs statements, and returns their output without headings."""
         words = ["-q", "-A", "-t", "-v", "ON_ERROR_STOP=1", "-h", self.folder, "-d", "postgres"]
         return self.run("psql", *words, source=statements)
 
@@ -109,13 +109,13 @@ class Server:
 
 
 def read_rows(path):
-    """The rows of a file of commas."""
+    """The rows of a CSV file."""
     with open(path, encoding="utf-8", newline="") as file:
         return list(csv.reader(file))
 
 
 def text(value):
-    """A text of SQL."""
+    """A text as SQL writes it."""
     return f"'{value}'"
 
 

@@ -33,7 +33,7 @@ pub fn merge(entries: Vec<Pair>, others: Vec<Pair>) -> Vec<Pair> {
     all
 }
 
-/// The pairs that are none of the others, in one pass.
+/// The pairs that are not among the others, in one pass.
 pub fn without(pairs: &mut Vec<Pair>, others: &[Pair]) {
     let mut others = others.iter().peekable();
     pairs.retain(|pair| {
@@ -44,7 +44,7 @@ pub fn without(pairs: &mut Vec<Pair>, others: &[Pair]) {
     });
 }
 
-/// Whether the seconds of the one run are among those of the other.
+/// Whether the second names of one run are among those of the other.
 fn is_within(small: &[Pair], large: &[Pair]) -> bool {
     let mut small = small.iter().peekable();
     for pair in large {
@@ -110,7 +110,7 @@ impl Hierarchy<'_> {
         puts
     }
 
-    /// The pairs that go with this edge.
+    /// The pairs that are removed with this edge.
     pub fn lost(&self, asc: &str, desc: &str) -> Vec<Pair> {
         let mut left = self.edges.to_vec();
         left.retain(|edge| compare(edge, asc, desc) != Ordering::Equal);

@@ -1,7 +1,7 @@
 //! The plain Rust twin of `rbac serve`: httparse for the heads, the bodies and answers of `replay.rs`, and the
 //! office of sorted vectors in `office.rs`. It has no file.
 //!
-//! http LINES PORT LIMIT: carries out the lines of the file, listens on the port of 127.0.0.1 and prints so,
+//! http LINES PORT LIMIT: carries out the lines of the file, listens on the port of 127.0.0.1, prints a line,
 //! and answers LIMIT connections, one after the other.
 
 use std::fs;
@@ -63,7 +63,7 @@ fn answer(office: &mut Office, call: &Call, body: &[u8], text: &mut Vec<u8>) -> 
     }
 }
 
-/// Writes the answer that says why there is no value, and returns its status.
+/// Writes the answer that reports why there is no value, and returns its status.
 fn refuse(untold: &Untold, text: &mut Vec<u8>) -> u16 {
     write_untold(text, untold);
     status_of(untold)

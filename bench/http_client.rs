@@ -1,7 +1,7 @@
 //! http_client REQUEST REPLY COUNT ROUNDS PORT..: sends the request of a file to the ports of 127.0.0.1, COUNT times
-//! to each by turns and all of that ROUNDS times, on a connection of its own each time, and reads until the server
+//! to each in turn and all of that ROUNDS times, on a connection of its own each time, and reads until the server
 //! closes it. It prints a line for each round: the nanoseconds with each port. A reply that isn't that
-//! of the other file ends it.
+//! of the other file ends the program.
 
 use std::io::{self, Read, Write};
 use std::net::TcpStream;

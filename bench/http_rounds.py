@@ -1,6 +1,6 @@
 """The rounds of the benchmark `http`: two servers of one office are asked the same requests in turn.
 
-`rounds` starts both, compares their replies, and times requests to both by `http_client.rs`.
+`rounds` starts both, compares their replies, and times requests to both with `http_client.rs`.
 """
 
 import os
@@ -16,11 +16,11 @@ from program.heads import REFUSED
 
 HOST = "127.0.0.1"
 SECONDS = 60
-# The rounds of a request, and how often it is sent in each to each server.
+# The rounds of a request, and how often it is sent to each server in a round.
 ROUNDS = 400
 COUNT = 25
 
-# Ports that the system gives to no client by itself.
+# Ports that the system assigns to no client by itself.
 PORTS = (20_000, 32_000)
 
 
@@ -65,7 +65,7 @@ def free_port():
 
 
 class Server:
-    """A server that runs. Its arguments name its port and how many connections it answers."""
+    """A running server. Its arguments name its port and how many connections it answers."""
 
     def __init__(self, words, limit):
         self.port = free_port()
@@ -73,7 +73,7 @@ class Server:
         self.process = subprocess.Popen(words, stdin=subprocess.DEVNULL, stdout=subprocess.PIPE)
         line = self.process.stdout.readline().decode()
         if line != f"listening on {HOST}:{self.port}\n":
-            raise RuntimeError(f"{words[0]} says {line!r}")
+            raise RuntimeError(f"{words[0]} prints {line!r}")
 
     def ask(self, asked):
         """The reply to the bytes of a request."""

@@ -4,7 +4,7 @@
 `setup`      the office alone: 5,000 users, 256 roles in a tree, 400 objects with 1,200 permissions and 3,000 grants,
              24 separation of duty sets of each kind, 5,000 assignments and 800 sessions
 `access`     questions for access
-`reviews`    review functions; the name of one gives that one alone
+`reviews`    review functions; the name of one selects only that one
 `questions`  two in three ask for access, the others are review functions
 `commands`   commands that add rows and commands that remove them again, so that the tables keep their size
 `mix`        half of the lines ask for access, a quarter are review functions, a quarter are commands
@@ -24,11 +24,11 @@ SESSIONS = [f"session{number:03}" for number in range(800)]
 EACH = [(permission, role) for permission in PERMISSIONS for role in ROLES]
 GRANTS = random.Random(7).sample(EACH, 3_000)
 CHILDREN = 3
-# Roles that are on one level of the tree: who has one of them has no other by it.
+# Roles that are on one level of the tree: a user who has one of them has no other through it.
 LEVEL = ROLES[40:121]
 SETS = 24
 MEMBERS = 8
-# The users from this on are assigned further roles and deassigned them again.
+# The users from this number on are assigned further roles, and deassigned from them again.
 LOOSE = 4_000
 AT_ONCE = 6
 
@@ -195,7 +195,7 @@ def role_comes_and_goes(draw, number):
 
 
 def set_comes_and_goes(draw, number):
-    """A separation of duty set, static or dynamic by turns."""
+    """A separation of duty set, static and dynamic in turn."""
     kind = "Ssd" if number % 2 == 0 else "Dsd"
     name, roles = f"extra{number}", draw.sample(LEVEL, 5)
     yield line(f"create{kind}Set", set=name, roles=roles[:4], cardinality=3)
@@ -205,13 +205,13 @@ def set_comes_and_goes(draw, number):
     yield line(f"delete{kind}Set", set=name)
 
 
-# How often a line is one of each, of 20.
+# Of 20 lines, how many are of each kind.
 COMMANDS = 5 * [user_is_assigned] + 4 * [user_comes_and_goes] + 4 * [permission_comes_and_goes]
 COMMANDS += 4 * [session_comes_and_goes] + [role_comes_and_goes, set_comes_and_goes, users_are_imported]
 
 
 class Commands:
-    """Random commands, of several such lists at once."""
+    """Random commands, from several such lists at once."""
 
     def __init__(self, draw):
         self.draw = draw

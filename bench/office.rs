@@ -64,7 +64,7 @@ pub enum Refusal {
     NotActive,
     /// More than the limit of this kind.
     TooMany(&'static str),
-    /// This is met by questions alone, which some of the programs have not.
+    /// Only questions are refused by this, and some of the programs have none.
     #[allow(dead_code)]
     NoOperation,
     UserLocked,
@@ -215,7 +215,7 @@ pub struct Plan {
 
 #[allow(dead_code)]
 impl Plan {
-    /// How many rows are changed, those of the closure included.
+    /// How many rows are changed, including those of the closure.
     pub fn count(&self) -> usize {
         let pairs = match &self.order {
             Some(OrderChange::Puts(pairs) | OrderChange::Takes(pairs)) => pairs.len(),
@@ -224,7 +224,7 @@ impl Plan {
         self.changes.len() + pairs
     }
 
-    /// How many records of an import are reported as refused, those of pairs assigned before included.
+    /// How many records of an import are reported as refused, including those of pairs assigned before.
     pub fn told(&self) -> usize {
         self.report.already as usize + self.report.refused.len()
     }
@@ -371,7 +371,7 @@ impl Office {
         count
     }
 
-    /// Makes the changes of a plan. The roles that were activated in a session go together.
+    /// Makes the changes of a plan. The roles that were activated in a session are removed together.
     pub fn commit(&mut self, plan: Plan) {
         let mut changes = plan.changes.into_iter();
         loop {

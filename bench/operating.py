@@ -1,9 +1,9 @@
 #!/usr/bin/env python3
-"""bench/operating.py: measures what docs/OPERATING.md says of a served office, on the built program, and prints it.
+"""bench/operating.py: measures on the built program what docs/OPERATING.md states about a served office, and prints it.
 
 It runs the program that RBAC_PROGRAM names, or release/rbac, and works in a folder of its own in TMPDIR.
-All runs of the program are on one core. Each time is that of the processor, which other work beside it changes little, and
-the best of three.
+All runs of the program are on one core. Each time is processor time, which other work on the machine changes little, and is the
+best of three.
 """
 
 import os
@@ -20,7 +20,7 @@ BENCH = Path(__file__).resolve().parent
 PROGRAM = os.path.abspath(os.environ.get("RBAC_PROGRAM", BENCH / "../release/rbac"))
 RUNS = 3
 DECISIONS = 200_000
-# How many commands of a kind are done, one after the other, if bytes are counted.
+# How many commands of a kind are done, one after the other, when bytes are counted.
 COMMANDS = 500
 CORE = max(os.sched_getaffinity(0))
 
@@ -31,7 +31,7 @@ def say(what, figure):
 
 
 def on_one_core():
-    """Lets the process run on one core alone."""
+    """Restricts the process to one core."""
     os.sched_setaffinity(0, {CORE})
 
 
@@ -41,7 +41,7 @@ def start(words, **streams):
 
 
 def seconds(words, given=None):
-    """The processor seconds of a run of the program that ends with status 0, and the most MB that it had."""
+    """The processor seconds of a run of the program that ends with status 0, and the most MB that it used."""
     with open(given or os.devnull, "rb") as source, open(os.devnull, "wb") as sink:
         process = start(words, stdin=source, stdout=sink)
         _, status, used = os.wait4(process.pid, 0)
@@ -106,7 +106,7 @@ def openings(folder):
 
 
 def written_by(process):
-    """How many bytes a process has handed to the system, its answers among them."""
+    """How many bytes a process has written to the system, including its answers."""
     (count,) = re.findall(r"^wchar: (\d+)$", Path(f"/proc/{process.pid}/io").read_text(encoding="ascii"), re.M)
     return int(count)
 
@@ -123,7 +123,7 @@ def added(path, commands):
         if not answer.startswith(b'{"ok":true'):
             sys.exit(f"{command} is answered by {answer}")
         now, longest = written_by(process), max(longest, log.stat().st_size)
-        # The first command is after all that an opening writes.
+        # The first command comes after everything that an opening writes.
         written += [] if so_far is None else [now - so_far - len(answer)]
         so_far = now
     process.stdin.close()
@@ -139,7 +139,7 @@ def command(function, **keys):
 
 
 def bytes_added(folder):
-    """The bytes that commands write and add to the file, of an office that grows from nothing."""
+    """The bytes that commands write and add to the file, of an office that starts empty and grows."""
     path = folder / "growing"
     seconds(["init", path])
     users = [f"user{number:04}" for number in range(COMMANDS)]
@@ -160,7 +160,7 @@ def bytes_added(folder):
 
 
 def main():
-    """Measures all of it."""
+    """Measures everything."""
     (processor,) = set(re.findall(r"^model name\s*: (.*)$", Path("/proc/cpuinfo").read_text(encoding="ascii"), re.M))
     with tempfile.TemporaryDirectory() as name:
         folder = Path(name)

@@ -2,14 +2,14 @@
 """bench/state_lines.py WHAT: prints the lines of the benchmark `state`: a label and a command each.
 
 `limits`   makes a state that has one less of everything than an office of version 2 may have, and then
-           does each command once, each round, and undoes it; `quarter` is a fourth of that
+           does each command once, each round, and undoes it; `quarter` is a quarter of that
 `full`     makes a state that has as much of everything as such an office may have, and then asks for the state of
            its rows and for the role report, and adds and removes edges by which all users and sessions have members
            of all separation of duty sets
-`chain`    the same two of a state without sets and sessions, whose roles are one chain
+`chain`    the same rows and report of a state without sets and sessions, whose roles are one chain
 `import`   10,000 records, all pairs of 100 users and 100 roles, with 64 static separation sets
 
-A line of a work that is no command is a label and `of_rows` or `report`.
+A line of work that is not a command is a label and `of_rows` or `report`.
 """
 
 import sys
@@ -106,7 +106,7 @@ class Chain(Full):
         self.lower = self.roles
 
     def assigned(self, number):
-        """The role of a user, by turns."""
+        """The role of a user: each role in turn."""
         return role(number % self.roles)
 
 
@@ -193,7 +193,7 @@ def on_permissions(sizes):
 
 
 def on_hierarchy(sizes):
-    """The commands of the hierarchy: an edge that joins the chains, and one that is there already in the order."""
+    """The commands of the hierarchy: an edge that joins the chains, and one whose pair the order already has."""
     ends = role(sizes.lower - 1), role(sizes.lower)
     time("addInheritance/joining", "addInheritance", *ends)
     time("deleteInheritance/parting", "deleteInheritance", *ends)
@@ -273,7 +273,7 @@ def limits(part):
 
 
 def rows_and_report():
-    """The state of the rows that are there, and the role report."""
+    """The state of the existing rows, and the role report."""
     for _ in range(ROUNDS):
         time("of_rows", "of_rows")
         time("report_roles", "report")

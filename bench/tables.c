@@ -1,8 +1,8 @@
 /* The twin of tables.rt.bench by C SQLite, with the same statements in the same transactions.
  *
  *   tables replay FILE    makes an office in the file, and does the transactions of the input: `= LABEL`,
- *                         then `+ TABLE VALUES` for each row that is put and `- TABLE VALUES` for each that is
- *                         taken, then `.`
+ *                         then `+ TABLE VALUES` for each row that is inserted and `- TABLE VALUES` for each that
+ *                         is deleted, then `.`
  *   tables open FILE      reads all rows of an office into sorted vectors
  *   tables sum FILE       prints how many rows each table has, and a sum of them all in their order
  *
@@ -97,8 +97,8 @@ static void *grown(void *old, size_t size) {
     return made;
 }
 
-/* As the store in Rattle has it: a log that is synced at each commit, one process that has the file
- * alone, and as many pages in memory, 2,000 that were read and 2,000 that were written. */
+/* The settings of the store in Rattle: a log that is synced at each commit, a file that only one process has
+ * open, and as many pages in memory, 2,000 that were read and 2,000 that were written. */
 static void open_base(const char *path) {
     check(sqlite3_open(path, &base), path);
     run("PRAGMA cache_size = 4000");
@@ -232,7 +232,7 @@ struct vector {
 static char *chunk;
 static size_t left;
 
-/* A copy of a text, in memory that is taken in large pieces. */
+/* A copy of a text, in memory that is allocated in large pieces. */
 static char *kept(const unsigned char *text, int bytes) {
     if (left < (size_t)bytes + 1)
         chunk = grown(NULL, left = 1 << 20);

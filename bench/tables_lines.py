@@ -100,7 +100,7 @@ def hierarchy():
 
 
 def separation(kind):
-    """Sets with all their members as cardinality, two of which no user has."""
+    """Sets whose cardinality is the number of their members, two of which no user has."""
     for number in range(SETS):
         name = f"set{number:02}"
         put("set", kind - 4, name, MEMBERS)
@@ -109,7 +109,7 @@ def separation(kind):
 
 
 def limits(has_sets):
-    """The rows of an office that has as much of everything as it may, but for sessions."""
+    """The rows of an office that has as much of everything as it may, except sessions."""
     print("= rows")
     for number in range(ROLES):
         put("name", 2, role(number))

@@ -19,12 +19,12 @@ from concurrent.futures import FIRST_COMPLETED, ThreadPoolExecutor, wait
 
 import kit
 
-# A library has sources of its own in it. They can't be below the repository, since `rt ci` refuses any that are none of
-# its crates'.
+# A built library contains sources. They can't be below the repository, since `rt ci` refuses sources that belong to none
+# of its crates.
 CACHE = os.environ.get("XDG_CACHE_HOME") or os.path.expanduser("~/.cache")
 OUT = f"{CACHE}/rbac-build/{hashlib.sha256(kit.TOP.encode()).hexdigest()[:16]}"
-# Measured on four processors, with nothing else to do.
-LASTS = "It takes about an hour on four processors from nothing."
+# Measured on four processors, with nothing else running.
+LASTS = "It takes about an hour on four processors from scratch."
 # The seconds between two lines of progress.
 PAUSE = 10
 CHECKED = re.compile(r"checked (?:\w+::)?(\S+), (\d+ of \d+)")
@@ -51,12 +51,12 @@ class Failed(Exception):
 
 
 class Build:
-    """A build of some crates: what is known of each, and what is being done."""
+    """A build of some crates: what is known about each, and what is being done."""
 
     def __init__(self, crates):
         self.kit, self.start, self.crates = kit.folder(), time.monotonic(), crates
         self.left = list(crates)
-        # What is being proved: of each crate the last function that was, and how many of how many.
+        # What is being proved: for each crate how many functions of how many, and the last one that was proved.
         self.doing, self.lock = {}, threading.Lock()
         self.sums = {}
 
@@ -73,7 +73,7 @@ class Build:
         return f"{self.at(crate)}/{crate.name}"
 
     def key(self, crate):
-        """Returns a digest of all that the crate is built from."""
+        """Returns a digest of everything that the crate is built from."""
         return hashlib.sha256(repr((kit.identity(), crate.digest(), [self.sums[it.name] for it in crate.below()])).encode()).hexdigest()
 
     def rattle(self, crate, verb, *words):
@@ -91,14 +91,14 @@ class Build:
             raise Failed(f"{crate.name}: rattle {verb} ended with status {ran.returncode}; {self.at(crate)}/log has its output")
 
     def prove(self, crate, jobs):
-        """Proves a crate and builds its library, or of the program the object file and the executable."""
+        """Proves a crate and builds its library or, for the program, the object file and the executable."""
         at, words = self.at(crate), crate.words(self.kit, self.library)
         shutil.rmtree(at, ignore_errors=True)
         os.makedirs(at)
         logic = ["--logic-built", f"{self.kit}/logic_built"]
         cut = [] if crate.is_program else ["--statements"]
         self.rattle(crate, "check", *words, *logic, *cut, "--jobs", str(jobs), "--progress", "-o", f"{at}/checked")
-        self.doing[crate.name] = "all functions proved", "the build of it"
+        self.doing[crate.name] = "all functions proved", "its build"
         words += ["--crate-checked", f"{at}/checked"]
         if not crate.is_program:
             self.rattle(crate, "build", *words, *cut, "-o", self.library(crate))
@@ -120,7 +120,7 @@ class Build:
         self.doing[crate.name] = "0 functions", "its start"
         self.prove(crate, jobs)
         if self.key(crate) != key:
-            raise Failed(f"{crate.name}: a file of it changed while it was proved")
+            raise Failed(f"{crate.name}: one of its files changed while it was proved")
         if not crate.is_program:
             self.sums[crate.name] = sum_of(self.library(crate))
         with open(kept, "w", encoding="utf-8") as file:

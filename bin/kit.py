@@ -11,7 +11,7 @@ import subprocess
 import sys
 
 TOP = os.path.dirname(os.path.dirname(os.path.abspath(__file__)))
-# The most memory of a prover.
+# The most memory that a prover needs.
 EACH = 4 * 10**9
 
 
@@ -61,7 +61,7 @@ class Crate:
         return total.hexdigest()
 
     def words(self, kit, library_of):
-        """Returns the arguments by which rattle finds what the crate reads; library_of(crate) is a built library."""
+        """Returns the arguments with which rattle finds what the crate reads; library_of(crate) is a built library."""
         words = ["--crate-name", self.name, "src/main.rt" if self.is_program else "src/lib.rt"]
         for name in self.of_kit:
             words += ["--extern", f"{name}={kit}/rlibs/{name}.rlib"]
@@ -97,7 +97,7 @@ def processors():
 
 
 def lanes():
-    """Returns how many provers may work side by side: one a processor, as far as the free memory holds them."""
+    """Returns how many provers may run side by side: one per processor, as far as the free memory allows."""
     free = next(int(it.split()[1]) for it in read("/proc/meminfo").split("\n") if it.startswith("MemAvailable:"))
     return max(1, min(processors(), 1024 * free // EACH))
 

@@ -3,7 +3,7 @@
 
     clients.py [--times] [WORD]
 
-With WORD only the jobs run that have it in their names; with `--times` it prints how long each took.
+With WORD, only the jobs with WORD in their names run; `--times` prints how long each took.
 The jobs are in the folder clients.
 """
 

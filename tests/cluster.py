@@ -3,9 +3,9 @@
 
     cluster.py [--times] [--long] [WORD]
 
-With WORD only the checks run that have it in their names; with `--times` it prints how long each took. With `--long` it
-judges an hour with 1,000 faults. The checks are in the folder cluster. If etcd, Go or a library of Go isn't there, only
-the sources are checked, and a line says so; `bin/setup cluster` installs them.
+With WORD, only the checks with WORD in their names run; `--times` prints how long each took. With `--long` it
+judges an hour with 1,000 faults. The checks are in the folder cluster. If etcd, Go or a Go library is not installed, only
+the sources are checked, and a line reports it; `bin/setup cluster` installs them.
 """
 
 import sys

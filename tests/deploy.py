@@ -3,8 +3,8 @@
 
     deploy.py [--times] [WORD]
 
-With WORD only the jobs run that have it in their names; with `--times` it prints how long each took. The jobs are in the
-folder deploy. What needs a program or a right that isn't there is left out and not counted, and a line says which settings
+With WORD, only the jobs with WORD in their names run; `--times` prints how long each took. The jobs are in the
+folder deploy. What needs a missing program or right is left out and not counted, and a line reports which settings
 are not tested without it. `bin/setup deploy` installs these programs.
 """
 

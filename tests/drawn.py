@@ -1,5 +1,5 @@
 #!/usr/bin/env python3
-"""Gives random lines to the program, and compares its answers with those of the plain model in machine/.
+"""Sends random lines to the program, and compares its answers with those of the plain model in machine/.
 
     drawn.py [SEEDS]
 
@@ -57,7 +57,7 @@ def count_answer(counts, function, answer):
 
 
 def written_script(name):
-    """A script of the limits, and the differences between the model and what is written there."""
+    """Returns a script of the limits, and the differences between the model's answers and those written there."""
     replay, script, faults = Replay(), [], []
     for function, line, answer in limits.expand(limits.SCRIPTS[name]):
         script.append((function, line, answer))
@@ -68,7 +68,7 @@ def written_script(name):
 
 
 def old_faults():
-    """The differences between the model in version 1 and what is written of the limits there."""
+    """Returns the differences between the model's answers in version 1 and those written beside the limits there."""
     faults = []
     for name, script in limits.OLD_SCRIPTS.items():
         replay = Replay(1)
@@ -90,7 +90,7 @@ def run(script):
         return [], [str(error)]
     faults = []
     if done.returncode or done.stderr:
-        faults.append(f"the status is {done.returncode}, and standard error says {done.stderr[:200]!r}")
+        faults.append(f"the status is {done.returncode}, and standard error is {done.stderr[:200]!r}")
     return done.stdout.splitlines(keepends=True), faults
 
 
@@ -134,7 +134,7 @@ def wanted(function):
 
 
 def show_table(counts):
-    """Prints how often what was met, and gives what was never met."""
+    """Prints how often each outcome was met, and returns what was never met."""
     missing = []
     changed = sum(count for (function, _), count in counts.items() if function == "changed byte")
     print(f"{'changed byte':<24} {changed:,}")

@@ -1,7 +1,7 @@
 #!/bin/bash
-# bin/edits, over a crate of its own: it has to report as refused just the edits that an open goal of their function
-# refuses. Those that change nothing, that can't be applied or read, whose function stays proved, or that are
-# refused only by what another edit does to another function, it has to report as such.
+# bin/edits, over a crate of its own: it has to report as refused exactly the edits that an open goal of their function
+# refuses. It has to report as such the edits that change nothing, that can't be applied or read, whose function stays
+# proved, or that are refused only by what another edit does to another function.
 
 set -u
 tests=$(cd "$(dirname "$0")" && pwd) || exit 1
@@ -46,7 +46,7 @@ pub fn least() -> u32
 const LEAST: u32 = 0;
 END
 
-# edit NAME FUNCTION OLD NEW: an edit of the crate.
+# edit NAME FUNCTION OLD NEW: writes an edit of the crate.
 edit() {
     printf 'function: %s\nfile: src/lib.rt\nold: %s\nnew: %s\n' "$2" "$3" "$4" >"$work/tests/edits/small/$1.edit"
 }
@@ -64,7 +64,7 @@ edit names-no-function quadruples 'double(half)' 'double(number)'
 printf 'file: src/lib.rt\nold: double(half)\nnew: double(number)\n' >"$work/tests/edits/small/has-no-function.edit"
 edit more/adds-two double '    number + number' '    number + 2'
 
-# report_is NAME TEXT: what bin/edits reports of the edit has to begin with this text.
+# report_is NAME TEXT: what bin/edits reports about the edit has to begin with this text.
 report_is() {
     if grep -q "^small/$1.edit: $2" "$work/said"; then
         passed=$((passed + 1))
@@ -102,7 +102,7 @@ report_is calls-what-is-refused 'NOT REFUSED: '
 report_is names-no-function 'NOT REFUSED: no contract was tried: '
 report_is has-no-function "NOT REFUSED: it can't be tried: it names no function"
 
-# What was refused is kept, until the crate changes; --all tries the folder more too.
+# Refused edits are recorded until the crate changes; --all tries the folder more too.
 rm "$work"/tests/edits/small/{says,changes,is-not,cannot,has,calls,names}-*.edit
 run_is 0 '4 passed, 0 failed' --all
 report_is adds-one 'refused: .*(kept)'

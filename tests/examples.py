@@ -3,7 +3,7 @@
 
     examples.py [--times] [WORD]
 
-With WORD only the jobs run that have it in their names; with `--times` it prints how long each took.
+With WORD, only the jobs with WORD in their names run; `--times` prints how long each took.
 """
 
 import json
@@ -109,7 +109,7 @@ def import_line(text):
 
 
 def imports_assignments(bench):
-    """The assignments are imported into the bank and exported as the model says; again, they change nothing."""
+    """The assignments are imported into the bank and exported as by the model; a second import changes nothing."""
     office = Office(bench)
     office.replay(lines_of("bank"))
     for text in (CSV.read_bytes(), CSV.read_bytes(), None):

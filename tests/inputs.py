@@ -1,12 +1,12 @@
 #!/usr/bin/env python3
-"""Gives the built program hostile inputs and clients, and measures how much memory it has meanwhile.
+"""Runs the built program with hostile inputs and clients, and measures how much memory it uses.
 
     inputs.py [--times] [--long] [WORD]
 
-With WORD only the jobs run that have it in their names; with `--times` it prints how long each took, and by `--long`
-there are more of them. Each answer is that of the plain model. No run crashes, hangs, or has more memory than its bound: 32 MB
-over a small office, 256 MB at the limits. Jobs work on files in memory (/dev/shm) if there are any, since a sync of a disk
-takes longer than all else. A refusal that comes before the whole request was read, as 413, arrives whole too: the server reads
+With WORD, only the jobs with WORD in their names run; `--times` prints how long each took, and with `--long`
+there are more of them. Each answer is that of the plain model. No run crashes, hangs, or uses more memory than its bound: 32 MB
+over a small office, 256 MB at the limits. Jobs work on files in memory (/dev/shm) if possible, since a sync of a disk
+takes longer than all else. A refusal before the whole request was read, such as 413, still arrives whole: the server reads
 up to 4 MiB more before it closes the connection, since otherwise the system would reset it. The jobs are in the folder inputs.
 """
 

@@ -3,11 +3,11 @@
 
     killed.py [--times] [--long] [WORD]
 
-With WORD only the jobs run that have it in their names; with `--times` it prints how long each took, and by `--long`
+With WORD, only the jobs with WORD in their names run; `--times` prints how long each took, and with `--long`
 there are more kills. After each kill the rows that SQLite reads from the file and its log are those of the model after a
 prefix of the lines: it has each acknowledged line, and at most one more. Then `check` prints good and leaves one file, and
 `report`, `export` and the rows are those of that state. No assignment and no grant that a line has removed, and none has
-given again, is in the tables or in the export. The jobs are in the folder killed.
+added again, is in the tables or in the export. The jobs are in the folder killed.
 """
 
 import sys

@@ -3,9 +3,9 @@
 
     memory.py [--times] [--long] [WORD]
 
-With WORD only the jobs run that have it in their names; with `--times` it prints how long each took, and by `--long`
+With WORD, only the jobs with WORD in their names run; `--times` prints how long each took, and with `--long`
 more allocations are tried. `refuse.c` is loaded into the program and fails one allocation a run. A run ends with all of its
-output, or with status 1 and one line (40, 41, `stop Memory` or `stop Store` after so many answers) behind a prefix of its
+output, or with status 1 and one line (40, 41, `stop Memory after K` or `stop Store after K`) after a prefix of its
 answers; a request gets its reply, 503, 500 or nothing. An office in a file is then the one before or after, and the same run
 without a failure completes the rest. If a run makes more allocations than are tried, those that are tried are spread evenly.
 Of three rows in memory each allocation is tried.
@@ -51,7 +51,7 @@ MEMORY = b'{"code":40,"error":"Memory"}'
 NO_MEMORY = b"rbac: " + MEMORY + b"\n"
 STOP = re.compile(rb"rbac: stop (Memory|Store) after (\d+)\n")
 
-# What else a server prints if an allocation of it failed.
+# What else a server prints if one of its allocations failed.
 SERVER_LINES = [b"rbac: cannot listen\n", b"rbac: cannot accept\n", b"rbac: closed\n"]
 
 
@@ -85,7 +85,7 @@ def tried(count, most, part=0, parts=1):
 
 
 def faults_of_replay(whole, done):
-    """What is wrong with a replay of which an allocation failed, and which has not printed all of this."""
+    """Returns what is wrong with a replay in which an allocation failed, and which has not printed all of this."""
     count = done.out.count(b"\n")
     faults = [] if whole.startswith(done.out) else [f"other answers: {done.out[-200:]!r}"]
     if done.out and not done.out.endswith(b"\n"):
@@ -101,7 +101,7 @@ def faults_of_replay(whole, done):
 
 
 def judge(bench, what, story, done):
-    """Counts whether a run of which an allocation failed prints what it may print."""
+    """Counts whether a run in which an allocation failed prints what it may print."""
     whole, faults = b"".join(story.answers), []
     is_refusal = done.status == 1 and done.err in (NO_MEMORY, REFUSED) and whole.startswith(done.out)
     if done != Done(whole, b"", 0):
@@ -110,14 +110,14 @@ def judge(bench, what, story, done):
 
 
 def allowed(story, done):
-    """The places of the states that there may be: only that before it, if the opening of a replay was refused."""
+    """Returns the places of the states that are allowed: only the one before the run, if the opening of a replay was refused."""
     if story.word == "replay" and done.status == 1 and done.err in (NO_MEMORY, REFUSED):
         return range(1)
     return story.allowed(done)
 
 
 def refuse_over_file(bench, name, content, story, numbers):
-    """Runs a story with one allocation failing, for each number that `numbers` gives of the count of allocations."""
+    """Runs a story with one allocation failing, for each number that `numbers` returns for the count of allocations."""
     refuser, counts = Refuser(bench), Counter()
 
     def run(number):
@@ -160,7 +160,7 @@ def allocations_of_opening(bench, content):
 
 
 def refuse_row_over_file(bench, row, of_opening, most):
-    """Refuses allocations of a replay of a row over a new office in a file: of those by which it is opened, and behind."""
+    """Refuses allocations of a replay of a row over a new office in a file: of those that open it, and of later ones."""
     office, model, lines = Office(bench, "office"), Replay(), []
     for line in re.findall(rb"[^\n]*\n|[^\n]+", (TESTS / row).read_bytes()):
         if list(model.answers(line)):
@@ -198,14 +198,14 @@ def refuse_row_in_memory(bench, row, most, part=0, parts=1):
         counts[f"replay --memory: ended with {end_of(done)}"] += 1
         counts["allocations refused in memory"] += 1
         noticed += done != whole
-    bench.judge(f"{row} in memory: failed allocations are noticed", [] if noticed else ["each run went on"])
-    # A pipe gives a long input in other pieces from run to run, and that makes some allocations more or fewer.
+    bench.judge(f"{row} in memory: failed allocations are noticed", [] if noticed else ["each run continued"])
+    # A pipe splits a long input into other pieces from run to run, and that makes some allocations more or fewer.
     bench.same(f"{row} in memory, nothing refused", run(MOST), whole)
     return counts
 
 
 def judge_server(bench, what, wanted, replies, done):
-    """Counts whether a server of which an allocation failed replies and ends as it may: which states there may be."""
+    """Counts whether a server in which an allocation failed replies and ends as it may. Returns the states that are allowed."""
     lines = [NO_MEMORY, REFUSED, *SERVER_LINES]
     if replies == wanted:
         good, places = done == Done(b"", b"", 0), [1]

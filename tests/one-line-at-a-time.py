@@ -2,7 +2,7 @@
 """Each answer is written before the next line is judged, and in one piece.
 
 The program's streams are pipes, and a line is sent only once the answer to the line before has arrived. The pipe for the
-answers keeps each write apart, so that each read of it has to give one whole answer.
+answers keeps each write apart, so that each read of it has to return one whole answer.
 """
 
 import os
@@ -21,7 +21,7 @@ class Wrong(Exception):
 
 
 def read_piece(output):
-    """Returns what one read of the pipe gives, as soon as there is something to read."""
+    """Returns what one read of the pipe gets, as soon as there is something to read."""
     ready, _, _ = select.select([output], [], [], SECONDS)
     if not ready:
         raise Wrong(f"no answer within {SECONDS} seconds")

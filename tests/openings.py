@@ -3,8 +3,8 @@
 
     openings.py [--times] [--long] [WORD]
 
-With WORD only the jobs run that have it in their names; with `--times` it prints how long each took, and by `--long`
-there are more files. SQLite writes the files; the model reads the same tables and gives the state, or the code and the check
+With WORD, only the jobs with WORD in their names run; `--times` prints how long each took, and with `--long`
+there are more files. SQLite writes the files; the model reads the same tables and returns the state, or the code and the check
 (machine/opening.py). A refused file stays as it is to the byte; of one that is opened the report and the export are those of
 the state. Each check of an opening has to be met by some file. The jobs are in the folder openings.
 """
@@ -20,8 +20,8 @@ MET += [f'{{"check":{check},' for check in range(1, 12)]
 
 
 def judge(counts):
-    """What is wrong with the counts of all jobs: an answer that no file was given."""
-    return [f"no file with drawn rows is answered by {one}" for one in MET if not any(one in name for name in counts)]
+    """What is wrong with the counts of all jobs: an answer that no file got."""
+    return [f"no file with random rows is answered by {one}" for one in MET if not any(one in name for name in counts)]
 
 
 def main(words):

@@ -3,8 +3,8 @@
 
     package.py [--times] [WORD]
 
-With WORD only the checks run that have it in their names; with `--times` it prints how long each took. The package is made
-with the program that is checked. What needs a program that can't be found is left out and not counted, and a line says so.
+With WORD, only the checks with WORD in their names run; `--times` prints how long each took. The package is made
+with the program that is checked. What needs a missing program is left out and not counted, and a line reports it.
 """
 
 import gzip
@@ -38,7 +38,7 @@ MOVED = {
 # The options beside the commands: of each command the first, and of the program all.
 HELP, VERSION_OPTIONS = {"-h", "--help"}, set(command_line.VERSION_OPTION.split(", "))
 
-# Functions in place of those of zsh, which print what they are given.
+# Functions in place of those of zsh, which print their arguments.
 OF_ZSH = """
 compdef() { :; }
 _arguments() { if [[ $1 == -C ]]; then state=$wanted; fi; if [[ $1 != -C || $wanted == options ]]; then print -rl -- "$@"; fi; }
@@ -47,7 +47,7 @@ _describe() { print -rl -- "${(@P)@[-1]}"; }
 
 
 def there_is(*programs):
-    """Whether these programs can be found. A line says which can't."""
+    """Returns whether these programs can be found. Prints a line for each that can't."""
     missing = [program for program in programs if not shutil.which(program)]
     for program in missing:
         print(f"left out: what needs {program}, which can't be found")
@@ -55,7 +55,7 @@ def there_is(*programs):
 
 
 def run(words, folder=None, **settings):
-    """What a command says and its status. Its settings come beside those of this process."""
+    """Returns the status of a command, and what it prints. Its settings are added to those of this process."""
     done = subprocess.run(
         words, cwd=folder, capture_output=True, text=True, env={**os.environ, **settings}, stdin=subprocess.DEVNULL, check=False
     )
@@ -83,7 +83,7 @@ class Packages:
         return path
 
     def make(self, out, *words, release=None, **settings):
-        """What bin/package says as it makes a package in a folder, and its status."""
+        """Returns the status of bin/package as it makes a package in a folder, and what it prints."""
         places = {"RELEASE": str(release or self.release), "OUT": str(self.folder / out)}
         return run([ROOT / "bin/package", *words], self.folder, **places, **settings)
 
@@ -92,10 +92,10 @@ class Packages:
         return self.folder / out / DEB
 
     def unpack(self):
-        """Makes the package, and unpacks it into the folder root: what is wrong, or nothing."""
+        """Makes the package, and unpacks it into the folder root. Returns what is wrong, or nothing."""
         made = self.make("out")
         if made != (0, f"out/{DEB}\n", ""):
-            return f"bin/package says {made}"
+            return f"bin/package ends with {made}"
         _, _, said = run(["dpkg-deb", "-x", self.deb("out"), self.root])
         return said
 
@@ -113,7 +113,7 @@ def check_same_bytes(bench, packages):
         made = packages.make("again", TZ="Asia/Tokyo", LC_ALL="C.UTF-8", TMPDIR=str(packages.folder))
     finally:
         os.umask(before)
-    bench.same("what bin/package says", made, (0, f"again/{DEB}\n", ""))
+    bench.same("what bin/package prints", made, (0, f"again/{DEB}\n", ""))
     first, second = (packages.deb(out).read_bytes() for out in ("out", "again"))
     bench.same("whether both packages are the same", first == second, True)
     bench.same("what is beside the package", os.listdir(packages.folder / "again"), [DEB])
@@ -124,7 +124,7 @@ def check_refused(bench, packages):
     other = packages.record("other", "0" * 64)
     status, out, err = packages.make("other-out", release=other)
     bench.same("other sources: status and lines", (status, out, err.count("\n")), (1, "", 1))
-    bench.same("other sources: what it says", err.startswith("package: the sources were changed"), True)
+    bench.same("other sources: what it prints", err.startswith("package: the sources were changed"), True)
     bench.same("other sources: a package", packages.deb("other-out").exists(), False)
     made = packages.make("other-out", "--anyway", release=other, SOURCE_DATE_EPOCH="1000000000")
     bench.same("other sources, --anyway", made, (0, f"other-out/{DEB}\n", ""))
@@ -202,7 +202,7 @@ def check_files(bench, packages):
     here = {str(path.relative_to(root / SHARE)): path for path in (root / SHARE).rglob("*") if path.is_file()}
     bench.same("files that are missing", kept_files() - set(here), set())
     for name in ("README.md", "SECURITY.md", "CHANGELOG.md", "VERSION", "LICENSE", "release/NOTICES", "release/manifest"):
-        bench.same(f"{name} is there", name in here, True)
+        bench.same(f"{name} exists", name in here, True)
     for name, path in here.items():
         source = packages.release / "manifest" if name == "release/manifest" else ROOT / name
         if not path.is_symlink():
@@ -214,7 +214,7 @@ def check_files(bench, packages):
     modes = {oct(path.lstat().st_mode & 0o7777) for path in root.rglob("*") if not path.is_symlink()}
     bench.same("the rights", modes, {"0o755", "0o644"})
     links = [path for path in root.rglob("*") if path.is_symlink()]
-    bench.same("links are there", bool(links), True)
+    bench.same("links exist", bool(links), True)
     away = [str(path) for path in links if not path.exists() or not path.resolve().is_relative_to(root.resolve())]
     bench.same("links that lead nowhere", away, [])
 
@@ -256,7 +256,7 @@ def check_example(bench, packages):
 
 
 # Installs the package, uses it, runs the commands of docs/OPERATING.md for a package, and removes it. Without triggers no list of
-# manual pages is made anew.
+# manual pages is rebuilt.
 INSTALL = """
 cd /usr/share
 dpkg --no-triggers -i /mnt/repository/*.deb > /mnt/installing 2>&1 || cat /mnt/installing
@@ -325,7 +325,7 @@ def is_installer(*programs):
 
 
 def operating(bench):
-    """The commands of docs/OPERATING.md that install a server, as the page says for a package."""
+    """The commands of docs/OPERATING.md that install a server, as the page describes for a package."""
     _, program, *others = installed.block_with("useradd ").splitlines()
     bench.same("the command that is left out", program, "install -m 755 release/rbac /usr/local/bin/rbac")
     return "\n".join(others).replace("/usr/local/bin/rbac ", "/usr/bin/rbac ")
@@ -369,7 +369,7 @@ def by_fish(path, line, folder):
 
 
 def by_zsh(path, state, words):
-    """What the completion gives to zsh for the words after the program. `state` is what zsh is about to complete."""
+    """Returns what the completion offers to zsh for the words after the program. `state` is what zsh is about to complete."""
     text = f"{OF_ZSH}\nwanted={state}; words=({' '.join(words)}); source {path}; _rbac"
     _, said, err = run(["zsh", "-f", "-c", text])
     if err:
@@ -412,7 +412,7 @@ def check_zsh(bench):
 
 
 def check_fish(bench):
-    """fish offers the commands, the options of each and files for its files, and says of the commands what zsh says."""
+    """fish offers the commands, the options of each and files for its files, and describes the commands as zsh does."""
     path, known = ROOT / "completions/rbac.fish", known_commands()
     if not there_is("fish"):
         return
@@ -423,7 +423,7 @@ def check_fish(bench):
     bench.same("the commands by fish", set(commands), {*known, "help"})
     bench.same("the commands after help by fish", set(by_fish(path, "rbac help ", folder)), {*known, "help"})
     uses = {name: use for name, use, _ in command_line.commands()}
-    bench.same("what fish says of the commands", {**commands, **uses}, commands)
+    bench.same("the descriptions of the commands by fish", {**commands, **uses}, commands)
     bench.same("the options by fish", set(by_fish(path, "rbac --", folder)), {"--help", "--version"})
     for command, (options, files) in known.items():
         bench.same(f"the options of {command} by fish", set(by_fish(path, f"rbac {command} --", folder)), {*options, "--help"})
@@ -433,7 +433,7 @@ def check_fish(bench):
         bench.same(f"what fish offers for {option}", by_fish(path, f"rbac serve --{option} ", folder), {})
     if there_is("zsh"):
         of_zsh = by_zsh(ROOT / "completions/_rbac", "command", [])
-        bench.same("what is said of the commands", commands, dict(line.split(":", 1) for line in of_zsh))
+        bench.same("the descriptions of the commands", commands, dict(line.split(":", 1) for line in of_zsh))
 
 
 def check_made(bench, fault):

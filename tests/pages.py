@@ -1,9 +1,9 @@
 #!/usr/bin/env python3
-"""Compares pages with the program and its sources: what they show is answered so, and nothing is left out.
+"""Compares pages with the program and its sources: what they show is what the program answers, and nothing is left out.
 
     pages.py [--times] [WORD]
 
-With WORD only the checks run that have it in their names; with `--times` it prints how long each took.
+With WORD, only the checks with WORD in their names run; `--times` prints how long each took.
 The checks are in the folder pages.
 """
 

@@ -3,7 +3,7 @@
 
     program.py [--times] [WORD]
 
-With WORD only the checks run that have it in their names; with `--times` it prints how long each took.
+With WORD, only the checks with WORD in their names run; `--times` prints how long each took.
 The checks are in the folder program.
 """
 

@@ -2,7 +2,7 @@
  * Refuses one allocation of the program into which it is loaded by LD_PRELOAD.
  *
  * REFUSE=N   the Nth allocation that the program asks for, counted from 1, is refused.
- * REFUSED=F  the file F is made at that moment, so that its absence says that there were fewer.
+ * REFUSED=F  the file F is made at that moment, so that its absence shows that there were fewer.
  *
  * An allocation is a call of malloc, calloc, realloc, aligned_alloc or posix_memalign. Those of the
  * loader are not counted. The C library is glibc, by whose own names its allocator is called.
@@ -18,7 +18,7 @@ extern void *__libc_calloc(size_t count, size_t size);
 extern void *__libc_realloc(void *block, size_t size);
 extern void *__libc_memalign(size_t alignment, size_t size);
 
-/* How many allocations are left until the one that is refused; 0 where none is to be refused. */
+/* How many allocations are left until the one that is refused; 0 if none is to be refused. */
 static long left = 0;
 
 __attribute__((constructor)) static void start(void)

@@ -1,6 +1,6 @@
 #!/bin/sh
-# Fails each allocation of a test in turn. Whichever it is, the test has to pass. One is of `admin_mgr`: it runs
-# commands on a state, and if an allocation fails compares the state with the one before, runs other commands, and
+# Fails each allocation of a test in turn. Whichever allocation fails, the test has to pass. One test is of `admin_mgr`:
+# it runs commands on a state, and if an allocation fails, compares the state with the one before, runs other commands, and
 # then the same one again. Two are of `role_wire`: lines are replayed and a request is served on an office in memory.
 # They are in the crate `refused_tests`.
 
@@ -20,16 +20,16 @@ make_shim() {
 }
 
 # refusing NUMBER COMMAND..: runs the program of the command with its allocation of this number failing.
-# Afterwards the file $work/refused is there, unless the program asked for fewer.
+# Afterwards the file $work/refused exists, unless the program asked for fewer.
 refusing() {
     at=$1
     shift
     rm -f "$work/refused"
-    # `env` gives the shim to the program alone, and not to `timeout`.
+    # `env` loads the shim into the program only, and not into `timeout`.
     timeout 60 env REFUSE="$at" REFUSED="$work/refused" LD_PRELOAD="$work/refuse.so" "$@"
 }
 
-# refuse_each TEST LEAST: the test has to make LEAST allocations at least.
+# refuse_each TEST LEAST: the test has to make at least LEAST allocations.
 refuse_each() {
     number=0
     while [ "$number" -lt "$most" ]; do
@@ -43,7 +43,7 @@ refuse_each() {
     if [ "$number" -eq "$most" ]; then
         fail "$1 asks for more than $most allocations"
     elif [ "$number" -lt "$2" ]; then
-        fail "$1 asked for $((number - 1)) allocations alone"
+        fail "$1 asked for only $((number - 1)) allocations"
     else
         echo "$1: $((number - 1)) allocations refused in turn"
         pass
@@ -51,7 +51,7 @@ refuse_each() {
 }
 
 make_shim
-# The commands, and what is shown of the state between them, make some 800 allocations.
+# The commands, and what is shown of the state between them, make about 800 allocations.
 refuse_each commands::refused_memory_changes_nothing 700
 # Most allocations are for the office.
 refuse_each requests::refused_memory_stops_a_replay 700

@@ -1,12 +1,12 @@
 #!/bin/bash
 # bin/rbac and bin/release, in copies of the repository that have the program that is checked as that of their
 # sources: arguments, streams and status are passed on; a program, a manifest or a source that was changed is
-# noticed, by bin/rbac without proving anything, since the copies find no command rt.
+# noticed. bin/rbac does so without proving anything, since the copies find no command rt.
 
 . "$(dirname "$0")/common"
 top=$(cd "$tests/.." && pwd)
 program=$(cd "$(dirname "$program")" && pwd)/${program##*/}
-# The commands of this system, but rt.
+# The commands of this system, except rt.
 mkdir "$work/commands"
 for folder in /usr/local/bin /usr/bin /bin; do
     for command in "$folder"/*; do
@@ -15,7 +15,7 @@ for folder in /usr/local/bin /usr/bin /bin; do
 done
 PATH=$work/commands
 
-# lay_out: a fresh copy in $copy, whose release/ has the program that is checked, with a manifest for these sources.
+# lay_out: makes a fresh copy in $copy, whose release/ has the program that is checked, with a manifest for these sources.
 lay_out() {
     copy=$work/copy
     rm -rf "$copy"
@@ -29,7 +29,7 @@ lay_out() {
     "$copy/bin/release" --record "$program" "$("$copy/bin/release" --digest)" "$copy/release"
 }
 
-# check_status WANTED WHAT: compares the status of bin/release --check with the one that is wanted.
+# check_status WANTED WHAT: compares the status of bin/release --check with WANTED.
 check_status() {
     "$copy/bin/release" --check >"$work/said"
     status=$?
@@ -79,8 +79,8 @@ pretends() {
     chmod +x "$work/commands/$1"
 }
 
-# least COMMAND..: the processor time of the cheapest of 15 runs of the command, in milliseconds. By the clock a run
-# takes longer the more runs beside it.
+# least COMMAND..: prints the processor time of the cheapest of 15 runs of the command, in milliseconds. The
+# elapsed time of a run would depend on what else runs.
 least() {
     TIMEFORMAT='%3U %3S'
     for _ in 1 2 3 4 5 6 7 8 9 10 11 12 13 14 15; do
@@ -88,7 +88,7 @@ least() {
     done | awk '{ print int(($1 + $2) * 1000) }' | sort -n | head -n 1
 }
 
-# adds_little: bin/rbac may add 50 ms to a run.
+# adds_little: bin/rbac may add at most 50 ms to a run.
 adds_little() {
     more=$(($(least "$copy/bin/rbac" replay --memory) - $(least "$program" replay --memory)))
     echo "bin/rbac adds $more ms to a run $1"
@@ -104,7 +104,7 @@ check_status 0 'the program of these sources'
 
 adds_little 'with what it kept'
 
-# Without a folder out, as if the user may not write there; and with what was found before.
+# Without a folder out, as if the user may not write there, and then with what was found before.
 export XDG_CACHE_HOME=$work/cache
 rm -rf "$copy/out" && touch "$copy/out"
 passes_on "$top/examples/first.jsonl" "$top/examples/first.answers" 0 replay --memory
@@ -113,8 +113,8 @@ passes_on "$top/examples/first.jsonl" "$top/examples/first.answers" 0 replay --m
 rm "$copy/out"
 passes_on "$top/examples/first.jsonl" "$top/examples/first.answers" 0 replay --memory
 echo '// A comment.' >>"$copy/crates/rbac/src/main.rt"
-refuses 'a comment more, after a run' 'the sources were changed'
-check_status 1 'a comment more'
+refuses 'one more comment, after a run' 'the sources were changed'
+check_status 1 'one more comment'
 
 lay_out
 sed -i '1s/^/-- A comment.\n/' "$copy/crates/rbac_sets/specs/Name.antt"
@@ -122,7 +122,7 @@ refuses 'a comment in a definition' 'the sources were changed'
 check_status 1 'a comment in a definition'
 lay_out
 touch "$copy/crates/role_csv/proofs/Another.antt"
-check_status 1 'a file more'
+check_status 1 'one more file'
 lay_out
 mv "$copy/crates/role_csv/src/reading.rt" "$copy/crates/role_csv/src/other.rt"
 check_status 1 'a file of another name'
@@ -131,7 +131,7 @@ sed -i 's/^rbac_sets: thiserror$/rbac_sets: thiserror itoa/' "$copy/crates.txt"
 check_status 1 'a crate that uses another library'
 lay_out
 touch "$copy/crates/rbac/src/main.rt"
-check_status 0 'a file that has another time alone'
+check_status 0 'a file of which only the time differs'
 
 lay_out
 size=$(wc -c <"$copy/release/rbac")
@@ -151,7 +151,7 @@ rm "$copy/release/rbac"
 refuses 'no program' 'release has no program'
 check_status 2 'no program'
 
-# The digest is over each crate that the program uses, as bin/kit.py finds them along crates.txt.
+# The digest covers each crate that the program uses, as bin/kit.py finds them by crates.txt.
 lay_out
 program_crates='import kit; program = kit.crates()["rbac"]; print(*(it.name for it in [*program.below(), program]))'
 before=$("$copy/bin/release" --digest)
@@ -162,7 +162,7 @@ for crate in $(PYTHONPATH=$top/bin python3 -c "$program_crates"); do
     before=$digest
 done
 
-# A manifest can be forged whole: that the program is not the build of these sources is seen when they are built.
+# A whole manifest can be forged. Only the build of these sources shows that the program is not theirs.
 lay_out
 cp "$program" "$work/built"
 printf '\377' | dd of="$copy/release/rbac" bs=1 seek=$((size / 2)) conv=notrunc 2>"$work/said"

@@ -1,5 +1,5 @@
 #!/bin/sh
-# Gives each NAME.jsonl of the folder rows to `replay --memory`, and compares what it writes with
+# Runs `replay --memory` on each NAME.jsonl of the folder rows, and compares its output with
 # NAME.answers, its exit status with NAME.status (0 without that file) and its standard error with
 # NAME.stderr (nothing without that file). A row in a folder version-1 is for an office of version 1,
 # which `--memory` does not make: it is left out.

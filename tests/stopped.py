@@ -3,7 +3,7 @@
 
     stopped.py [--times] [--long] [WORD]
 
-With WORD only the jobs run that have it in their names; with `--times` it prints how long each took, and by `--long`
+With WORD, only the jobs with WORD in their names run; `--times` prints how long each took, and with `--long`
 there are more cases. `stop.c` is loaded into the program: in the first run it fails the first write, sync or truncation, in
 the next run the second, and so on, until a run makes fewer calls. Each run prints what the model prints up to there, and in
 one line more why it stopped: 41, or `stop Store after K`. The office is then the one before or after the line that met the

@@ -1,7 +1,7 @@
 #!/bin/sh
 # Runs the tests of the folder tables: offices in the tables of a database.
 #
-# tables.sh [-- WORD]      with WORD those that have it in their names
+# tables.sh [-- WORD]      with WORD, only the tests that have it in their names
 
 folder=tables
 crates='rbac_sets role_order order_matrix admin_mgr review_mgr role_tables'

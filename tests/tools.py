@@ -3,8 +3,8 @@
 
     tools.py [--times] [WORD]
 
-With WORD only the jobs run that have it in their names; with `--times` it is told how long each took. What the jobs do
-stands in the folder tools. What needs a program that can't be found is left out and not counted, and a line says so.
+With WORD, only the jobs with WORD in their names run; `--times` prints how long each took. The jobs are
+in the folder tools. What needs a missing program is left out and not counted, and a line reports it.
 """
 
 import sys

@@ -4,7 +4,7 @@
 . "$(dirname "$0")/common"
 first=$tests/rows/first-run.jsonl
 
-# ends WHAT STATUS STDERR: compares the run before, whose status is in $status and whose standard
+# ends WHAT STATUS STDERR: checks the previous run, whose status is in $status and whose standard
 # error is in $work/stderr. STDERR is the whole text of its one line, or `any` for some text, or
 # nothing for none.
 ends() {
@@ -20,14 +20,14 @@ ends() {
     fi
 }
 
-# refused ARGUMENT..: the program refuses these arguments, and prints nothing but why.
+# refused ARGUMENT..: the program refuses these arguments, and prints only the reason.
 refused() {
     timeout 60 "$program" "$@" <"$first" >"$work/stdout" 2>"$work/stderr"
     status=$?
     if [ -s "$work/stdout" ]; then
-        fail "words '$*': something was written to standard output"
+        fail "arguments '$*': something was written to standard output"
     else
-        ends "words '$*'" 2 any
+        ends "arguments '$*'" 2 any
     fi
 }
 
@@ -48,12 +48,12 @@ refused 'replay --memory'
 timeout 60 "$program" --version >"$work/stdout" 2>"$work/stderr"
 status=$?
 if printf 'rbac %s\n' "$(cat "$tests/../VERSION")" | cmp - "$work/stdout"; then
-    ends "words '--version'" 0 ""
+    ends "arguments '--version'" 0 ""
 else
-    fail "words '--version': the output is: $(cat "$work/stdout")"
+    fail "arguments '--version': the output is: $(cat "$work/stdout")"
 fi
 
-# The help lists each command with what it is for, and the help of the command begins with that.
+# The help lists each command with its purpose, and the help of the command begins with that.
 timeout 60 "$program" --help >"$work/help"
 for command in init replay serve import export report check migrate; do
     listed=$(sed -n "s/^  $command  *//p" "$work/help")
@@ -75,7 +75,7 @@ timeout 60 "$program" replay --memory <"$first" >&- 2>"$work/stderr"
 status=$?
 ends "a closed standard output" 1 "rbac: stop Write after 0"
 
-# The reader of the pipe is gone before the program starts.
+# The reader of the pipe ends before the program starts.
 mkfifo "$work/gone"
 {
     read -r _ <"$work/gone"
@@ -88,7 +88,7 @@ mkfifo "$work/gone"
 status=$(cat "$work/status")
 ends "a pipe without a reader" 1 "rbac: stop Write after 0"
 
-# If there is nothing to read there is nothing to write either.
+# If there is nothing to read, there is nothing to write either.
 timeout 60 "$program" replay --memory </dev/null >&- 2>"$work/stderr"
 status=$?
 ends "a closed standard output and an empty input" 0 ""

@@ -1,8 +1,8 @@
 #!/bin/sh
 # Runs the tests of the folder wire: lines and requests over HTTP, answered by offices; what command lines choose and write; and
-# the examples with which the pages of the crates begin (the comment of src/lib.rt).
+# the examples at the beginning of the pages of the crates (the comment of src/lib.rt).
 #
-# wire.sh [-- WORD]      with WORD those that have it in their names
+# wire.sh [-- WORD]      with WORD, only the tests that have it in their names
 
 folder=wire
 crates='rbac_sets role_order order_matrix admin_mgr review_mgr role_tables role_csv role_json role_http role_wire role_cli'

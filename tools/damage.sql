@@ -2,7 +2,7 @@
 --
 --     sqlite3 COPY < tools/damage.sql
 --
--- Run it in the folder of the repository, on a copy: sqlite3 takes the log of the copy in, if there is one.
+-- Run it in the folder of the repository, on a copy: sqlite3 merges the log of the copy, if there is one.
 --
 -- The number of the check in docs/OPERATING.md comes first, or 32 for a limit, then what is at fault, and the row.
 

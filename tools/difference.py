@@ -1,11 +1,11 @@
 #!/usr/bin/env python3
-"""Prints what differs between two dumps of offices, as a text.
+"""Prints the differences between two dumps of offices as text.
 
     difference.py FIRST SECOND
 
 FIRST and SECOND are files that tools/dump.sql has made, such as those of one office on two days. A line that begins with
 `-` has what only the first office has, one that begins with `+` what only the second one has. Each name is written in
-double quotes. Of a role or a user that went, each grant and each assignment is listed as well. The last line counts.
+double quotes. For a role or a user that was deleted, each grant and each assignment is listed too. The last line counts.
 
 The status is 0 if nothing differs, 1 if something does, and 2 if a file can't be read as a dump.
 """
@@ -13,8 +13,8 @@ The status is 0 if nothing differs, 1 if something does, and 2 if a file can't b
 import json
 import sys
 
-# What each function of a dump says, in the order in which differences are printed. {roles} stands for one role of the list:
-# there is a line for each.
+# The facts of each function of a dump, in the order in which differences are printed. {roles} is one role of the list: each
+# role has a line.
 FACTS = {
     "addUser": ["user {user}"],
     "addRole": ["role {role}"],
@@ -40,12 +40,12 @@ FACTS = {
 
 
 def quoted(value):
-    """A name in double quotes, as JSON; a number as it is."""
+    """A name in double quotes, as JSON; a number unchanged."""
     return json.dumps(value, ensure_ascii=False)
 
 
 def facts_of(line):
-    """What a line of a dump says: pairs of a template and its text."""
+    """The facts in a line of a dump: pairs of a template and its text."""
     request = json.loads(line)
     values = {key: quoted(value) for key, value in request.items()}
     for template in FACTS[request["fn"]]:
@@ -54,7 +54,7 @@ def facts_of(line):
 
 
 def read(path):
-    """All that a dump says."""
+    """All facts in a dump."""
     facts, number = set(), 0
     try:
         with open(path, "rb") as lines:
@@ -68,13 +68,13 @@ def read(path):
 
 
 def stop(reason):
-    """Says why nothing is compared, and gives the status."""
+    """Prints why nothing is compared, and returns the status."""
     print(f"difference.py: {reason}", file=sys.stderr)
     return 2
 
 
 def main(arguments):
-    """Prints the difference of the two dumps, and gives the status."""
+    """Prints the differences between the two dumps, and returns the status."""
     if len(arguments) != 2:
         print(__doc__, file=sys.stderr)
         return 2

@@ -7,7 +7,7 @@
 -- Run it in the folder of the repository, on a copy that `rbac check` calls good. It reads the copy and does not write it.
 --
 -- Each line is accepted: what a line uses is made by a line before it, and what has been made so far is a part of a good
--- office, so no limit is passed and no set is violated. Equal offices have equal dumps. The closure is not written, since it
+-- office, so no limit is exceeded and no set is violated. Equal offices have equal dumps. The closure is not written, since it
 -- follows from the inheritances. The version is not written either: the new office has version 2.
 
 .bail on

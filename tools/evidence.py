@@ -3,14 +3,14 @@
 
     evidence.py DATE COPY FOLDER
 
-DATE, as 2026-11-26, is only written into the text: it is what you say, not what a clock says. COPY is a copy of an office.
-It is read and not written: the program checks a further copy of its bytes, which goes at the end. FOLDER must not exist.
+DATE, such as 2026-11-26, is only written into the text: it is your date, not that of a clock. COPY is a copy of an office. It
+is read and not written: the program checks a further copy of its bytes, which is deleted at the end. FOLDER must not exist.
 
 evidence.txt has a line with the SHA-256 of COPY, of the program and of each report. `sha256sum -c evidence.txt` in FOLDER
-compares them again. Its first lines say the date, what `rbac check` printed, and the version of sqlite3.
+compares them again. Its first lines have the date, what `rbac check` printed, and the version of sqlite3.
 
 The program is release/rbac, or the one that the variable RBAC_PROGRAM names. The reports are made by sqlite3 and the SQL
-files beside this one. The status is 0 if all was made, 1 if COPY is refused or something failed, 2 for other arguments.
+files beside this one. The status is 0 if all was made, 1 if COPY is refused or something failed, 2 for invalid arguments.
 """
 
 import hashlib
@@ -53,7 +53,7 @@ def run(command, given=None, **more):
 
 
 def checked(copy):
-    """What the program says of a further copy of the same bytes."""
+    """What the program prints for a further copy of the same bytes."""
     with tempfile.TemporaryDirectory() as folder:
         further = Path(folder) / "copy"
         shutil.copyfile(copy, further)
@@ -68,7 +68,7 @@ def report(copy, tool):
 
 
 def digest(path, folder):
-    """The line of a file by which `sha256sum -c` compares it in the folder."""
+    """The line with which `sha256sum -c` compares a file in the folder."""
     name = os.path.relpath(path, folder)
     if "\\" in name or "\n" in name:
         raise Refused(f"{path}: a backslash or a line feed in a path")
@@ -93,7 +93,7 @@ def make(day, copy, folder):
 
 
 def main(arguments):
-    """Makes the evidence, and gives the status."""
+    """Makes the evidence, and returns the status."""
     try:
         day, copy, folder = arguments
         day = date.fromisoformat(day)

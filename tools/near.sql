@@ -4,7 +4,7 @@
 --
 -- Run it in the folder of the repository, on a copy that `rbac check` calls good. It reads the copy and does not write it.
 --
--- left                  how many members more violate the set: cardinality - members. The nearest come first.
+-- left                  how many more members violate the set: cardinality - members. The nearest come first.
 -- kind, set, cardinality    the set, `static` or `dynamic`
 -- holder, name          a user or a session
 -- members               how many members the user is authorized for, or are roles of the session
@@ -12,7 +12,7 @@
 --
 -- `left` is at least 1 for users and static sets, and for sessions and dynamic sets: the program refuses the rest.
 -- For a user and a dynamic set it may be 0 or less. Such a user could violate the set by activating these members in one
--- session, and it is the program that refuses that. A holder without a member of a set has no line.
+-- session, but the program refuses that. A holder without a member of a set has no line.
 
 .bail on
 .read tools/office.sql

@@ -1,11 +1,11 @@
--- Refuses a file that is no good office, and gives names to the rows of an office. The reports begin with it.
+-- Refuses a file that is not a good office, and names the rows of an office. The reports begin with it.
 --
 -- Run it in the folder of the repository, on a copy that `rbac check` calls good, to ask questions of your own:
 --     sqlite3 -readonly -init tools/office.sql 'file:COPY?immutable=1'
 -- With -readonly the copy is not written. With immutable=1 sqlite3 makes no file beside it either.
 --
--- tools/rows.sql has the views, with the terms of docs/MODEL.md. The check at the end repeats that of `rbac check` so far as SQL
--- can, so that no tool reports on a wrong file. It is no substitute: bytes that are no UTF-8 are not found here.
+-- tools/rows.sql has the views, with the terms of docs/MODEL.md. The check at the end repeats that of `rbac check` as far as SQL
+-- can, so that no tool reports on a wrong file. It is no substitute: bytes that are not UTF-8 are not found here.
 
 .bail on
 .mode csv

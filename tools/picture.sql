@@ -4,7 +4,7 @@
 --
 -- Run it in the folder of the repository, on a copy that `rbac check` calls good. It reads the copy and does not write it.
 --
--- A box is a role, with how many users are assigned it and authorized for it. An arrow leads from a role to one that it
+-- A box is a role, with how many users are assigned to it and authorized for it. An arrow leads from a role to one that it
 -- inherits from. An ellipse is a set, filled if it is dynamic, with its cardinality; dashed lines lead to its members.
 
 .bail on

@@ -1,6 +1,6 @@
--- Gives names to the rows of an office, and to what is at fault in them. tools/office.sql and tools/damage.sql read it.
+-- Names the rows of an office, and what is at fault in them. tools/office.sql and tools/damage.sql read it.
 --
--- The views have the terms of docs/MODEL.md. They are good for damaged offices too, and for tables without types and keys.
+-- The views have the terms of docs/MODEL.md. They work for damaged offices too, and for tables without types and keys.
 
 -- An office of version 1 has no table of locks. This empty one is read in its place.
 ATTACH 'file:absent?mode=memory' AS absent;
@@ -87,7 +87,7 @@ UNION ALL SELECT 'session', (SELECT count(*) FROM session), 1000, 1000
 UNION ALL SELECT 'activeRole', (SELECT coalesce(max(n), 0) FROM (SELECT count(*) AS n FROM activation GROUP BY session)), 32, 32
 ;
 
--- From here on what is at fault, if the file is no good office. First the closure, from the inheritances alone:
+-- From here on: what is at fault if the file is not a good office. First the closure, from the inheritances alone:
 
 CREATE TEMP TABLE reached (senior, junior, PRIMARY KEY (senior, junior)) WITHOUT ROWID;
 INSERT OR IGNORE INTO reached
@@ -114,11 +114,11 @@ SELECT kind, name, cardinality,
 FROM duty_set;
 
 -- A row for each fault: the number of its check in docs/MODEL.md, or 32 for a limit; what is at fault; and where. Bytes that are
--- no UTF-8 are not found here.
+-- not UTF-8 are not found here.
 CREATE TEMP VIEW fault(number, what, first, second, third) AS
 SELECT 1, 'more than one row of the version', quote(tag), quote(version), NULL FROM meta_row
 WHERE (SELECT count(*) FROM meta_row) > 1
-UNION ALL SELECT 1, 'a version that is no number', quote(tag), quote(version), NULL FROM meta_row
+UNION ALL SELECT 1, 'a version that is not a number', quote(tag), quote(version), NULL FROM meta_row
 WHERE typeof(version) <> 'integer'
 UNION ALL SELECT 1, 'an unknown kind of a name', quote(kind), quote(a), NULL FROM name_row
 WHERE typeof(kind) <> 'integer' OR kind NOT BETWEEN 1 AND 3
@@ -126,15 +126,15 @@ UNION ALL SELECT 1, 'an unknown kind of a pair', quote(kind), quote(a), quote(b)
 WHERE typeof(kind) <> 'integer' OR kind NOT BETWEEN 1 AND 8
 UNION ALL SELECT 1, 'an unknown kind of a set', quote(kind), quote(name), quote(n) FROM set_row
 WHERE typeof(kind) <> 'integer' OR kind NOT BETWEEN 1 AND 2
-UNION ALL SELECT 1, 'a cardinality that is no number from 0 to 4294967295', quote(kind), quote(name), quote(n) FROM set_row
+UNION ALL SELECT 1, 'a cardinality that is not a number from 0 to 4294967295', quote(kind), quote(name), quote(n) FROM set_row
 WHERE typeof(n) <> 'integer' OR n NOT BETWEEN 0 AND 4294967295
-UNION ALL SELECT 1, 'a value that is no text', part, quote(value), NULL FROM text WHERE typeof(value) <> 'text'
-UNION ALL SELECT 1, 'a name that is there more than once', kind, a, count(*) FROM name_row GROUP BY kind, a HAVING count(*) > 1
-UNION ALL SELECT 1, 'a pair that is there more than once, of kind ' || kind, a, b, count(*) FROM pair_row
+UNION ALL SELECT 1, 'a value that is not text', part, quote(value), NULL FROM text WHERE typeof(value) <> 'text'
+UNION ALL SELECT 1, 'a name that occurs more than once', kind, a, count(*) FROM name_row GROUP BY kind, a HAVING count(*) > 1
+UNION ALL SELECT 1, 'a pair that occurs more than once, of kind ' || kind, a, b, count(*) FROM pair_row
 GROUP BY kind, a, b HAVING count(*) > 1
-UNION ALL SELECT 1, 'a grant that is there more than once', ob, op, role FROM grant_row GROUP BY ob, op, role HAVING count(*) > 1
-UNION ALL SELECT 1, 'a set that is there more than once', kind, name, count(*) FROM set_row GROUP BY kind, name HAVING count(*) > 1
-UNION ALL SELECT 1, 'a lock that is there more than once', user, count(*), NULL FROM locked GROUP BY user HAVING count(*) > 1
+UNION ALL SELECT 1, 'a grant that occurs more than once', ob, op, role FROM grant_row GROUP BY ob, op, role HAVING count(*) > 1
+UNION ALL SELECT 1, 'a set that occurs more than once', kind, name, count(*) FROM set_row GROUP BY kind, name HAVING count(*) > 1
+UNION ALL SELECT 1, 'a lock that occurs more than once', user, count(*), NULL FROM locked GROUP BY user HAVING count(*) > 1
 UNION ALL SELECT 2, 'an invalid name', part, quote(value), NULL FROM text
 WHERE length(CAST(value AS BLOB)) NOT BETWEEN 1 AND 64 OR instr(CAST(value AS BLOB), x'00')
 OR value GLOB '*[' || char(1) || '-' || char(31) || char(127) || ']*'
@@ -148,10 +148,10 @@ UNION ALL SELECT 3, 'an inheritance of no role', ascendant, descendant, NULL FRO
 WHERE ascendant NOT IN (SELECT name FROM role) OR descendant NOT IN (SELECT name FROM role)
 UNION ALL SELECT 3, 'a pair of the closure of no role', senior, junior, NULL FROM closure
 WHERE senior NOT IN (SELECT name FROM role) OR junior NOT IN (SELECT name FROM role)
-UNION ALL SELECT 3, 'a member of no ' || kind || ' set, or that is no role', duty_set, role, NULL FROM member
+UNION ALL SELECT 3, 'a member of no ' || kind || ' set, or that is not a role', duty_set, role, NULL FROM member
 WHERE (kind, duty_set) NOT IN (SELECT kind, name FROM duty_set) OR role NOT IN (SELECT name FROM role)
 UNION ALL SELECT 3, 'a session of no user', name, user, NULL FROM session WHERE user NOT IN (SELECT name FROM user)
-UNION ALL SELECT 3, 'an activated role of no session, or that is no role', session, role, NULL FROM activation
+UNION ALL SELECT 3, 'an activated role of no session, or that is not a role', session, role, NULL FROM activation
 WHERE session NOT IN (SELECT name FROM session) OR role NOT IN (SELECT name FROM role)
 UNION ALL SELECT 3, 'a grant of no permission, or to no role', object, operation, role FROM permission_assignment
 WHERE (object, operation) NOT IN permission OR role NOT IN (SELECT name FROM role)

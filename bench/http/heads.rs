@@ -6,13 +6,13 @@ use httparse::{EMPTY_HEADER, Error, Header, Request, Status};
 
 use super::requests::{Function, function_named};
 
-/// The most bytes of a head.
+/// The most bytes that a head may have.
 pub const LONGEST_HEAD: usize = 8_192;
 
-/// The most fields of a head.
+/// The most fields that a head may have.
 const MOST_FIELDS: usize = 64;
 
-/// The most bytes of a body of JSON, and of one of CSV.
+/// The most bytes that a body of JSON may have, and one of CSV.
 const LONGEST_JSON: usize = 65_536;
 const LONGEST_CSV: usize = 2_097_152;
 

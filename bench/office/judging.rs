@@ -1,4 +1,4 @@
-//! Whether a command is accepted, and else the first of its refusals that holds.
+//! Whether a command is accepted, and if not, the first of its refusals that holds.
 
 use super::Refusal::*;
 use super::table::{Table, number, second_numbers};

@@ -30,7 +30,7 @@ fn new_role(role: &str, asc: &str, desc: &str) -> Vec<Change> {
 }
 
 impl Office {
-    /// Judges a command, and names its changes if it is accepted.
+    /// Judges a command, and returns its changes if it is accepted.
     pub fn plan(&self, command: &Command) -> Result<Plan, Refusal> {
         match self.judge(command) {
             Some(refusal) => Err(refusal),

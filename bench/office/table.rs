@@ -1,6 +1,6 @@
 //! The order of roles by their numbers: a role's number is its place among the roles in byte order.
 //!
-//! What goes over all users or sessions computes the numbers of each one's roles once, and then reads the table.
+//! A check of all users or sessions computes the numbers of each one's roles once, and then reads the table.
 
 use super::{Pair, with_first};
 
@@ -41,7 +41,7 @@ impl Table {
         numbers.iter().any(|number| self.geq(*number, below))
     }
 
-    /// How many of the roles are the role of this number, or senior to it. Only the report asks it.
+    /// How many of the roles are the role of this number, or senior to it. Only the report uses it.
     #[allow(dead_code)]
     pub fn count_above(&self, below: usize) -> usize {
         self.rows.iter().filter(|row| row[below]).count()

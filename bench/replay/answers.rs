@@ -14,7 +14,7 @@ pub fn write_done(text: &mut Vec<u8>) {
 
 fn write_value(text: &mut Vec<u8>, value: &impl Serialize) {
     text.extend_from_slice(b"{\"ok\":true,\"value\":");
-    serde_json::to_writer(&mut *text, value).expect("a vector takes all bytes");
+    serde_json::to_writer(&mut *text, value).expect("a vector accepts all bytes");
     text.extend_from_slice(b"}\n");
 }
 
@@ -35,7 +35,7 @@ pub fn write_report(text: &mut Vec<u8>, report: &Report) {
     let (already, assigned, refused) = (report.already, report.assigned, refused.join(","));
     let value =
         format!("{{\"already\":{already},\"assigned\":{assigned},\"refused\":[{refused}]}}");
-    writeln!(text, "{{\"ok\":true,\"value\":{value}}}").expect("a vector takes all bytes");
+    writeln!(text, "{{\"ok\":true,\"value\":{value}}}").expect("a vector accepts all bytes");
 }
 
 /// The code and the name of a refusal.
@@ -77,7 +77,7 @@ fn name_of(refusal: &Refusal) -> (u32, &'static str) {
     }
 }
 
-/// What a refusal has beside its code and name, with the comma before it.
+/// What a refusal has besides its code and name, with the comma before it.
 fn told_with(refusal: &Refusal) -> String {
     match refusal {
         Refusal::StaticSeparation(set) | Refusal::DynamicSeparation(set) => {
@@ -88,7 +88,7 @@ fn told_with(refusal: &Refusal) -> String {
     }
 }
 
-/// The answer that says why there is no value.
+/// The answer that reports why there is no value.
 pub fn write_untold(text: &mut Vec<u8>, untold: &Untold) {
     let (code, name, more) = match untold {
         Untold::BadName => (1, "BadName", String::new()),
@@ -102,5 +102,5 @@ pub fn write_untold(text: &mut Vec<u8>, untold: &Untold) {
         }
     };
     let answer = format!("{{\"code\":{code},\"error\":\"{name}\"{more}}}");
-    writeln!(text, "{answer}").expect("a vector takes all bytes");
+    writeln!(text, "{answer}").expect("a vector accepts all bytes");
 }

@@ -30,7 +30,7 @@ pub enum Told<'a> {
     Permissions(Vec<(&'a str, &'a str)>),
 }
 
-/// Refuses by this unless the test holds.
+/// Returns this refusal unless the test holds.
 fn need(test: bool, refusal: Refusal) -> Result<(), Refusal> {
     if test { Ok(()) } else { Err(refusal) }
 }

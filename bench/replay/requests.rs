@@ -139,7 +139,7 @@ macro_rules! functions {
     };
 }
 
-/// The functions in byte order of their names, but for the import.
+/// The functions in byte order of their names, except the import.
 const FUNCTIONS: &[Function] = functions! {
     "addActiveRole" ("user", "session", "role") Command
         |it| AddActiveRole(it.user(), it.session(), it.role());
@@ -211,7 +211,7 @@ const IMPORT: Function =
     Function { name: "importAssignments", keys: &["csv"], asked: Reads::Import };
 
 impl Function {
-    /// Whether it has a text of assignments for its argument.
+    /// Whether it has a text of assignments as its argument.
     pub fn takes_csv(&self) -> bool {
         matches!(self.asked, Reads::Import)
     }
@@ -233,7 +233,7 @@ pub fn read_request(line: &[u8]) -> Result<Asked, Untold> {
     read_arguments(function_named(name)?, object)
 }
 
-/// What the body of a request asks for, by whose head this function is called.
+/// What the body of a request asks for whose head calls this function.
 pub fn read_body(function: &Function, body: &[u8]) -> Result<Asked, Untold> {
     if function.takes_csv() {
         return Ok(Asked::Command(ImportAssignments(read_assignments(body)?)));

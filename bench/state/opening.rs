@@ -1,5 +1,5 @@
-//! The office of stored rows, if they are those of a good one of version 2: the first of the checks that
-//! fails is named, in the order that the proved program has.
+//! The office of stored rows, if they are those of a good one of version 2. Otherwise the first check that
+//! fails is returned, in the order of the proved program.
 
 use super::office::table::{Table, second_numbers};
 use super::office::{Office, Pair, Separation};
@@ -9,7 +9,7 @@ use super::rows::Stored;
 /// Why rows make no office.
 #[derive(Debug, PartialEq)]
 pub enum Unfit {
-    /// There is more of this kind than its limit.
+    /// There are more of this kind than its limit.
     TooMany(&'static str),
     /// The check of this number fails.
     Damaged(u8),
@@ -35,7 +35,7 @@ fn has_more_with_first(pairs: &[Pair], limit: usize) -> bool {
     pairs.iter().any(|pair| with_first(pairs, &pair.0).len() > limit)
 }
 
-/// Whether the edges have a cycle: those that lead to no further edge are left out as long as there are any.
+/// Whether the edges have a cycle: those that lead to no further edge are removed as long as there are any.
 fn has_cycle(edges: &[Pair]) -> bool {
     let mut left = edges.to_vec();
     loop {
@@ -133,8 +133,8 @@ impl Office {
         }
     }
 
-    /// What is asked before the hierarchy is: that what the rows speak of is there, and that a session has one
-    /// user.
+    /// The checks before those of the hierarchy: that everything the rows refer to exists, and that a session has
+    /// one user.
     fn refuse_early(&self) -> Result<(), Unfit> {
         let has_one_user = |session: &Pair| with_first(&self.sessions, &session.0).len() <= 1;
         refuse! {

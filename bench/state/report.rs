@@ -10,11 +10,11 @@ const HEADING: &str =
 /// What the report counts, by the numbers of roles.
 struct Numbers {
     table: Table,
-    /// Of each user the roles that it is assigned.
+    /// For each user, the roles that it is assigned.
     assigned: Vec<Vec<usize>>,
-    /// Of each permission the roles that it is granted to.
+    /// For each permission, the roles that it is granted to.
     granted: Vec<Vec<usize>>,
-    /// Of each grant its role.
+    /// For each grant, its role.
     grants: Vec<usize>,
 }
 
@@ -37,7 +37,7 @@ impl Numbers {
         }
     }
 
-    /// The numbers of a role that has this number, but for its juniors.
+    /// The numbers of the role with this number, except that of its juniors.
     fn counts(&self, role: usize) -> [usize; 5] {
         let (assigned, granted, table) = (self.assigned.iter(), self.granted.iter(), &self.table);
         [

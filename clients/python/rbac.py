@@ -52,7 +52,7 @@ class Unreachable(Unanswered):
 
 
 class Unexpected(Error):
-    """The answer is not one that `rbac` gives. A command may or may not have been done."""
+    """The answer is not one that `rbac` sends. A command may or may not have been done."""
 
 
 class Client:
@@ -82,7 +82,7 @@ class Client:
         return value is True and text == ALLOWED
 
     def create_session(self, user: str, roles: Iterable[str], session: str) -> None:
-        """Makes a session of the user with these roles activated. Take a new `session_name` for each login."""
+        """Makes a session of the user with these roles activated. Use a new `session_name` for each login."""
         self.call("createSession", user=user, roles=list(roles), session=session)
 
     def delete_session(self, user: str, session: str) -> None:
@@ -191,7 +191,7 @@ class Lines(Client):
                 raise
 
     def _end_child(self) -> str:
-        """Ends the child. Returns with which status it had ended before by itself, to be added to an error; or nothing."""
+        """Ends the child. If it had already ended by itself, returns a text with its status to add to an error."""
         status = None
         with contextlib.suppress(subprocess.TimeoutExpired):
             status = self._child.wait(0.1)
@@ -232,7 +232,7 @@ def _remaining(deadline: float) -> float:
 
 
 def _ask(connection: socket.socket, request: bytes, deadline: float, end: bytes = b"") -> bytes:
-    """Sends a request and returns what comes back, until a piece has `end`, if that is given, or the other side closes."""
+    """Sends a request and returns what comes back, until a piece contains `end`, if it is given, or the other side closes."""
     received = bytearray()
     try:
         with contextlib.suppress(OSError):  # A server may refuse a request that it has not read to the end.
@@ -250,7 +250,7 @@ def _ask(connection: socket.socket, request: bytes, deadline: float, end: bytes 
 
 
 def _read_http(received: bytes) -> tuple[int, bytes]:
-    """The status and the body of an answer over HTTP. The body has exactly as many bytes as the head says."""
+    """The status and the body of an answer over HTTP. The body has exactly as many bytes as the head declares."""
     head, end, body = received.partition(b"\r\n\r\n")
     status = re.match(rb"HTTP/1\.[01] (\d{3}) ", head)
     lengths = [length.strip() for length in re.findall(rb"(?im)^content-length:(.*)$", head)]
@@ -282,13 +282,13 @@ _VALUES: dict[str, Callable[[Any], bool]] = {
     "importAssignments": lambda value: isinstance(value, dict) and list(value) == ["already", "assigned", "refused"],
 }
 
-# The statuses of the refusals over HTTP. A refusal that is not here has 409.
+# The statuses of the refusals over HTTP. A refusal that is not listed here has 409.
 _STATUSES = {1: [400], 34: [400, 405, 411, 413, 431, 501], 35: [404], 36: [400], 40: [503], 41: [500], 42: [500]}
 _DETAILS: list[set[str]] = [set(), {"set"}, {"kind"}, {"record"}, {"version"}, {"check"}]
 
 
 def _value(function: str, status: Optional[int], text: bytes) -> Any:
-    """The value of an answer, whose status is None for lines. Raises `Refused` for a refusal, `Unexpected` for all else."""
+    """The value of an answer, whose status is None for lines. Raises `Refused` for a refusal, otherwise `Unexpected`."""
     try:
         answer = json.loads(text.decode())
         is_exact = isinstance(answer, dict) and _json(answer, sort_keys=True) == text

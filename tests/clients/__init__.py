@@ -2,8 +2,8 @@
 
     client      the client, and what the others share
     answers     every request of docs/API.md, and each command twice
-    failures    programs that are busy, killed, stopped or not there
-    fakes       servers that give wrong answers
+    failures    programs that are busy, killed, stopped or missing
+    fakes       servers that send wrong answers
     wrong       wrong answers to the client
     snippets    the examples of the page in each language
 """

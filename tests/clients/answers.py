@@ -15,14 +15,14 @@ METHODS = {name for name in vars(rbac.Client) if not name.startswith("_")} - {"c
 
 
 def repetitions():
-    """What the page says refuses each command the second time: its code and name, or nothing."""
+    """Returns what refuses each command the second time, according to the page: its code and name, or nothing."""
     (table,) = markdown.tables(markdown.section(PAGE, "## 3. After a timeout"))
     cells = [cell for row in table for cell in (row[:2], row[2:])]
     return {function: refused for functions, refused in cells for function in functions.split(", ")}
 
 
 def ask(client, request):
-    """The outcome of a request by the method of its name, if there is one, or by `call`. Also the method's name."""
+    """Returns the outcome of a request, by the method of its name if it has one, or by `call`; and the method's name."""
     arguments = {key: value for key, value in request.items() if key != "fn"}
     name = re.sub("([A-Z])", r"_\1", request["fn"]).lower()
     if name in METHODS and set(inspect.signature(getattr(client, name)).parameters) == set(arguments):
@@ -48,7 +48,7 @@ def repeat(bench, client, request, first, refused):
 
 
 def asks_all(bench, client):
-    """Each request of the page is answered as the page says, also if each command before it was sent twice."""
+    """Each request of the page is answered as the page says, even if each command before it was sent twice."""
     refusals, used, repeated = repetitions(), set(), set()
     bench.same("the commands of the table", sorted(refusals), sorted(COMMANDS))
     for line, answer in all_pairs():

@@ -37,7 +37,7 @@ def raised(call, *given, **named):
 
 
 def outcome(call, *given, **named):
-    """The outcome of a call, as the text of the answer that it stands for."""
+    """Returns the outcome of a call, as the text of the answer that it corresponds to."""
     try:
         value = call(*given, **named)
         answer = {"ok": True} if value is None else {"ok": True, "value": value}

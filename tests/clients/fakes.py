@@ -1,4 +1,4 @@
-"""Servers that answer as they are told, and answers that are not right."""
+"""Servers that send chosen answers, and wrong answers."""
 
 import socket
 import struct
@@ -20,9 +20,9 @@ LOST = "lost"
 
 
 class Fake:
-    """A server that gives each connection the next of its answers: bytes, or a list of bytes and of seconds to wait.
+    """A server that sends each connection the next of its answers: bytes, or a list of bytes and of seconds to wait.
 
-    A request for a path that is not one of a function gets the right answer.
+    A request for a path of no function gets the right answer.
     """
 
     def __init__(self, answers, behind=None):
@@ -45,7 +45,7 @@ class Fake:
             thread.join(SECONDS)
 
     def serve(self):
-        """Answers one connection after another. One that waits holds up no other."""
+        """Answers one connection after another. A connection that waits does not hold up the others."""
         while True:
             try:
                 client, _ = self.listener.accept()
@@ -63,7 +63,7 @@ class Fake:
             thread.start()
 
     def answer(self, client, request, answer):
-        """Gives an answer to a request."""
+        """Sends an answer to a request."""
         with client:
             if answer == RESET:
                 client.setsockopt(socket.SOL_SOCKET, socket.SO_LINGER, struct.pack("ii", 1, 0))
@@ -99,7 +99,7 @@ def read_request(client):
 
 
 def lengthened(body, length, status=200):
-    """An answer whose head says that the body has another length."""
+    """Returns an answer whose head states another length of the body."""
     return reply(status, body).replace(b"Length: %d\r" % len(body), b"Length: %s\r" % str(length).encode())
 
 
@@ -109,7 +109,7 @@ def with_status(status):
 
 
 def slowly(answer, seconds):
-    """An answer byte by byte, with so many seconds between two of them."""
+    """Returns an answer byte by byte, with `seconds` seconds between two bytes."""
     return [piece for byte in answer for piece in (bytes([byte]), seconds)]
 
 
@@ -156,20 +156,20 @@ BODIES = [
     b'{"ok":true,"value":true}' + b" " * 5_000_000,
 ]
 
-# Statuses that do not allow, whatever the body is. Some are not of HTTP. 2000 is not here: a library of Java reads it as 200.
+# Statuses that do not allow, whatever the body is. Some are not HTTP statuses. 2000 is left out: a Java library reads it as 200.
 STATUSES = ["201 A", "202 A", "203 A", "204 A", "206 A", "300 A", "304 A", "400 A", "403 A", "404 A", "409 A", "500 A", "502 A"]
 STATUSES += ["503 A", "504 A", "999 A", "20 A", "0200 A", "-200 A", "OK"]
 
 
 def redirects(port):
-    """Answers that redirect the client to another path of the same server, where the right answer is."""
+    """Returns answers that redirect the client to another path of the same server, which has the right answer."""
     for status in (301, 302, 303, 307, 308):
         field = f"Location: http://{HOST}:{port}/right\r\nContent-Type".encode()
         yield f"status {status}", with_status(f"{status} A").replace(b"Content-Type", field)
 
 
 def wrong_answers(port):
-    """Answers that no client may take for the right one, by their names. `port` is that of the server that gives them."""
+    """Returns answers that no client may accept as the right one, by their names. `port` is that of the sending server."""
     named = {f"body {body[:60]!r}": reply(200, body) for body in BODIES}
     named |= {f"status {status}": with_status(status) for status in STATUSES}
     named |= dict(redirects(port))

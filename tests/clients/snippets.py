@@ -18,13 +18,13 @@ from .fakes import LOST, PASSED_ON, RIGHT, Fake, wrong_answers
 CLIENTS = markdown.section(PAGE, "## 4. Clients")
 LISTS = markdown.section(PAGE, "## 5. Lists that no function returns")
 
-# The program of the example in Go is built on the disk: a file system in memory may not run programs.
+# The program of the Go example is built on the disk: a file system in memory may forbid running programs.
 ON_DISK = True
 
 # The port that the page names.
 PORT = "8080"
 
-# An object with a name that has to be escaped, and what makes it.
+# An object with a name that has to be escaped, and the commands that make it.
 ODD = 'a"b\\c é\U0001f600'
 ODD_LINES = [
     {"fn": "addPermObj", "object": ODD},
@@ -117,7 +117,7 @@ def bodies(questions):
 def decides(bench, asking):
     """Counts whether an example decides as the plain model does, and denies for each wrong answer.
 
-    It gets all questions in one run: a server in front of the program passes on the first ones, and answers the others.
+    It gets all questions in one run: a server in front of the program passes on the first ones, and answers the others itself.
     """
     office = odd_office(bench)
     requests = [{"fn": "checkAccess", **json.loads(body)} for body in bodies(QUESTIONS).splitlines()]
@@ -228,7 +228,7 @@ def in_python_log_in(bench):
         server.process.kill()
         server.process.wait()
     bench.run(["check", path])
-    # One is there from the start, and each login above has made one, but for the two that were refused. One was deleted.
+    # One exists from the start, and each login above has made one, except for the two that were refused. One was deleted.
     bench.same("the number of sessions", sum(row[0] == 7 for row in read_rows(path)["pair_row"]), 1 + 5 - 1)
 
 

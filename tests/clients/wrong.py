@@ -1,4 +1,4 @@
-"""Answers that are not right, over HTTP and by lines: none of them allows, and each raises what it should."""
+"""Wrong answers, over HTTP and by lines: none of them allows, and each raises what it should."""
 
 import contextlib
 import select
@@ -20,7 +20,7 @@ LOST = (*TRUNCATED, *SLOW, "no answer", "a reset", "no HTTP")
 
 
 def gives(bench, wanted, timeout=PATIENT, call=lambda client: client.check_access(*CHECK)):
-    """Counts whether a call raises or returns what is wanted of each answer over HTTP, by the name of the answer."""
+    """Counts whether a call raises or returns what is expected for each answer over HTTP, by the name of the answer."""
     with Fake([answer for answer, _ in wanted.values()]) as fake:
         client = office_at(fake.port, timeout)
         for name, (_, result) in wanted.items():
@@ -64,7 +64,7 @@ def bytes_over_http(bench):
 
 
 def heads_over_http(bench):
-    """A head that does not say how long the body is in exactly one way does not allow."""
+    """A head that does not state the length of the body in exactly one way does not allow."""
     field = b"Content-Length: 24\r\n"
     changes = {
         "no length": b"",
@@ -163,7 +163,7 @@ def wrong_by_lines(bench):
 
 
 def late_lines(bench):
-    """A late answer is not taken for that of the next line, and what comes before a line is no answer."""
+    """A late answer is not accepted as that of the next line, and what arrives before a line is no answer."""
     right = rbac.ALLOWED + b"\n"
     with child(bench, right, right, wait=2 * HASTY) as client:
         client.timeout = HASTY

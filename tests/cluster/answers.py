@@ -13,8 +13,8 @@ from .running import build
 
 DONE = b'{"ok":true}'
 
-# What the library of HTTP refuses by itself has the same status, and a text in place of JSON. docs/CLUSTER.md says so.
-# What it judges otherwise than `rbac serve`: by the name of the request in program/heads, the status.
+# What the HTTP library refuses by itself has the same status, and a text instead of JSON, as docs/CLUSTER.md describes.
+# What it judges differently from `rbac serve`: the status, by the name of the request in program/heads.
 DIFFERENT = {
     "a body that is far too long": 400,
     "a head without an end": 400,
@@ -39,7 +39,7 @@ def exchange(cluster, request, machine=0):
 
 
 def of_line(line):
-    """The request over HTTP for what a line asks."""
+    """Returns the HTTP request for what a line asks."""
     value = json.loads(line)
     function = value.pop("fn")
     body = value["csv"] if function == "importAssignments" else json.dumps(value, ensure_ascii=False)
@@ -92,7 +92,7 @@ def judge_heads(bench, cluster):
 
 
 def judge_bodies(bench, cluster):
-    """Bodies that are no line as they stand."""
+    """Checks bodies that can't be used as a line unchanged."""
     for what, function, body, wanted in [
         ("ends of lines", "addUser", b'\n{\r\n"user"\n:\t"lf"\n}\n', (200, DONE)),
         ("an end of a line in a text", "addUser", b'{"user":"a\nb"}', (400, b'{"code":34,"error":"BadRequest"}')),

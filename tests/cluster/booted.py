@@ -8,7 +8,7 @@ from pages import markdown
 
 from .running import build
 
-# As bin/setup and bin/node would leave it. No unit may wait for a network that is not there.
+# As bin/setup and bin/node would leave it. No unit may wait for a network that does not exist.
 BEFORE = """
 set -e
 NAME=a ME=127.0.0.1 PEERS=a=http://127.0.0.1:2380 ETCD=http://127.0.0.1:2379

@@ -10,16 +10,16 @@ from .networks import MACHINES
 
 
 class Faults:
-    """Does faults to a cluster, one after another, and counts them by their kind."""
+    """Causes faults in a cluster, one after another, and counts them by their kind."""
 
     def __init__(self, cluster, seed):
         self.cluster, self.random = cluster, random.Random(seed)
         self.counts, self.faults = Counter(), []
-        # How long a node may take to end after its replay, 0 if nobody looks.
+        # How long a node may take to end after its replay, 0 if this is not checked.
         self.patience = 30
 
     def run(self, kinds, count, between):
-        """So many faults of these kinds, with so many seconds between them."""
+        """Causes `count` faults of these kinds, with about `between` seconds between them."""
         for _ in range(count):
             kind = self.random.choice(kinds)
             kind(self, self.random.randrange(MACHINES))
@@ -49,7 +49,7 @@ class Faults:
         self.did("pairs of members killed")
 
     def kill_replay(self, i, busy=False):
-        """The program ends. The node has to end too."""
+        """Ends the program. The node has to end too."""
         node = self.cluster.nodes[i]
         process, replays = node.process, [child for child in node.children() if is_replay(child)]
         for number in (signal.SIGSTOP, signal.SIGKILL) if busy else (signal.SIGKILL,):
@@ -64,7 +64,7 @@ class Faults:
         while process.poll() is None and self.patience:
             if time.monotonic() > deadline:
                 with open(node.log, encoding="utf-8") as log:
-                    self.faults.append(f"node {i} goes on after its replay has ended: {log.readlines()[-5:]}")
+                    self.faults.append(f"node {i} still runs after its replay has ended: {log.readlines()[-5:]}")
                 return
             time.sleep(0.02)
 

@@ -1,4 +1,4 @@
-"""Heads of requests that a node answers by another status than `rbac serve`, as the table of docs/CLUSTER.md has them."""
+"""Heads of requests that a node answers with another status than `rbac serve`, as in the table of docs/CLUSTER.md."""
 
 from pages import markdown
 from program.offices import Office
@@ -14,12 +14,12 @@ def request(*fields, line=LINE, host="Host: a", length="Content-Length: 2"):
 
 
 def long_head(length):
-    """A question whose head has so many bytes."""
+    """Returns a question whose head has `length` bytes."""
     start = request("X: ")
     return request("X: " + "y" * (length + len("{}") - len(start)))
 
 
-# By the words of the page: the statuses of `rbac serve` and of a node, and requests. No status is no answer.
+# By the texts of the page: the statuses of `rbac serve` and of a node, and requests. No status means no answer.
 HEADS = {
     "no `Host`, two of them, or one that is not a host name": (200, 400, [request(host=""), request("Host: b"), request(host="Host: a b")]),
     "`Expect` with a value other than `100-continue`": (200, 417, [request("Expect: x")]),
@@ -40,7 +40,7 @@ HEADS = {
 
 
 def judge_differences(bench, ask):
-    """Each has its statuses, which are those of the page. By `ask` a node says its status."""
+    """Each request gets its statuses, which are those of the page. `ask` returns the status of a node."""
     listed = next(table for table in markdown.tables(markdown.page("CLUSTER.md")) if table[0][0] == next(iter(HEADS)))
     wanted = [[what, str(served), str(given or "no answer")] for what, (served, given, _) in HEADS.items()]
     bench.same("heads of the page", listed, wanted)

@@ -1,4 +1,4 @@
-"""Clients of a cluster, and the history of what they asked and were answered."""
+"""Clients of a cluster, and the history of their requests and answers."""
 
 import http.client
 import json
@@ -40,7 +40,7 @@ class Asked:
 
 
 class Client(threading.Thread):
-    """Asks nodes, one request after another, until it is told to end."""
+    """Asks nodes, one request after another, until it is stopped."""
 
     def __init__(self, cluster, number, seed, done):
         super().__init__(daemon=True)
@@ -59,7 +59,7 @@ class Client(threading.Thread):
     # Requests.
 
     def ask(self, kind, line, node=None):
-        """Sends a request to a node, and keeps what came of it."""
+        """Sends a request to a node, and records what came of it."""
         node = self.random.choice([self.number % MACHINES] * 3 + list(range(MACHINES))) if node is None else node
         self.tags += 1
         line, body = tagged(line, f"{self.number}-{self.tags}")
@@ -126,7 +126,7 @@ class Client(threading.Thread):
     # What all change.
 
     def drawn(self):
-        """A request on few names, so that many are accepted and many meet what others did."""
+        """Returns a random request on few names, so that many are accepted and many meet what others did."""
         pick = self.random.choice
         names = {
             "user": pick("abcdef"), "role": pick("rstuvw"), "object": pick("xyz"), "operation": pick(["open", "view"]),
@@ -146,8 +146,8 @@ class Client(threading.Thread):
 
 
 def tagged(line, tag):
-    """A line that no other request has, and its body. A key that the office ignores makes it so, and in a text of
-    assignments a record of a user that isn't there."""
+    """Returns a line that no other request has, and its body. A key that the office ignores makes it unique, and in a text of
+    assignments a record of a user that doesn't exist."""
     if "csv" in line:
         line = {**line, "csv": f"{line['csv']}{tag},r\n"}
         return line, line["csv"]

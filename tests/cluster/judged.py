@@ -96,7 +96,7 @@ def judge_faults(bench, folder, node, count, between):
         bench.judge("as many kills and pauses as wanted", [] if kills >= 0.75 * count else [f"only {kills}"])
 
 
-# Wrong nodes, each by an edit of the sources, and the faults of machines by which it shows.
+# Wrong nodes, each by an edit of the sources, and the faults of machines that reveal it.
 WRONG = {
     # It appends under another name again.
     "twice": ([Faults.pause_member], "ledger/ledger.go", "return t.If(clientv3.Compare", """defer func() { key += "x" }()
@@ -112,7 +112,7 @@ if kind == Command {
 n.asked[kind] <- r
 return Answer{Text: []byte(`{"ok":true}`), Revision: n.revision.Load() + 1}, nil
 }"""),
-    # It goes on after its replay has ended.
+    # It keeps running after its replay has ended.
     "endless": ([Faults.kill_busy_replay], "node/node.go", "case <-ctx.Done():\n\t\t\treturn nil\n", """
 n.replay, n.err = office.Start(n.Program, n.file())
 case <-ctx.Done():
@@ -122,7 +122,7 @@ return nil
 
 
 def faults_of(folder, node, kinds, seed):
-    """What is wrong after some faults of these kinds. That it takes long to recover doesn't count."""
+    """What is wrong after some faults of these kinds. A slow recovery doesn't count."""
     folder.mkdir()
     with Cluster(folder, node, every=EVERY) as cluster:
         trial, faults = Trial(cluster, seed), Faults(cluster, seed)

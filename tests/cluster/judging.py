@@ -1,8 +1,8 @@
-"""Judges a history: whether it is what one office gives that answers all requests in the order of the log.
+"""Judges a history: whether it is that of one office that answers all requests in the order of the log.
 
 The order is that of the log, which a recorder has read from etcd meanwhile. The plain model of tests/machine.py answers its
-lines. An answer says behind which entry of the log it was given, and has to be the model's answer there; that this fits what
-was answered before, by the clock of the clients, is judged apart.
+lines. An answer names the log entry after which it was given, and has to be the model's answer there. Whether this fits what
+was answered before, by the clock of the clients, is judged separately.
 """
 
 import bisect
@@ -30,7 +30,7 @@ class Recorder(threading.Thread):
             self.read()
 
     def read(self):
-        """Reads what is new, and says whether etcd answered."""
+        """Reads what is new, and returns whether etcd answered."""
         last = self.entries[-1][0] if self.entries else 0
         found = self.cluster.read_log(last)
         if found is None:
@@ -49,7 +49,7 @@ class Recorder(threading.Thread):
 
 
 class Judge:
-    """What is wrong with the histories of clients beside a log."""
+    """Finds what is wrong with the histories of clients, compared with a log."""
 
     def __init__(self, entries, histories):
         self.entries = entries
@@ -68,7 +68,7 @@ class Judge:
         return self.faults
 
     def judge_tags(self):
-        """Each line of the log was asked for once, and each command that was answered is there where it says."""
+        """Each line of the log was requested once, and each answered command is at the place in the log that its answer names."""
         commands = {tag_of(one.line): one for one in self.asked if one.kind == COMMAND}
         self.places = {}
         for revision, lines in self.entries:
@@ -77,14 +77,14 @@ class Judge:
                 if tag in self.places:
                     self.fault(f"the log has {line} twice, at {self.places[tag]} and {revision, place}")
                 if tag not in commands:
-                    self.fault(f"the log has {line} at {revision}, which nobody asked for")
+                    self.fault(f"the log has {line} at {revision}, which nobody requested")
                 self.places[tag] = (revision, place)
         for tag, asked in commands.items():
             if asked.is_answered and self.places.get(tag) != (asked.revision, asked.place):
                 self.fault(f"an answered command is at {self.places.get(tag)} of the log", asked)
 
     def judge_answers(self, wanted):
-        """Each answer is that of the model behind the entries up to its revision."""
+        """Each answer is that of the model after the entries up to its revision."""
         commands = {tag_of(one.line): one for one in self.asked if one.kind == COMMAND and one.is_answered}
         questions = {}
         for one in self.asked:
@@ -108,7 +108,7 @@ class Judge:
         self.state = replay.state
 
     def judge_times(self):
-        """Whatever begins after an answer is behind it in the log, and nothing is seen before it was asked for."""
+        """Whatever begins after an answer comes after it in the log, and nothing is seen before it was requested."""
         answered = [one for one in self.asked if one.is_answered]
         ends = sorted((one.end, place_of(one)) for one in answered if one.kind != LOCAL)
         newest, times = [], [end for end, _ in ends]
@@ -120,26 +120,26 @@ class Judge:
             seen = max(seen, *(begun.get(tag_of(json.loads(line)), 0.0) for line in lines))
             latest.append((revision, seen))
         for one in answered:
-            # What was answered before the request began, or with a local one before its age.
+            # What was answered before the request began; for a local one, before its age.
             since = one.start - (one.age + SLACK if one.kind == LOCAL else 0)
             index = bisect.bisect_left(times, since)
             before = newest[index - 1] if index else (0, 0)
             if one.kind == COMMAND and not place_of(one) > before:
-                self.fault(f"it is behind what was answered before at {before}", one)
+                self.fault(f"it does not come after what was answered before at {before}", one)
             elif one.kind != COMMAND and not place_of(one) >= before:
                 self.fault(f"it does not see what was answered before at {before}", one)
             index = bisect.bisect_right(latest, (one.revision, float("inf")))
             if index and latest[index - 1][1] > one.end:
-                self.fault("it sees what was asked for later", one)
+                self.fault("it sees what was requested later", one)
 
 
 def place_of(asked):
-    """The place of an answer in the order: a question is behind the whole entry of its revision."""
+    """The place of an answer in the order: a question comes after the whole entry of its revision."""
     return asked.revision, asked.place if asked.kind == COMMAND else float("inf")
 
 
 def counts_of(histories):
-    """How much of each kind was asked and answered."""
+    """Returns how many requests of each kind were sent and answered."""
     asked = [one for history in histories for one in history]
     counts = {}
     for kind in (COMMAND, LINEARIZABLE, LOCAL):

@@ -153,7 +153,7 @@ class Cluster:
             for process in (*self.nodes, *self.members):
                 process.supervise()
 
-    # What it says.
+    # What it reports.
 
     def until(self, holds, what, seconds=SECONDS):
         """Waits until something holds."""
@@ -176,7 +176,7 @@ class Cluster:
             connection.close()
 
     def status(self, machine):
-        """What a node says of itself."""
+        """Returns what a node reports about itself."""
         _, body = self.get(machine, "/healthz")
         try:
             return json.loads(body)

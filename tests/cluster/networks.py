@@ -1,4 +1,4 @@
-"""Where the machines of a cluster are: each in a network namespace of its own, or an address of loopback."""
+"""The network of the machines of a cluster: each has a network namespace of its own, or a loopback address."""
 
 import os
 import subprocess
@@ -7,12 +7,12 @@ MACHINES = 3
 
 
 def quietly(*words):
-    """Runs a command, and says whether it succeeded."""
+    """Runs a command, and returns whether it succeeded."""
     return subprocess.run(words, capture_output=True, check=False).returncode == 0
 
 
 class Loopback:
-    """Each machine is an address of loopback. They can't be cut off from each other."""
+    """Each machine has a loopback address. They can't be cut off from each other."""
 
     can_cut = False
 
@@ -20,11 +20,11 @@ class Loopback:
         self.net = f"127.{1 + os.getpid() // 250 % 250}.{1 + os.getpid() % 250}"
 
     def address(self, machine, port):
-        """The host and port by which anybody reaches a port of a machine."""
+        """Returns the host and port at which a port of a machine is reached."""
         return f"{self.net}.{machine + 1}:{port}"
 
     def prefix(self, machine):
-        """The words before a command that is to run on a machine."""
+        """Returns the words to put before a command that is to run on a machine."""
         return []
 
     def close(self):
@@ -42,7 +42,7 @@ class Namespaces:
         self.made = []
 
     def open(self):
-        """Makes the namespaces, and says whether this system lets it."""
+        """Makes the namespaces, and returns whether this system allows it."""
         if os.getuid() != 0 or not quietly("ip", "link", "add", self.name, "type", "bridge"):
             return False
         self.made.append(["ip", "link", "del", self.name])
@@ -73,11 +73,11 @@ class Namespaces:
         return f"{self.net}.{machine + 1}"
 
     def address(self, machine, port):
-        """The host and port by which anybody reaches a port of a machine."""
+        """Returns the host and port at which a port of a machine is reached."""
         return f"{self.host(machine)}:{port}"
 
     def prefix(self, machine):
-        """The words before a command that is to run on a machine."""
+        """Returns the words to put before a command that is to run on a machine."""
         return ["ip", "netns", "exec", f"{self.name}m{machine}"]
 
     def cut(self, machine, do="add"):
@@ -98,6 +98,6 @@ class Namespaces:
 
 
 def network():
-    """Namespaces, if this system lets us make them."""
+    """Returns namespaces if this system allows them, and loopback addresses otherwise."""
     found = Namespaces()
     return found if found.open() else Loopback()

@@ -1,4 +1,4 @@
-"""docs/CLUSTER.md: its commands are run on three machines, which are addresses of loopback here."""
+"""docs/CLUSTER.md: its commands are run on three machines, which are loopback addresses here."""
 
 import os
 import re
@@ -34,11 +34,11 @@ class Machine:
         )  # fmt: skip
 
     def here(self, text):
-        """A text with the addresses of the test in the place of the page's."""
+        """Returns a text with the addresses of the test in place of the page's."""
         return re.sub(r"10\.0\.0\.([123])", lambda match: self.addresses[int(match[1]) - 1], text)
 
     def type(self, text):
-        """What the shell prints until what is typed has ended."""
+        """Returns what the shell prints until the typed command has ended."""
         self.shell.stdin.write(f"{self.here(text)}\nprintf '\\0'\n".encode())
         self.shell.stdin.flush()
         said, deadline = b"", time.monotonic() + SECONDS
@@ -97,7 +97,7 @@ def check_commands(bench):
         for block in markdown.blocks(PAGE, "console"):
             for name, command, shown in runs(block):
                 if "adopt" in command:
-                    # The page says that b does the same, and that the members are started anew.
+                    # The page says that b does the same, and that the members are started again.
                     machines["b"].type("kill $MEMBER; wait; mkdir away; mv node etcd away")
                     start(member)
                 if "snapshot restore" in command:

@@ -1,4 +1,4 @@
-"""The sources of rbac-node by the tools of Go: their form, what `go vet` finds, and their own tests."""
+"""Checks the sources of rbac-node with the tools of Go: their format, what `go vet` finds, and their own tests."""
 
 import os
 import shutil
@@ -15,7 +15,7 @@ ENVIRONMENT = {
 
 
 def go(*words):
-    """What a command says, and its status."""
+    """Returns what a command prints, and its status."""
     done = subprocess.run(words, cwd=ROOT, env=ENVIRONMENT, capture_output=True, text=True, timeout=600, check=False)
     return done.stdout + done.stderr, done.returncode
 
@@ -34,10 +34,10 @@ def check_tests(bench):
 def check_unit(bench):
     """systemd-analyze finds no fault in the unit, and calls its exposure low."""
     if not shutil.which("systemd-analyze"):
-        print("left out: systemd-analyze is not there")
+        print("left out: systemd-analyze is not installed")
         return
     unit = (TESTS.parent / "deploy/rbac-node.service").read_text(encoding="utf-8")
     path = bench.write("rbac-node.service", unit.replace("/usr/local/bin/rbac-node", build(bench.shared)).encode())
-    bench.same("what verify says", go("systemd-analyze", "verify", path), ("", 0))
+    bench.same("what verify prints", go("systemd-analyze", "verify", path), ("", 0))
     said, status = go("systemd-analyze", "security", "--offline=true", "--no-pager", "--threshold=20", path)
     bench.judge("its exposure is low", [] if status == 0 else [said[-300:]])

@@ -1,4 +1,4 @@
-"""The rows of the offices that a cluster leaves, beside the model's."""
+"""The rows of the offices that a cluster leaves, in the form of the model's."""
 
 import hashlib
 import sqlite3
@@ -10,7 +10,7 @@ from .networks import MACHINES
 
 
 def rows_of(path):
-    """The rows of the office in a file, as the model gives them."""
+    """Returns the rows of the office in a file, in the form of the model."""
     with sqlite3.connect(f"file:{path}?mode=ro&immutable=1", uri=True) as database:
         return {table: sorted(database.execute(f"SELECT * FROM {table}")) for table in TABLES}
 
@@ -32,7 +32,7 @@ def sorted_rows(state):
 
 
 def snapshots_of(cluster, i):
-    """The snapshots of a node by their revisions: what their names say of them, and their files."""
+    """The snapshots of a node by their revisions: what their names contain, and their files."""
     found = {}
     for path in Path(cluster.data(f"node{i}")).glob("snapshots/[0-9]*"):
         revision, commands, digest = path.name.split("-")

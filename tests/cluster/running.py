@@ -23,7 +23,7 @@ IN_MEMORY = "/dev/shm"
 
 
 def missing():
-    """What is not there that a cluster needs."""
+    """Returns what a cluster needs and is not installed."""
     found = [name for name in ("go", "etcd", "etcdctl", "gcc") if not shutil.which(name)]
     return found + [name for name in NEEDED if not os.path.isdir(f"/usr/share/gocode/src/{name}")]
 

@@ -45,7 +45,7 @@ class Secured:
         self.processes = [Process(words, bench.path("etcd.log"))]
 
     def ctl(self, *words):
-        """Runs etcdctl, and says whether it succeeded."""
+        """Runs etcdctl, and returns whether it succeeded."""
         command = ["etcdctl", "--endpoints", self.etcd, "--cacert", "ca.crt", "--cert", "client.crt", "--key", "client.key", *words]
         done = subprocess.run(
             command, cwd=self.bench.folder, env={**os.environ, "ETCDCTL_API": "3"}, capture_output=True, timeout=SECONDS, check=False
@@ -84,7 +84,7 @@ class Secured:
             connection.close()
 
     def trims(self, port, log):
-        """Gives a node a command, and says whether it has trimmed the log."""
+        """Sends a command to a node, and returns whether the node has trimmed the log."""
         self.ask(port, "POST", "/v1/addUser", json.dumps({"user": f"t{time.monotonic_ns()}"}))
         with open(log, encoding="utf-8") as file:
             return "trimmed the log" in file.read()
@@ -108,7 +108,7 @@ def wait(holds, what):
 
 
 def check_secured(bench):
-    """Only who shows a certificate of the authority gets an answer, at both ports; a node that is new fetches a snapshot."""
+    """Only clients with a certificate of the authority get answers, at both ports; a new node fetches a snapshot."""
     secured = Secured(bench)
     try:
         secured.processes[0].start()

@@ -1,4 +1,4 @@
-"""The sources of rbac-node, beside the pages. These checks need neither Go nor etcd."""
+"""The sources of rbac-node, compared with the pages. These checks need neither Go nor etcd."""
 
 import json
 import re
@@ -9,7 +9,7 @@ SOURCES = TESTS.parent / "cluster/src/rbac-node"
 
 
 def check_functions(bench):
-    """The functions of the node are those of the pages, commands apart from questions."""
+    """The functions of the node are those of the pages, with commands and questions apart."""
     text = (SOURCES / "api/api.go").read_text(encoding="utf-8")
     paths = json.loads((TESTS.parent / "docs/openapi.json").read_text(encoding="utf-8"))["paths"]
     for kind in ("commands", "questions"):
@@ -19,7 +19,7 @@ def check_functions(bench):
 
 
 def check_texts(bench):
-    """The page is short, and the unit of systemd runs what it says."""
+    """The page is short, and it and the systemd unit name options of rbac-node; the page lists all of them."""
     page = (TESTS.parent / "docs/CLUSTER.md").read_text(encoding="utf-8")
     bench.same("a page of under 365 lines", page.count("\n") < 365, True)
     settings = (SOURCES / "main.go").read_text(encoding="utf-8")
@@ -53,7 +53,7 @@ def check_metrics(bench):
 
 
 def check_limits(bench):
-    """The page says of its intervals and limits what the sources say."""
+    """The intervals and limits on the page are those of the sources."""
     page = " ".join((TESTS.parent / "docs/CLUSTER.md").read_text(encoding="utf-8").split())
     sources = "".join(path.read_text(encoding="utf-8") for path in sorted(SOURCES.rglob("*.go")))
     for source, text in [

@@ -1,4 +1,4 @@
-"""What the jobs share: where the files are, which programs are there, and the state of a process."""
+"""What the jobs share: where the files are, which programs are installed, and the state of a process."""
 
 import inspect
 import os
@@ -15,7 +15,7 @@ DEPLOY = TESTS.parent / "deploy"
 TESTED_BY = {
     "nginx": "deploy/nginx",
     "haproxy": "deploy/haproxy.cfg",
-    "systemd-analyze": "what systemd-analyze says of deploy/rbac.service",
+    "systemd-analyze": "what systemd-analyze reports about deploy/rbac.service",
     "systemd-nspawn": "deploy/rbac.service under systemd",
     "strace": "the system calls that deploy/rbac.service allows",
     "curl": "deploy/health",
@@ -28,11 +28,11 @@ def untested():
         if not shutil.which(program):
             yield f"not tested: {what}, since there is no {program} (bin/setup deploy installs it)"
     if os.geteuid() != 0:
-        yield "not tested: what only root can do, as the commands of docs/OPERATING.md that install and upgrade"
+        yield "not tested: what only root can do, such as the commands of docs/OPERATING.md that install and upgrade"
 
 
 def has(*programs):
-    """Whether all of these programs of others are there. A line says for which job one is not."""
+    """Returns whether all of these programs are installed. If one is not, prints the job that is left out."""
     missing = [program for program in programs if not shutil.which(program)]
     for program in missing:
         print(f"left out, since there is no {program}: {inspect.stack()[1].function}", flush=True)
@@ -40,7 +40,7 @@ def has(*programs):
 
 
 def is_root():
-    """Whether this is root, who may mount and may be another user. A line says so if not."""
+    """Returns whether this is root, who may mount and become another user. If not, prints the job that is left out."""
     if os.geteuid() != 0:
         print(f"left out, since this is not root: {inspect.stack()[1].function}", flush=True)
     return os.geteuid() == 0
@@ -60,7 +60,7 @@ def is_paused(pid):
 
 
 def wait_until(holds, *given, seconds=SECONDS):
-    """Waits until something holds, and gives whether it came to that."""
+    """Waits until something holds, and returns whether it did in time."""
     deadline = time.monotonic() + seconds
     while time.monotonic() < deadline:
         if holds(*given):

@@ -14,7 +14,7 @@ HEALTH = DEPLOY / "health"
 
 GOOD = b'{"ok":true,"value":["pay"]}'
 
-# Answers of no office that is served, each with a part of what is said of it.
+# Answers that no served office sends, each with a part of what the check prints about it.
 WRONG = {
     "no answer": (b"", "no whole answer"),
     "a reset": (RESET, "no whole answer"),
@@ -29,13 +29,13 @@ WRONG = {
 
 
 def said(port, *more):
-    """What the check says of a port: its status, and what it prints."""
+    """Runs the check for a port, and returns its status and what it prints."""
     done = run([HEALTH, port, *more])
     return done.status, done.out.decode(), done.err.decode()
 
 
 def answering(bench):
-    """A server that answers is found well, and no byte of its files changes. One that is paused or gone is not."""
+    """A server that answers is reported as healthy, and no byte of its files changes. One that is paused or gone is not."""
     if not has("curl"):
         return
     office = small_office(bench)
@@ -49,12 +49,12 @@ def answering(bench):
         bench.same("a paused server", said(server.port, 1), (1, "", "health: no answer in 1 seconds\n"))
         bench.same("it ends in time", time.monotonic() - start < 3, True)
         server.process.send_signal(signal.SIGCONT)
-        bench.same("a server that goes on", said(server.port), (0, "", ""))
+        bench.same("a server that continues", said(server.port), (0, "", ""))
     bench.same("no server", said(server.port), (1, "", f"health: nobody listens on port {server.port}\n"))
 
 
 def wrong_answers(bench):
-    """Another answer than that of an office is found wrong, and one line says so."""
+    """An answer other than that of an office is reported as wrong, in one line."""
     if not has("curl"):
         return
     for name, (answer, why) in WRONG.items():
@@ -66,7 +66,7 @@ def wrong_answers(bench):
 
 
 def arguments(bench):
-    """Arguments that are no port and no seconds are refused by status 2."""
+    """Arguments that are no port and no seconds are refused with status 2."""
     port = str(free_port())
     for words in (["x"], ["0"], ["65536"], [port, "0"], [port, "-1"], [port, "1", "1"], [""], [port, "1.5"]):
         done = run([HEALTH, *words], env=dict(os.environ))

@@ -1,6 +1,6 @@
 """The commands of docs/OPERATING.md that install, upgrade and back up, and bin/setup, on a layer above the files of this machine.
 
-If it can be, systemd is booted there and runs the unit: what the server sees, and that it is started again. If not, only the
+If possible, systemd is booted there and runs the unit: what the server sees, and that it is started again. If not, only the
 enabling is tried.
 """
 
@@ -61,7 +61,7 @@ timeout 50 systemd-nspawn -q -D "$root" --machine="rbac-$$" --register=no --keep
 cat "$root/mnt/said"; cat "$root/mnt/errors" >&2
 """
 
-# What is there after the installation.
+# What exists after the installation.
 FOUND = """
 echo installed
 cd /var/lib/rbac
@@ -147,7 +147,7 @@ ls /var/backups/rbac | wc -l
 
 
 def block_with(words):
-    """The one block of commands of the page that has some words, to be run in the folder of the repository."""
+    """Returns the one block of commands of the page that contains a text, to be run in the folder of the repository."""
     (found,) = [block for block in markdown.blocks(PAGE, "sh") if words in "\n".join(block)]
     return "\n".join(["cd /mnt/repository", *found, ""])
 
@@ -159,7 +159,7 @@ def cron():
 
 
 def on_layer(bench, how, script, *more):
-    """What a script says on a layer above the files of this machine, with its status; None if there can be no such layer.
+    """Returns what a script prints on a layer above the files of this machine, with its status; None if no layer can be made.
 
     The folder of the repository is /mnt/repository there, and has further files.
     """
@@ -178,7 +178,7 @@ def on_layer(bench, how, script, *more):
 
 
 def same_backup(bench, text):
-    """Counts whether the text begins with the folder of a backup, and gives the rest."""
+    """Counts whether the text begins with the folder of a backup, and returns the rest."""
     first, _, rest = text.partition("\n")
     bench.same("the backup before the upgrade", bool(re.fullmatch(r"/var/backups/rbac/\d{8}-\d{6}-\d{6}", first)), True)
     return rest
@@ -194,7 +194,7 @@ def without_systemd(bench):
         print("left out: a layer above the files of this machine, which can't be mounted", flush=True)
         return
     out = done.out.decode()
-    bench.same("what is there after installing", (out[: len(INSTALLED)], done.status), (INSTALLED, 0))
+    bench.same("what exists after installing", (out[: len(INSTALLED)], done.status), (INSTALLED, 0))
     bench.same("the office, and how many backups", same_backup(bench, out[len(INSTALLED) :]), "good\n2\n")
 
 
@@ -209,7 +209,7 @@ def by_systemd(bench):
         print("left out: systemd, which can't be booted here", flush=True)
         return
     out = done.out.decode()
-    bench.same("what is there after installing", out[: len(INSTALLED)], INSTALLED)
+    bench.same("what exists after installing", out[: len(INSTALLED)], INSTALLED)
     rest = out[len(INSTALLED) :]
     bench.same("what the server does, and sees", rest[: len(RAN)], RAN)
     rest = rest[len(RAN) :]
@@ -218,7 +218,7 @@ def by_systemd(bench):
     bench.same("the end", same_backup(bench, rest[len(WAS_LIMITED) :]), ended)
 
 
-# Runs bin/setup as if nginx and HAProxy were missing. What stands for apt-get prints its words, and whether servers may start.
+# Runs bin/setup as if nginx and HAProxy were missing. A fake apt-get prints its arguments, and whether servers may start.
 SETUP = """
 rm -f /usr/sbin/nginx /usr/sbin/haproxy /usr/sbin/policy-rc.d
 cat > /usr/local/sbin/apt-get <<'END'
@@ -238,7 +238,7 @@ echo "$?"
 
 
 def setting_up(bench):
-    """bin/setup installs nginx and HAProxy only if it is asked to, and starts none of them."""
+    """bin/setup installs nginx and HAProxy only if it is asked to, and starts neither of them."""
     if not (is_root() and has("unshare", "mount", "chroot")):
         return
     done = on_layer(bench, CHANGED_ROOT, SETUP, DEPLOY.parent / "bin/setup")

@@ -28,7 +28,7 @@ GROUPS = {
 }
 NAMES = ["rbac-common", *(f"rbac-{group}" for group in GROUPS)]
 
-# Ways to write the name of a command that a proxy may take for that of another function.
+# Ways to write the name of a command that a proxy may mistake for that of another function.
 DISGUISED = [
     "/v1/checkAccess/../addUser",
     "/v1/addUser/../checkAccess",
@@ -49,7 +49,7 @@ DISGUISED = [
 
 
 def sorts():
-    """The functions that each group may call, as the page and the sources say."""
+    """Returns the functions that each group may call, according to the page and the sources."""
     questions, commands = set(sources.question_keys()), set(sources.command_keys())
     (table,) = markdown.tables(markdown.section(markdown.page("OPERATING.md"), "## 8. Behind a proxy"))
     said = {row[0]: set(re.findall(r"`(\w+)`", row[1])) for row in table}
@@ -62,7 +62,7 @@ def sorts():
 
 
 def settings(name, folder, port, server_port):
-    """The settings of a file as they stand, with free ports, in a folder of a test."""
+    """Returns the settings of a file, unchanged but for free ports, in a folder of a test."""
     text = (NGINX / f"{name}.conf").read_text(encoding="utf-8")
     places = {"443": str(port), "8080": str(server_port), "/etc/nginx/": f"{folder}/", "/var/log/nginx/": f"{folder}/"}
     for old, new in places.items():
@@ -102,7 +102,7 @@ class Proxy:
         self.process.communicate(timeout=SECONDS)
 
     def listens(self):
-        """Whether it takes connections."""
+        """Returns whether it accepts connections."""
         with socket.socket() as probe:
             return probe.connect_ex((HOST, self.port)) == 0
 
@@ -166,7 +166,7 @@ def who_may(bench, name):
 
 
 def decisions(bench):
-    """A decision through nginx is that of the server, and an answer that nginx gives itself is no decision."""
+    """A decision through nginx is that of the server, and an answer that nginx itself makes is no decision."""
     if not has("nginx", "openssl"):
         return
     office = small_office(bench)
@@ -186,7 +186,7 @@ def decisions(bench):
 
 
 def long_bodies(bench):
-    """Bodies as long as the server takes are passed on, and one byte more is refused."""
+    """Bodies as long as the server accepts are passed on, and one byte more is refused."""
     if not has("nginx", "openssl"):
         return
     office = small_office(bench)
@@ -222,7 +222,7 @@ def slow_client(bench):
 
 
 def logs(bench):
-    """The log of administration has who asked what, with the body; the others have no body; none has one without a password."""
+    """The administration log has who sent what, with the body; other logs have no body; none has one without a password."""
     if not has("nginx", "openssl"):
         return
     office = small_office(bench)
@@ -255,14 +255,14 @@ def logs(bench):
 
 
 def checked(bench, name):
-    """nginx takes the settings without a warning."""
+    """nginx accepts the settings without a warning."""
     if not has("nginx", "openssl"):
         return
     credentials(bench)
     path = bench.write("nginx.conf", settings(name, bench.folder, free_port(), free_port()).encode())
     done = run(["nginx", "-t", "-q", "-p", bench.folder, "-c", path])
     said = [line for line in done.err.decode().splitlines() if "[alert] could not open error log" not in line]
-    bench.same(f"what nginx says of {name}", (done.status, said), (0, []))
+    bench.same(f"what nginx prints about {name}", (done.status, said), (0, []))
 
 
 JOBS = [

@@ -48,7 +48,7 @@ class Queue:
         self.process.communicate(timeout=SECONDS)
 
     def listens(self):
-        """Whether it takes connections."""
+        """Returns whether it accepts connections."""
         with socket.socket() as probe:
             return probe.connect_ex((HOST, self.port)) == 0
 
@@ -61,12 +61,12 @@ class Queue:
 
 
 def checked(bench):
-    """HAProxy takes the settings as they stand, but for a user that may not be there."""
+    """HAProxy accepts the settings unchanged, except for a user that may not exist."""
     if not has("haproxy"):
         return
     path = bench.write("haproxy.cfg", settings(free_port(), free_port()).encode())
     done = run(["haproxy", "-c", "-q", "-f", path])
-    bench.same("what haproxy says", (done.status, [line for line in done.err.splitlines() if b"NOTICE" not in line]), (0, []))
+    bench.same("what haproxy prints", (done.status, [line for line in done.err.splitlines() if b"NOTICE" not in line]), (0, []))
     size = sources.sizes()
     least = size["bytes of a body of JSON"] + size["bytes of the head of a request"]
     (buffer,) = re.findall(r"^    tune.bufsize (\d+)$", SETTINGS.read_text(encoding="utf-8"), re.M)
@@ -74,7 +74,7 @@ def checked(bench):
 
 
 def restarts(bench):
-    """Of many clients at once each gets its answer, while the server ends after every third connection."""
+    """Many clients at once all get their answers, while the server ends after every third connection."""
     if not has("haproxy"):
         return
     office, port = small_office(bench), free_port()
@@ -90,6 +90,8 @@ def restarts(bench):
             finally:
                 os.killpg(loop.pid, 9)
         bench.same("the answers", answers, [(200, GOOD)] * len(asked))
+    # The server that was killed with the loop may hold its lock for a moment.
+    wait_until(lambda: bench.run(["check", office.path]).out == b"good\n")
     names = names_in(bench, office.path)
     lost = [f"u{number}" for number, status in enumerate(done) if status == 200 and f"u{number}" not in names]
     bench.same("what was answered and is not done", lost, [])
@@ -100,7 +102,7 @@ def restarts(bench):
 
 
 def names_in(bench, path):
-    """The names in an office, after the program has taken the log in."""
+    """Returns the names in an office, after the program has merged its log."""
     bench.same("the office is good", bench.run(["check", path]).out, b"good\n")
     return {row[1] for row in read_rows(path)["name_row"]}
 
@@ -125,14 +127,14 @@ def waiting(bench):
 
 
 def lost_answers(bench):
-    """If the answer is lost, a question is asked again by the settings, and a command is not."""
+    """If the answer is lost, the settings repeat a question, but not a command."""
     questions, commands = sources.question_keys(), sources.command_keys()
     for function in [*questions, *commands]:
         bench.same(f"{function} is sent twice", sent_twice(bench, function), function in questions)
 
 
 def sent_twice(bench, function):
-    """Whether the settings take a function for a question."""
+    """Returns whether the settings treat a function as a question."""
     text = SETTINGS.read_text(encoding="utf-8")
     paths = {path for line in re.findall(r"acl is_question path (.*)$", text, re.M) for path in line.split()}
     patterns = re.findall(r"acl is_question path_reg (.*)$", text, re.M)

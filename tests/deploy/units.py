@@ -1,4 +1,4 @@
-"""The unit of systemd: what systemd-analyze says of it, and whether the server has all that it needs under it."""
+"""The unit of systemd: what systemd-analyze reports about it, and whether the server has all that it needs under it."""
 
 import re
 import shutil
@@ -42,13 +42,13 @@ def values(name):
 
 
 def command():
-    """The words by which the unit starts the server."""
+    """Returns the words with which the unit starts the server."""
     (line,) = values("ExecStart")
     return line.split()
 
 
 def words_taken(bench):
-    """The unit starts the server by words that the program takes, with the port that it may bind and the greatest limit."""
+    """The unit starts the server with words that the program accepts, with the port that it may bind and the greatest limit."""
     program, serve, path, *options = command()
     given = dict(zip(options[::2], options[1::2]))
     bench.same("the program", (program, serve), (PLACE, "serve"))
@@ -68,7 +68,7 @@ def analyzed(bench):
         return
     path = bench.write("rbac.service", UNIT.replace(PLACE, PROGRAM).encode())
     done = run(["systemd-analyze", "verify", path])
-    bench.same("what verify says", (done.status, done.out, done.err), (0, b"", b""))
+    bench.same("what verify prints", (done.status, done.out, done.err), (0, b"", b""))
     threshold = f"--threshold={MOST_EXPOSED}"
     done = run(["systemd-analyze", "security", "--offline=true", "--no-pager", threshold, path])
     if b"unrecognized option" in done.err or b"Unknown" in done.err:

@@ -19,21 +19,21 @@ from stopped.shim import Shim
 DONE = b'{"ok":true}'
 ADD_ANN = b'{"fn":"addUser","user":"ann"}'
 
-# A slow client sends a byte every so many seconds, which is less than it may wait.
+# A slow client sends a byte at this interval in seconds, which is less than it may wait.
 SLOW = 3
 
-# A write that waits may still send some bytes: so many wait at most until one sends none.
+# A write that waits may still send some bytes: at most this many wait until one sends none.
 WRITES = 4
 
-# So many bytes are sent of a body of which more are announced.
+# How many bytes are sent of a body that was announced as longer.
 SENT = [0, 1, 8_192]
 
-# So many users have one role: the reply that names them has 2.5 MB, the longest that there is.
+# How many users have one role: the reply that names them has 2.5 MB, the longest possible.
 USERS = 20_000
 
 
 def waited_for(bench, what, start, least, most):
-    """Counts whether so many seconds have passed."""
+    """Counts whether between `least` and `most` seconds have passed since `start`."""
     seconds = time.monotonic() - start
     bench.same(f"{what}: {seconds:.1f} s", least <= seconds <= most, True)
 
@@ -48,7 +48,7 @@ def serve_next(bench, server, office, what, start, least, most):
 
 
 def drip(bench, count):
-    """A client that sends a byte now and then is waited for, until it stops: five seconds behind its last byte."""
+    """A client that sends a byte now and then is waited for, until it stops: five seconds after its last byte."""
     office = Office(bench)
     with Server(bench, office.path, 2) as server, connect(server.port) as slow:
         start = time.monotonic()
@@ -77,7 +77,7 @@ def send_slowly(bench):
 
 
 def say_nothing(bench, count):
-    """Clients that say nothing hold up the next one for five seconds each."""
+    """Clients that send nothing hold up the next one for five seconds each."""
     office = Office(bench)
     with Server(bench, office.path, count + 1) as server:
         silent = [connect(server.port) for _ in range(count)]
@@ -102,7 +102,7 @@ def crowded_office(bench):
 
 
 def narrow(port):
-    """A connection for which the system keeps few bytes that the client has not read."""
+    """Returns a connection for which the system buffers few bytes that the client has not read."""
     client = socket.socket()
     client.setsockopt(socket.SOL_SOCKET, socket.SO_RCVBUF, 4_096)
     client.setsockopt(socket.IPPROTO_TCP, socket.TCP_MAXSEG, 536)
@@ -149,7 +149,7 @@ def read_slowly(bench):
 
 
 def leave_amid_reply(bench, count):
-    """Clients that go away without their long replies harm nobody."""
+    """Clients that leave without their long replies harm nobody."""
     office, _ = crowded_office(bench)
     with Server(bench, office.path, count + 1) as server:
         for _ in range(count):
@@ -160,7 +160,7 @@ def leave_amid_reply(bench, count):
 
 
 def stop_in_body(bench):
-    """A client that announces the longest import and sends half of it is let go, and nothing is imported."""
+    """A client that announces the longest import and sends half of it is disconnected, and nothing is imported."""
     office = Office(bench)
     long = head("POST /v1/importAssignments HTTP/1.1", "Content-Length: 2097152") + b"user,role\n" * 100_000
     with Server(bench, office.path, 2) as server, connect(server.port) as slow:
@@ -176,7 +176,7 @@ def stop_in_body(bench):
 
 
 def allocated(bench, shim, path, function, length, body):
-    """The bytes that a server asks for in all and at once, whose client announces a length and sends a part."""
+    """Returns how many bytes a server allocates, in all and at once, if its client announces a length and sends a part."""
     fields = [f"Content-Length: {length}", "X:".ljust(10 - len(str(length)), "y")]
     request = head(f"POST /v1/{function} HTTP/1.1", *fields) + body
     shim.forget()
@@ -199,7 +199,7 @@ def announce(bench, function, most):
 
 
 def jobs(is_long):
-    """The clients; by `--long` slower ones."""
+    """Returns the jobs of the clients; with `--long`, of slower ones."""
     found = [(say_nothing, 6 if is_long else 2), (read_nothing,), (read_slowly,), (leave_amid_reply, 20)]
     found += [(announce, "importAssignments", MOST_BYTES), (announce, "addUser", LONGEST_LINE)]
     return found + [(send_slowly,), (stop_in_body,)] + [(drip, count) for count in ((3, 30) if is_long else (3,))]

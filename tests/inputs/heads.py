@@ -1,4 +1,4 @@
-"""Heads of requests over HTTP: of random bytes, of each length that there may be, split at each byte."""
+"""Heads of requests over HTTP: of random bytes, of each possible length, split at each byte."""
 
 import json
 import random
@@ -13,7 +13,7 @@ from program.web import BAD_REQUEST, NO_FUNCTION, Server, connect, post, read_al
 # The longest head.
 MOST = 8_192
 
-# How many requests of random bytes there are, and with `--long`; of EVERY lengths one is the length of a truncated head.
+# How many requests of random bytes are sent, and with `--long`; one in EVERY lengths is the length of a truncated head.
 RANDOM, MORE_RANDOM = 1_200, 100_000
 EVERY, EVERY_LONG = 37, 1
 
@@ -77,7 +77,7 @@ def ask_cut_heads(bench, every):
 
 
 def random_request(draws):
-    """Bytes that no client means as a request: of any kind, of lines, and heads with some bytes changed."""
+    """Returns bytes that no client would send as a request: of any kind, of lines, and heads with some bytes changed."""
     length = draws.choice([draws.randrange(200), draws.randrange(MOST + 20), MOST, MOST + 1])
     sort = draws.randrange(3)
     if sort == 0:
@@ -93,7 +93,7 @@ def random_request(draws):
 def ask_random(bench, first, count):
     """Requests of random bytes are refused; a head that was changed may still be accepted.
 
-    The reply is whole even if a request goes on after what is refused of it.
+    The reply is whole even if a request continues after the part that is refused.
     """
     office, draws, added = Office(bench), random.Random(first), 0
     exists = reply(409, json_text({"code": 3, "error": "UserExists"}).encode())
@@ -108,12 +108,12 @@ def ask_random(bench, first, count):
                 bench.passed += 1
             else:
                 bench.same(f"request {number} from seed {first}", answer, "a refusal")
-        bench.same("the server goes on", server.ask(post("ssdRoleSets", b"")), reply(200, b'{"ok":true,"value":[]}'))
+        bench.same("the server keeps running", server.ask(post("ssdRoleSets", b"")), reply(200, b'{"ok":true,"value":[]}'))
         server.ends()
     if added:
         office.model.answer(b'{"fn":"addUser","user":"ann"}')
     office.told()
-    return {"requests of random bytes": count, "changed heads that were taken": added}
+    return {"requests of random bytes": count, "changed heads that were accepted": added}
 
 
 def random_bodies(bench, first, count):
@@ -138,7 +138,7 @@ def split_requests(bench):
         for pieces in parts:
             what = f"a request in {len(pieces)} pieces, the first of {len(pieces[0])} bytes"
             bench.same(what, ask_in_pieces(server, pieces), reply(200, DONE))
-            bench.same("the user is there", server.ask(REMOVE), reply(200, DONE))
+            bench.same("the user exists", server.ask(REMOVE), reply(200, DONE))
         server.ends()
     office.told()
     return {"requests that were split": len(parts)}

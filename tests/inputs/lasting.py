@@ -13,7 +13,7 @@ from .measured import LARGE, SMALL, Meter, is_within, kilobytes_of, size_of
 ROUNDS, MORE_ROUNDS = (500, 6_000), (500, 100_000)
 REQUESTS, MORE_REQUESTS = 3_000, 100_000
 
-# The most kilobytes that a long run may have more than a short one.
+# How many kilobytes more than a short run a long one may use.
 GROWTH = 4_096
 
 # The most megabytes of the file after many changes of a small office.
@@ -42,7 +42,7 @@ def lines_of(requests):
 
 
 def replay_rounds(bench, words, model, before, rounds):
-    """Replays these lines and many rounds, each of which is answered as by the model, and gives what was measured."""
+    """Replays these lines and many rounds, each of which is answered as by the model, and returns what was measured."""
     answers = b"".join(model.answers(before))
     state, once = model.state, lines_of(ROUND)
     again = b"".join(model.answers(once))
@@ -93,7 +93,7 @@ def serve_many(bench, count):
 
 
 def open_largest(bench):
-    """An office with as many users, roles, assignments and grants as there may be is opened, in bounded memory."""
+    """An office with as many users, roles, assignments and grants as are allowed is opened, in bounded memory."""
     office = Office(bench)
     users = [f"user {number}".ljust(64, "u") for number in range(20_000)]
     roles = [f"role {number}".ljust(64, "r") for number in range(1_024)]

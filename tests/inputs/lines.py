@@ -52,14 +52,14 @@ def replay_bytes(bench, first, count):
 
 
 def replay_deep(bench, depth):
-    """Lines whose JSON nests so deep."""
+    """Replays lines whose JSON is nested to this depth."""
     lines = [line for line in deep_lines(depth) if len(line) <= LONGEST_LINE]
     replays_as_the_model(bench, f"depth {depth}", b"\n".join(lines))
     return {"lines of deep JSON": len(lines)}
 
 
 def repeated(piece):
-    """A long input that has this piece again and again."""
+    """Returns a long input that repeats this piece."""
     whole = piece * max(PIECE // len(piece), 1)
     return [whole] * (LENGTH // len(whole))
 
@@ -71,7 +71,7 @@ def stop_at(line, answered):
 
 LONG = {
     "no LF": (repeated(b"x"), b"", *stop_at(1, 0)),
-    "no LF behind a line": ([b'{"fn":"ssdRoleSets"}\n', *repeated(b"[")], b'{"ok":true,"value":[]}\n', *stop_at(2, 1)),
+    "no LF after a line": ([b'{"fn":"ssdRoleSets"}\n', *repeated(b"[")], b'{"ok":true,"value":[]}\n', *stop_at(2, 1)),
     "spaces without LF": (repeated(b" "), b"", *stop_at(1, 0)),
     "zeros": (repeated(b"\x00"), b"", *stop_at(1, 0)),
     "LF alone": (repeated(b"\n"), b"", b"", 0),

@@ -1,4 +1,4 @@
-"""Runs of the program with the memory that they had at most and the seconds that they took."""
+"""Runs of the program with the memory that they used at most and the seconds that they lasted."""
 
 import os
 import subprocess
@@ -15,7 +15,7 @@ SMALL, LARGE = 32, 256
 
 @dataclass(frozen=True)
 class Measured:
-    """What a run printed and its status, the most kilobytes that it had, its seconds, and how many bytes it read."""
+    """What a run printed and its status, the most kilobytes that it used, its seconds, and how many bytes it read."""
 
     done: Done
     kilobytes: int
@@ -24,7 +24,7 @@ class Measured:
 
     def text(self):
         """The figures as a text."""
-        return f"{self.kilobytes / 1_024:.1f} MB, {self.seconds:.2f} s, {self.given:,} bytes taken"
+        return f"{self.kilobytes / 1_024:.1f} MB, {self.seconds:.2f} s, {self.given:,} bytes read"
 
 
 class Feeder(threading.Thread):
@@ -80,12 +80,12 @@ class Meter:
 
 
 def kilobytes_of(process):
-    """The most kilobytes that a running process has had."""
+    """Returns the most kilobytes that a running process has used."""
     with open(f"/proc/{process.pid}/status", encoding="utf-8") as file:
         for line in file:
             if line.startswith("VmHWM:"):
                 return int(line.split()[1])
-    raise AssertionError("the system does not tell what memory a process had")
+    raise AssertionError("the system does not report the memory of a process")
 
 
 def is_within(bench, what, kilobytes, megabytes):

@@ -6,7 +6,7 @@ from machine.commands import COMMANDS
 from machine.questions import QUESTIONS
 from machine.requests import LONGEST_LINE
 
-# Of such parts lines are made that look like JSON.
+# The parts of random lines that look like JSON.
 PARTS = [
     *(json.dumps(name) for name in ["fn", "user", "role", "roles", "cardinality", "ann", "clerk", "", "\\", "\u20ac"]),
     *(json.dumps(name) for name in [*COMMANDS, *QUESTIONS]),
@@ -44,7 +44,7 @@ def random_line(draws):
 
 
 def deep_values(depth):
-    """JSON texts that nest so deep, and such as end before they are whole."""
+    """Returns JSON texts that are nested to this depth, and ones that end before they are complete."""
     yield "[" * depth + "]" * depth
     yield "[" * depth
     yield '{"a":' * depth + "1" + "}" * depth
@@ -54,7 +54,7 @@ def deep_values(depth):
 
 
 def deep_lines(depth):
-    """Lines with values that nest so deep: alone, at a key that doesn't count, at one that does, behind a request."""
+    """Returns lines with values nested to this depth: alone, at a key that is ignored, at one that isn't, after a request."""
     for value in deep_values(depth):
         yield value.encode()
         yield f'{{"fn":"addUser","user":"ann","x":{value}}}'.encode()

@@ -1,4 +1,4 @@
-"""The program is killed at random moments, and the office goes on from what is in its file.
+"""The program is killed at random moments, and the office continues from what is in its file.
 
     lives       a replay is killed, run after run of one office
     others      `init`, `import` and `migrate` are killed

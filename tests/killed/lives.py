@@ -1,7 +1,7 @@
 """Offices that go from run to run, each a replay of random lines that crashes: killed right after one of its answers, as it
 opens or closes, or ended in place of a random write, sync or truncation, or amid a write (stop.c).
 
-A third of the offices is of version 1 at first and is migrated half-way, by runs that are killed too.
+A third of the offices are of version 1 at first and are migrated half-way, by runs that are killed too.
 """
 
 import random
@@ -40,7 +40,7 @@ CHANGES = 3
 
 
 class Taken:
-    """The assignments and grants that lines have removed so far, and not given again."""
+    """The assignments and grants that lines have removed so far, and not added again."""
 
     def __init__(self):
         self.assignments = frozenset()
@@ -72,7 +72,7 @@ class ByKill:
     def end(self, path, story, draws):
         """Replays the lines, kills the replay, and returns what it had printed by then.
 
-        A random number of lines is answered first; then it is given the others at once, and amid these it is killed.
+        A random number of lines is answered first. Then the replay gets the others at once, and is killed amid these.
         """
         behind = draws.randrange(len(story.lines) + 1)
         with subprocess.Popen(
@@ -111,7 +111,7 @@ WAYS = {"kill": ByKill, "write": AtWrite}
 
 
 def story_drawn(draws, state, moments, lines):
-    """A replay of random lines over an office with this state: one at least."""
+    """Returns a replay of at least one random line over an office with this state."""
     draws.replay.state = state
     drawn = [draws.draw() for _ in range(moments.randrange(lines) + 1)]
     story = replay_story(state, [line + b"\n" for _, line, answer in drawn if answer])
@@ -119,7 +119,7 @@ def story_drawn(draws, state, moments, lines):
 
 
 def live(bench, path, story, way, moments, taken):
-    """One life: a replay that ends too early. Gives the state that is found, and what is counted of it."""
+    """One life: a replay that ends too early. Returns the state that is found, and the counts of the life."""
     done = way.end(path, story, moments)
     count = done.out.count(b"\n")
     bench.same("the answers", done.out, b"".join(story.answers[:count]))

@@ -1,10 +1,10 @@
-"""A plain model of an office, written from the rules in words and not from the code.
+"""A plain model of an office, written from the rules in prose and not from the code.
 
 It reads request lines, answers them byte for byte, and writes the role report, the export and the rows of the tables of a
 state. It is made to be read, not to be fast.
 
     state       what an office holds, and what follows from that: the role order, who is authorized for what
-    commands    the commands: what refuses each, and what it leaves
+    commands    the commands: what refuses each, and the state after it
     questions   the questions: what refuses each, and its answer
     requests    what a request line asks for, or why it is malformed
     names       which texts are names

@@ -1,8 +1,8 @@
 """Assignments as CSV, read and written.
 
 Records are those of the usual reader: fields are between commas, a field may be in double quotes
-and has each of its own twice then, and LF, CR or both end a record. Nothing is trimmed, lines without
-anything are no records, and records may differ in length. One byte order mark at the start is dropped.
+and then has each of its own twice, and LF, CR or both end a record. Nothing is trimmed, empty lines
+are no records, and records may differ in length. One byte order mark at the start is dropped.
 """
 
 from .names import is_name

@@ -1,7 +1,7 @@
 """The commands: each has a state and its arguments, and refuses, or returns the state after it.
 
-The tests in a command are in the order in which it is judged. Sessions that may not go on after
-a command end by `apply`, for all commands alike.
+The tests in a command are in the order in which it is judged. Sessions that may not continue after
+a command are ended by `apply`, for all commands alike.
 """
 
 from .state import (
@@ -206,7 +206,7 @@ def delete_inheritance(state, asc, desc):
 
 
 def add_role_with_edge(state, role, edge):
-    """Adds a role and an edge of it to a role that is there."""
+    """Adds a role and an edge of it to an existing role."""
     refuse_if(role in state.roles, 5)
     need_room(state, "role", len(state.roles) + 1)
     need_room(state, "edge", len(state.edges) + 1)
@@ -358,7 +358,7 @@ def unlock_user_account(state, user):
 
 
 # Each command with its keys in the order of its arguments, and its refusals in the order in which they
-# are judged; 32 has its kind beside it. `record` is met in reading already, and 51 in version 1 alone.
+# are judged; 32 has its kind beside it. `record` is met while reading, and 51 in version 1 alone.
 COMMANDS = {
     "addUser": (add_user, "user", "3 32:user"),
     "deleteUser": (delete_user, "user", "2"),

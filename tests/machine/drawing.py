@@ -308,7 +308,7 @@ class Draws:
         return self.one(self.state.assignments)
 
     def aim_addInheritance(self):
-        """Mostly from a role to one behind it in byte order, so that few edges would make a cycle."""
+        """Mostly from a role to one after it in byte order, so that few edges would make a cycle."""
         two = self.random.sample(sorted(self.state.roles), min(len(self.state.roles), 2))
         if len(two) < 2:
             return None
@@ -389,7 +389,7 @@ class Draws:
         ])
 
     def write(self, members):
-        """The object of these members, in any order, with what does not count among them."""
+        """Returns the object of these members, in any order, with ignored members among them."""
         members = list(members)
         self.random.shuffle(members)
         if self.chance(10):
@@ -415,6 +415,6 @@ class Draws:
 
 
 def draw_script(seed, count):
-    """This many requests: each the function that is meant, a line, and the answer that the model gives."""
+    """Returns this many requests: for each the function that is meant, a line, and the model's answer."""
     draws = Draws(seed)
     return [draws.draw() for _ in range(count)]

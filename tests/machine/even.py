@@ -46,7 +46,7 @@ class Numbers:
 
 
 def draw_even_script(start, count):
-    """This many commands: each its function, its line, and the answer that the model gives."""
+    """Returns this many commands: for each its function, its line, and the model's answer."""
     numbers, replay = Numbers(start), Replay()
     script = []
     for _ in range(count):

@@ -5,7 +5,7 @@ with the set, kind or version that comes with it; for an import `ASSIGNED/ALREAD
 empty list. A command may have one number or two before it: it is then repeated, `#` and `@` are
 the numbers from 1 up to them, and `&` is one more than `#`. In a list of roles `r*32` is `r1,r2`
 and so on up to `r32`, and so it does on either side of a record of an import, which is then all pairs of
-both; a record with `^3` behind it is there three times. No line is longer than a request may be.
+both; a record with `^3` after it occurs three times. No line is longer than a request may be.
 """
 
 import json
@@ -240,7 +240,7 @@ TOLD = {24: "set", 25: "set", 32: "kind", 51: "version"}
 
 
 def listed(text):
-    """The names of a list, with a name for each number in the place of a star."""
+    """Returns the names of a list, with a name for each number in place of a star."""
     names = []
     for part in text.split(","):
         stem, star, count = part.partition("*")
@@ -295,7 +295,7 @@ def answer_of(text):
 
 
 def repeat(command):
-    """The command, as often as the numbers before it say, with the numbers instead of their signs."""
+    """Repeats the command as the numbers before it demand, with the numbers in place of their signs."""
     counts, command = re.fullmatch(r"((?:\d+ )*)(.*)", command).groups()
     outer, inner = (*map(int, counts.split()), 1, 1)[:2]
     for one, two in product(range(1, outer + 1), range(1, inner + 1)):

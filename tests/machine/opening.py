@@ -17,7 +17,7 @@ from .state import (
     static_violation,
 )
 
-# The columns of each table. A version 1 office has no table of locks, or one that is passed over.
+# The columns of each table. A version 1 office has no table of locks, or one that is ignored.
 COLUMNS = {
     "meta_row": ["tag", "version"],
     "name_row": ["kind", "a"],
@@ -135,7 +135,7 @@ def judge_limits(version, names, pairs, grants, sets):
 
 
 def judge_uses(names, pairs, grants, sets, locked):
-    """Check 3: what a row uses is there."""
+    """Check 3: what a row uses exists."""
     users, roles, objects = (set(names[kind]) for kind in (USER, ROLE, OBJECT))
     permissions, sessions = set(pairs[PERMISSION]), {session for session, _ in pairs[SESSION]}
     static, dynamic = ({name for name, _ in sets[kind]} for kind in (STATIC, DYNAMIC))

@@ -126,6 +126,6 @@ QUESTIONS = {
 
 
 def ask(state, function, arguments):
-    """What is answered to a question."""
+    """Returns the answer to a question."""
     tells, _, _ = QUESTIONS[function]
     return tells(state, *arguments)

@@ -22,7 +22,7 @@ class NoJson(Exception):
 
 
 def read_number(text):
-    """A number, which a double has to have room for."""
+    """Reads a number, which has to fit into a double."""
     if float(text) in (float("inf"), float("-inf")):
         raise NoJson
     return Number(text)
@@ -42,7 +42,7 @@ def members(pairs):
 
 
 def judge(value):
-    """Tests the texts in a value, which have no half of a surrogate pair. Objects are judged already."""
+    """Checks that the texts in a value have no half of a surrogate pair. Objects are judged already."""
     if isinstance(value, str):
         value.encode()
     elif isinstance(value, list):

@@ -1,13 +1,13 @@
 """The state of an office: the sets and relations of the standard, and what follows from them.
 
-A state is a value: what changes it gives another one. Names are texts, whose order by code points is
+A state is a value: what changes it returns another one. Names are texts, whose order by code points is
 that of their bytes in UTF-8. A set of pairs or triples is ordered by the first part first.
 """
 
 from collections import Counter
 from dataclasses import dataclass, field, replace
 
-# What there may be at most, in version 1 and in version 2.
+# How many of each kind there may be, in version 1 and in version 2.
 LIMITS = {
     "user": (5_000, 20_000),
     "role": (256, 1_024),
@@ -194,14 +194,14 @@ def dynamic_violation(state):
 
 
 def may_go_on(state, user, active):
-    """Whether a session of the user with these activated roles may be."""
+    """Whether a session of the user with these activated roles may exist."""
     if user not in state.users or user in state.locked:
         return False
     return not active or active <= authorized_roles(state, user)
 
 
 def end_sessions(state):
-    """The state without the sessions that may not be any more."""
+    """Returns the state without the sessions that may no longer exist."""
     sessions = {
         session: (user, active)
         for session, (user, active) in state.sessions.items()

@@ -1,4 +1,4 @@
-"""Random offices of both versions with up to three random changes: the program gives each the answer that the model gives.
+"""Random offices of both versions with up to three random changes: the program answers each as the model does.
 
 Rows are dropped, added, doubled, values changed or spoilt, limits exceeded, tables and columns missing: in the tables of an
 office, or in others without types and keys, with their columns in another order. Each file is also migrated, and if the tables
@@ -34,7 +34,7 @@ ODD_TEXTS = ["", "n" * 65, "a\tb", "\x7f", "\udcff", "\udced\udca0\udc80", "a\x0
 ODD_NUMBERS = [-1, 0, 9, 257, 4_294_967_295, 4_294_967_296, 2**63 - 1, -(2**63)]
 ODD_TYPES = [None, 2.0, "2", b"ann", 7]
 
-# Of which kinds of names the parts of a row are: u users, r roles, o objects, p operations, s sessions, x and y static
+# The kinds of names in the parts of a row: u users, r roles, o objects, p operations, s sessions, x and y static
 # and dynamic sets.
 PARTS = {
     "name_row": {1: "u", 2: "r", 3: "o"},
@@ -207,7 +207,7 @@ def drawn_tables(draws, seed, version):
 
 
 def loosened(draws, tables):
-    """Statements that make tables without types, keys and checks; now and then one lacks a column, or isn't there."""
+    """Statements that make tables without types, keys and checks; now and then one lacks a column, or is missing."""
     statements, kept = [], {}
     for table, some in tables.items():
         columns = list(opening.COLUMNS[table])
@@ -235,7 +235,7 @@ def word_of(answer):
 def replayed_on(bench, what, path, state, seed):
     """Counts whether lines are answered over a good office in its own tables as by the model, and what is left.
 
-    A row may have made an office of version 1 of one of version 2: its table of locks is a stranger's then, and stays as it is.
+    A row may have turned an office of version 2 into one of version 1: its table of locks is then foreign, and stays as it is.
     """
     before, lines = read_rows(path), Draws(seed)
     lines.replay.state = state
@@ -247,7 +247,7 @@ def replayed_on(bench, what, path, state, seed):
 
 
 def try_file(bench, statements, seed):
-    """One file: the tables of an office, or loose ones, with random rows. Returns what the model says of it."""
+    """One file: the tables of an office, or loose ones, with random rows. Returns what the model answers."""
     draws = random.Random(seed)
     version = draws.choice([1, 2, 2])
     tables, path = drawn_tables(draws, seed, version), bench.path("office")
@@ -276,7 +276,7 @@ def try_files(bench, first, count):
     statements = statements_of(Office(bench, "new").path)
     os.remove(bench.path("new"))
     counts = Counter(try_file(bench, statements, seed) for seed in range(first, first + count))
-    return {**counts, "files with drawn rows": count}
+    return {**counts, "files with random rows": count}
 
 
 def jobs(is_long):

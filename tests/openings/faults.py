@@ -1,4 +1,4 @@
-"""One change of an office for each thing that an opening looks at, in the order in which it is judged.
+"""One change of an office for each thing that an opening checks, in the order in which it is judged.
 
 Each change has names of its own, so that any two can be made of one office. The tables are loose ones.
 """
@@ -22,7 +22,7 @@ class Fault:
     """A change, its place in the order, and the refusal that it leads to.
 
     `rows` are those that are added, by their tables. If `drops` is a table it is dropped, or the column of it that `lacks`
-    names. `tag` replaces the tag of the version's row. `versions` are those in which there is this fault.
+    names. `tag` replaces the tag of the version's row. `versions` are those in which this fault exists.
     """
 
     name: str
@@ -47,7 +47,7 @@ def damaged(check):
 
 
 def no_office():
-    """Tables or columns that are not there, and no row with the tag."""
+    """Tables or columns that do not exist, and no row with the tag."""
     refusal = {"code": 50, "error": "NotAnOffice"}
     for table in OLD_TABLES:
         yield Fault(f"no table {table}", NO_TABLE, refusal, {}, drops=table)
@@ -60,7 +60,7 @@ def no_office():
 
 
 def unknown_versions():
-    """Further rows with the tag, of which one has another version than there are."""
+    """Further rows with the tag, one of which has an unknown version."""
     for versions in ([7], [3, 9], [0], [-1], [-(2**63), 2**63 - 1]):
         refusal = {"code": 51, "error": "Version", "version": min(versions)}
         rows = {"meta_row": [("rbac", version) for version in versions]}
@@ -145,7 +145,7 @@ def crowds(most):
 
 
 def too_many():
-    """One row more than there may be of each kind, in each version."""
+    """One row more than is allowed of each kind, in each version."""
     for place, (kind, limits) in enumerate(LIMITS.items(), LIMIT):
         for version, most in enumerate(limits, 1):
             if kind in ("record", "byte"):
@@ -159,7 +159,7 @@ def too_many():
 
 
 def unused():
-    """Rows that use what is not there, each in one of their parts."""
+    """Rows that use what does not exist, each in one of their parts."""
     there = {"name_row": [(1, "known user"), (2, "known role"), (3, "known object")]}
     there["pair_row"] = [(1, "known object", "known"), (7, "known session", "known user")]
     members = [(5, "known set", "known role"), (6, "known set", "known role")]

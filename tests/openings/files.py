@@ -83,7 +83,7 @@ def rows_of(base, table):
 
 
 def judged(judge, tables):
-    """The state that a judgement gives of tables, and the answer that refuses them; one of the two is None."""
+    """Returns the state that `judge` returns for tables, and the answer that refuses them; one of the two is None."""
     try:
         return judge(tables), None
     except Refused as refusal:
@@ -91,7 +91,7 @@ def judged(judge, tables):
 
 
 def line_of(answer):
-    """The line on standard error by which a run is refused."""
+    """Returns the line on standard error with which a run is refused."""
     return b"rbac: " + answer + b"\n"
 
 
@@ -102,13 +102,13 @@ def told_of_good(bench, what, path, state):
 
 
 def told_of_refused(bench, what, path, answer, words=("check", "replay")):
-    """Counts whether subcommands refuse a file by this answer, and change nothing."""
+    """Counts whether subcommands refuse a file with this answer, and change nothing."""
     for word in words:
         bench.ends([word, path], err=line_of(answer), status=1, given=ADD_USER, keeps=True, what=f"{word}: {what}")
 
 
 def told_of_migration(bench, what, path, tables):
-    """Counts whether a file is migrated to version 2, or refused and kept, as the model says of its tables."""
+    """Counts whether a file is migrated to version 2, or refused and kept, as the model decides for its tables."""
     state, answer = judged(opening.migrated_state, tables)
     if answer:
         told_of_refused(bench, what, path, answer, ["migrate"])

@@ -1,4 +1,4 @@
-"""The page of the API: its examples are answered so, and it says what the sources say, no more and no less."""
+"""The page of the API: its examples get the answers shown, and it states what the sources define, no more and no less."""
 
 import json
 import re
@@ -17,7 +17,7 @@ REFUSALS = markdown.section(PAGE, "## 4. Refusals")
 STATUSES = markdown.section(PAGE, "## 5. HTTP statuses")
 EXITS = markdown.section(PAGE, "## 6. Exit statuses")
 
-# How the page begins to say of which type the value at a key is.
+# How the page begins to describe the type of the value at a key.
 TYPES = {"text": "a text: ", "list": "a list of texts: ", "number": "a whole number "}
 
 
@@ -37,7 +37,7 @@ def all_pairs():
 
 
 def check_examples(bench):
-    """Each request line of the page gets the answer that stands below it, all lines one after the other."""
+    """Each request line of the page gets the answer that is shown below it, all lines one after the other."""
     asked = all_pairs()
     done = bench.run(["replay", "--memory"], "".join(f"{line}\n" for line, _ in asked).encode())
     bench.same("the end of the examples", (done.err, done.status), (b"", 0))
@@ -48,7 +48,7 @@ def check_examples(bench):
 
 
 def check_commands(bench):
-    """The commands of the page print what stands below them: a server that is asked by curl, and an import."""
+    """The commands of the page print what is shown below them: a server that is asked by curl, and an import."""
     served, imported = markdown.blocks(PAGE, "console")
     (records,) = markdown.blocks(PAGE, "csv")
     bench.same("the page names the file of its assignments", "The file `assignments.csv`" in PAGE, True)
@@ -84,7 +84,7 @@ def reset(client):
 
 
 def check_connections(bench):
-    """What the page says of connections: one that waits for `100 Continue`, clients that reset, and those left at the end."""
+    """What the page says about connections: one that waits for `100 Continue`, clients that reset, and those left at the end."""
     path = bench.path("office")
     bench.ends(["init", path], makes=["office"])
     request, body = post("addUser", b'{"user":"ann"}').split(b"\r\n\r\n")
@@ -128,13 +128,13 @@ def check_functions(bench):
 
 
 def check_standard_names(bench):
-    """Each part begins with the name that the function has in the standard, if it is there."""
+    """Each part begins with the name that the function has in the standard, if it has one."""
     for name, named in sources.standard_names().items():
         bench.same(f"{name} in the standard", PARTS[name].text.split(":")[0], named or "No function of the standard")
 
 
 def check_keys(bench):
-    """Each part speaks of the keys of its function and of no other, and the table of keys has their types."""
+    """Each part names the keys of its function and no other, and the table of keys has their types."""
     keys = {**sources.command_keys(), **sources.question_keys()}
     types = {key: sort for named in keys.values() for key, sort in named}
     for name, named in keys.items():
@@ -160,7 +160,7 @@ def check_refused(bench):
         bench.same(f"whether nothing refuses {function}", part.refused == "by nothing", not listed)
         spoken = set(re.findall(r"`(\w+)`", part.refused))
         known = {key for key, _ in keys[function]} | {kind for _, _, kind in listed if kind}
-        bench.same(f"what is spoken of where {function} is refused", spoken - known, set())
+        bench.same(f"names in the refusals of {function} that are unknown", spoken - known, set())
 
 
 def check_shown(bench):
@@ -170,14 +170,14 @@ def check_shown(bench):
     for function, part in PARTS.items():
         shown = [(json.loads(line), json.loads(answer)) for line, answer in part.lines]
         good = [(line, answer) for line, answer in shown if line["fn"] == function and "ok" in answer]
-        bench.same(f"an accepted {function} is there", bool(good), True)
+        bench.same(f"an accepted {function} is shown", bool(good), True)
         for line, answer in good:
             bench.same(f"the keys of {line}", list(line), ["fn", *(key for key, _ in keys[function])])
             bench.same(f"the sort of {answer}", sort_of(answer), told[function])
 
 
 def sort_of(answer):
-    """What sort of an answer it is."""
+    """Returns the sort of an answer."""
     value = answer.get("value")
     if isinstance(value, bool) or value is None:
         return "Done" if value is None else "Access"
@@ -187,7 +187,7 @@ def sort_of(answer):
 
 
 def check_ends(bench):
-    """Each command that docs/MODEL.md says to end sessions is said to do so."""
+    """Each command that ends sessions according to docs/MODEL.md is described to do so."""
     rows = re.findall(r"^\| (\w+)\(.*; ends \|$", markdown.page("MODEL.md"), re.M)
     bench.same("commands that end sessions are found", bool(rows), True)
     for function in [*rows, "deleteUser"]:
@@ -195,12 +195,12 @@ def check_ends(bench):
 
 
 def check_refusals(bench):
-    """The table of refusals has each code with its name and its further key, in order, and says what to do."""
+    """The table of refusals has each code with its name and its further key, in order, and describes what to do."""
     (table,) = markdown.tables(REFUSALS)
     listed = [(int(code), (name, key.strip("`"))) for code, name, key, _, _ in table]
     bench.same("the refusals", listed, sorted(sources.refusals().items()))
     for code, _, _, means, do in table:
-        bench.same(f"what is said of {code}", bool(means and do), True)
+        bench.same(f"the description of {code}", bool(means and do), True)
     for key in {key for _, (_, key) in listed if key}:
         bench.same(f"the key {key}", f"`{key}`" in REFUSALS.partition("|")[0], True)
 
@@ -220,7 +220,7 @@ def number(text):
 
 
 def codes_in(cell):
-    """The codes that a cell lists, where a `to` stands between the ends of a row of them."""
+    """Returns the codes that a cell lists. A `to` between two of them makes a range."""
     codes = set()
     for piece in filter(None, cell.split(", ")):
         first, _, last = piece.partition(" to ")
@@ -229,7 +229,7 @@ def codes_in(cell):
 
 
 def check_statuses(bench):
-    """The table of statuses has each status with its phrase, and with the codes that it tells."""
+    """The table of statuses has each status with its phrase, and with the codes that it reports."""
     (table,) = markdown.tables(STATUSES)
     listed = {int(cell.split()[0]): (cell.partition(" ")[2], codes_in(codes)) for cell, codes, _ in table}
     bench.same("the statuses", set(listed), sources.statuses())

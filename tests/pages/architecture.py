@@ -1,4 +1,4 @@
-"""The map of the crates: each crate has a part, with each of its files and definitions, and none that is not there."""
+"""The map of the crates: each crate has a part, with each of its files and definitions, and none that does not exist."""
 
 import re
 
@@ -35,7 +35,7 @@ def check_files(bench):
     """The table of a crate has each file of its src/, alone or by its folder, and no other."""
     for crate, text in parts().items():
         folder, listed = CRATES / crate / "src", listed_files(text)
-        bench.same(f"files of {crate} that are not there", [name for name in listed if not (folder / name).exists()], [])
+        bench.same(f"files of {crate} that do not exist", [name for name in listed if not (folder / name).exists()], [])
         there = sorted(str(path.relative_to(folder)) for path in folder.rglob("*.rt"))
         folders = tuple(name for name in listed if name.endswith("/"))
         left = [name for name in there if name not in listed and not name.startswith(folders or ("/",)) and name != BESIDE]

@@ -9,12 +9,12 @@ from .shell import Shell, runs
 PAGE = markdown.page("AUDITING.md")
 TOOLS = sources.ROOT / "tools"
 
-# So many lines the page may have at most.
+# The most lines that the page may have.
 MOST_LINES = 200
 
 
 def check_commands(bench):
-    """The commands of the page, from its top to its end, print what stands below them. What needs dot may be left out."""
+    """The commands of the page, from its top to its end, print what is shown below them. What needs dot may be left out."""
     for name in ("tools", "examples"):
         (bench.folder / name).symlink_to(sources.ROOT / name)
     with Shell(bench) as reader:
@@ -40,5 +40,5 @@ def check_tools(bench):
     own = markdown.section(PAGE, "## 4. Your own questions").split("```")[0]
     made = re.findall(r"^CREATE TEMP (?:VIEW|TABLE) (\w+)", (TOOLS / "rows.sql").read_text(encoding="utf-8"), re.M)
     views = set(re.findall(r"`(\w+)`", own))
-    bench.same("views that are not there", sorted(views - set(made)), [])
+    bench.same("views that do not exist", sorted(views - set(made)), [])
     bench.same("views are named", bool(views), True)

@@ -1,11 +1,11 @@
-"""What the sources say of the command line: its commands and what they are for, their arguments, the numbers among these, and
+"""The command line as the sources define it: its commands and what they are for, their arguments, the numbers among these, and
 the version."""
 
 import re
 
 from .sources import source
 
-# The letters that pages give to the numbers.
+# The letters that pages use for the numbers.
 LETTERS = {"port": "P", "limit": "N"}
 
 # The option that `clap` adds to a program with a version.
@@ -35,7 +35,7 @@ def argument(body):
 
 
 def commands():
-    """The commands in their order: the name of each, what its help says, and the body of the function that makes it."""
+    """The commands in their order: the name of each, the text of its help, and the body of the function that makes it."""
     bodies = functions()
     for caller in ("first_three", "first_six", "program_command"):
         made = {name: (function, word or name, use) for name, function, word, use in re.findall(MADE, bodies[caller])}

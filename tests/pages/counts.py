@@ -5,7 +5,7 @@ import subprocess
 
 from . import markdown, sources
 
-# Where numbers are looked for. A file that is no text is skipped.
+# The files in which numbers are looked for. A file that is no text is skipped.
 LOOKED = ["*.md", "docs/rbac.1", "bench", "bin", "clients", "deploy", "tools", "tests", "crates/*/src", ":!tests/rows"]
 
 # What is counted: a number of two digits before one of these words, unless it is a rate.
@@ -36,7 +36,7 @@ def wanted():
 
 
 def check_counts(bench):
-    """Each number of functions, commands or questions is how many there are."""
+    """Each number of functions, commands or questions is the right one."""
     if not (sources.ROOT / ".git").exists():
         print("counts: this is no working copy of git: the numbers are not compared")
         return

@@ -18,7 +18,7 @@ def check_length(bench):
 
 
 def check_commands(bench):
-    """The commands of the page, from its top to its end, print what is below them."""
+    """The commands of the page, from its top to its end, print what is shown below them."""
     (bench.folder / "examples").symlink_to(sources.ROOT / "examples")
     with Shell(bench) as reader:
         for block in markdown.blocks(PAGE, "console"):

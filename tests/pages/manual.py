@@ -14,7 +14,7 @@ from .shell import Shell
 PATH = markdown.DOCS / "rbac.1"
 SOURCE = PATH.read_text(encoding="ascii")
 
-# The programs that render a page and report its faults. Each that is there does it.
+# The programs that render a page and report its faults. Each one that is installed is used.
 RENDERING = [
     ["man", "--warnings", "--local-file", str(PATH)],
     ["groff", "-man", "-ww", "-z", str(PATH)],
@@ -29,7 +29,7 @@ SECTIONS += ["STANDARDS", "BUGS", "EXAMPLES", "SEE ALSO"]
 MACROS = {"TH", "SH", "TP", "PP", "SY", "YS", "EX", "EE", "RS", "RE", "B", "I", "BR", "BI", "IB", "IR"}
 JOINING = {"BR", "BI", "IB", "IR"}
 
-# The texts that some escapes stand for.
+# The texts of some escapes.
 ESCAPES = {r"\~": " ", r"\-": "-", r"\(aq": "'", r"\e": "\\"}
 
 
@@ -64,11 +64,11 @@ def synopsis():
 
 
 def check_rendered(bench):
-    """The page is rendered without a warning by each program that is there and renders pages."""
+    """The page is rendered without a warning by each installed program that renders pages."""
     settings = {**os.environ, "LC_ALL": "C.UTF-8", "MANWIDTH": "80"}
     there = [words for words in RENDERING if shutil.which(words[0])]
     if not there:
-        print("manual: neither man, groff nor mandoc is there: only the macros of the page are checked")
+        print("manual: neither man, groff nor mandoc is installed: only the macros of the page are checked")
     for words in there:
         done = subprocess.run(words, capture_output=True, env=settings, stdin=subprocess.DEVNULL, check=False)
         said = done.stderr if words[0] == "man" else done.stdout + done.stderr
@@ -79,14 +79,14 @@ def check_rendered(bench):
 
 
 def check_name(bench):
-    """apropos finds the page, in a list of pages that mandb makes of it, if both are there."""
+    """apropos finds the page, in a list of pages that mandb makes of it, if both are installed."""
     (line,) = section("NAME")
     name, says = line.split(r" \- ")
     bench.same("the name", name, "rbac")
     for word in ("role", "access"):
         bench.same(f"{word} is in the line", bool(re.search(rf"\b{word}\b", says)), True)
     if not (shutil.which("mandb") and shutil.which("apropos")):
-        print("manual: mandb or apropos is not there: what apropos finds is not compared")
+        print("manual: mandb or apropos is not installed: what apropos finds is not compared")
         return
     pages = bench.folder / "pages"
     (pages / "man1").mkdir(parents=True)
@@ -141,14 +141,14 @@ def check_statuses(bench):
 
 
 def check_signals(bench):
-    """A signal that the page names ends a server, and what was answered is there. It ignores SIGPIPE."""
+    """A signal that the page names ends a server, and what was answered is kept. A server ignores SIGPIPE."""
     ending = set(re.findall(r"SIG[A-Z]+", " ".join(section("SIGNALS")))) - {"SIGPIPE"}
     bench.same("signals are named", bool(ending), True)
     path = bench.path("office")
     bench.ends(["init", path], makes=["office"])
     for place, name in enumerate(["SIGPIPE", *sorted(ending)]):
         number = getattr(signal, name)
-        # A shell may have told this process to ignore it, which the program would take over.
+        # A shell may have made this process ignore it, which the program would inherit.
         if name != "SIGPIPE":
             signal.signal(number, signal.SIG_DFL)
         with Server(bench, path, 2) as server:
@@ -163,7 +163,7 @@ def check_signals(bench):
                 server.ends(status=-number)
                 ask = b'{"fn":"deleteUser","user":"ann%d"}' % place
                 done = bench.run(["replay", path], ask)
-                bench.same(f"what is there after {name}", done.out, b'{"ok":true}\n')
+                bench.same(f"what is kept after {name}", done.out, b'{"ok":true}\n')
 
 
 def check_numbers(bench):
@@ -176,9 +176,9 @@ def check_numbers(bench):
 
 
 def check_examples(bench):
-    """The commands of the examples print what stands below them."""
+    """The commands of the examples print what is shown below them."""
     blocks = re.findall(r"^\.EX\n(.*?)^\.EE$", SOURCE, re.M | re.S)
-    bench.same("examples are there", bool(blocks), True)
+    bench.same("examples exist", bool(blocks), True)
     with Shell(bench) as reader:
         for block in blocks:
             reader.console([plain(line) for line in block.splitlines()])

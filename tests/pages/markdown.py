@@ -10,7 +10,7 @@ DOCS = TESTS.parent / "docs"
 
 @dataclass(frozen=True)
 class Part:
-    """What a page says of a function: what it is, what refuses it, and lines with their answers."""
+    """The part of a page about a function: what it is, what refuses it, and lines with their answers."""
 
     text: str
     refused: str
@@ -28,7 +28,7 @@ def in_one_line(text):
 
 
 def section(text, heading):
-    """The text below a heading, up to the next one that is as high or higher."""
+    """The text below a heading, up to the next one of the same or a higher level."""
     level = len(heading.split()[0])
     pattern = rf"^{re.escape(heading)}\n(.*?)(?=^#{{1,{level}}} |\Z)"
     match = re.search(pattern, text, re.M | re.S)
@@ -57,7 +57,7 @@ def pairs(lines):
 
 
 def parts(text):
-    """What a section says of each function that has a heading there."""
+    """Returns the part about each function that has a heading in a section."""
     pattern = r"^### (\w+)\n(.*?)\n- Refused: (.*?)\.\n```json\n(.*?)\n```$"
     found = {}
     for piece in re.split(r"(?=^### )", text, flags=re.M)[1:]:

@@ -1,5 +1,5 @@
 """The page of the model: its limits, refusals, commands and questions are those of the sources, and each rule leads to a
-definition, a function and tests that are there.
+definition, a function and tests that exist.
 
 The tables below "Where each rule is" have a rule in each row, and then the places of its definition, function and tests. A
 place is a file and a name in it, or a file alone: a row of tests/rows, or a must-fail edit.
@@ -47,7 +47,7 @@ class Place:
         return text[: found.start()].count("\n") + 1
 
     def pattern(self):
-        """What finds the name. Of a definition by cases the second word is the case."""
+        """Returns the pattern of the name. Of a definition by cases the second word is the case."""
         if " " in self.name:
             definition, case = self.name.split()
             return rf"^{definition} S \(?{case}\b"
@@ -89,7 +89,7 @@ def rows_of(table):
 
 
 def check_places(bench):
-    """Each rule has a definition, a function and a test, and each of these places is there."""
+    """Each rule has a definition, a function and a test, and each of these places exists."""
     for rule in rules():
         for what, found in (("definition", rule.definitions), ("function", rule.functions), ("test", rule.tests)):
             bench.same(f"{rule.text} has a {what}", bool(found), True)
@@ -172,7 +172,7 @@ def check_rows(bench):
 
 
 def met_in(place, function):
-    """What a function is answered in a test: `ok`, and refusals."""
+    """Returns the answers that a function gets in a test: `ok`, and refusals."""
     path = sources.ROOT / place.path
     if path.suffix == ".jsonl":
         return set(answers(path, function))
@@ -183,7 +183,7 @@ def met_in(place, function):
 
 
 def answers(path, function):
-    """What a row of tests/rows has answered to a function."""
+    """Returns the answers that a function gets in a row of tests/rows."""
     asked = [line for line in path.read_bytes().split(b"\n") if line.strip(b" \t\r")]
     told = path.with_suffix(".answers").read_text(encoding="utf-8").splitlines()
     for line, answer in zip(asked, told):

@@ -1,4 +1,4 @@
-"""The description of the HTTP side by OpenAPI: it has what the sources and docs/API.md have, and the program keeps to it."""
+"""The description of the HTTP side by OpenAPI: it has what the sources and docs/API.md have, and the program conforms to it."""
 
 import json
 import re
@@ -45,7 +45,7 @@ OF_NO_PATH = {404, 405}
 
 
 def operations():
-    """What is said of each function, by its name."""
+    """Returns the description of each function, by its name."""
     return {path.removeprefix("/v1/"): methods["post"] for path, methods in SPEC["paths"].items()}
 
 
@@ -55,7 +55,7 @@ def name_of(status):
 
 
 def resolved(value):
-    """What a reference leads to; what is none stays."""
+    """Returns what a reference leads to; what is no reference is returned unchanged."""
     if "$ref" not in value:
         return value
     place = SPEC
@@ -74,7 +74,7 @@ def references(value):
 
 
 def media_of(holder, sort="application/json"):
-    """What is said of a body or an answer that has one sort of content."""
+    """Returns the description of a body or an answer that has one sort of content."""
     (media,) = resolved(holder)["content"].items()
     if media[0] != sort:
         raise ValueError(f"{media[0]} and not {sort}")
@@ -98,14 +98,14 @@ def example_of(name):
 
 
 def response_of(name, status):
-    """What is said of an answer with a status to a request for a function. A status of no path has a shared answer."""
+    """Returns the description of an answer with a status to a request for a function. A status of no path has a shared answer."""
     if status in OF_NO_PATH:
         return COMPONENTS["responses"][name_of(status)]
     return resolved(operations()[name]["responses"][str(status)])
 
 
 def faults_of(schema, value):
-    """What of a value is not as a schema says."""
+    """Returns what in a value violates a schema."""
     schema = resolved(schema)
     faults = [fault for part in schema.get("allOf", []) for fault in faults_of(part, value)]
     sort = schema.get("type")
@@ -130,7 +130,7 @@ def faults_of(schema, value):
 
 
 def has_form(schema, word, value):
-    """Whether a text or a list has a length that its schema takes, and a text its pattern."""
+    """Whether a text or a list has a length that its schema allows, and a text its pattern."""
     least, most = schema.get(f"min{word}", 0), schema.get(f"max{word}", len(value))
     pattern = schema.get("pattern")
     return least <= len(value) <= most and (not pattern or bool(re.search(pattern, value)))
@@ -140,7 +140,7 @@ def check_written(bench):
     """The description is what bin/openapi writes from docs/API.md."""
     command = [sys.executable, str(sources.ROOT / "bin/openapi"), "--check"]
     done = subprocess.run(command, capture_output=True, text=True, check=False)
-    bench.same("what bin/openapi --check says", (done.returncode, done.stderr), (0, ""))
+    bench.same("what bin/openapi --check prints", (done.returncode, done.stderr), (0, ""))
 
 
 def check_valid(bench):
@@ -151,9 +151,9 @@ def check_valid(bench):
     bench.same("what secures it", SPEC["security"], [])
     faults = validators.faults_of_description(SPEC)
     if faults is None:
-        print("openapi: no validator of OpenAPI is there (openapi_spec_validator, or jsonschema with openapi-specification)")
+        print("openapi: no validator of OpenAPI is installed (openapi_spec_validator, or jsonschema with openapi-specification)")
         return
-    bench.judge("what a validator says of the description", faults)
+    bench.judge("what a validator reports about the description", faults)
     broken = {**SPEC, "paths": {"/v1/addUser": {"post": {"operationId": 7}}}}
     bench.same("whether it finds a fault", bool(validators.faults_of_description(broken)), True)
 
@@ -201,7 +201,7 @@ def check_references(bench):
 
 
 def check_paths(bench):
-    """Each function has a path with POST alone, and says what the page says of it."""
+    """Each function has a path with POST alone, and the description that it has on the page."""
     bench.same("the paths", list(SPEC["paths"]), [f"/v1/{name}" for name in sources.functions().values()])
     commands = sources.command_keys()
     for path, methods in SPEC["paths"].items():
@@ -212,7 +212,7 @@ def check_paths(bench):
         bench.same(f"what {name} is", told["description"], PARTS[name].text)
         bench.same(f"the summary of {name} is short", bool(re.fullmatch(r"[A-Z][\w ]{5,60}", told["summary"])), True)
     summaries = [told["summary"] for told in operations().values()]
-    bench.same("summaries that are there twice", len(summaries) - len(set(summaries)), 0)
+    bench.same("summaries that occur twice", len(summaries) - len(set(summaries)), 0)
     bench.same("the sorts", [tag["name"] for tag in SPEC["tags"]], ["commands", "questions"])
 
 
@@ -250,7 +250,7 @@ def check_answers(bench):
 
 
 def same_conflict(bench, name, answer, words):
-    """A conflict names the codes and the kinds of its function, and says of them what the page says."""
+    """A conflict names the codes and the kinds of its function, and describes them as the page does."""
     codes = list(dict.fromkeys(int(word.split(":")[0]) for word in words))
     kinds = [word.split(":")[1] for word in words if ":" in word]
     bench.same(f"the codes of {name}", answer["x-codes"], codes)
@@ -273,7 +273,7 @@ def check_refusals(bench):
 
 
 def check_statuses(bench):
-    """Each status by which a request is not accepted has its shared answer, with the codes that it tells."""
+    """Each status by which a request is not accepted has its shared answer, with the codes that it reports."""
     told = verdicts.codes_by_status()
     for status in sources.statuses() - {200, CONFLICT}:
         codes = COMPONENTS["responses"][name_of(status)]["x-codes"]
@@ -284,7 +284,7 @@ def check_statuses(bench):
 
 
 def check_sizes(bench):
-    """The limits that the description says are those of the sources."""
+    """The limits that the description states are those of the sources."""
     sizes = {words: f"{size:,}" for words, size in sources.sizes().items()}
     told = {name: answer["description"] for name, answer in COMPONENTS["responses"].items()}
     for words, name in {
@@ -300,7 +300,7 @@ def check_sizes(bench):
 
 
 def check_forms(bench):
-    """The requests of the page and their answers have the forms that are described here, and wrong requests have not."""
+    """The requests of the page and their answers have the forms that are described here, and wrong requests do not."""
     told = operations()
     for line, answer in all_pairs():
         request, given = json.loads(line), json.loads(answer)
@@ -351,13 +351,13 @@ class Answered:
         return self.ask(post(name, text.encode()), name, f"{name} of {text}")
 
     def validated(self):
-        """Counts what jsonschema says of all answers, if it is there."""
+        """Counts what jsonschema reports about all answers, if it is installed."""
         found = validators.faults_by_schema(SPEC, self.cases)
         if found is None:
-            print("openapi: jsonschema is not there: the answers are not validated by it")
+            print("openapi: jsonschema is not installed: the answers are not validated by it")
             return
         for (_, answer), faults in zip(self.cases, found, strict=True):
-            self.bench.judge(f"what jsonschema says of {answer}", faults)
+            self.bench.judge(f"what jsonschema reports about {answer}", faults)
         wrong = [[schema, {}] for schema, _ in self.cases]
         bad = validators.faults_by_schema(SPEC, wrong)
         self.bench.same("whether jsonschema finds that nothing is an answer", all(bad), True)
@@ -383,7 +383,7 @@ def check_program(bench):
                 met[name].append(answer)
         server.ends()
     for name, answers in met.items():
-        bench.same(f"whether the example of {name} is answered so", example_of(name)[1] in answers, True)
+        bench.same(f"whether the example of {name} gets its example answer", example_of(name)[1] in answers, True)
         bench.same(f"the sort of the example of {name}", sort_of(example_of(name)[1]), sources.values()[name])
     answered.validated()
 
@@ -436,7 +436,7 @@ def check_wrong_requests(bench):
 
 
 def check_bytes(bench):
-    """A name may have 64 bytes. A longer one of at most 64 characters keeps to the schema, and is refused with 1 BadName."""
+    """A name may have 64 bytes. A longer one of at most 64 characters conforms to the schema, and is refused with 1 BadName."""
     schema = schema_of(operations()["addUser"]["requestBody"])
     named = COMPONENTS["schemas"]["Name"]
     least, most = map(int, re.search(r"UTF-8 of (\d+) to (\d+) bytes", named["description"]).groups())
@@ -451,7 +451,7 @@ def check_bytes(bench):
             keeps, fits = not faults_of(schema, {"user": name}), least <= len(name.encode()) <= most
             _, answer = answered.call("addUser", {"user": name})
             bench.same(f"the answer to {name}", answer.get("code", 0), 0 if fits else 1)
-            bench.same(f"whether {name} keeps to the schema", keeps, len(name) <= most)
+            bench.same(f"whether {name} conforms to the schema", keeps, len(name) <= most)
         server.ends()
     answered.validated()
 
@@ -476,7 +476,7 @@ def check_client(bench):
     """A client that OpenAPI::Client makes of the description has each function, and gets the answers of the program."""
     perl = shutil.which("perl")
     if not perl or subprocess.run([perl, "-MOpenAPI::Client", "-e", "1"], capture_output=True, check=False).returncode:
-        print("openapi: OpenAPI::Client of Perl is not there: no client is made of the description")
+        print("openapi: OpenAPI::Client of Perl is not installed: no client is made of the description")
         return
     asked = [body_of(json.loads(line)) for line, _ in all_pairs()]
     asked = [(name, body) for name, body in asked if name in operations() and not isinstance(body, str)]

@@ -26,7 +26,7 @@ DAMAGES = {**damaged.DAMAGES, **damaged.LOCKS}
 # The refusals that opening a file can meet.
 OPENING = [40, 41, 50, 51, 32, 52]
 
-# So many lines the page may have at most.
+# The most lines that the page may have.
 MOST_LINES = 350
 
 # The commands are for files on a disk.
@@ -37,20 +37,20 @@ NOBODY = ["setpriv", "--reuid=65534", "--regid=65534", "--clear-groups"]
 
 
 def told_check(bench, path):
-    """The number of the check that fails of an office that is damaged, or None."""
+    """Returns the number of the check that fails for a damaged office, or None."""
     found = re.search(rb'"check":(\d+),"code":52', bench.run(["check", path]).err)
     return int(found[1]) if found else None
 
 
 def statements(text):
-    """The statements that a text has between double quotes behind `sqlite3`, or in blocks of SQL."""
+    """The statements that a text has between double quotes after `sqlite3`, or in blocks of SQL."""
     quoted = re.findall(r'^\$ sqlite3 \S+ "([A-Z][^"]*)"$', text, re.M)
     blocks = ["\n".join(block) for block in markdown.blocks(text, "sql")] if "```sql" in text else []
     return [one for text in [*quoted, *blocks] for one in text.split(";") if one.strip()]
 
 
 def repairs():
-    """The statements that end all sessions, and those that make the pairs of the order anew."""
+    """The statements that end all sessions, and those that rebuild the pairs of the order."""
     return statements(markdown.section(PAGE, "## 4. Restoring")), statements(CHECKS)
 
 
@@ -80,7 +80,7 @@ def check_length(bench):
 
 
 def check_commands(bench):
-    """The commands of the page, from its top to its end, print what stands below them."""
+    """The commands of the page, from its top to its end, print what is shown below them."""
     office = small_office(bench, "office1")
     office.become_version_1()
     with reader_of(bench) as reader:
@@ -103,7 +103,7 @@ def check_blocks(bench):
 
 
 def check_loops(bench):
-    """The loops that keep a server running take words that the program reads, and end if a run is refused."""
+    """The loops that keep a server running use words that the program reads, and end if a run is refused."""
     first, second = block_with("--limit 1000000"), block_with("shipped")
     bench.same("the most connections", f"--limit {command_line.ranges()['limit'][1]};" in first, True)
     bench.write("shipped", b"")
@@ -144,11 +144,11 @@ def replace_folder(bench, name):
 
 
 def check_one_writer(bench):
-    """Beside a server SQLite says that the database is locked, and the program that it can't be used."""
+    """Beside a server SQLite reports that the database is locked, and the program that it can't be used."""
     path = small_office(bench).path
     with Server(bench, path, 1):
         done = subprocess.run(["sqlite3", path, ".backup other"], capture_output=True, cwd=bench.folder, check=False)
-        bench.same("what SQLite says", (done.returncode != 0, b"locked" in done.stderr), (True, True))
+        bench.same("what SQLite prints", (done.returncode != 0, b"locked" in done.stderr), (True, True))
         bench.refuses(["check", path], b'{"code":41,"error":"Store"}')
 
 
@@ -171,7 +171,7 @@ def check_lines(bench):
     bench.same("the refusals of an opening", told, [(str(code), names[code]) for code in OPENING])
     bench.same("the checks", [int(row[0]) for row in checks], sources.checks())
     for row in [*lines, *checks]:
-        bench.same(f"something is said of {row[0]}", all(row), True)
+        bench.same(f"a description of {row[0]}", all(row), True)
 
 
 def check_damages(bench):
@@ -189,7 +189,7 @@ def check_damages(bench):
 
 
 def check_repairs(bench):
-    """Where the table says to end the sessions, or to make the pairs anew, neither that check nor one before it fails then."""
+    """If the table says to end the sessions, or to rebuild the pairs, neither that check nor an earlier one fails then."""
     office = small_office(bench)
     ending, making = repairs()
     _, _, checks = markdown.tables(CHECKS)
@@ -197,7 +197,7 @@ def check_repairs(bench):
     for name, (check, damage) in DAMAGES.items():
         cure = ending if told[check].startswith("End the sessions") else making if check == 6 else None
         with changed(office, damage) as path:
-            bench.same(f"{name}: what is told", told_check(bench, path), check)
+            bench.same(f"{name}: the check that fails", told_check(bench, path), check)
             if cure:
                 change(path, cure)
                 after = told_check(bench, path)
@@ -207,7 +207,7 @@ def check_repairs(bench):
 
 
 def check_pairs_made(bench):
-    """The pairs of the order, where they are made anew from the inheritances, are those that the program made."""
+    """The pairs of the order, if they are rebuilt from the inheritances, are those that the program made."""
     office = small_office(bench)
     lines = ["addAscendant top boss", "addDescendant clerk aide", "addInheritance top aide"]
     requests = [dict(zip(("fn", "asc", "desc"), line.split())) for line in lines]
@@ -217,17 +217,17 @@ def check_pairs_made(bench):
 
 
 def check_groups(bench):
-    """The table of groups names functions of the sources, and says how many the others are."""
+    """The table of groups names functions of the sources, and states how many the others are."""
     (table,) = markdown.tables(markdown.section(PAGE, "## 8. Behind a proxy"))
     said, questions, all_of_them = dict(table), sources.question_keys(), sources.functions().values()
     named = re.findall(r"`(\w+)`", said["applications"])
-    bench.same("functions that are not there", sorted(set(named) - set(all_of_them)), [])
+    bench.same("functions that do not exist", sorted(set(named) - set(all_of_them)), [])
     reviews = f"the {len(questions) - 1} review functions"
     bench.same("the others", (said["auditors"], said["administrators"]), (reviews, f"all {len(all_of_them)}"))
 
 
 def check_copies(bench):
-    """rsync and restic, if they are there, copy a backup so that its digest fits."""
+    """rsync and restic, if they are installed, copy a backup so that its digest matches."""
     small_office(bench)
     lines = block_with("rsync ").splitlines()
     (bench.folder / "backups").mkdir()
@@ -250,7 +250,7 @@ def backup_names(bench):
     return "\n".join(name for name in sorted(os.listdir(bench.path("backups"))) if not name.startswith("."))
 
 
-# What makes each cause of 41 in a folder with the file `office`, in the order of the table.
+# Commands that make each cause of 41 in a folder with the file `office`, in the order of the table.
 CAUSES = [
     "rm office",
     "ln office second",
@@ -282,7 +282,7 @@ if [ -n "$server" ]; then kill "$server"; fi
 
 
 def check_causes(bench):
-    """Each cause of 41 that the page names is one, and its command prints then something else than it prints for a good office."""
+    """Each cause of 41 that the page names is one, and its command then prints something else than for a good office."""
     _, rows, _ = markdown.tables(CHECKS.replace("\\|", "\0"))
     rows = [[cell.replace("\0", "|").strip("`") for cell in row] for row in rows]
     bench.same("the causes", len(rows), len(CAUSES))
@@ -304,7 +304,7 @@ def check_causes(bench):
 
 
 def outcome(bench, program, making, command):
-    """What the command of a cause prints, and what the program says of the office."""
+    """Returns what the command of a cause prints, and what the program prints for the office."""
     is_mount = "yes" if "mount" in making or "zero" in making else "no"
     user = NOBODY if os.geteuid() == 0 and not command.startswith("fuser") else []
     own = ["unshare", "-m"] if is_mount == "yes" else []

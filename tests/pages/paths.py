@@ -14,7 +14,7 @@ MOST_WORDS = {"tests/README.md": 2_500, "bench/README.md": 2_500, "docs/CONTRACT
 # A path of the repository: below one of its folders.
 PATH = r"(?<![\w/.-])(?:bench|bin|crates|deploy|docs|examples|release|tests|tools|\.ci)/[\w./-]*"
 
-# Words in capitals stand for names in paths; what a build makes need not be there.
+# Words in capitals are placeholders in paths; what a build makes need not exist.
 VARIABLE = r"\b(?:[A-Z]{2,}|out)\b"
 
 

@@ -38,7 +38,7 @@ def files_in(rows):
 
 
 def check_adding(bench):
-    """The first table has each file that names every command, and each of its files is there."""
+    """The first table has each file that names every command, and each of its files exists."""
     if not (sources.ROOT / ".git").exists():
         print("proofs: this is no working copy of git: the files of a command are not looked for")
         return
@@ -48,11 +48,11 @@ def check_adding(bench):
     bench.same("listed files", len(listed) > 20, True)
     for path in [*listed, *files_in(second)]:
         if "SUBJECT" not in path:
-            bench.same(f"{path} is there", (sources.ROOT / path).is_file(), True)
+            bench.same(f"{path} exists", (sources.ROOT / path).is_file(), True)
 
 
 def check_lemma_files(bench):
-    """Each lemma file is named, and each file that the tables of lemma files name is there."""
+    """Each lemma file is named, and each file that the tables of lemma files name exists."""
     page = markdown.page("PROOFS.md")
     paths = [path for path in (sources.ROOT / "crates").glob("*/proofs/**/*.antt") if path.stem not in OF_FUNCTIONS]
     left = {str(path.relative_to(sources.ROOT)) for path in paths if not re.search(rf"\b{path.stem}\b", page)}

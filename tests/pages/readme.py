@@ -1,4 +1,4 @@
-"""The first page: its commands print what it says, its limits and figures are those of the sources and the benchmarks.
+"""The first page: its commands print what it shows, its limits and figures are those of the sources and the benchmarks.
 
 With it the table of docs/ARCHITECTURE.md that has each crate with its contracts.
 """
@@ -13,7 +13,7 @@ PAGE = (ROOT / "README.md").read_text(encoding="utf-8")
 CONTRACTS, ARCHITECTURE = markdown.page("CONTRACTS.md"), markdown.page("ARCHITECTURE.md")
 BENCHMARKS = (ROOT / "bench/README.md").read_text(encoding="utf-8")
 
-# So many lines the page may have at most, and its first text.
+# The most lines that the page, and its first text, may have.
 MOST_LINES = 120
 MOST_FIRST = 5
 
@@ -34,7 +34,7 @@ UNPROVED = {"rbac", "refused_tests"}
 
 
 def crates():
-    """The crates that each crate stands on, by its name."""
+    """Returns the crates that each crate depends on, by its name."""
     lines = (ROOT / "crates.txt").read_text(encoding="utf-8").splitlines()
     return {name: words.split() for name, words in (line.split(":") for line in lines if line)}
 
@@ -67,7 +67,7 @@ def check_kit(bench):
 
 
 def check_first_minutes(bench):
-    """The commands of the five minutes print what the page says."""
+    """The commands of the five minutes print what the page shows."""
     text = markdown.section(PAGE, "## Five minutes to a checked decision")
     serving, asking, refused = ["\n".join(block) for block in markdown.blocks(text, "sh")]
     outside = re.sub(r"```.*?```", "", text, flags=re.S)
@@ -86,7 +86,7 @@ def check_limits(bench):
     """The limits that the page begins with are those of the sources."""
     most = {kind: f"{number:,}" for kind, (number, _) in sources.limits().items()}
     said = f"at most {most['user']} users, {most['role']} roles and {most['session']} sessions"
-    bench.same(f"the page says: {said}", said in markdown.in_one_line(PAGE), True)
+    bench.same(f"the page states: {said}", said in markdown.in_one_line(PAGE), True)
 
 
 def cell(section, row, column, table=0):
@@ -120,7 +120,7 @@ def check_speed(bench):
         ("OPERATING.md", f"makes {rate:,.0f} decisions a second"),
         ("INTEGRATING.md", f"A decision takes {1000 / rate:.1f} ms over HTTP"),
     ):
-        bench.same(f"{name} says: {words}", words in markdown.in_one_line(markdown.page(name)), True)
+        bench.same(f"{name} states: {words}", words in markdown.in_one_line(markdown.page(name)), True)
 
 
 def check_crates(bench):
@@ -128,12 +128,12 @@ def check_crates(bench):
     rows = {row[0].strip("`"): row[1:] for row in proved()}
     bench.same("the crates", sorted(rows), sorted(crates()))
     for crate, (says, contracts, files) in rows.items():
-        bench.same(f"something is said of {crate}", bool(says), True)
+        bench.same(f"a description of {crate}", bool(says), True)
         named = re.findall(r"`(?:\w+::)?(\w+)`", contracts)
         paths = [ROOT / "crates" / crate / "src" / f"{name}.rt" for name in files.split(", ") if name]
         text = "".join(path.read_text(encoding="utf-8") for path in paths)
         missing = [name for name in named if not re.search(rf"^ *pub fn {name}\b", text, re.M)]
-        bench.same(f"contracts of {crate} that are not there", missing, [])
+        bench.same(f"contracts of {crate} that do not exist", missing, [])
         bench.same(f"whether {crate} has contracts", bool(named), crate not in UNPROVED)
 
 
@@ -151,7 +151,7 @@ def check_contracts(bench):
 
 
 def check_trusted(bench):
-    """The libraries whose contracts are trusted are those that the crates stand on, here and on the page of contracts."""
+    """The libraries whose contracts are trusted are those that the crates depend on, here and on the page of contracts."""
     own = crates()
     libraries = {name.partition("_")[0] if name.startswith("sqlite_") else name for words in own.values() for name in words}
     (here,) = re.findall(r"^\*\*Trusted\*\*: (.*?)\n\n", PAGE, re.M | re.S)

@@ -53,11 +53,11 @@ class Shell:
         self.process.stdout.close()
 
     def here(self, text):
-        """A text of a page with the free port in the place of its own."""
+        """A text of a page with the free port in place of its own."""
         return text.replace(PORT, self.port)
 
     def type(self, text, lines=0):
-        """What the shell prints until what is typed has ended, and until it has this many lines."""
+        """Returns what the shell prints until what is typed has ended, and until it has printed this many lines."""
         self.process.stdin.write(f"{self.here(text)}\nprintf '\\0'\n".encode())
         self.process.stdin.flush()
         said, deadline = b"", time.monotonic() + SECONDS

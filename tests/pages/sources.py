@@ -1,4 +1,4 @@
-"""What the sources of the crates say of requests and answers, read by small patterns. One that finds nothing fails."""
+"""What the sources of the crates define for requests and answers, read by small patterns. One that finds nothing fails."""
 
 import re
 
@@ -11,7 +11,7 @@ ROOT = TESTS.parent
 STATUSES = {phrase.upper().replace(" ", "_"): number for number, phrase in PHRASES.items()}
 STATUSES["SERVICE_UNAVAILABLE"] = 503
 
-# The files that give a status to a reply.
+# The files that set the status of a reply.
 REPLYING = [
     "role_http/src/answer.rt",
     "role_http/src/judge.rt",
@@ -31,7 +31,7 @@ SIZES = {
 # The crates that judge an office as it is opened.
 JUDGING = ["admin_mgr", "role_order", "role_tables"]
 
-# What is read otherwise than as a text.
+# The types of what is not read as a text, by the functions that read it.
 TYPES = {"roles_at": "list", "cardinality_at": "number"}
 
 
@@ -59,7 +59,7 @@ def functions():
 
 
 def standard_names():
-    """What each function is named in the standard, or an empty text if it isn't there."""
+    """What each function is named in the standard, or an empty text if it has no name there."""
     pattern = r"^    /// (?:(\w+): )?.*\n(?:    /// .*\n)*    (\w+),$"
     named = {variant: name for name, variant in found(pattern, "role_json/src/function.rt")}
     return {name: named[variant] for variant, name in functions().items()}

@@ -28,7 +28,7 @@ SORTS = r"(?P<sort>fn|trait|impl|struct|enum)\b(?:<.*?>+)? (?P<name>\w*)"
 ITEM = re.compile(r"(?P<pub>pub )?(?:pub\(\w+\) )?(?:ghost |const )*" + SORTS)
 FUNCTION = re.compile(r" *(?P<pub>pub )?(?:pub\(\w+\) )?(?:ghost |const )*fn \w")
 
-# What a source gives to other crates: modules, and names out of modules.
+# What a source exports to other crates: modules, and names out of modules.
 OPENS = re.compile(r"^pub mod (\w+);", re.M)
 GIVES = re.compile(r"^pub use [\w:]+::(\{[^}]*\}|\w+);", re.M)
 
@@ -54,7 +54,7 @@ def uses_of(text):
 
 
 def words_of(text):
-    """The names in a text. The name of an operator has its places, and `do` stands for one."""
+    """The names in a text. The name of an operator has its places, and `do` counts as one."""
     words = set(re.findall(r"[^\s(){}\[\],;.λ|]+", text))
     return words | {f"◌{word}◌" for word in words} | ({"◌>>=◌"} if "do" in words else set())
 
@@ -98,7 +98,7 @@ def named_by_definitions():
             found[*module, name] = own | set(places_in(body, *uses_of(text)))
             for member in MEMBER.findall(body):
                 found.setdefault((*module, member), {(*module, name)})
-        # What a module passes on.
+        # What a module re-exports.
         for name, place in uses_of("\n".join(re.findall(r"^pub (use .*)", text, re.M)))[0].items():
             found[*module, name] = {place}
     return found
@@ -168,7 +168,7 @@ def check_private(bench):
     public, there = reached(), files()
     apart = {module for module, path in there.items() if path.parent.name == "private"}
     bench.same("modules in specs/private that a public contract reaches", sorted(apart & public), [])
-    bench.same("modules that are not there, and no public contract reaches", sorted(set(there) - public - apart), [])
+    bench.same("modules outside specs/private that no public contract reaches", sorted(set(there) - public - apart), [])
 
 
 def lines_of(crate):

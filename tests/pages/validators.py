@@ -11,7 +11,7 @@ PYTHONS = [sys.executable, "/usr/bin/python3"]
 # The schema of OpenAPI 3.0 in JSON Schema, as the Debian package openapi-specification has it.
 OPENAPI = Path("/usr/share/openapi-specification/schemas/v3.0/schema.json")
 
-# Raises an error if the description at a path is not valid. Earlier releases have `validate` by its second name alone.
+# Raises an error if a description is not valid. Earlier releases have `validate` only under its second name.
 BY_ITSELF = """
 import json, sys, openapi_spec_validator as validator
 validate = getattr(validator, "validate", None) or validator.validate_spec
@@ -60,7 +60,7 @@ def faults_by_schema(document, cases):
 
 
 def faults_of_description(spec):
-    """What the validators that are there find wrong with a description by OpenAPI 3.0, or None if there is none."""
+    """Returns what the installed validators find wrong with a description by OpenAPI 3.0, or None if there is none."""
     found = []
     if python_with("openapi_spec_validator"):
         try:

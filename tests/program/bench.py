@@ -27,7 +27,7 @@ def shown(text):
 
 
 def sort_of(path):
-    """The bytes of a file; a word for what else is at a path."""
+    """Returns the bytes of a file, or a word for what else is at a path."""
     mode = path.lstat().st_mode
     if stat.S_ISREG(mode):
         return path.read_bytes()
@@ -51,12 +51,12 @@ class Bench:
         return {path.name: sort_of(path) for path in self.folder.iterdir()}
 
     def write(self, name, content):
-        """Writes a file, and gives its path."""
+        """Writes a file, and returns its path."""
         (self.folder / name).write_bytes(content)
         return self.path(name)
 
     def judge(self, what, faults):
-        """Counts what was looked at: it passed if there are no failures."""
+        """Counts a check: it passed if there are no failures."""
         if faults:
             self.faults.append(f"{what}: " + "; ".join(faults))
         else:
@@ -67,7 +67,7 @@ class Bench:
         self.judge(what, [] if given == wanted else [f"{shown(given)} and not {shown(wanted)}"])
 
     def run(self, words, given=b"", redirected=""):
-        """Runs the program with these arguments and this input. A shell redirects its streams if `redirected` says how."""
+        """Runs the program with these arguments and this input. A shell redirects its streams if `redirected` is not empty."""
         command = [PROGRAM, *words]
         if redirected:
             command = ["sh", "-c", f'exec "$@" {redirected}', "sh", *command]

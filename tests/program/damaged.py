@@ -5,7 +5,7 @@ from .offices import changed, damaged, small_office, told_of, version_refused
 
 
 def loose(table):
-    """The statements that make a table anew without its checks: a database that violates one isn't opened at all."""
+    """Returns the statements that rebuild a table without its checks: a database that violates one isn't opened at all."""
     return [f"CREATE TABLE loose AS SELECT * FROM {table}", f"DROP TABLE {table}", f"ALTER TABLE loose RENAME TO {table}"]
 
 
@@ -60,7 +60,7 @@ DAMAGES = {
     ),
 }
 
-# What is changed of the table of the locks, which is there in version 2 alone.
+# What is changed of the table of the locks, which exists in version 2 alone.
 LOCKS = {
     "a locked user with a session": (11, ["INSERT INTO locked_row VALUES ('ann')"]),
     "a locked user that is not there": (3, ["INSERT INTO locked_row VALUES ('zed')"]),
@@ -125,7 +125,7 @@ def check_most_roles(bench):
 
 
 def check_what_it_hides(bench):
-    """A damage that only SQLite sees, a lost page, is no office either; the file stays."""
+    """A file with damage that only SQLite sees, a lost page, is no office either; the file stays."""
     office = small_office(bench)
     content = open(office.path, "rb").read()
     path = bench.write("cut", content[: len(content) // 2])

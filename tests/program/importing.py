@@ -47,7 +47,7 @@ REFUSED = {
 
 
 def imports(office, text, name="records.csv"):
-    """Imports a text, and compares what is printed with what the model says of it."""
+    """Imports a text, and compares what is printed with what the model answers."""
     bench = office.bench
     path = bench.write(name, text)
     line = json.dumps({"fn": "importAssignments", "csv": text.decode()}).encode()
@@ -60,7 +60,7 @@ def imports(office, text, name="records.csv"):
 
 
 def check_import(bench):
-    """An import reports what it assigned, what was assigned already and what was refused, and so it does again."""
+    """An import reports what it assigned, what was assigned already and what was refused, also the second time."""
     office = Office(bench)
     office.replay([SEPARATED])
     office.model.answer(b'{"fn":"assignUser","role":"clerk","user":"bob"}')
@@ -100,7 +100,7 @@ def check_drawn_texts(bench):
 
 
 def check_most(bench):
-    """As many records and bytes as there may be are imported."""
+    """As many records and bytes as are allowed are imported."""
     office = small_office(bench)
     records = b"user,role\n" + b"ann,clerk\n" * MOST_RECORDS
     path = bench.write("records.csv", records.ljust(MOST_BYTES, b"\n"))
@@ -111,13 +111,13 @@ def check_most(bench):
 
 
 def text_of_length(length):
-    """A text of so many bytes, with blank lines before its only record, which ends without a line feed."""
+    """Returns a text of `length` bytes, with blank lines before its only record, which ends without a line feed."""
     record = b"ann,clerk"
     return b"user,role\n".ljust(length - len(record), b"\n") + record
 
 
 def check_longest(bench):
-    """A text of as many bytes as there may be is imported with the record in its last ones, and none of a byte more."""
+    """A text of as many bytes as are allowed is imported with the record in its last ones, and none of a byte more."""
     office = small_office(bench)
     path = bench.write("records.csv", text_of_length(MOST_BYTES + 1))
     bench.refuses(["import", office.path, path], b'{"code":32,"error":"TooMany","kind":"byte"}')
@@ -129,7 +129,7 @@ def check_longest(bench):
 
 
 def check_unreadable(bench):
-    """A CSV file that can't be read stops the import before it began; the office is opened before."""
+    """A CSV file that can't be read stops the import before it begins; the office is opened earlier."""
     office = small_office(bench)
     away, folder = bench.path("away.csv"), str(bench.folder)
     stop = b"stop Read after 0"
@@ -157,7 +157,7 @@ def check_small_export(bench):
 
 
 def check_export_again(bench):
-    """What one office exports another one with its users and roles imports, and exports alike."""
+    """Another office with the same users and roles imports what an office exports, and exports the same."""
     draws = Draws(78)
     office = Office(bench)
     office.replay([draws.draw()[1] + b"\n" for _ in range(300)])

@@ -82,7 +82,7 @@ def check_made_once(bench):
 
 
 def check_where_none_is_made(bench):
-    """`init` is refused without a folder, in the place of one, over a text, and by a link to nothing."""
+    """`init` is refused without a folder, in the place of one, over a text, and at a link to nothing."""
     bench.refuses(["init", bench.path("away/office")], STORE)
     bench.refuses(["init", str(bench.folder)], STORE)
     bench.refuses(["init", ""], STORE)
@@ -100,7 +100,7 @@ def check_beside_tables(bench):
 
 
 def check_over_others(bench):
-    """`init` over an empty file or a database of others makes an office, and their tables stay."""
+    """`init` over an empty file or a database of other programs makes an office, and their tables stay."""
     path = bench.write("empty", b"")
     bench.ends(["init", path])
     told_of(bench, path, State())
@@ -176,7 +176,7 @@ def check_log_of_others(bench):
         base.execute("PRAGMA journal_mode = WAL")
         base.execute("PRAGMA wal_autocheckpoint = 0")
         base.execute("INSERT INTO name_row VALUES (1, 'eve')")
-        bench.same("a log stands there", os.path.getsize(office.path + "-wal") > 0, True)
+        bench.same("a log exists", os.path.getsize(office.path + "-wal") > 0, True)
         for ending in ("", "-wal", "-shm"):
             shutil.copyfile(office.path + ending, path + ending)
         wanted = rows_of(base)
@@ -184,7 +184,7 @@ def check_log_of_others(bench):
 
 
 def check_log_of_all(bench):
-    """A log that has every page of an office is read beside a file of which no more than a byte is there."""
+    """A log that has every page of an office is read beside a file of which no more than a byte is left."""
     office = small_office(bench)
     path = bench.write("copy", b"S")
     with closing(sqlite3.connect(office.path, isolation_level=None)) as base:

@@ -18,7 +18,7 @@ SMALL = (TESTS / "rows/reviewed.jsonl").read_bytes().splitlines(keepends=True)[:
 STORE = b'{"code":41,"error":"Store"}'
 NO_OFFICE = b'{"code":50,"error":"NotAnOffice"}'
 
-# By these statements an office of version 2 without locks becomes one of version 1.
+# These statements turn an office of version 2 without locks into one of version 1.
 INTO_VERSION_1 = ["DROP TABLE locked_row", "UPDATE meta_row SET version = 1 WHERE tag = 'rbac'"]
 
 
@@ -33,7 +33,7 @@ def damaged(check):
 
 
 class Office:
-    """An office in a file, and the plain model of it, which is given the same lines."""
+    """An office in a file, and the plain model of it, which gets the same lines."""
 
     def __init__(self, bench, name="office"):
         self.bench = bench
@@ -53,7 +53,7 @@ class Office:
         self.bench.ends(["replay", self.path], answers, life.message(), status, given=text)
 
     def told(self):
-        """The office is as the model says: by what the program prints, and by what SQLite reads."""
+        """Checks that the office is that of the model: by what the program prints, and by what SQLite reads."""
         told_of(self.bench, self.path, self.model.state)
 
     def change(self, statements):
@@ -88,7 +88,7 @@ def small_office(bench, name="office"):
 
 
 def change(path, statements):
-    """Runs statements by SQLite over a file, and leaves all of it in that one file. Checks of columns rest."""
+    """Runs statements by SQLite over a file, and leaves all of it in that one file. Checks of columns are off."""
     with closing(sqlite3.connect(path, isolation_level=None)) as base:
         base.execute("PRAGMA ignore_check_constraints = 1")
         for statement in statements:

@@ -23,10 +23,10 @@ ADD_ANN = b'{"fn":"addUser","user":"ann"}'
 PATIENCE = 5
 LEAST, MOST = PATIENCE - 1, PATIENCE + 10
 
-# A long request is sent in pieces of so many bytes.
+# How many bytes a piece of a long request has.
 PIECE = 250_000
 
-# More bytes than the server and the system read behind a head that is refused.
+# More bytes than the server and the system read after a head that is refused.
 ENDLESS = 1 << 26
 
 
@@ -107,7 +107,7 @@ def check_forms(bench):
         "64 fields": head(add, "Content-Length: 12", *["X: y"] * 62) + b'{"user":"d"}',
         "expecting": head(add, "Expect: 100-continue", "Content-Length: 12") + b'{"user":"e"}',
         "another function named": post("addUser", b'{"fn":"fly","user":"f"}'),
-        "more behind the body": post("addUser", b'{"user":"g"}') + CURL,
+        "more after the body": post("addUser", b'{"user":"g"}') + CURL,
         "the longest body": post("addUser", b'{"user":"h"}'.ljust(65_536)),
     }
     with Server(bench, office.path, len(requests) + 1) as server:
@@ -131,7 +131,7 @@ def ask_slowly(server, request):
 
 
 def check_import(bench):
-    """An import over HTTP has the text itself as its body, up to the most bytes that there may be."""
+    """An import over HTTP has the text itself as its body, up to the most bytes that are allowed."""
     office = Office(bench)
     office.replay([SEPARATED])
     with Server(bench, office.path, 2) as server:
@@ -190,7 +190,7 @@ def check_silent_client(bench):
 
 
 def check_stopped_client(bench):
-    """So is one that stops in the middle of its body, and nothing is done for it."""
+    """So is a client that stops in the middle of its body, and nothing is done for it."""
     silent_before(bench, head("POST /v1/addUser HTTP/1.1", LENGTH) + b'{"user"')
 
 
@@ -210,7 +210,7 @@ def silent_before(bench, said):
 
 
 def check_refused_early(bench):
-    """A request that is refused by its head is read on: a client that sends all of it first can, and gets the reply."""
+    """A request that is refused by its head is still read: a client can send all of it first, and gets the reply."""
     office, rest = Office(bench), b"x" * 3_000_000
     too_long = head("POST /v1/importAssignments HTTP/1.1", f"Content-Length: {len(rest)}")
     no_function = head("POST /v1/none HTTP/1.1", f"Content-Length: {len(rest)}")
@@ -225,7 +225,7 @@ def check_refused_early(bench):
 
 
 def check_endless(bench):
-    """The connection of a client that sends on and on behind a head that is refused is closed after some megabytes."""
+    """The connection of a client that keeps sending after a head that is refused is closed after some megabytes."""
     office = Office(bench)
     with Server(bench, office.path, 2) as server, connect(server.port) as endless:
         endless.sendall(head("POST /v1/addUser HTTP/1.1", "Content-Length: 65537"))
@@ -243,7 +243,7 @@ def check_endless(bench):
 
 
 def ask_whole(server, request):
-    """The answer to a request of which each piece is taken, or the error by which the connection ended before that."""
+    """Returns the answer to a request of which each piece is accepted, or the error that ended the connection before that."""
     with connect(server.port) as client:
         try:
             for start in range(0, len(request), PIECE):
@@ -283,7 +283,7 @@ def check_port_in_use(bench):
 
 
 def check_file_in_use(bench):
-    """While a server has the file, the other subcommands are refused, and what is answered stays in it."""
+    """While a server has the file, the other subcommands are refused, and what was answered stays in it."""
     office = Office(bench)
     with Server(bench, office.path, 1) as server:
         for words in (["check"], ["replay"], ["export"], ["report"], ["migrate"], ["init"]):

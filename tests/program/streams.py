@@ -128,7 +128,7 @@ def check_reader_gone(bench):
         process.stdin.write(b"".join(lines[2:]))
         process.stdin.close()
         status = process.wait(SECONDS)
-        bench.same("what is said", process.stderr.read(), b"rbac: stop Write after 2\n")
+        bench.same("what is printed on standard error", process.stderr.read(), b"rbac: stop Write after 2\n")
         bench.same("the status", status, 1)
     for line in lines[:3]:
         office.model.answer(line)

@@ -11,10 +11,10 @@ from .bench import PROGRAM, SECONDS
 
 HOST = "127.0.0.1"
 
-# Ports that the system gives to no client by itself.
+# Ports that the system assigns to no client by itself.
 PORTS = (20_000, 32_000)
 
-# By this number the system's tables say that a socket listens.
+# The number of a listening socket in the system's tables.
 LISTENS = "0A"
 
 PHRASES = {
@@ -93,7 +93,7 @@ def read_all(client):
 
 
 def listening(pid):
-    """The hosts and ports at which a process listens over TCP, as the system tells; hosts of IPv6 in hex."""
+    """The hosts and ports at which a process listens over TCP, as the system reports; hosts of IPv6 in hex."""
     links = [os.readlink(path) for path in Path(f"/proc/{pid}/fd").iterdir()]
     found = []
     for table in ("tcp", "tcp6"):

@@ -55,7 +55,7 @@ REFUSED = [
     "check FILE --version",
 ]
 
-# Whole command lines, and how many further arguments are tried behind each of them.
+# Whole command lines, and how many further arguments are tried after each of them.
 WHOLE = [
     "init FILE",
     "replay FILE",
@@ -93,7 +93,7 @@ def check_refused(bench):
 
 
 def check_more_words(bench):
-    """Further arguments behind a whole command line are refused, one as well as several, and nothing is done."""
+    """Further arguments after a whole command line are refused, one as well as several, and nothing is done."""
     path = Office(bench).path
     for text in WHOLE:
         for count in range(1, MOST_MORE + 1):

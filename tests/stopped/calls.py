@@ -19,7 +19,7 @@ MOST = 5_000
 
 STORIES = ["init", "replay", "replay of version 1", "import", "migrate", "check", "export"]
 
-# Those whose checkpoints fail: they write answers, by which a call behind the last of them is known.
+# Those whose checkpoints fail: they write answers, so that a call after the last of them is recognized.
 CHECKPOINTS = [("replay", "once"), ("replay", "ever"), ("import", "ever")]
 
 # An `init` has written a page if the file has more bytes than these, or the log has as many as these.
@@ -64,7 +64,7 @@ def stop_each(bench, name, calls, like, how):
 
 
 def fail_checkpoint(bench, name, how):
-    """Runs a story in which a call on the file itself fails behind the last answer, in the checkpoint.
+    """Runs a story in which a call on the file itself fails after the last answer, in the checkpoint.
 
     All was answered by then: the run succeeds, the log stays beside the file, and the next run finds all of it.
     """
@@ -78,7 +78,7 @@ def fail_checkpoint(bench, name, how):
         if stopper.answers < len(story.answers) or not stopper.call.endswith(" office"):
             continue
         what = f"{name}, the checkpoint stopped at {stopper.call} {how}"
-        bench.same(f"{what}: what it says", done, Done(b"".join(story.answers), b"", 0))
+        bench.same(f"{what}: what it prints", done, Done(b"".join(story.answers), b"", 0))
         bench.same(f"{what}: which files are left", sorted(os.listdir(bench.folder)), ["office", "office-wal"])
         judge_office(bench, what, story, path, [len(story.states) - 1])
         failed.append(stopper.call.split()[0])
@@ -102,15 +102,15 @@ def refuse_making(bench, before, how):
             begun += 1
             continue
         what = f"init over {before}, call {number} ({stopper.call}) stopped {how}"
-        bench.same(f"{what}: what it says", done, Done(b"", REFUSED, 1))
-        bench.same(f"{what}: what is there", left, {} if before is None else {"office": before})
+        bench.same(f"{what}: what it prints", done, Done(b"", REFUSED, 1))
+        bench.same(f"{what}: what is left", left, {} if before is None else {"office": before})
         undone += 1
     bench.same(f"init over {before}: some were undone, some had begun", (undone > 0, begun > 0), (True, True))
     return {"makings that were undone": undone}
 
 
 def write_short(bench, name, most):
-    """Runs a story in which no write takes more than so many bytes: it is done as ever."""
+    """Runs a story in which no write accepts more than `most` bytes: it is done as usual."""
     content, story = story_named(bench, name, beside(bench, "records.csv"))
     stopper = Stopper(bench)
     path = lay(bench, content)
@@ -122,7 +122,7 @@ def write_short(bench, name, most):
 
 
 def jobs(is_long):
-    """Each story with each way of stopping a change, and each other call; the rarer ways by `--long` alone."""
+    """Each story with each way of stopping a change, and each other call; the rarer ways with `--long` alone."""
     changes = CHANGES if is_long else [one for one in CHANGES if one not in RARER]
     others = ("once", "ever") if is_long else ("once",)
     found = [(stop_each, name, "changes", like, how) for name in STORIES for like, how in changes]

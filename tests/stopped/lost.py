@@ -97,7 +97,7 @@ class Machine:
 
 
 def stop_machine(bench, name, seed):
-    """Traces a story, and goes on from what a crash of the machine after each of its events leaves."""
+    """Traces a story, and continues from what a crash of the machine after each of its events leaves."""
     content, story = story_named(bench, name, beside(bench, "records.csv"))
     stopper, trace = Stopper(bench), beside(bench, "trace")
     done = stopper.run(story.words(lay(bench, content)), story.given, STOP_UNDER=bench.folder, STOP_TRACE=trace)

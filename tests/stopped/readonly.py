@@ -14,7 +14,7 @@ from .stories import LINES, REFUSED, judge_office, lay, replay_story, small_offi
 
 NOBODY = 65_534
 
-# Files in memory are still written by those who have them open and may not.
+# Files in memory can still be written by processes that have them open, without the right to.
 ON_DISK = True
 
 
@@ -44,7 +44,7 @@ class Stranger:
         return Done(out, err, process.returncode)
 
     def lay(self, content):
-        """Writes the office anew, as a file of this user: its path."""
+        """Writes the office again, as a file of this user. Returns its path."""
         os.chmod(self.bench.folder, 0o755)
         path = lay(self.bench, content)
         if self.more:
@@ -83,11 +83,11 @@ def refused_to_all(bench, stranger, path, what):
     for word, more in [("check", []), ("replay", []), ("migrate", []), ("import", ["/dev/null"]), ("report", [])]:
         done = stranger.run([word, path, *more], b'{"fn":"addUser","user":"new"}\n')
         bench.same(f"{word} of {what}", done, Done(b"", REFUSED, 1))
-        bench.same(f"what is there after {word} of {what}", bench.contents(), before)
+        bench.same(f"what is left after {word} of {what}", bench.contents(), before)
 
 
 def lose_the_file(bench):
-    """A file that becomes one to be read while a replay has it open is written to the end; then all are refused."""
+    """A file that becomes read-only while a replay has it open is written to the end; then all are refused."""
     content, state = small_office(bench)
     story = replay_story(state, LINES)
     stranger = Stranger(bench)
@@ -96,14 +96,14 @@ def lose_the_file(bench):
         return {"permissions that do not count": 1}
     changed_while_open(bench, stranger, path, story, lambda: [os.chmod(one, 0o444) for one in bench.folder.iterdir()])
     bench.same("which files are left", os.listdir(bench.folder), ["office"])
-    refused_to_all(bench, stranger, path, "a file to be read")
+    refused_to_all(bench, stranger, path, "a read-only file")
     os.chmod(path, 0o644)
-    judge_office(bench, "a file that was to be read", story, path, [len(LINES)])
-    return {"files to be read": 1}
+    judge_office(bench, "a file that was read-only", story, path, [len(LINES)])
+    return {"read-only files": 1}
 
 
 def lose_the_folder(bench):
-    """A folder that becomes one to be read while a replay has a file of it open: all that was answered is kept."""
+    """A folder that becomes read-only while a replay has a file of it open: all that was answered is kept."""
     content, state = small_office(bench)
     story = replay_story(state, LINES)
     stranger = Stranger(bench)
@@ -113,29 +113,29 @@ def lose_the_folder(bench):
     changed_while_open(bench, stranger, path, story, lambda: os.chmod(bench.folder, 0o555))
     bench.same("check beside a log that stays", stranger.run(["check", path]), Done(b"good\n", b"", 0))
     os.chmod(bench.folder, 0o755)
-    judge_office(bench, "a folder that was to be read", story, path, [len(LINES)])
-    return {"folders to be read": 1}
+    judge_office(bench, "a folder that was read-only", story, path, [len(LINES)])
+    return {"read-only folders": 1}
 
 
 def lack_the_folder(bench):
-    """In a folder to be read no office is opened or made, and nothing changes."""
+    """In a read-only folder no office is opened or made, and nothing changes."""
     content, state = small_office(bench)
     stranger = Stranger(bench)
     path = stranger.lay(content)
     if stranger.is_let_in():
         return {"permissions that do not count": 1}
     os.chmod(bench.folder, 0o555)
-    refused_to_all(bench, stranger, path, "an office in a folder to be read")
-    bench.same("init in a folder to be read", stranger.run(["init", bench.path("new")]), Done(b"", REFUSED, 1))
-    bench.same("what is there after init", bench.contents(), {"office": content})
+    refused_to_all(bench, stranger, path, "an office in a read-only folder")
+    bench.same("init in a read-only folder", stranger.run(["init", bench.path("new")]), Done(b"", REFUSED, 1))
+    bench.same("what is left after init", bench.contents(), {"office": content})
     os.chmod(bench.folder, 0o755)
-    judge_office(bench, "an office in a folder that was to be read", replay_story(state, LINES), path, [0])
-    return {"folders to be read": 1}
+    judge_office(bench, "an office in a folder that was read-only", replay_story(state, LINES), path, [0])
+    return {"read-only folders": 1}
 
 
 @contextmanager
 def unchangeable(paths):
-    """Makes files such that nobody can change them as long as this lasts, even with open files, if the system can do that."""
+    """Makes files unchangeable for everybody as long as this lasts, even through open files, if the system can do that."""
     subprocess.run(["chattr", "+i", *paths], check=False, capture_output=True)
     try:
         yield
@@ -144,7 +144,7 @@ def unchangeable(paths):
 
 
 def can_be_unchangeable(bench):
-    """Whether the system refuses writes on a file that was made so while it was open."""
+    """Returns whether the system refuses writes on a file that was made unchangeable while it was open."""
     path = beside(bench, "probe")
     with open(path, "wb", buffering=0) as file, unchangeable([path]):
         try:

@@ -21,7 +21,7 @@ OPTIONS = ("--times", "--long")
 # How many failures of one job are shown.
 SHOWN = 5
 
-# Jobs run in files in memory if there are any, except those of modules with ON_DISK: a sync takes long on a disk.
+# Jobs use files in memory if possible, except those of modules with ON_DISK: a sync takes long on a disk.
 IN_MEMORY = "/dev/shm"
 
 
@@ -43,7 +43,7 @@ def checks_of(folder, modules):
 
 
 def name_of(job):
-    """The name of a job: its function, and what it is given."""
+    """Returns the name of a job: its function, and its arguments."""
     function, *given = job
     words = [function.__name__, *(str(one) for one in given)]
     return f"{function.__module__}." + " ".join(words)
@@ -85,9 +85,9 @@ def is_long(words):
 
 
 def run_all(jobs, words, judge=None, workers=WORKERS):
-    """Runs the jobs with these words in their names, prints what they counted, and gives the exit status.
+    """Runs the jobs with these words in their names, prints what they counted, and returns the exit status.
 
-    With `--times` it is printed how long each took. Where all jobs ran, `judge` tells what is wrong with the counts.
+    With `--times` it prints how long each took. If all jobs ran, `judge` returns what is wrong with the counts.
     """
     if not os.access(PROGRAM, os.X_OK):
         print(f"FAILED: there is no program {PROGRAM}\n0 passed, 1 failed")

@@ -20,7 +20,7 @@ SENT = [0, 3, 5, 7, 10]
 
 
 def request_of(line):
-    """The request over HTTP that asks for what a line asks for."""
+    """Returns the HTTP request that asks for what a line asks for."""
     members = json.loads(line)
     return post(members.pop("fn"), json.dumps(members).encode())
 

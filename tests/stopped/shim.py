@@ -12,7 +12,7 @@ ENDED = 99
 
 
 def run_program(bench, words, given=b"", **more):
-    """Runs the program with what `subprocess` is given more."""
+    """Runs the program. `more` is passed to `subprocess`."""
     done = subprocess.run(
         [PROGRAM, *words], input=given, cwd=bench.folder, capture_output=True, timeout=SECONDS, check=False, **more
     )
@@ -31,7 +31,7 @@ class Shim:
         subprocess.run([*command, str(TESTS / source)], check=True)
 
     def environment(self, settings):
-        """The variables by which it is loaded with these settings."""
+        """Returns the variables that load it with these settings."""
         return {**os.environ, "LD_PRELOAD": self.library, **{key: str(value) for key, value in settings.items()}}
 
     def forget(self):
@@ -62,7 +62,7 @@ class Stopper(Shim):
         super().__init__(bench, "stopped/stop.c")
 
     def settings(self, at, like, calls="changes", ever=False):
-        """The settings by which the call of this number is stopped like this."""
+        """Returns the settings that stop the call of this number like this."""
         found = {"STOP_UNDER": self.bench.folder, "STOPPED": self.file, "STOP_AT": at, "STOP_LIKE": like}
         found["STOP_CALLS"] = calls
         return {**found, "STOP_EVER": 1} if ever else found

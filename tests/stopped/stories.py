@@ -43,10 +43,10 @@ RECORDS = b"user,role\nann,clerk\nbob,clerk\nbob,temp\nbob,boss\n"
 
 @dataclass(frozen=True)
 class Story:
-    """A run over an office: its arguments around the file, its lines, and what the model says of it.
+    """A run over an office: its arguments around the file, its lines, and what the model answers.
 
-    `states` are that before the run and that after each line, or after all that the run does; None is no office.
-    `accepted` says of each line whether it is a command that is accepted.
+    `states` are the state before the run and those after each line, or after all that the run does; None is no office.
+    `accepted` has for each line whether it is a command that is accepted.
     """
 
     word: str
@@ -160,7 +160,7 @@ def lay(bench, content):
 def judge_end(bench, what, story, done, met=None):
     """Counts whether a run that was stopped has printed what it may print.
 
-    `met` is how many answers there were when a call failed: the stop is right there, and all is answered if that was
+    `met` is how many answers there were when a call failed: the stop is exactly there, and all is answered if that was
     after the last answer. None leaves that open.
     """
     faults = []
@@ -177,7 +177,7 @@ def judge_end(bench, what, story, done, met=None):
         faults += faults_of_stop(story, done, count, met)
     else:
         faults.append(f"the status is {done.status}, standard error {done.err[-200:]!r}")
-    bench.judge(f"{what}: what it says", faults)
+    bench.judge(f"{what}: what it prints", faults)
 
 
 def faults_of_stop(story, done, count, met):
@@ -193,7 +193,7 @@ def faults_of_stop(story, done, count, met):
     elif count == len(story.lines) or not story.accepted[count]:
         faults.append(f"{done.err!r}, though the next line is no command that is accepted")
     if met not in (None, count):
-        faults.append(f"{done.err!r}, though the call failed behind {met} answers")
+        faults.append(f"{done.err!r}, though the call failed after {met} answers")
     return faults
 
 
@@ -209,7 +209,7 @@ def find(bench, path):
 
 
 def rows_at(state):
-    """The rows of a state, none of no office."""
+    """Returns the rows of a state, none if there is no office."""
     return {} if state is None else rows(state)
 
 
@@ -221,12 +221,12 @@ def place_of(bench, what, story, path, allowed):
             bench.passed += 1
             return place
     wanted = rows_at(story.states[allowed[0]])
-    same_rows(bench, f"{what}: the rows, where {allowed[0]} lines were acknowledged", found, wanted)
+    same_rows(bench, f"{what}: the rows, if {allowed[0]} lines were acknowledged", found, wanted)
     return None
 
 
 def end_of_rest(story, place):
-    """What a further run is given and has to print, if the office has the state at this place, and the state at its end."""
+    """Returns the input of a further run over the state at this place, what it has to print, and the state at its end."""
     state = story.states[place]
     if story.word == "replay":
         rest = replay_story(state, story.lines[place:])
@@ -254,7 +254,7 @@ def goes_on(bench, what, story, path, place):
 
 
 def judge_office(bench, what, story, path, allowed):
-    """Counts whether the office has one of the allowed states, and all goes on from there: its place, or None."""
+    """Counts whether the office has one of the allowed states, and all continues from there. Returns its place, or None."""
     place = place_of(bench, what, story, path, allowed)
     if place is not None:
         goes_on(bench, what, story, path, place)

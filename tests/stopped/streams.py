@@ -13,13 +13,13 @@ from .serving import SENT, replies_of, reply_of, request_of
 from .shim import Shim
 from .stories import LINES, judge_office, lay, replay_story, small_office
 
-# So often each call is interrupted before it is made.
+# How often each call is interrupted before it is made.
 INTERRUPTIONS = [1, 1_000]
 
 # Calls without which a server can't listen, each with an error that the system knows.
 LISTENING = {"socket": errno.EMFILE, "bind": errno.EADDRINUSE, "listen": errno.EADDRINUSE}
 
-# Errors by which a connection can't be accepted, and those by which one that was accepted comes to nothing.
+# Errors with which a connection can't be accepted, and those with which one that was accepted is lost.
 NOT_ACCEPTED = [errno.EMFILE, errno.ECONNABORTED, errno.ENOMEM]
 LOST = {"recv": [errno.ECONNRESET, errno.EIO], "send": [errno.EPIPE, errno.EIO]}
 
@@ -31,13 +31,13 @@ PAUSE = 0.05
 
 
 class Failing(Shim):
-    """The shim by which calls on streams and sockets fail."""
+    """The shim that makes calls on streams and sockets fail."""
 
     def __init__(self, bench):
         super().__init__(bench, "stopped/streams.c")
 
     def settings(self, calls, like, times=1, behind=0):
-        """The settings by which each of these calls fails so many times, after so many that don't fail."""
+        """Returns the settings that make each of these calls fail `times` times, after `behind` calls that don't fail."""
         return {"FAIL": calls, "FAIL_LIKE": like, "FAIL_TIMES": times, "FAIL_BEHIND": behind, "FAILED": self.file}
 
     def count(self):
@@ -56,12 +56,12 @@ def interrupt_replay(bench, times):
         what = f"a replay {where}, each read interrupted {times} times"
         bench.same(what, done, Done(b"".join(story.answers), b"", 0))
         bench.same(f"{what}: they were", failing.count() >= 2 * times, True)
-    judge_office(bench, "an office behind interrupted reads", over_file, path, [len(LINES)])
+    judge_office(bench, "an office after interrupted reads", over_file, path, [len(LINES)])
     return {"replays with interrupted reads": 2}
 
 
 def interrupt_server(bench, calls, times):
-    """A server whose calls on sockets are interrupted replies as ever."""
+    """A server whose calls on sockets are interrupted replies as usual."""
     content, state = small_office(bench)
     story = replay_story(state, [LINES[number] for number in SENT])
     path, failing = lay(bench, content), Failing(bench)
@@ -75,7 +75,7 @@ def interrupt_server(bench, calls, times):
 
 
 def pause(process):
-    """Stops a process and lets it go on: what it waits for on a socket with a time limit is interrupted by that."""
+    """Stops a process and lets it continue: what it waits for on a socket with a time limit is interrupted by that."""
     time.sleep(PAUSE)
     process.send_signal(signal.SIGSTOP)
     time.sleep(PAUSE)
@@ -84,7 +84,7 @@ def pause(process):
 
 
 def pause_server(bench):
-    """A server that is stopped and goes on while it waits for a client, and for each part of a request, replies."""
+    """A server that is stopped and continued while it waits for a client, and for each part of a request, replies."""
     content, state = small_office(bench)
     story = replay_story(state, LINES[:1])
     path, request = lay(bench, content), request_of(LINES[0])
@@ -102,18 +102,18 @@ def pause_server(bench):
 
 
 def fail_to_listen(bench, call):
-    """A server that can't listen says so in one line, and the office stays as it is."""
+    """A server that can't listen reports it in one line, and the office stays as it is."""
     content, state = small_office(bench)
     path, failing = lay(bench, content), Failing(bench)
     words = ["serve", path, "--port", str(free_port()), "--limit", "1"]
     done = failing.run(words, **failing.settings(call, LISTENING[call]))
     bench.same(f"a server whose {call} fails", done, Done(b"", b"rbac: cannot listen\n", 1))
-    bench.same(f"what is there after {call} fails", bench.contents(), {"office": content})
+    bench.same(f"what is left after {call} fails", bench.contents(), {"office": content})
     return {"servers that could not listen": 1}
 
 
 def fail_to_accept(bench, like):
-    """A server that can't accept a connection says so in one line and ends: it isn't counted as served."""
+    """A server that can't accept a connection reports it in one line and ends: it isn't counted as served."""
     content, state = small_office(bench)
     story = replay_story(state, [LINES[number] for number in SENT])
     requests, wanted = [request_of(line) for line in story.lines], [reply_of(answer) for answer in story.answers]
@@ -130,7 +130,7 @@ def fail_to_accept(bench, like):
 
 
 def lose_connection(bench, call, like):
-    """A connection whose request can't be read, or whose reply can't be sent, counts as served, and the next is taken.
+    """A connection whose request can't be read, or whose reply can't be sent, counts as served, and the next is accepted.
 
     The command of a request is done in either case, if the request was read.
     """

@@ -83,7 +83,7 @@ def digest(path):
 
 
 def makes_evidence(bench):
-    """The evidence has the date, what the check said, and the digests of the copy, the program and each report."""
+    """The evidence has the date, what the check printed, and the digests of the copy, the program and each report."""
     office, folder = bank(bench), bench.folder / "evidence"
     wanted_reports = {FILES[name]: run_tool(name, office.path).out for name in REPORTS}
     before = bench.contents()
@@ -101,14 +101,14 @@ def makes_evidence(bench):
     bench.same("the digests", named, {path: digest(path) for path in paths})
     checking = ["sha256sum", "--check", "--strict", "--quiet", "evidence.txt"]
     done = run(checking, folder=folder)
-    bench.same("what sha256sum says", (done.out, done.err, done.status), (b"", b"", 0))
+    bench.same("what sha256sum prints", (done.out, done.err, done.status), (b"", b"", 0))
     (folder / "room.csv").write_bytes(made["room.csv"] + b"more\n")
     done = run(checking, folder=folder)
-    bench.same("what sha256sum says of a changed report", (done.out, done.status), (b"room.csv: FAILED\n", 1))
+    bench.same("what sha256sum prints for a changed report", (done.out, done.status), (b"room.csv: FAILED\n", 1))
 
 
 def refuses_evidence(bench):
-    """No evidence is made of other arguments, into a folder that is there, or if the program is missing."""
+    """No evidence is made with other arguments, into a folder that exists, or if the program is missing."""
     office, new = bank(bench), bench.path("new")
     for words in ([], [DAY], [DAY, office.path], ["today", office.path, new], ["2026-02-30", office.path, new]):
         done = keeping(bench, f"evidence of {words}", run_script, "evidence.py", *words)
@@ -116,7 +116,7 @@ def refuses_evidence(bench):
         bench.same(f"the end of evidence of {words}", ended, (b"", 2, True))
     os.mkdir(bench.path("there"))
     done = run_script("evidence.py", DAY, office.path, bench.path("there"))
-    refuses(bench, "a folder that is there", done, "File exists")
+    refuses(bench, "a folder that exists", done, "File exists")
     done = run(["env", "RBAC_PROGRAM=/nowhere", str(TOOLS / "evidence.py"), DAY, office.path, new])
     refuses(bench, "a program that is missing", done, "nowhere")
     bench.same("no folder is made", os.path.exists(new), False)
@@ -145,22 +145,22 @@ def refuses_differences(bench):
 
 
 def says_usage(bench):
-    """Each tool begins with how it is run, and says that it reads the copy and does not write it."""
+    """Each tool begins with how it is run, and states that it reads the copy and does not write it."""
     for name in REPORTS:
         text = (TOOLS / f"{name}.sql").read_text(encoding="utf-8")
         head = text.split("\n\n", 1)[0]
         usage = f"sqlite3 -readonly 'file:COPY?immutable=1' < tools/{name}.sql"
-        bench.same(f"{name} says how it is run", usage in head, True)
-        bench.same(f"{name} says that it only reads", "It reads the copy and does not write it." in head, True)
+        bench.same(f"{name} states how it is run", usage in head, True)
+        bench.same(f"{name} states that it only reads", "It reads the copy and does not write it." in head, True)
     listed = {path.name for path in TOOLS.iterdir() if path.is_file()}
     others = {"office.sql", "rows.sql", "damage.sql", "difference.py", "evidence.py"}
     bench.same("the tools", listed, {*(f"{name}.sql" for name in REPORTS), *others})
     damage = (TOOLS / "damage.sql").read_text(encoding="utf-8")
-    bench.same("damage.sql says how it is run", "sqlite3 COPY < tools/damage.sql" in damage, True)
+    bench.same("damage.sql states how it is run", "sqlite3 COPY < tools/damage.sql" in damage, True)
 
 
 def jobs_without_sqlite():
-    """Those that need no program of others."""
+    """Returns the jobs that need no external program."""
     return [(refuses_differences,), (says_usage,)]
 
 

@@ -1,4 +1,4 @@
-"""Random offices, made by the program: each report is what the model says, and what the program itself answers."""
+"""Random offices, made by the program: each report is that of the model, and what the program itself answers."""
 
 import json
 import os
@@ -14,17 +14,17 @@ from program.offices import Office, read_rows, same_rows
 from . import wanted
 from .running import records, report, run_script
 
-# So many offices there are, in so many jobs.
+# The number of offices, and the number of jobs that share them.
 OFFICES, JOBS = 200, 8
 
-# An office is made of so many random lines, without those that do not change it.
+# How many random lines make an office, those that do not change it included.
 LINES = (100, 300)
 
-# By these commands an office grows. They are chosen so many times as often as in other random lines.
+# The commands by which an office grows, and how many times as often as in other random lines they are chosen.
 GROWING = dict.fromkeys(["addUser", "addRole", "addPermObj", "assignUser", "addInheritance", "createSession"], 4)
 GROWING |= {"addPermission": 2, "grantPermission": 2, "createSsdSet": 2, "createDsdSet": 2}
 
-# Of one office in so many all is compared, of the others the dump alone. So many further lines make a difference.
+# One in how many offices is compared in full, the others by the dump alone; and how many further lines make a difference.
 ONE_IN, FURTHER = 4, 40
 
 # What has to be met in some of the offices.
@@ -53,7 +53,7 @@ class Building(Draws):
 
 
 def accepted(draws, count):
-    """Of so many random lines those that change the state."""
+    """Returns those of `count` random lines that change the state."""
     kept = []
     for _ in range(count):
         before = draws.state
@@ -100,7 +100,7 @@ def answers(bench, path, lines):
 
 
 def compare_reports(bench, what, path, state):
-    """Each report of an office, as rows, is what the model says of its state. Gives the rows by the names of the reports."""
+    """Each report of an office, as rows, is that of the model for its state. Returns the rows by the names of the reports."""
     found = {}
     for name in ("permissions", "near", "sessions", "room"):
         found[name], _ = records(report(bench, name, path))
@@ -109,7 +109,7 @@ def compare_reports(bench, what, path, state):
 
 
 def ask_permissions(bench, what, path, state, found):
-    """What users and sessions may do by the reports is what the program answers: by review functions and by checkAccess."""
+    """What users and sessions may do as reported is what the program answers: by review functions and by checkAccess."""
     told = {("user", user): set() for user in sorted(state.users)}
     told |= {("session", name): set() for name in sorted(state.sessions)}
     for user, _, ob, op, _, _ in found["permissions"]:
@@ -126,7 +126,7 @@ def ask_permissions(bench, what, path, state, found):
 
 
 def try_sets(bench, what, path, state, found):
-    """A dynamic set that a user could violate by the report is violated by a session with the members that are listed.
+    """A dynamic set that a user could violate, as reported, is violated by a session with the members that are listed.
 
     A user who could violate none gets a session with all roles. Both are tried in a copy of the office.
     """
@@ -180,7 +180,7 @@ def compare_difference(bench, what, before, after):
 
 
 def counts_of(state, found):
-    """What is counted of an office that is looked at in full."""
+    """Returns the counts of an office that is compared in full."""
     violating = {(row[2], row[5]) for row in found["near"] if row[1] == "dynamic" and row[4] == "user" and int(row[0]) <= 0}
     return {
         "offices in full": 1,
@@ -193,7 +193,7 @@ def counts_of(state, found):
 
 
 def try_office(bench, seed):
-    """One random office, of which the dump is looked at, or all. Gives what is counted of it."""
+    """One random office, of which the dump is compared, or all. Returns its counts."""
     what, draws, office = f"office {seed}", Building(seed), Office(bench)
     office.replay(accepted(draws, random.Random(seed).randrange(*LINES)))
     state, path = office.model.state, office.path
@@ -214,7 +214,7 @@ def try_office(bench, seed):
 
 
 def try_offices(bench, first, count):
-    """So many random offices from this seed on."""
+    """Tries `count` random offices, from this seed on."""
     counts = Counter()
     for seed in range(first, first + count):
         counts.update(try_office(bench, seed))
@@ -236,14 +236,14 @@ def try_odd_names(bench):
 
 
 def try_version_1(bench):
-    """An office of version 1 has its own limits, and is made anew in version 2 by its dump."""
+    """An office of version 1 has its own limits, and is rebuilt in version 2 by its dump."""
     office = Office(bench)
     office.replay([line for line in accepted(Building(1), 200) if b"lockUser" not in line])
     office.become_version_1()
     state, path = office.model.state, office.path
     compare_reports(bench, "version 1", path, state)
     replay_dump(bench, "version 1", path, state)
-    # A table of locks that stays beside an office of version 1 is none of it.
+    # A table of locks that stays beside an office of version 1 is no part of it.
     office.change(["CREATE TABLE locked_row (a TEXT NOT NULL, PRIMARY KEY (a)) STRICT"])
     office.change([f"INSERT INTO locked_row VALUES ('{sorted(state.users)[0]}')"])
     bench.same("the dump without these locks", "lockUserAccount" in dump_of(bench, path), False)

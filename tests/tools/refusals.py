@@ -1,4 +1,4 @@
-"""Files that are no office, damaged offices and offices in use: each tool refuses them, says why, and changes nothing."""
+"""Files that are no office, damaged offices and offices in use: each tool refuses them, reports why, and changes nothing."""
 
 import os
 import random
@@ -19,18 +19,18 @@ from program.web import Server, post
 
 from .running import REPORTS, keeping, numbers_shown, refuses, run_script, run_tool
 
-# So many offices with random changes of their rows there are.
+# The number of offices with random changes of their rows.
 CHANGED = 80
 
-# Of the faults that are a single value one in so many is tried, and no fault of more rows than these.
+# One in how many faults of a single value is tried, and the most rows of a fault that is tried.
 ONE_VALUE_IN = 8
 MOST_ROWS = 1_100
 
-# What is said of a database whose rows or tables are none of a good office.
+# What is printed about a database whose rows or tables are not those of a good office.
 NO_GOOD_OFFICE = "this is no good office: rbac check says why"
 NO_OFFICE = "this is no office"
 
-# Names of files, each with what a tool says of it.
+# Names of files, each with what a tool prints about it.
 FILES = {
     "missing": "unable to open database",
     "folder": "unable to open database|disk I/O error",
@@ -43,7 +43,7 @@ FILES = {
     "logged": "a log is beside this file",
 }
 
-# Further changes of an office by SQLite, each with what a tool says of it.
+# Further changes of an office by SQLite, each with what a tool prints about it.
 CHANGES = {
     "no table of locks": ("the table of locks is missing", ["DROP TABLE locked_row"]),
     "no grants": (NO_OFFICE, ["DROP TABLE grant_row"]),
@@ -117,7 +117,7 @@ def refuses_in_use(bench):
 
 
 def reads_copy_with_log(bench):
-    """A copy with its log is refused until `rbac check` has taken the log in, and then has all that was answered."""
+    """A copy with its log is refused until `rbac check` has merged the log, and then has all that was answered."""
     office = small_office(bench)
     with Server(bench, office.path, 2) as server:
         server.ask(post("addUser", b'{"user":"zed"}'))
@@ -132,7 +132,7 @@ def reads_copy_with_log(bench):
 
 
 def refuses_folder(bench):
-    """In another folder a tool does not find tools/office.sql, says so, and reports nothing."""
+    """In another folder a tool does not find tools/office.sql, prints that, and reports nothing."""
     office = small_office(bench)
     for name in REPORTS:
         done = run_tool(name, office.path, bench.folder)
@@ -140,7 +140,7 @@ def refuses_folder(bench):
 
 
 def reads_odd_tables(bench):
-    """Tables of others beside those of an office are passed over, whatever their names."""
+    """Tables of other programs beside those of an office are ignored, whatever their names."""
     office = small_office(bench)
     before = {name: run_tool(name, office.path) for name in REPORTS}
     change(office.path, [f"CREATE TABLE {name} (x)" for name in ("user", "role", "held", "text", "office", "file")])
@@ -165,9 +165,9 @@ def is_seen(tables):
 
 
 def agrees(bench, what, statements, tables, after=()):
-    """Whether `rbac check` calls an office with these tables good. It is counted whether the tools say the same.
+    """Returns whether `rbac check` calls an office with these tables good, and counts whether the tools do the same.
 
-    tools/damage.sql has nothing to say of a good office, and else among its lines one with the number of the check.
+    tools/damage.sql prints nothing for a good office, and otherwise among its lines one with the number of the check.
     """
     path = bench.path("changed")
     write(path, statements, tables, after)

@@ -15,17 +15,17 @@ TOOLS = ROOT / "tools"
 # The tools that sqlite3 runs over an office.
 REPORTS = ["permissions", "near", "sessions", "room", "dump", "picture"]
 
-# The programs of others that the tools need.
+# The external programs that the tools need.
 NEEDED = ["sqlite3", "dot"]
 
 
 def is_there(program):
-    """Whether a program of others can be found."""
+    """Returns whether an external program can be found."""
     return shutil.which(program) is not None
 
 
 def run(words, given=b"", folder=ROOT):
-    """Runs a command, in the folder of the repository if no other is given."""
+    """Runs a command, in the folder of the repository unless another one is passed."""
     done = subprocess.run(words, input=given, cwd=folder, capture_output=True, timeout=SECONDS, check=False)
     return Done(done.stdout, done.stderr, done.returncode)
 
@@ -54,7 +54,7 @@ def run_script(name, *words):
 
 
 def keeping(bench, what, function, *given):
-    """What a function gives, counting whether each file in the folder of the bench stays to the byte."""
+    """Returns what a function returns, and counts whether each file in the folder of the bench stays the same to the byte."""
     before = bench.contents()
     done = function(*given)
     after = bench.contents()
@@ -64,24 +64,24 @@ def keeping(bench, what, function, *given):
 
 
 def report(bench, name, path):
-    """What a tool reports of an office. It has to end well, and to change no file."""
+    """Returns what a tool reports of an office. It has to succeed, and to change no file."""
     done = keeping(bench, name, run_tool, name, path)
     bench.same(f"the end of {name}", (done.err, done.status), (b"", 0))
     return done.out.decode()
 
 
 def records(text):
-    """The records of a CSV text behind its heading, and the heading."""
+    """Returns the records of a CSV text after its heading, and the heading."""
     heading, *rows = csv.reader(io.StringIO(text, newline=""))
     return [tuple(row) for row in rows], heading
 
 
 def refuses(bench, what, done, message):
-    """Counts whether a tool says in one line why it refuses, and reports nothing."""
+    """Counts whether a tool prints in one line why it refuses, and reports nothing."""
     said = done.err.decode()
     faults = []
     if done.status == 0 or done.out:
         faults.append(f"it ended with status {done.status}, and printed {done.out[:100]}")
     if not re.search(message, said) or said.count("\n") != 1:
-        faults.append(f"it said {said!r}")
+        faults.append(f"it printed {said!r}")
     bench.judge(f"{what} is refused", faults)

@@ -1,4 +1,4 @@
-"""What the reports have to say of a state, by the plain model."""
+"""What the reports have to contain for a state, according to the plain model."""
 
 from machine.state import assigned_roles, authorized_users, below
 from machine.texts import json_text, rows
@@ -22,12 +22,12 @@ SENTENCES = {
 
 
 def having(state, roles):
-    """Pairs of one of these roles and of a role that it gives: itself, or a junior."""
+    """Returns pairs of one of these roles and of a role that it includes: itself, or a junior."""
     return {(role, given) for role in roles for given in below(state, role)}
 
 
 def given_permissions(state, roles):
-    """Rows of a role, a permission that it gives, and the role to which that is granted."""
+    """Returns rows of a role, a permission that it confers, and the role to which that is granted."""
     pairs = having(state, roles)
     return {(role, ob, op, given) for role, given in pairs for ob, op, to in state.grants if to == given}
 
@@ -55,12 +55,12 @@ def sessions(state):
 
 
 def held(state, members, roles):
-    """Pairs of a member of a set that one of these roles gives, and of that role."""
+    """Returns pairs of a member of a set that one of these roles includes, and of that role."""
     return {(given, role) for role, given in having(state, roles) if given in members}
 
 
 def near(state):
-    """The rows that say how near users and sessions are to sets."""
+    """Returns the rows that report how near users and sessions are to sets."""
     users = [("user", user, assigned_roles(state, user)) for user in state.users]
     actives = [("session", session, active) for session, (_, active) in state.sessions.items()]
     found = []
@@ -76,7 +76,7 @@ def near(state):
 
 
 def room(state):
-    """The rows that say how much room there is."""
+    """Returns the rows that report how much room there is."""
     sets = [roles for sets in (state.static_sets, state.dynamic_sets) for roles, _ in sets.values()]
     counts = {
         "user": len(state.users),

@@ -1,4 +1,4 @@
-// Command rbac-load measures a service by clients that ask one after another on connections they keep.
+// Command rbac-load measures a service with clients that send one request after another on connections that they keep.
 //
 //	rbac-load puts --targets http://HOST:PORT,.. --clients N --seconds S
 //	rbac-load http --targets HOST:PORT,.. --clients N --seconds S --ask command|question|local [--close]
@@ -22,7 +22,7 @@ import (
 	"go.etcd.io/etcd/clientv3"
 )
 
-// An asker does one request of a client, and says whether it was accepted.
+// An asker does one request of a client, and returns an error unless it was accepted.
 type asker func(number int) error
 
 type options struct {
@@ -75,7 +75,7 @@ func puts(client *clientv3.Client) asker {
 	}
 }
 
-// measure lets all clients ask until the time is over, and prints the rate and the latencies in milliseconds.
+// measure makes all clients ask until the time is over, and prints the rate and the latencies in milliseconds.
 func measure(o options, make func(client int) (asker, error)) error {
 	var (
 		mutex sync.Mutex

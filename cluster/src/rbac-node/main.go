@@ -3,7 +3,7 @@
 //	rbac-node serve --name NAME --data FOLDER --etcd URL,.. --listen HOST:PORT --peer HOST:PORT --program RBAC
 //	rbac-node adopt --etcd URL,.. --data FOLDER --program RBAC OFFICE
 //
-// The second takes an office from its file into a new cluster, before its first command. docs/CLUSTER.md says more.
+// The second copies an office from its file into a new cluster, before its first command. See docs/CLUSTER.md.
 package main
 
 import (
@@ -37,7 +37,7 @@ import (
 	"rbac-node/office"
 )
 
-// settings are what the command line says.
+// settings are the settings that the command line chooses.
 type settings struct {
 	node.Options
 	listen, peer, prefix        string
@@ -47,7 +47,7 @@ type settings struct {
 
 func main() {
 	if os.Getenv("GOGC") == "" {
-		// A node keeps little and makes much garbage: collected less often, it leaves more of the processors to its requests.
+		// A node keeps little memory and makes much garbage. Collecting it less often leaves more processor time to requests.
 		debug.SetGCPercent(400)
 	}
 	if err := run(os.Args[1:]); err != nil {
@@ -98,7 +98,7 @@ func run(words []string) error {
 	return serve(ctx, s, log, logger)
 }
 
-// define tells the flags where their values go.
+// define defines the flags, and where their values go.
 func (s *settings) define(flags *flag.FlagSet) {
 	host, _ := os.Hostname()
 	flags.StringVar(&s.Name, "name", host, "name of this node, which no other has")
@@ -209,7 +209,7 @@ func serve(ctx context.Context, s settings, log *ledger.Ledger, logger *zap.Logg
 	if err != nil {
 		return err
 	}
-	// The node goes on after the signal, until what was asked before is answered.
+	// The node continues after the signal, until the earlier requests are answered.
 	life, end := context.WithCancel(context.Background())
 	defer end()
 	work, running := errgroup.WithContext(life)
@@ -245,7 +245,7 @@ func serve(ctx context.Context, s settings, log *ledger.Ledger, logger *zap.Logg
 	return err
 }
 
-// listen lets a server listen, with TLS if it has a certificate.
+// listen starts a server, with TLS if it has a certificate.
 func listen(work *errgroup.Group, address string, info transport.TLSInfo, handler http.Handler) (*http.Server, error) {
 	server := &http.Server{
 		Handler: handler, MaxHeaderBytes: 8192,

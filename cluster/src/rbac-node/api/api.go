@@ -36,7 +36,7 @@ const (
 `
 )
 
-// kinds has all functions, and says of each which kind of request it is.
+// kinds maps each function to its kind of request.
 var kinds = func() map[string]node.Kind {
 	known := map[string]node.Kind{}
 	for kind, names := range map[node.Kind]string{node.Command: commands, node.Question: questions} {
@@ -93,7 +93,7 @@ func Handler(ctx context.Context, n *node.Node) http.Handler {
 		w.Header().Set("Content-Type", "application/json")
 		w.Header().Set("Content-Length", strconv.Itoa(len(answer.Text)))
 		w.WriteHeader(status)
-		_, _ = w.Write(answer.Text) // If it fails the client is gone.
+		_, _ = w.Write(answer.Text) // If it fails, the client is gone.
 		answers.WithLabelValues(string(kind), strconv.Itoa(status)).Inc()
 		seconds.WithLabelValues(string(kind)).Observe(time.Since(start).Seconds())
 	})
@@ -125,7 +125,7 @@ func read(r *http.Request) (kind node.Kind, line []byte, err error) {
 	for _, values := range r.Header {
 		fields += len(values)
 	}
-	// A mux would redirect what it knows better.
+	// A ServeMux would redirect paths that it would write differently.
 	function := strings.TrimPrefix(r.RequestURI, "/v1/")
 	kind, known := kinds[function]
 	if !known || function == r.RequestURI {
@@ -164,9 +164,9 @@ func read(r *http.Request) (kind node.Kind, line []byte, err error) {
 	return kind, line, err
 }
 
-// lineOf returns the line that asks for what a body asks a function for. Of a key that comes more than once the last
-// counts, so the function's name comes last. What isn't JSON is refused here, as the office would; what is in the JSON the
-// office judges.
+// lineOf returns the line that asks for what a body asks a function for. If a key occurs more than once, the last one
+// counts, so the function's name comes last. What isn't JSON is refused here, as the office would refuse it. The office
+// judges the content of the JSON.
 func lineOf(function string, body []byte) ([]byte, error) {
 	var line, object bytes.Buffer
 	if function == importer {
@@ -179,7 +179,7 @@ func lineOf(function string, body []byte) ([]byte, error) {
 	} else if len(body) == 0 {
 		body = []byte("{}")
 	}
-	// Compact takes out the ends of lines, and refuses what is no JSON.
+	// Compact removes the ends of lines, and refuses what isn't JSON.
 	if err := json.Compact(&line, body); err != nil || line.Bytes()[0] != '{' {
 		return nil, badRequest(http.StatusBadRequest)
 	}

@@ -1,4 +1,4 @@
-// Package ledger keeps the commands of an office in etcd, in the order that all nodes apply them in.
+// Package ledger keeps the commands of an office in etcd, in the order in which all nodes apply them.
 //
 // An entry is a batch of command lines under a key of its own, log/GENERATION/ID. The revision at which etcd created the key
 // is the entry's place in the order. Entries stay as keys until they are trimmed, so that a compaction of etcd's history by
@@ -40,7 +40,7 @@ const (
 	patience = time.Second
 )
 
-// ErrTrimmed says that entries were deleted that are still wanted.
+// ErrTrimmed reports that entries that are still needed were deleted.
 var ErrTrimmed = errors.New("the log was trimmed meanwhile")
 
 // A Ledger is the log of one office in etcd.
@@ -63,8 +63,8 @@ func New(client *clientv3.Client, prefix string, log *zap.Logger) *Ledger {
 	}
 }
 
-// commit makes a transaction of etcd that may be made twice: it tries until a member answers or the context ends. A read is
-// one that a quorum confirms.
+// commit runs a transaction of etcd that may run twice: it tries until a member answers or the context ends. A read is one
+// that a quorum confirms.
 func (l *Ledger) commit(ctx context.Context, what string, shape func(clientv3.Txn) clientv3.Txn) (*clientv3.TxnResponse, error) {
 	for within := attempt; ; within *= 2 {
 		if within > longest {
@@ -85,7 +85,7 @@ func (l *Ledger) commit(ctx context.Context, what string, shape func(clientv3.Tx
 	}
 }
 
-// do makes one without a condition.
+// do runs a transaction without a condition.
 func (l *Ledger) do(ctx context.Context, what string, ops ...clientv3.Op) (*clientv3.TxnResponse, error) {
 	return l.commit(ctx, what, func(t clientv3.Txn) clientv3.Txn { return t.Then(ops...) })
 }
@@ -95,7 +95,7 @@ func read(reply *clientv3.TxnResponse, op int) []*mvccpb.KeyValue {
 	return reply.Responses[op].GetResponseRange().Kvs
 }
 
-// revisionOf returns the revision at which the key of a read was last written, 0 if it is not there.
+// revisionOf returns the revision at which the key of a read was last written, or 0 if the key does not exist.
 func revisionOf(kvs []*mvccpb.KeyValue) int64 {
 	if len(kvs) == 0 {
 		return 0
@@ -117,11 +117,11 @@ func isAt(key string, revision int64) clientv3.Cmp {
 	return clientv3.Compare(clientv3.ModRevision(key), "=", revision)
 }
 
-// keyOf returns how the keys of a generation begin. They sort as the generations do.
+// keyOf returns the prefix of the keys of a generation. These prefixes sort as the generations do.
 func keyOf(generation int64) string { return fmt.Sprintf("log/%020d/", generation) }
 
-// UseLeader lets requests go to the member of etcd that leads, to which the others would pass them on. After a request that
-// fails they go to all members.
+// UseLeader sends requests to the leader of etcd, to which the other members would pass them on. After a request that fails,
+// they go to all members.
 func (l *Ledger) UseLeader(ctx context.Context) {
 	if len(l.client.Endpoints()) == 1 {
 		return
@@ -144,7 +144,7 @@ func (l *Ledger) UseLeader(ctx context.Context) {
 	}
 }
 
-// Append puts an entry into the log, once however often it has to be tried. An attempt that is delivered late never appends
+// Append puts an entry into the log, only once however often it has to be tried. An attempt that is delivered late never appends
 // a second time: it succeeds only if its key is new, and no other generation has begun since. Append returns the revision
 // of the entry and that of the one before it, or 0 if the entry is in the log by an attempt whose reply was lost.
 func (l *Ledger) Append(ctx context.Context, id string, lines [][]byte) (revision, before int64, err error) {
@@ -182,9 +182,9 @@ func (l *Ledger) Head(ctx context.Context) (int64, error) {
 	return l.head.Load(), nil
 }
 
-// Trim deletes all generations but the newest and begins another one, if that of a state has begun before a revision up to
-// which nobody needs entries, and is still the newest. It lets etcd forget its history as well. It returns the new floor, 0
-// if nothing was deleted.
+// Trim deletes all generations but the newest and begins another one, if the newest generation of a state began before a
+// revision up to which nobody needs entries, and is still the newest. It makes etcd forget its history as well. It returns the
+// new floor, or 0 if nothing was deleted.
 func (l *Ledger) Trim(ctx context.Context, s State, needless int64) (floor int64, err error) {
 	if s.generation >= needless {
 		return 0, nil
@@ -204,7 +204,7 @@ func (l *Ledger) Trim(ctx context.Context, s State, needless int64) (floor int64
 	return s.generation, nil
 }
 
-// Adopt lets an empty log begin behind a snapshot that holds what an office was before. It returns the revision of that
+// Adopt makes an empty log begin after a snapshot that holds an earlier state of an office. It returns the revision of that
 // snapshot. Nodes without it have to fetch it.
 func (l *Ledger) Adopt(ctx context.Context) (int64, error) {
 	s, err := l.State(ctx)
@@ -220,23 +220,23 @@ func (l *Ledger) Adopt(ctx context.Context) (int64, error) {
 	return s.Revision, err
 }
 
-// A Snapshot says which state one holds: the revision of the last entry in it, how many commands are, and a digest of its rows.
+// A Snapshot describes a state: the revision of the last entry in it, how many commands are in it, and a digest of its rows.
 type Snapshot struct {
 	Revision int64  `json:"revision"`
 	Count    int64  `json:"commands"`
 	Digest   string `json:"digest"`
 }
 
-// A Member is what a node says of itself. The log is kept for it until its key is deleted.
+// A Member is what a node reports about itself. The log is kept for it until its key is deleted.
 type Member struct {
 	Name string `json:"name"`
-	// Peer is the URL at which the node gives its newest snapshot to others.
+	// Peer is the URL at which other nodes fetch this node's newest snapshot.
 	Peer string `json:"peer"`
 	// Snapshots are those that it keeps, the newest first.
 	Snapshots []Snapshot `json:"snapshots"`
 }
 
-// Register writes what a node says of itself.
+// Register writes what a node reports about itself.
 func (l *Ledger) Register(ctx context.Context, member Member) error {
 	text, err := json.Marshal(member)
 	if err == nil {
@@ -245,7 +245,7 @@ func (l *Ledger) Register(ctx context.Context, member Member) error {
 	return err
 }
 
-// A State is what etcd has beside the entries: the revision up to which they may be gone, the newest generation, the nodes
+// A State is what etcd has besides the entries: the revision up to which they may be gone, the newest generation, the nodes
 // that are registered, and the revision at which it was read.
 type State struct {
 	Floor, generation, Revision int64
@@ -279,7 +279,7 @@ type Entry struct {
 }
 
 // Follow delivers the entries after a revision, in their order, until the context ends, a delivery fails, or the log was
-// trimmed past what is wanted.
+// trimmed past what is needed.
 func (l *Ledger) Follow(ctx context.Context, after int64, deliver func(Entry) error) error {
 	f := &follower{l, after, deliver}
 	for {
@@ -323,8 +323,8 @@ func (f *follower) hand(kvs ...*mvccpb.KeyValue) error {
 	return nil
 }
 
-// watch delivers what etcd's watch says until it ends, or entries don't come that the log is known to have: a member of
-// etcd that hangs says nothing.
+// watch delivers what etcd's watch reports until it ends, or until entries that the log is known to have don't come: a
+// member of etcd that hangs reports nothing.
 func (f *follower) watch(ctx context.Context, from int64) error {
 	ctx, cancel := context.WithCancel(clientv3.WithRequireLeader(ctx))
 	defer cancel()

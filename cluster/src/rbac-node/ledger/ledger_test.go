@@ -16,7 +16,7 @@ import (
 // newLedger returns the ledger of an etcd of its own.
 func newLedger(t *testing.T) *Ledger {
 	if _, err := exec.LookPath("etcd"); err != nil {
-		t.Skip("there is no etcd")
+		t.Skip("etcd is not installed")
 	}
 	var urls [2]string
 	for i := range urls {
@@ -110,7 +110,7 @@ func mustState(t *testing.T, l *Ledger) State {
 	return s
 }
 
-// mustTrim trims the log, and checks whether a generation begins by that.
+// mustTrim trims the log, and checks whether that begins a generation.
 func mustTrim(t *testing.T, l *Ledger, needless int64, begins bool) {
 	before := mustState(t, l)
 	floor, err := l.Trim(context.Background(), before, needless)
@@ -131,7 +131,7 @@ func TestAppendAfterTrim(t *testing.T) {
 	if again, err := l.Trim(ctx, old, head(t, l)); again != 0 || err != nil {
 		t.Errorf("a trim that another node has just done: %d, %v", again, err)
 	}
-	// In an earlier generation that is still there it counts as appended, and what is not there gets into the newest.
+	// In an earlier generation that still exists it counts as appended. What is in none of them is put into the newest.
 	if again, _, err := late.Append(ctx, "a", lines("a")); again != 0 || err != nil {
 		t.Errorf("a late attempt: %d, %v", again, err)
 	}
@@ -148,7 +148,7 @@ func TestAppendAfterTrim(t *testing.T) {
 	}
 }
 
-// A compaction of etcd's history loses no entry; one that was trimmed is missed.
+// A compaction of etcd's history loses no entry; one that was trimmed is missing.
 func TestFollowAfterCompaction(t *testing.T) {
 	l, ctx := newLedger(t), context.Background()
 	for i := 0; i < 3*group; i++ {
@@ -173,7 +173,7 @@ func TestFollowAfterCompaction(t *testing.T) {
 			t.Fatalf("entry %d is %v and not %v", i, entry, before[i])
 		}
 	}
-	// Nobody needs what was there when the second generation began.
+	// Nobody needs what existed when the second generation began.
 	mustTrim(t, l, before[2*group].Revision, true)
 	if floor := mustState(t, l).Floor; floor <= before[2*group-1].Revision || floor >= before[2*group].Revision {
 		t.Fatalf("the floor is %d", floor)

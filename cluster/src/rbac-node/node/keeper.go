@@ -18,14 +18,14 @@ import (
 )
 
 const (
-	// between is the time between two looks at what other nodes say, and patience how long one may take.
+	// between is the time between two checks of what other nodes report, and patience how long one may take.
 	between, patience = time.Second, 10 * time.Second
-	// longest is how long ago a node that is ready has heard from the log.
+	// longest is how long ago a ready node may have heard from the log.
 	longest = 3 * time.Second
 )
 
-// takeSnapshot copies the office between two runs of the replay. What takes long is done beside it. If an earlier snapshot
-// isn't finished yet there is none at this place.
+// takeSnapshot copies the office between two runs of the replay. What takes long is done in the background. If an
+// earlier snapshot isn't finished yet, none is made at this place.
 func (n *Node) takeSnapshot() error {
 	if len(n.copies) == cap(n.copies) {
 		n.log.Warn("no snapshot: the last one is not finished yet", zap.Int64("revision", n.revision.Load()))
@@ -43,7 +43,7 @@ func (n *Node) takeSnapshot() error {
 	return err
 }
 
-// keep finishes snapshots, and looks again and again at what all nodes say of theirs.
+// keep finishes snapshots, and checks again and again what all nodes report about theirs.
 func (n *Node) keep(ctx context.Context) error {
 	ticker := time.NewTicker(between)
 	defer ticker.Stop()
@@ -71,7 +71,7 @@ func (n *Node) keep(ctx context.Context) error {
 	}
 }
 
-// announce says in etcd which snapshots this node has.
+// announce writes to etcd which snapshots this node has.
 func (n *Node) announce(ctx context.Context) error {
 	found, err := n.Store.List()
 	if err != nil {
@@ -83,7 +83,7 @@ func (n *Node) announce(ctx context.Context) error {
 	return n.ledger.Register(ctx, ledger.Member{Name: n.Name, Peer: n.Peer, Snapshots: found})
 }
 
-// look lets this node refuse to serve while one of its snapshots differs from another's, and trims the log.
+// look makes this node refuse to serve while one of its snapshots differs from another node's, and trims the log.
 func (n *Node) look(ctx context.Context) error {
 	state, err := n.ledger.State(ctx)
 	if err != nil {
@@ -100,7 +100,7 @@ func (n *Node) look(ctx context.Context) error {
 	return err
 }
 
-// difference says at which revision the snapshot of a node differs from another's, if it does.
+// difference reports at which revision the snapshot of a node differs from another node's, if it does.
 func difference(members []ledger.Member, name string) string {
 	own := map[int64]string{}
 	for _, other := range members {
@@ -120,7 +120,7 @@ func difference(members []ledger.Member, name string) string {
 	return ""
 }
 
-// needless returns the revision up to which nobody needs the log, 0 if somebody needs all of it: each node has kept a
+// needless returns the revision up to which nobody needs the log, or 0 if somebody needs all of it: each node has kept a
 // snapshot of that revision or a later one, and a newer one as well.
 func needless(members []ledger.Member) (revision int64) {
 	for _, member := range members {
@@ -200,7 +200,7 @@ func (n *Node) base(ctx context.Context) (newest ledger.Snapshot, err error) {
 	return newest, err
 }
 
-// A status says how a node is. It is ready if it has applied what the log had a moment ago.
+// A status is the condition of a node. It is ready if it has applied what the log had a short time ago.
 type status struct {
 	Ready    bool    `json:"ready"`
 	Why      string  `json:"why,omitempty"`
@@ -227,7 +227,7 @@ func (n *Node) status() status {
 // age returns how old the state may be: the time since the last read of the log whose entries are all fed.
 func (n *Node) age() time.Duration { return time.Since(n.start) - time.Duration(n.heard.Load()) }
 
-// ServeHealth says how the node is, by 200 if it is ready and by 503 if not.
+// ServeHealth reports the condition of the node, with 200 if it is ready and 503 if not.
 func (n *Node) ServeHealth(w http.ResponseWriter, _ *http.Request) {
 	w.Header().Set("Content-Type", "application/json")
 	s := n.status()
@@ -243,7 +243,7 @@ func (n *Node) register() {
 		promauto.NewGaugeFunc(prometheus.GaugeOpts{Name: "rbac_node_" + name, Help: help},
 			func() float64 { return value(n.status()) })
 	}
-	gauge("ready", "1 if the node has applied what the log had a moment ago.", func(s status) float64 {
+	gauge("ready", "1 if the node has applied what the log had a short time ago.", func(s status) float64 {
 		return map[bool]float64{true: 1}[s.Ready]
 	})
 	gauge("revision", "Revision of the last entry that was applied.", func(s status) float64 { return float64(s.Revision) })

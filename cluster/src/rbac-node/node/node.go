@@ -1,7 +1,7 @@
 // Package node keeps one copy of an office that follows the log, and answers from it.
 //
 // One goroutine feeds the replay: the commands of the log in their order, and questions between them. So the state in which
-// a question is answered is that after the entries fed before it, and an answer is always the one that the program gives.
+// a question is answered is that after the entries fed before it, and an answer is always the one that the program returns.
 package node
 
 import (
@@ -22,17 +22,17 @@ import (
 )
 
 const (
-	// LongestLine is the most bytes of a line that the replay takes.
+	// LongestLine is the most bytes of a line that the replay accepts.
 	LongestLine = 65_536
-	// most is how many requests one batch takes, and mostBytes how many bytes of commands.
+	// most is how many requests one batch may have, and mostBytes how many bytes of commands.
 	most, mostBytes = 512, 512 << 10
-	// If no more than a few clients ask, a batch lingers for those of the one before.
+	// If no more than a few clients ask, a batch waits for those of the one before.
 	few, linger = 8, time.Millisecond
 	// beat is the time between two reads of the log if nobody asks.
 	beat = 500 * time.Millisecond
 )
 
-// A Refusal is what the node itself answers, without the office: a status of HTTP, a code and its name.
+// A Refusal is what the node itself answers, without the office: an HTTP status, a code and its name.
 type Refusal struct {
 	Status, Code int
 	Name         string
@@ -41,18 +41,18 @@ type Refusal struct {
 func (r Refusal) Error() string { return r.Name }
 
 var (
-	// unavailable says that there was no answer in time. A command may be done or not.
+	// unavailable means that there was no answer in time. A command may be done or not.
 	unavailable = Refusal{http.StatusServiceUnavailable, 60, "Unavailable"}
-	// diverged says that the snapshot of this node differs from another's at the same revision.
+	// diverged means that the snapshot of this node differs from another node's at the same revision.
 	diverged = Refusal{http.StatusServiceUnavailable, 61, "Diverged"}
 )
 
-// Options are what the command line says of a node.
+// Options are what the command line sets for a node.
 type Options struct {
 	Name, Peer, Data, Scratch, Program string
 	Every                              int64
 	Timeout                            time.Duration
-	// Fetch is the client by which snapshots of other nodes are fetched.
+	// Fetch is the client with which snapshots of other nodes are fetched.
 	Fetch *http.Client
 }
 
@@ -64,15 +64,15 @@ type Node struct {
 	ledger *ledger.Ledger
 	log    *zap.Logger
 	start  time.Time
-	// asked has the requests that wait to be sent on their way, by their kinds.
+	// asked has the requests that wait to be sent, by their kinds.
 	asked map[Kind]chan *request
-	// copies has what makes a snapshot of a copy of the office.
+	// copies has the functions that make a snapshot of a copy of the office.
 	copies chan func() (ledger.Snapshot, error)
 	// pending has the batches of this node that may come from the log, by their names.
 	pending sync.Map
 
-	// work is what the goroutine that feeds the replay is to do. The others belong to it: held is what waits until entries
-	// are fed, and err why the goroutine is to end.
+	// work has what the goroutine that feeds the replay has to do. The other fields belong to that goroutine: held has what
+	// waits until entries are fed, and err is the reason why the goroutine has to end.
 	work   chan func()
 	replay *office.Replay
 	held   []held
@@ -81,7 +81,7 @@ type Node struct {
 	// revision and count are those of what was fed, and snapshot is the revision of the newest snapshot. heard is when the
 	// newest read of the log began whose entries are all fed, in nanoseconds since the start.
 	revision, count, snapshot, heard atomic.Int64
-	// diverged says where this node differs from another.
+	// diverged is the text that describes where this node differs from another, or empty.
 	diverged atomic.Value
 }
 
@@ -90,7 +90,7 @@ type held struct {
 	then     func()
 }
 
-// New returns a node over a log. It does nothing until it is run.
+// New returns a node over a log. It does nothing until Run is called.
 func New(options Options, log *ledger.Ledger, logger *zap.Logger) (*Node, error) {
 	store, err := office.Open(options.Data, options.Program)
 	n := &Node{
@@ -131,7 +131,7 @@ func (n *Node) follow(ctx context.Context) error {
 	})
 }
 
-// do lets the goroutine that feeds the replay do something, unless the context ends before it can begin.
+// do makes the goroutine that feeds the replay do something, unless the context ends before it can begin.
 func (n *Node) do(ctx context.Context, work func()) error {
 	select {
 	case n.work <- work:
@@ -141,7 +141,7 @@ func (n *Node) do(ctx context.Context, work func()) error {
 	}
 }
 
-// feed gives the replay what there is until the context or the replay ends.
+// feed passes all work to the replay until the context or the replay ends.
 func (n *Node) feed(ctx context.Context) error {
 	for n.err == nil {
 		select {
@@ -162,7 +162,7 @@ func (n *Node) feed(ctx context.Context) error {
 	return n.err
 }
 
-// apply gives the replay the commands of an entry, unless it has had them.
+// apply sends the commands of an entry to the replay, unless it already has them.
 func (n *Node) apply(entry ledger.Entry) {
 	if entry.Revision <= n.revision.Load() {
 		return
@@ -172,7 +172,7 @@ func (n *Node) apply(entry ledger.Entry) {
 	for place, line := range entry.Lines {
 		if len(line) > LongestLine || len(bytes.TrimSpace(line)) == 0 {
 			n.log.Error("a line of the log is no command", zap.Int64("revision", entry.Revision), zap.Int("place", place))
-			continue // All nodes pass it over. No node has written it.
+			continue // All nodes skip it. No node has written it.
 		}
 		place := place
 		n.replay.Send(line, func(text []byte) {
@@ -202,7 +202,7 @@ func (n *Node) after(revision int64, then func()) {
 	}
 }
 
-// pose gives the replay questions.
+// pose sends questions to the replay.
 func (n *Node) pose(questions ...*request) {
 	revision, age := n.revision.Load(), n.age()
 	for _, q := range questions {

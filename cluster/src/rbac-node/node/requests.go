@@ -10,11 +10,11 @@ import (
 	"rbac-node/ledger"
 )
 
-// A Kind says how a request is answered.
+// A Kind is how a request is answered.
 type Kind string
 
-// A command goes into the log, and is answered by what the replay of this node answers to it there. The state that answers a
-// question has everything that was answered anywhere before the question came; a local one is answered from what is there.
+// A command goes into the log, and its answer is the one of this node's replay there. The state that answers a question has
+// everything that was answered anywhere before the question came; a local one is answered from the state at hand.
 const (
 	Command  Kind = "command"
 	Question Kind = "question"
@@ -60,8 +60,8 @@ func (n *Node) Ask(ctx context.Context, kind Kind, line []byte) (Answer, error) 
 	return Answer{}, unavailable
 }
 
-// gather waits for a number of requests, or for one if it is late, and takes all others that wait, as many as a batch may
-// have. What nobody waits for any more is left out: it was never on its way.
+// gather waits for a number of requests, or for one if it is late, and adds all others that wait, as many as a batch may
+// have. Requests that nobody waits for any more are left out: they were never sent.
 func gather(ctx context.Context, from <-chan *request, least int, late <-chan time.Time) (found []*request) {
 	for bytes := 0; len(found) < most && bytes < mostBytes; {
 		var r *request
@@ -101,8 +101,8 @@ func (b *batch) answer(answer Answer) {
 }
 
 // appendCommands puts commands into the log. Those that come while a batch is on its way go into the next one. If they are
-// few they wait for the clients that have just been answered, which mostly ask again at once: a batch costs etcd as much as
-// a larger one.
+// few, they wait for the clients that have just been answered, which usually ask again at once: a small batch costs etcd as
+// much as a larger one.
 func (n *Node) appendCommands(ctx context.Context) error {
 	var late <-chan time.Time
 	for number, least := 0, 1; ; number++ {
@@ -127,7 +127,7 @@ func (n *Node) appendCommands(ctx context.Context) error {
 	}
 }
 
-// appendBatch appends a batch and feeds it. It needn't come from the log if the entries before it are fed.
+// appendBatch appends a batch and feeds it. It needn't be read from the log if the entries before it are fed.
 func (n *Node) appendBatch(ctx context.Context, id string, b *batch) error {
 	entry := ledger.Entry{ID: id}
 	for _, r := range b.requests {
@@ -146,7 +146,7 @@ func (n *Node) appendBatch(ctx context.Context, id string, b *batch) error {
 }
 
 // confirm reads the newest revision of the log through a quorum. One read is for all questions that wait when it begins;
-// while it goes on, those that come gather for the next one.
+// those that come during the read wait for the next one.
 func (n *Node) confirm(ctx context.Context) error {
 	for ctx.Err() == nil {
 		waiting, end := context.WithTimeout(ctx, beat)
@@ -154,7 +154,7 @@ func (n *Node) confirm(ctx context.Context) error {
 		end()
 		read := int64(time.Since(n.start))
 		within, cancel := context.WithTimeout(ctx, n.Timeout)
-		if head, err := n.ledger.Head(within); err == nil { // Else whoever asked has waited long enough.
+		if head, err := n.ledger.Head(within); err == nil { // Otherwise the askers have waited long enough.
 			_ = n.do(within, func() {
 				n.after(head, func() {
 					if read > n.heard.Load() {

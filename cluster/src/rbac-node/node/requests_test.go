@@ -36,7 +36,7 @@ func TestGather(t *testing.T) {
 	}
 }
 
-// A batch has an end, however many wait.
+// A batch has a limit, however many requests wait.
 func TestGatherMost(t *testing.T) {
 	from := make(chan *request, most+1)
 	for i := 0; i <= most; i++ {

@@ -64,7 +64,7 @@ func (r *Replay) read(output *bufio.Reader) {
 }
 
 // Send writes a line, which has no LF. Its answer goes to the function, which must not wait for anything. If the replay
-// has ended nobody gets an answer: see Ended.
+// has ended, nobody gets an answer: see Ended.
 func (r *Replay) Send(line []byte, answered func(answer []byte)) {
 	if len(r.waiting) == queue {
 		r.Flush() // What is buffered has to be written, or nothing would make room.
@@ -74,12 +74,12 @@ func (r *Replay) Send(line []byte, answered func(answer []byte)) {
 	case <-r.Ended:
 		return
 	}
-	// A failure to write is an end of the replay, which the reader notices.
+	// A failure to write means that the replay has ended, which the reader notices.
 	_, _ = r.lines.Write(line)
 	_ = r.lines.WriteByte('\n')
 }
 
-// Flush lets the replay see the lines that were sent.
+// Flush makes the lines that were sent visible to the replay.
 func (r *Replay) Flush() { _ = r.lines.Flush() }
 
 // Close ends the input of the replay, and waits until it has answered all lines and left one file.

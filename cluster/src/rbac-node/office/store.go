@@ -21,9 +21,9 @@ import (
 const (
 	// kept is how many snapshots a store keeps.
 	kept = 3
-	// making is how the name of a snapshot begins that isn't finished.
+	// making is the prefix of the name of an unfinished snapshot.
 	making = "making-"
-	// about is the field in the head of a reply that says which snapshot it is.
+	// about is the field in the head of a reply that names the snapshot.
 	about = "Snapshot"
 )
 
@@ -59,7 +59,7 @@ func Digest(file string) (string, error) {
 	return hex.EncodeToString(hash.Sum(nil)), nil
 }
 
-// A Store is a folder of snapshots. Each is the file of an office, and has what is known of it as its name.
+// A Store is a folder of snapshots. Each is the file of an office, and its name has what is known about it.
 type Store struct {
 	dir     *os.File
 	program string
@@ -85,7 +85,7 @@ func nameOf(s ledger.Snapshot) string { return fmt.Sprintf("%d-%d-%s", s.Revisio
 
 func parse(name string) (s ledger.Snapshot, err error) {
 	if _, err = fmt.Sscanf(name, "%d-%d-%s", &s.Revision, &s.Count, &s.Digest); err != nil {
-		err = fmt.Errorf("%q is no name of a snapshot: %w", name, err)
+		err = fmt.Errorf("%q is not the name of a snapshot: %w", name, err)
 	}
 	return s, err
 }
@@ -134,8 +134,8 @@ func (s *Store) save(from io.Reader) (string, error) {
 	return file.Name(), err
 }
 
-// Finish makes a file a snapshot once it is a good office and has the digest, if that is known. The snapshot is durable
-// then, and the oldest ones are deleted. If anything is wrong the file is.
+// Finish makes a file a snapshot once it is a good office and has the digest, if that is known. The snapshot is then
+// durable, and the oldest ones are deleted. If anything is wrong, the file is deleted.
 func (s *Store) Finish(file string, snapshot ledger.Snapshot) (ledger.Snapshot, error) {
 	defer os.Remove(file)
 	if err := Run(s.program, "check", file); err != nil {
@@ -162,7 +162,7 @@ func (s *Store) Finish(file string, snapshot ledger.Snapshot) (ledger.Snapshot, 
 	return snapshot, err
 }
 
-// Restore copies a snapshot to a file, unless it is no longer what it was.
+// Restore copies a snapshot to a file, unless the snapshot has changed.
 func (s *Store) Restore(snapshot ledger.Snapshot, file string) error {
 	digest, err := Digest(s.Path(snapshot))
 	if err == nil && digest != snapshot.Digest {
@@ -178,7 +178,7 @@ func (s *Store) Restore(snapshot ledger.Snapshot, file string) error {
 	return err
 }
 
-// ServeHTTP gives the newest snapshot to another node.
+// ServeHTTP sends the newest snapshot to another node.
 func (s *Store) ServeHTTP(w http.ResponseWriter, r *http.Request) {
 	found, err := s.List()
 	if err != nil || len(found) == 0 {
@@ -190,7 +190,7 @@ func (s *Store) ServeHTTP(w http.ResponseWriter, r *http.Request) {
 	http.ServeFile(w, r, s.Path(found[0]))
 }
 
-// Fetch takes the newest snapshot of another node into the store, if it is what it says. What is cut short has another
+// Fetch copies the newest snapshot of another node into the store, if it matches its name. A truncated copy has another
 // digest.
 func (s *Store) Fetch(ctx context.Context, client *http.Client, peer string) (snapshot ledger.Snapshot, err error) {
 	request, err := http.NewRequestWithContext(ctx, http.MethodGet, strings.TrimSuffix(peer, "/")+"/snapshot", nil)

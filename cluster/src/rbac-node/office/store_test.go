@@ -75,12 +75,12 @@ func TestFetch(t *testing.T) {
 	}
 }
 
-// A snapshot that is not what it says is not taken.
+// A snapshot that does not match its name is not accepted.
 func TestFetchRefuses(t *testing.T) {
 	from, to := newStore(t), newStore(t)
 	path := from.Path(add(t, from, 12))
 	for what, change := range map[string]http.HandlerFunc{
-		"it is cut short": func(w http.ResponseWriter, _ *http.Request) {
+		"it is truncated": func(w http.ResponseWriter, _ *http.Request) {
 			w.Header().Set(about, "12-7-00")
 			_, _ = w.Write([]byte("SQLite format 3"))
 		},
@@ -88,15 +88,15 @@ func TestFetchRefuses(t *testing.T) {
 			w.Header().Set(about, "12-7-00")
 			http.ServeFile(w, r, path)
 		},
-		"nothing is said of it": func(w http.ResponseWriter, r *http.Request) { http.ServeFile(w, r, path) },
+		"it has no name": func(w http.ResponseWriter, r *http.Request) { http.ServeFile(w, r, path) },
 	} {
 		server := httptest.NewServer(change)
 		if _, err := to.Fetch(context.Background(), server.Client(), server.URL); err == nil {
-			t.Errorf("%s: it was taken", what)
+			t.Errorf("%s: it was accepted", what)
 		}
 		server.Close()
 		if found, _ := to.List(); len(found) > 0 {
-			t.Errorf("%s: it is there", what)
+			t.Errorf("%s: the store has it", what)
 		}
 	}
 }
