@@ -54,7 +54,7 @@ def seconds_of_scripts():
     page = (sources.ROOT / "tests/README.md").read_text(encoding="utf-8")
     (table,) = markdown.tables(markdown.section(page, "## Times"))
     times = {}
-    for part, seconds in table:
+    for part, seconds, *_ in table:
         for script in re.findall(r"^`([\w.-]+)`|, `([\w.-]+)`", part):
             (number,) = re.findall(r"\d+", seconds.replace(",", ""))[:1]
             times["".join(script)] = int(number)
