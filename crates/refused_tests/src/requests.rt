@@ -1,4 +1,4 @@
-//! Lines and a request: after a failed allocation what was answered is done, and of the rest at most the next line.
+//! Lines and a request, none of them an import: after a failed allocation what was answered is done, and nothing more.
 use rbac_sets::{MemorySink, MemorySource};
 use role_tables::{Office, create};
 use role_wire::{Cause, Served, Stop, replay, serve_one};
@@ -61,7 +61,7 @@ fn has_written(sink: &MemorySink, count: usize) -> bool {
 fn is_left(office: &Office<MemStore>, cause: Cause, count: usize) -> bool {
     let next = count.saturating_add(1);
     match cause {
-        Cause::Memory => has_done(office, count) || has_done(office, next),
+        Cause::Memory => has_done(office, count),
         Cause::Write => has_done(office, next),
         Cause::Store => office.is_closed(),
         _ => false,
@@ -81,7 +81,7 @@ fn are_answered(alloc: Global, office: &mut Office<MemStore>) -> bool {
 }
 
 // Whether the reply says that the command is done and it is, or that memory or the store failed and the office is
-// left accordingly. Without a reply, its allocation failed after the command was done, or a write failed.
+// left accordingly. Without a reply, a write failed.
 fn is_replied(alloc: Global, office: &mut Office<MemStore>) -> bool {
     let mut source = MemorySource::new(REQUEST.as_bytes());
     let mut sink = MemorySink::new(alloc);
@@ -91,11 +91,7 @@ fn is_replied(alloc: Global, office: &mut Office<MemStore>) -> bool {
             has_done(office, 0) && sink.as_slice() == NO_MEMORY.as_bytes()
         }
         Ok(Served { status: 500 }) => office.is_closed() && sink.as_slice() == STORE.as_bytes(),
-        Err(Stop { cause, .. }) => match cause {
-            Cause::Memory => has_done(office, 1) && sink.as_slice().is_empty(),
-            Cause::Write => true,
-            _ => false,
-        },
+        Err(Stop { cause, .. }) => matches!(cause, Cause::Write),
         Ok(_) => false,
     }
 }

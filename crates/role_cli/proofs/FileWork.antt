@@ -1,17 +1,74 @@
--- The state that files stored is stored in the connection that was opened on them.
-use Rattle.std.proofs.Common.{◌∙◌, ap}
+-- The state that files stored is stored in the connection that was opened on them, and the state of the last office in the files that
+-- were closed.
+use Rattle.std.proofs.Common.{◌≡◌, [], ◌∙◌, ap, subst, sym}
+use Rattle.std.specs.Prelude.{false, IsTrue}
+use Rattle.std.proofs.lemmas.Bool.{true≢false}
 use Rattle.sqlite.specs.Effect.{Database}
-use Rattle.sqlite.specs.Files.{IsOpened, file_state}
-use Rattle.sqlite.specs.Held.{Held}
+use Rattle.sqlite.specs.Files.{IsOpened, file_state, over_files}
+use Rattle.sqlite.specs.Closing.{IsCopied}
+use Rattle.sqlite.specs.Held.{Held, state}
 use Rattle.sqlite.specs.Recovery.{Image}
 use Rattle.sqlite.specs.Start.{FindsIn}
+use Rattle.sqlite.specs.State.{HasCleanDisk, State}
 use Rattle.sqlite_disk.specs.declared.Disk.{Ghosts}
+use Rattle.sqlite_disk.specs.declared.Files.{Files}
 use Rattle.sqlite_store.specs.declared.store.FileStore.{FileStore}
-use Rattle.admin_mgr.specs.RbacState.{RbacState}
+use Rattle.admin_mgr.specs.Good.{IsGood}
+use Rattle.admin_mgr.specs.RbacState.{RbacState, empty_state}
+use Rattle.admin_mgr.specs.StateNames.{AreNamed}
 use Rattle.role_tables.specs.Durability.{HoldsWhatWasLeft, IsDurable}
-use Rattle.role_cli.specs.FileWork.{StoresState}
+use Rattle.role_tables.specs.Office.{OfficeModel}
+use Rattle.role_tables.specs.Runs.{IsInRun}
+use Rattle.role_cli.specs.FileWork.{ClosesOver, DoneWorkIsStored, EndsStored, FailedWorkIsStored, HoldsCommit, NewOfficeIsStored, StoresAlone, StoresState, WorksAndCloses}
+use Rattle.role_cli.specs.Work.{Begins, Does, Fails, Works, makes}
+use Rattle.role_cli.specs.declared.choice.Choice.{Choice}
+use Rattle.role_cli.specs.declared.choice.Choice.TheVariants as choice
 
 pub stands_in : {D : Type 0} {g : Ghosts D} (image : Image) (opened : Held (FileStore D g)) → IsOpened opened → FindsIn image (file_state opened) → HoldsWhatWasLeft (file_state opened)
     → (S : RbacState) → StoresState image S → IsDurable (file_state opened) S
 stands_in image opened is_opened found finds S (trees, holds, left) =
     finds S trees left is_opened.0.is_open is_opened.0.autocommit (ap (λ (db : Database). db.trees) is_opened.0.clean ∙ found.holds trees holds)
+
+-- a closed connection left the state of its office
+pub closes_over : {D : Type 0} {g : Ghosts D} (conn : Held (FileStore D g)) (files : Files D) → IsCopied conn files → HoldsCommit (file_state conn) → ClosesOver g files conn
+closes_over conn files copied settled = record {
+  copied = copied;
+  stored = λ start events office same outside run.
+      (let clean = subst (λ c. HasCleanDisk (file_state c)) same copied.was_clean in
+      let is_open = subst (λ c. IsTrue (file_state c).is_open) same copied.was_open in
+      let is = subst (λ c. HoldsCommit (file_state c)) same settled (subst (λ c. c.in_transaction ≡ false) same outside) is_open in
+      record {
+        trees = (file_state conn).committed.trees;
+        stores = ((file_state office.conn).now, ap (λ c. (file_state c).committed.trees) same ∙ ap (λ (db : Database). db.trees) (sym is), run.held clean is_open);
+        now = copied.seen;
+        left = copied.left;
+      });
+}
+
+-- what began a run over a state that was durable began with it
+begins_with : {C : Type 0} (shown : Held C → State) (chosen : Choice) (before : State) (office : OfficeModel C) (S : RbacState) → makes chosen ≡ false → IsGood S → AreNamed S → IsDurable before S → Begins shown chosen before office → IsInRun shown S [] office
+begins_with shown (choice.Init path) before office S makes good named durable begins = absurd (true≢false makes)
+begins_with shown (choice.Migrate path) before office S makes good named durable begins = absurd (true≢false makes)
+begins_with shown _ before office S makes good named durable begins = begins.1 S good named durable
+
+module _ {D : Type 0} (g : Ghosts D) where
+  ends_stored : (chosen : Choice) (image : Image) (files : Files D) (Work : OfficeModel (FileStore D g) → OfficeModel (FileStore D g) → Type 0) (S : RbacState) → makes chosen ≡ false → IsGood S → AreNamed S → StoresState image S
+      → WorksAndCloses g image files (λ before conn. Works (state over_files) chosen before Work conn) → EndsStored g files S Work
+  ends_stored chosen image files Work S makes good named stored (conn, on_files, closes) =
+      let works = on_files.work in
+      let run = begins_with (state over_files) chosen (file_state on_files.opened) works.first S makes good named (on_files.durable S stored) works.begins in
+      let later = works.continues.runs S [] run in
+      (works.first, works.last, run.state, works.work, closes.stored S later.0 works.last works.is_last works.is_outside later.1)
+
+  pub done_stored : DoneWorkIsStored g
+  done_stored chosen image files from to S = ends_stored chosen image files (λ first last. Does (state over_files) chosen first from to last) S
+
+  pub failed_stored : FailedWorkIsStored g
+  failed_stored chosen image files failure from to S = ends_stored chosen image files (λ first last. Fails (state over_files) chosen failure first from to last) S
+
+  pub new_stored : NewOfficeIsStored g
+  new_stored path image files from to (conn, on_files, closes) =
+      let works = on_files.work in
+      let same = works.work.1 in
+      let run = subst (IsInRun (state over_files) (empty_state 2) []) (sym same) works.begins.1 in
+      subst (StoresAlone g files) run.state (closes.stored (empty_state 2) [] works.last works.is_last works.is_outside run)

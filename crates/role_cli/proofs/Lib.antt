@@ -1,9 +1,11 @@
 mod Results
 pub mod Beginning
+pub mod CsvText
 pub mod Faults
 pub mod FileWork
 pub mod Getters
 pub mod GivenValues
+pub mod Machines
 pub mod Served
 pub mod Subcommands
 pub mod Working

@@ -1,8 +1,13 @@
 -- What follows for the value of an Ok, and for the error of an Err.
-use Rattle.std.proofs.Common.{Result, Ok, Err, sym}
+use Rattle.std.proofs.Common.{Option, Some, None, Result, Ok, Err, inl, inr, refl, sym, subst, ap, ◌≡◌, ◌⊎◌}
 use Rattle.std.proofs.lemmas.Bool.{true≢false}
-use Rattle.std.specs.Prelude.{IfErr, IfOk, IsErr, IsOk}
+use Rattle.std.specs.Prelude.{IfErr, IfOk, IfSome, IsErr, IsOk, MatchResult, OnErr}
 use Rattle.std.specs.Result.{OnOk}
+use Rattle.rbac_sets.specs.declared.refusal.Refusal.{Refusal}
+use Rattle.rbac_sets.specs.declared.refusal.Refusal.TheVariants.{Memory, Store}
+use Rattle.role_cli.specs.FailureCause.{IsUnwritten}
+use Rattle.role_cli.specs.declared.failure.Failure.{Failure}
+use Rattle.role_cli.specs.declared.failure.Failure.TheVariants.{Refused}
 
 pub on_ok-then : {T E : Type 0} (r : Result T E) (P Q : Type 0) → OnOk r P → (P → Q) → OnOk r Q
 on_ok-then (Ok t) P Q holds step = step holds
@@ -12,16 +17,15 @@ pub on_ok-holds : {T E : Type 0} (r : Result T E) (P : Type 0) → IsOk r → On
 on_ok-holds (Ok t) P is_ok holds = holds
 on_ok-holds (Err e) P is_ok holds = absurd (true≢false (sym is_ok))
 
--- an error with a fact, and with two more under a condition
-pub if_err-all : {T E : Type 0} (r : Result T E) (P : E → Type 0) (C : Type 0) (Q R : E → Type 0) → IsErr r → IfErr r P → (C → IfErr r Q) → (C → IfErr r R)
-    → (e : E) × P e × (C → Q e × R e)
-if_err-all (Ok t) P C Q R is_err one two three = absurd (true≢false (sym is_err))
-if_err-all (Err e) P C Q R is_err one two three = (e, one, λ holds. (two holds, three holds))
-
 -- two facts of a value together
 pub if_ok-join : {T E : Type 0} (r : Result T E) (P Q Z : T → Type 0) → IfOk r P → IfOk r Q → ((t : T) → P t → Q t → Z t) → IfOk r Z
 if_ok-join (Ok t) P Q Z one other step = step t one other
 if_ok-join (Err e) P Q Z one other step = tt
+
+-- three of a value
+pub if_ok-three : {T E : Type 0} (r : Result T E) (P Q R Z : T → Type 0) → IfOk r P → IfOk r Q → IfOk r R → ((t : T) → P t → Q t → R t → Z t) → IfOk r Z
+if_ok-three (Ok t) P Q R Z one two three step = step t one two three
+if_ok-three (Err e) P Q R Z one two three step = tt
 
 -- and two facts of an error
 pub if_err-join : {T E : Type 0} (r : Result T E) (P Q Z : E → Type 0) → IfErr r P → IfErr r Q → ((e : E) → P e → Q e → Z e) → IfErr r Z
@@ -31,3 +35,27 @@ if_err-join (Err e) P Q Z one other step = step e one other
 pub if_err-three : {T E : Type 0} (r : Result T E) (P Q R Z : E → Type 0) → IfErr r P → IfErr r Q → IfErr r R → ((e : E) → P e → Q e → R e → Z e) → IfErr r Z
 if_err-three (Ok t) P Q R Z one two three step = tt
 if_err-three (Err e) P Q R Z one two three step = step e one two three
+
+-- a refusal that became a failure, with what was written
+pub unwritten : (r : Result (Unit {0}) Refusal) (m : Result (Unit {0}) Failure) (Part Fault : Type 0)
+    → MatchResult r (λ _. IsOk m) (λ refusal. m ≡ Err (Refused refusal)) → OnErr r Part
+    → IfErr r (λ refusal. (refusal ≡ Memory) ⊎ (refusal ≡ Store)) → (r ≡ Err Store → Fault) → IfErr m (λ failure. IsUnwritten failure Fault × Part)
+unwritten (Ok u) (Ok v) Part Fault is part cause store = tt
+unwritten (Ok u) (Err f) Part Fault is part cause store = absurd (true≢false (sym is))
+unwritten (Err e) m Part Fault is part (inl memory) store = subst (λ m. IfErr m (λ failure. IsUnwritten failure Fault × Part)) (sym is) (inl (ap Refused memory), part)
+unwritten (Err e) m Part Fault is part (inr at) store = subst (λ m. IfErr m (λ failure. IsUnwritten failure Fault × Part)) (sym is) (inr (ap Refused at, store (ap Err at)), part)
+
+pub on_err-holds : {T E : Type 0} (r : Result T E) (P : Type 0) → IsErr r → OnErr r P → P
+on_err-holds (Ok t) P is_err holds = absurd (true≢false (sym is_err))
+on_err-holds (Err e) P is_err holds = holds
+
+-- an error with two facts, and with one more of a value that is there
+pub if_err-all : {T E A : Type 0} (r : Result T E) (P Q : E → Type 0) (o : Option A) (C : A → Type 0) (Z : A → E → Type 0)
+    → IsErr r → IfErr r P → IfErr r Q → IfSome o (λ x. C x → IfErr r (Z x)) → (e : E) × P e × Q e × IfSome o (λ x. C x → Z x e)
+if_err-all (Ok t) P Q o C Z is_err one two three = absurd (true≢false (sym is_err))
+if_err-all (Err e) P Q o C Z is_err one two three = (e, one, two, three)
+
+-- what follows for a value that is there
+pub if_some-then : {A : Type 0} (o : Option A) (P Q : A → Type 0) → IfSome o P → ((x : A) → P x → Q x) → IfSome o Q
+if_some-then None P Q holds step = tt
+if_some-then (Some x) P Q holds step = step x holds

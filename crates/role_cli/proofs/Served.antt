@@ -1,12 +1,16 @@
 -- Connections one after another.
-use Rattle.std.proofs.Common.{◌≡◌, ℕ, inl, inr, Bool, false, true, List, [], ◌∷◌, ◌++◌, Option, Some, None, refl, sym, ap, subst, ◌∙◌}
-use Rattle.std.specs.Prelude.{◌||◌}
+use Rattle.std.proofs.Common.{◌≡◌, ◌+◌, ◌-◌, ◌^◌, ◌<◌, ℕ, arith, inl, inr, Bool, false, true, List, [], ◌∷◌, ◌++◌, Option, Some, None, refl, sym, ap, subst, ◌∙◌}
+use Rattle.std.specs.Prelude.{◌||◌, if◌then◌else◌, map}
+use Rattle.std.proofs.lemmas.List.{map-append}
 use Rattle.std.specs.List.{list_any}
-use Rattle.std.proofs.lemmas.Bool.{ne_eqb}
+use Rattle.std.proofs.lemmas.Bool.{eqb-true, lt-ltb, true≢false}
 use Rattle.std.proofs.lemmas.List.Folds.{list_any-append}
 use Rattle.sqlite.specs.Held.{Held}
 use Rattle.sqlite.specs.State.{State}
 use Rattle.admin_mgr.specs.RbacState.{RbacState}
+use Rattle.rbac_sets.specs.Stream.{HasRisen, left_in_memory, one_more, written_in_memory}
+use Rattle.rbac_sets.specs.declared.sink.MemorySink.{MemorySink}
+use Rattle.rbac_sets.specs.declared.source.MemorySource.{MemorySource}
 use Rattle.role_json.specs.RequestContent.{RequestContent}
 use Rattle.role_tables.specs.Office.{OfficeModel}
 use Rattle.role_wire.specs.Continuation.{StoreFails, Continues, ReachesState}
@@ -16,12 +20,22 @@ use Rattle.role_wire.specs.declared.lines.Cause.{Cause}
 use Rattle.role_wire.specs.declared.lines.Cause.TheVariants as cause
 use Rattle.role_wire.proofs.Performed.{same_run}
 use Rattle.role_wire.proofs.Replayed.{runs_then}
-use Rattle.role_cli.specs.ServedConnections.{AreServed, IsServed, Serves, is_closing}
+use Rattle.role_cli.specs.Hosts.{clients_in_memory}
+use Rattle.role_cli.specs.ServedConnections.{AddsReply, AreServed, Clients, IsNextServed, IsServed, IsServedOver, IsServedSomehow, ServedAreAccepted, Serves, TakesNext, is_closing, nothing_of}
+use Rattle.role_cli.specs.declared.memory_host.MemoryHost.{MemoryHost}
 
--- a connection that was not answered with status 500 doesn't close the office
-pub not_closing : (status : Option ℕ) → (status ≡ Some 500 → ⊥) → is_closing status ≡ false
-not_closing (Some status) other = ne_eqb status 500 (λ same. other (ap Some same))
-not_closing None other = refl
+-- a connection that closes the office was answered with status 500
+pub closing : (status : Option ℕ) → is_closing status ≡ true → status ≡ Some 500
+closing (Some status) is = ap Some (eqb-true status 500 is)
+closing None is = absurd (true≢false (sym is))
+
+one_more_below : (n : ℕ) → n < 2 ^ 64 - 1 → one_more n ≡ n + 1
+one_more_below n small = ap (λ b. if b then n + 1 else n) (lt-ltb n (2 ^ 64 - 1) small)
+
+-- no count rises from 0 to 0
+no_rise : HasRisen 0 0 → ⊥
+no_rise (inl more) = omega (arith, more)
+no_rise (inr full) = omega (arith, full)
 
 or_none : (b : Bool) → (b || false) ≡ b
 or_none true = refl
@@ -30,15 +44,85 @@ or_none false = refl
 module _ {S : Type 0} (shown : Held S → State) where
   -- ---- one more connection
 
-  pub served_then : (old mid new : OfficeModel S) (statuses : List (Option ℕ)) (status : Option ℕ)
-      → AreServed shown old statuses mid → IsServed shown mid status new → AreServed shown old (statuses ++ status ∷ []) new
-  served_then old mid new [] status same next = (new, subst (λ o. IsServed shown o status new) same next, refl)
-  served_then old mid new (first ∷ rest) status (between, served, later) next = (between, served, served_then between mid new rest status later next)
+  pub served_then : (before between now : Clients) (old mid new : OfficeModel S) (statuses : List (Option ℕ)) (status : Option ℕ)
+      → AreServed shown before between old statuses mid → now.accepted ≡ one_more between.accepted → IsNextServed shown between now mid status new → AreServed shown before now old (statuses ++ status ∷ []) new
+  served_then before between now old mid new [] status (is, same) counts next = (
+    now,
+    new,
+    subst (λ (c : Clients). now.accepted ≡ one_more c.accepted) is counts,
+    subst (λ c. IsNextServed shown c now old status new) is (subst (λ o. IsNextServed shown between now o status new) same next),
+    (refl, refl),
+  )
+  served_then before between now old mid new (first ∷ rest) status (after, next_office, counted, served, later) counts next =
+      (after, next_office, counted, served, served_then after between now next_office mid new rest status later counts next)
+
+  pub served_are_accepted : ServedAreAccepted shown
+  served_are_accepted before now old new [] (is, same) small =
+      let none : before.accepted ≡ before.accepted + 0 = omega arith in
+      ap (λ (c : Clients). c.accepted) is ∙ none
+  served_are_accepted before now old new (status ∷ rest) (between, next, one, served, later) small =
+      let up : between.accepted ≡ before.accepted + 1 = one ∙ one_more_below before.accepted (omega (arith, small)) in
+      let more = served_are_accepted between now next new rest later (omega (arith, small, up)) in
+      omega (arith, more, up)
+
+  pub served_same : (before between now : Clients) (old mid new : OfficeModel S) (statuses : List (Option ℕ))
+      → AreServed shown before between old statuses mid → now ≡ between → new ≡ mid → AreServed shown before now old statuses new
+  served_same before between now old mid new statuses served is same =
+      subst (λ c. AreServed shown before c old statuses new) (sym is) (subst (λ o. AreServed shown before between old statuses o) (sym same) served)
+
+  -- a client of a port, of whom nothing is known
+  stopped_somehow : (why : Cause) (old new : OfficeModel S) (bytes : List ℕ) (written now_written : Option (List ℕ)) → StopsAt shown why old bytes new written now_written → StopsAt shown why old bytes new None None
+  stopped_somehow cause.Write old new bytes written now_written (status, body, tells, (part, rest, is, some, _)) = (status, body, tells, (part, rest, is, some, tt))
+  stopped_somehow cause.Read old new bytes written now_written (untold, _) = (untold, tt)
+  stopped_somehow cause.Memory old new bytes written now_written (untold, _) = (untold, tt)
+  stopped_somehow (cause.Line n) old new bytes written now_written (untold, _) = (untold, tt)
+  stopped_somehow cause.Store old new bytes written now_written (untold, _) = (untold, tt)
+  stopped_somehow cause.Closed old new bytes written now_written (untold, _) = (untold, tt)
+
+  pub next_of_port : (before now : Clients) (old new : OfficeModel S) (status : Option ℕ) → before.waiting ≡ None → before.replies ≡ None → now.waiting ≡ None → now.replies ≡ None
+      → IsServedSomehow shown old status new → IsNextServed shown before now old status new
+  next_of_port before now old new status no_waiting no_replies none_wait none_reply somehow = of status somehow
+    where
+      made : (sent left : Option (List ℕ)) (status : Option ℕ) → IsServed shown (before.waiting ≡ None) sent left None old status new → IsNextServed shown before now old status new
+      made sent left status served = record {
+        sent = sent;
+        left = left;
+        reply = None;
+        takes = subst (λ o. TakesNext o sent now.waiting) (sym no_waiting) none_wait;
+        adds = subst (λ o. AddsReply o None now.replies) (sym no_replies) none_reply;
+        served = served;
+      }
+
+      of : (status : Option ℕ) → IsServedSomehow shown old status new → IsNextServed shown before now old status new
+      of (Some status) (left, now_left, written, now_written, (taken, consumes, no_further, (body, tells, text))) = made left now_left (Some status) (taken, consumes, no_further, (body, tells, tt))
+      of None (why, left, now_left, written, now_written, (taken, consumes, no_further, stops)) =
+          made left now_left None (why, (taken, consumes, no_further, stopped_somehow why old new _ written now_written stops), (λ _. no_waiting))
 
   -- one that did not close the office
   pub open_then : (statuses : List (Option ℕ)) (status : Option ℕ) → list_any is_closing statuses ≡ false → is_closing status ≡ false → list_any is_closing (statuses ++ status ∷ []) ≡ false
   open_then statuses status open_before open_now =
       list_any-append is_closing statuses (status ∷ []) ∙ ap (λ b. b || (is_closing status || false)) open_before ∙ or_none (is_closing status) ∙ open_now
+
+  -- no read of a client in memory fails
+  served_in_memory : (Other : Type 0) (sent left written now_written : Option (List ℕ)) (old new : OfficeModel S) (status : Option ℕ)
+      → IsServedOver shown (HasRisen 0 0) sent left written now_written old status new → IsServedOver shown Other sent left written now_written old status new
+  served_in_memory Other sent left written now_written old new (Some status) served = served
+  served_in_memory Other sent left written now_written old new None (why, stops, fails) = (why, stops, (λ is. absurd (no_rise (fails is))))
+
+  -- a client in memory, of whom all is known
+  pub next_in_memory : (before now : MemoryHost) (source left : MemorySource) (empty filled : MemorySink) (old new : OfficeModel S) (status : Option ℕ)
+      → before.waiting.items ≡ source ∷ now.waiting.items → now.replies.items ≡ before.replies.items ++ filled ∷ [] → written_in_memory empty ≡ []
+      → IsServedOver shown (HasRisen 0 0) (Some (left_in_memory source)) (Some (left_in_memory left)) (Some (written_in_memory empty)) (Some (written_in_memory filled)) old status new
+      → IsNextServed shown (clients_in_memory before) (clients_in_memory now) old status new
+  next_in_memory before now source left empty filled old new status takes adds none served = record {
+    sent = Some (left_in_memory source);
+    left = Some (left_in_memory left);
+    reply = Some (written_in_memory filled);
+    takes = subst (λ sources. TakesNext (Some (map left_in_memory sources)) (Some (left_in_memory source)) (Some (map left_in_memory now.waiting.items))) (sym takes) (refl, refl);
+    adds = (written_in_memory filled, refl, ap Some (ap (map written_in_memory) adds ∙ map-append written_in_memory before.replies.items (filled ∷ [])));
+    served = served_in_memory ((clients_in_memory before).waiting ≡ None) (Some (left_in_memory source)) (Some (left_in_memory left)) (Some []) (Some (written_in_memory filled)) old new status
+        (subst (λ bytes. IsServedOver shown (HasRisen 0 0) (Some (left_in_memory source)) (Some (left_in_memory left)) (Some bytes) (Some (written_in_memory filled)) old status new) none served);
+  }
 
   -- ---- the run continues
 
@@ -76,14 +160,14 @@ module _ {S : Type 0} (shown : Held S → State) where
   stop_continues cause.Store old new bytes written now_written (untold, none) = absurd untold
   stop_continues cause.Closed old new bytes written now_written (untold, none) = absurd untold
 
-  served_continues : (old new : OfficeModel S) (status : Option ℕ) → IsServed shown old status new → Continues shown old new
-  served_continues old new (Some status) (left, now_left, written, now_written, (taken, consumes, no_further, (body, tells, text))) = tells_continues old new _ status body tells
-  served_continues old new None (inl same) = same_continues old new same
-  served_continues old new None (inr (why, left, now_left, written, now_written, (taken, consumes, no_further, stops))) = stop_continues why old new _ written now_written stops
+  served_continues : (may_fail : Type 0) (sent left reply : Option (List ℕ)) (old new : OfficeModel S) (status : Option ℕ) → IsServed shown may_fail sent left reply old status new → Continues shown old new
+  served_continues may_fail sent left reply old new (Some status) (taken, consumes, no_further, (body, tells, text)) = tells_continues old new _ status body tells
+  served_continues may_fail sent left reply old new None (why, (taken, consumes, no_further, stops), _) = stop_continues why old new _ (nothing_of reply) reply stops
 
-  all_continue : (old new : OfficeModel S) (statuses : List (Option ℕ)) → AreServed shown old statuses new → Continues shown old new
-  all_continue old new [] same = same_continues old new same
-  all_continue old new (status ∷ rest) (next, served, later) = continues_then old next new (served_continues old next status served) (all_continue next new rest later)
+  all_continue : (before now : Clients) (old new : OfficeModel S) (statuses : List (Option ℕ)) → AreServed shown before now old statuses new → Continues shown old new
+  all_continue before now old new [] (_, same) = same_continues old new same
+  all_continue before now old new (status ∷ rest) (between, next, _, served, later) =
+      continues_then old next new (served_continues (before.waiting ≡ None) served.sent served.left served.reply old next status served.served) (all_continue between now next new rest later)
 
-  pub server_continues : (Ends : List (Option ℕ) → Type 0) (old new : OfficeModel S) → Serves shown Ends old new → Continues shown old new
-  server_continues Ends old new (statuses, served, _) = all_continue old new statuses served
+  pub server_continues : (Ends : List (Option ℕ) → Type 0) (before now : Clients) (old new : OfficeModel S) → Serves shown Ends before now old new → Continues shown old new
+  server_continues Ends before now old new (statuses, served, _) = all_continue before now old new statuses served

@@ -15,7 +15,7 @@ use Rattle.role_wire.specs.OfficeRequest.{Declines, Performs}
 use Rattle.role_wire.specs.OfficeReplay.{IsHalted, LeavesNext}
 use Rattle.role_wire.specs.declared.lines.Cause.{Cause}
 use Rattle.role_wire.specs.declared.lines.Cause.TheVariants as cause
-use Rattle.role_cli.specs.ServedConnections.{AllServed, Serves}
+use Rattle.role_cli.specs.ServedConnections.{AllServed, Clients, Serves}
 use Rattle.role_cli.specs.Work.{FailsToImport, FailsToServe, Imports, WritesPart, listening_line}
 use Rattle.role_cli.specs.declared.failure.Failure.{Failure}
 use Rattle.role_cli.proofs.Served.{breaks_continues, reaches_continues, same_continues, server_continues}
@@ -33,7 +33,7 @@ module _ {S : Type 0} (shown : Held S → State) where
   next_continues cause.Write old new done line part (reaches, _) = reaches_continues shown old new _ reaches
   next_continues cause.Store old new done line part (_, breaks, _) = breaks_continues shown old new _ _ breaks
   next_continues cause.Memory old new done line part (inl reaches, _) = reaches_continues shown old new _ reaches
-  next_continues cause.Memory old new done line part (inr reaches, _) = reaches_continues shown old new _ reaches
+  next_continues cause.Memory old new done line part (inr (_, reaches), _) = reaches_continues shown old new _ reaches
   next_continues cause.Read old new done line part none = absurd none
   next_continues (cause.Line number) old new done line part none = absurd none
   next_continues cause.Closed old new done line part none = absurd none
@@ -54,21 +54,23 @@ module _ {S : Type 0} (shown : Held S → State) where
   declines_continues old new pairs refusal (inr (inr (inl (_, _, same)))) = same_continues shown old new same
   declines_continues old new pairs refusal (inr (inr (inr (_, _, same)))) = same_continues shown old new same
 
-  failed_import_continues : (old new : OfficeModel S) (failure : Failure) (written now_written : Option (List ℕ)) → FailsToImport shown old failure written now_written new → Continues shown old new
-  failed_import_continues old new failure written now_written (inl (_, same, _)) = same_continues shown old new same
-  failed_import_continues old new failure written now_written (inr (text, pairs, refusal, _, _, inl (declines, _))) = declines_continues old new pairs refusal declines
-  failed_import_continues old new failure written now_written (inr (text, pairs, refusal, _, _, inr (_, (line, performs, _)))) = performs_continues old new pairs line performs
+  failed_import_continues : (file : Option (List ℕ)) (old new : OfficeModel S) (failure : Failure) (write_failed csv_failed : Type 0) (written now_written : Option (List ℕ))
+      → FailsToImport shown file old failure write_failed csv_failed written now_written new → Continues shown old new
+  failed_import_continues file old new failure write_failed csv_failed written now_written (inl (_, same, _)) = same_continues shown old new same
+  failed_import_continues file old new failure write_failed csv_failed written now_written (inr (text, pairs, refusal, _, _, _, inl (declines, _))) = declines_continues old new pairs refusal declines
+  failed_import_continues file old new failure write_failed csv_failed written now_written (inr (text, pairs, refusal, _, _, _, inr (inl (_, _, (line, performs))))) = performs_continues old new pairs line performs
+  failed_import_continues file old new failure write_failed csv_failed written now_written (inr (text, pairs, refusal, _, _, _, inr (inr (_, _, (line, performs, _))))) = performs_continues old new pairs line performs
 
-  pub import_continues : (old new : OfficeModel S) (written now_written : Option (List ℕ)) (result : Result (Unit {0}) Failure)
-      → OnOk result (Imports shown old written now_written new) → IfErr result (λ failure. FailsToImport shown old failure written now_written new) → Continues shown old new
-  import_continues old new written now_written (Ok done) (text, pairs, line, _, performs, _) failed = performs_continues old new pairs line performs
-  import_continues old new written now_written (Err failure) done failed = failed_import_continues old new failure written now_written failed
+  pub import_continues : (file : Option (List ℕ)) (old new : OfficeModel S) (write_failed csv_failed : Type 0) (written now_written : Option (List ℕ)) (result : Result (Unit {0}) Failure)
+      → OnOk result (Imports shown file old written now_written new) → IfErr result (λ failure. FailsToImport shown file old failure write_failed csv_failed written now_written new) → Continues shown old new
+  import_continues file old new write_failed csv_failed written now_written (Ok done) (text, pairs, line, _, _, performs, _) failed = performs_continues old new pairs line performs
+  import_continues file old new write_failed csv_failed written now_written (Err failure) done failed = failed_import_continues file old new failure write_failed csv_failed written now_written failed
 
-  pub serve_continues : (limit port : ℕ) (old new : OfficeModel S) (written now_written : Option (List ℕ)) (result : Result (Unit {0}) Failure)
-      → OnOk result (Appends written now_written (listening_line port) × Serves shown (AllServed limit) old new)
-      → IfErr result (λ failure. FailsToServe shown port limit old failure written now_written new)
+  pub serve_continues : (limit port : ℕ) (clients now_clients : Clients) (old new : OfficeModel S) (fault : Type 0) (written now_written : Option (List ℕ)) (result : Result (Unit {0}) Failure)
+      → OnOk result (Appends written now_written (listening_line port) × Serves shown (AllServed limit) clients now_clients old new)
+      → IfErr result (λ failure. FailsToServe shown port limit clients now_clients old failure fault written now_written new)
       → Continues shown old new
-  serve_continues limit port old new written now_written (Ok done) (_, serves) failed = server_continues shown _ old new serves
-  serve_continues limit port old new written now_written (Err failure) done (inl (_, same, _)) = same_continues shown old new same
-  serve_continues limit port old new written now_written (Err failure) done (inr (inl (_, same, _))) = same_continues shown old new same
-  serve_continues limit port old new written now_written (Err failure) done (inr (inr (_, serves))) = server_continues shown _ old new serves
+  serve_continues limit port clients now_clients old new fault written now_written (Ok done) (_, serves) failed = server_continues shown _ clients now_clients old new serves
+  serve_continues limit port clients now_clients old new fault written now_written (Err failure) done (inl (_, _, same, _)) = same_continues shown old new same
+  serve_continues limit port clients now_clients old new fault written now_written (Err failure) done (inr (inl (_, _, _, same, _))) = same_continues shown old new same
+  serve_continues limit port clients now_clients old new fault written now_written (Err failure) done (inr (inr (_, serves))) = server_continues shown _ clients now_clients old new serves

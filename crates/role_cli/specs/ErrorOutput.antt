@@ -18,14 +18,18 @@ refusal_line refusal = codes "rbac: " ++ (refusal_text refusal ++ codes "\n")
 abbrev pub no_memory_line : List ℕ
 no_memory_line = refusal_line Memory
 
+-- the line that reports that `replay` has both FILE and `--memory`, or neither
+abbrev pub both_or_neither_line : List ℕ
+both_or_neither_line = codes "rbac: give FILE or --memory\n"
+
 -- the line that reports that a replay stopped
 abbrev pub stop_line : Stop → List ℕ
 stop_line stop = codes "rbac: " ++ (stop_text stop ++ codes "\n")
 
--- The line reports the failure, or that there was no memory for the line of a refusal or of a stop.
+-- The line reports the failure, or that there was no memory for the line of a refusal.
 abbrev pub IsLineOf : Failure → List ℕ → Type 0
 IsLineOf (Refused refusal) line = (line ≡ refusal_line refusal) ⊎ (line ≡ no_memory_line)
-IsLineOf (Stopped stop) line = (line ≡ stop_line stop) ⊎ (line ≡ no_memory_line)
+IsLineOf (Stopped stop) line = line ≡ stop_line stop
 IsLineOf NotListening line = line ≡ codes "rbac: cannot listen\n"
 IsLineOf NotAccepting line = line ≡ codes "rbac: cannot accept\n"
 IsLineOf Closed line = line ≡ codes "rbac: closed\n"

@@ -1,8 +1,12 @@
 pub mod ArgumentChoice
 pub mod CommandLine
+pub mod Environment
 pub mod ErrorOutput
+pub mod FailureCause
 pub mod FileWork
+pub mod Hosts
 pub mod MemoryReplay
 pub mod ProgramOutcome
 pub mod ServedConnections
 pub mod Work
+pub mod private

@@ -11,10 +11,7 @@ use Rattle.rbac_sets.specs.declared.refusal.Refusal.TheVariants as refusal
 use Rattle.role_tables.specs.Office.{OfficeModel}
 use Rattle.role_tables.specs.Durability.{IsDurable}
 use Rattle.role_wire.specs.OfficeReplay.{IsHalted}
-use Rattle.role_wire.specs.declared.lines.Cause.TheVariants.{Read, Write}
-use Rattle.role_cli.specs.Work.{Does}
-use Rattle.role_cli.specs.declared.choice.Choice.TheVariants.{Replay}
-use Rattle.role_cli.specs.declared.choice.Place.TheVariants.{Memory}
+use Rattle.role_cli.specs.Work.{AnswersInput}
 use Rattle.role_cli.specs.declared.failure.Failure.{Failure}
 use Rattle.role_cli.specs.declared.failure.Failure.TheVariants.{Refused, Stopped}
 
@@ -31,7 +28,7 @@ pub record IsNewOffice {g : Ghosts MemoryFile} (office : OfficeModel (FileStore 
 -- the lines were answered, over an office that was new
 abbrev pub ReplaysInMemory : Ghosts MemoryFile → (remaining now_remaining written now_written : Option (List ℕ)) → Type 0
 ReplaysInMemory g remaining now_remaining written now_written = (first last : OfficeModel (FileStore MemoryFile g)) × IsNewOffice first
-    × Does (state over_files) (Replay Memory) first remaining now_remaining written now_written last
+    × AnswersInput (state over_files) first remaining now_remaining written now_written last
 
 -- the replay stopped over an office that was new, after these bytes were read
 abbrev pub FailsOverNew : Ghosts MemoryFile → Failure → List ℕ → Type 0 → Option (List ℕ) → Option (List ℕ) → Type 0
@@ -49,17 +46,3 @@ abbrev pub FailsInMemory : Ghosts MemoryFile → Failure → Type 0 → Option (
 FailsInMemory g failure untouched remaining now_remaining written now_written =
     ((taken : List ℕ) × Consumes remaining now_remaining taken × FailsOverNew g failure taken (IsAtEnd now_remaining) written now_written)
     ⊎ (IsUnmade failure × untouched)
-
--- a write was the cause of the stop
-abbrev pub IsWriteFault : Failure → Type 0
-IsWriteFault (Stopped stop) = stop.cause ≡ Write
-IsWriteFault _ = ⊥
-
--- a read was the cause of the stop
-abbrev pub IsReadFault : Failure → Type 0
-IsReadFault (Stopped stop) = stop.cause ≡ Read
-IsReadFault _ = ⊥
-
--- the cause is a write only if a write failed, and a read only if a read failed
-abbrev pub IsCaused : Failure → Type 0 → Type 0 → Type 0
-IsCaused failure write_failed read_failed = (IsWriteFault failure → write_failed) × (IsReadFault failure → read_failed)

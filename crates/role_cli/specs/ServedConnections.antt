@@ -1,14 +1,21 @@
 -- What a server leaves of an office, one connection after another.
-use Rattle.std.specs.Prelude.{◌≡◌, ◌⊎◌, ◌<◌, ◌≤◌, ◌++◌, ◌==◌, ℕ, Bool, false, List, [], ◌∷◌, Option, Some, None, length}
+use Rattle.std.specs.Prelude.{◌≡◌, ◌⊎◌, ◌<◌, ◌≤◌, ◌+◌, ◌^◌, ◌++◌, ◌==◌, ℕ, Bool, false, List, [], ◌∷◌, Option, Some, None, length, option_map}
 use Rattle.std.specs.List.{list_any}
 use Rattle.sqlite.specs.Held.{Held}
 use Rattle.sqlite.specs.State.{State}
+use Rattle.rbac_sets.specs.Stream.{one_more}
 use Rattle.rbac_sets.specs.declared.refusal.Refusal.TheVariants.{Memory}
 use Rattle.role_tables.specs.Office.{OfficeModel}
 use Rattle.role_wire.specs.ServedRequest.{ServesRequest, StopsRequest}
 use Rattle.role_wire.specs.declared.lines.Cause.{Cause}
+use Rattle.role_wire.specs.declared.serving.Answered.{Answered}
+use Rattle.role_wire.specs.declared.lines.Cause.TheVariants.{Read}
 use Rattle.role_cli.specs.declared.failure.Failure.{Failure}
 use Rattle.role_cli.specs.declared.failure.Failure.TheVariants.{Refused, Stopped, NotListening, NotAccepting, Closed}
+
+-- the status of what was answered, if anything was
+abbrev pub status_in : Option Answered → Option ℕ
+status_in answered = option_map (λ (it : Answered). it.status) answered
 
 -- the status after which the office is closed
 abbrev pub is_closing : Option ℕ → Bool
@@ -32,19 +39,65 @@ EndsBy limit Closed statuses = (length statuses ≤ limit) × EndsClosed statuse
 EndsBy limit NotListening statuses = ⊥
 EndsBy limit (Stopped stop) statuses = ⊥
 
-module _ {S : Type 0} (shown : Held S → State) where
-  -- One connection: the one request in it was answered with this status. Or it was not answered: the request stopped, or memory for
-  -- the buffers of the connection could not be allocated, which leaves the office as it was.
-  abbrev pub IsServed : OfficeModel S → Option ℕ → OfficeModel S → Type 0
-  IsServed old (Some status) new = (left now_left written now_written : Option (List ℕ)) × ServesRequest shown old new left now_left written now_written status
-  IsServed old None new = (new ≡ old)
-      ⊎ ((why : Cause) × (left now_left written now_written : Option (List ℕ)) × StopsRequest shown why old new left now_left written now_written)
+-- What is known of the clients of a server: how many connections were accepted (the count saturates), the bytes that each client to
+-- come sends, in order, and the bytes that each client was sent so far.
+pub record Clients : Type 0 where
+  pub accepted : ℕ
+  pub waiting : Option (List (List ℕ))
+  pub replies : Option (List (List ℕ))
 
-  -- connections with these statuses, one after another
-  abbrev pub AreServed : OfficeModel S → List (Option ℕ) → OfficeModel S → Type 0
-  AreServed old [] new = new ≡ old
-  AreServed old (status ∷ rest) new = (next : OfficeModel S) × IsServed old status next × AreServed next rest new
+-- the next client, and what it sends, if that is known; none is left if all are known and were served
+abbrev pub TakesNext : Option (List (List ℕ)) → Option (List ℕ) → Option (List (List ℕ)) → Type 0
+TakesNext None sent now = now ≡ None
+TakesNext (Some []) sent now = ⊥
+TakesNext (Some (bytes ∷ rest)) sent now = (sent ≡ Some bytes) × (now ≡ Some rest)
+
+-- what a client was sent is known, if it is known of all
+abbrev pub AddsReply : Option (List (List ℕ)) → Option (List ℕ) → Option (List (List ℕ)) → Type 0
+AddsReply None reply now = now ≡ None
+AddsReply (Some replies) reply now = (bytes : List ℕ) × (reply ≡ Some bytes) × (now ≡ Some (replies ++ bytes ∷ []))
+
+-- nothing was written yet, if what is written is known
+abbrev pub nothing_of : Option (List ℕ) → Option (List ℕ)
+nothing_of (Some bytes) = Some []
+nothing_of None = None
+
+module _ {S : Type 0} (shown : Held S → State) where
+  -- One connection, on which a client sent these bytes, of which these are left, and was sent this reply: the one request in it was
+  -- answered with this status. Or it stopped: reading it failed, if a read may fail, or the reply was not sent whole.
+  abbrev pub IsServedOver : (may_fail : Type 0) → (sent left written now_written : Option (List ℕ)) → OfficeModel S → Option ℕ → OfficeModel S → Type 0
+  IsServedOver may_fail sent left written now_written old (Some status) new = ServesRequest shown old new sent left written now_written status
+  IsServedOver may_fail sent left written now_written old None new = (why : Cause) × StopsRequest shown why old new sent left written now_written × (why ≡ Read → may_fail)
+
+  -- the same, on a connection on which nothing was written before
+  abbrev pub IsServed : (may_fail : Type 0) → (sent left reply : Option (List ℕ)) → OfficeModel S → Option ℕ → OfficeModel S → Type 0
+  IsServed may_fail sent left reply old status new = IsServedOver may_fail sent left (nothing_of reply) reply old status new
+
+  -- the same, whatever the client sent and was sent
+  abbrev pub IsServedSomehow : OfficeModel S → Option ℕ → OfficeModel S → Type 0
+  IsServedSomehow old (Some status) new = (left now_left written now_written : Option (List ℕ)) × ServesRequest shown old new left now_left written now_written status
+  IsServedSomehow old None new = (why : Cause) × (left now_left written now_written : Option (List ℕ)) × StopsRequest shown why old new left now_left written now_written
+
+  -- the next client was served. No read fails if it is known what the clients send
+  pub record IsNextServed (before now : Clients) (old : OfficeModel S) (status : Option ℕ) (new : OfficeModel S) : Type 0 where
+    pub sent : Option (List ℕ)
+    pub left : Option (List ℕ)
+    pub reply : Option (List ℕ)
+    pub takes : TakesNext before.waiting sent now.waiting
+    pub adds : AddsReply before.replies reply now.replies
+    pub served : IsServed (before.waiting ≡ None) sent left reply old status new
+
+  -- connections with these statuses, one after another: the reply on each is that to its request, in the office that the ones before
+  -- it left
+  abbrev pub AreServed : Clients → Clients → OfficeModel S → List (Option ℕ) → OfficeModel S → Type 0
+  AreServed before now old [] new = (now ≡ before) × (new ≡ old)
+  AreServed before now old (status ∷ rest) new = (between : Clients) × (next : OfficeModel S) × (between.accepted ≡ one_more before.accepted) × IsNextServed before between old status next × AreServed between now next rest new
+
+  -- each connection that was served was accepted, until the count saturates
+  abbrev pub ServedAreAccepted : Type 0
+  ServedAreAccepted = (before now : Clients) (old new : OfficeModel S) (statuses : List (Option ℕ)) → AreServed before now old statuses new
+      → before.accepted + length statuses < 2 ^ 64 → now.accepted ≡ before.accepted + length statuses
 
   -- connections were served, one after another, and then the server ended so
-  abbrev pub Serves : (List (Option ℕ) → Type 0) → OfficeModel S → OfficeModel S → Type 0
-  Serves Ends old new = (statuses : List (Option ℕ)) × AreServed old statuses new × Ends statuses
+  abbrev pub Serves : (List (Option ℕ) → Type 0) → Clients → Clients → OfficeModel S → OfficeModel S → Type 0
+  Serves Ends before now old new = (statuses : List (Option ℕ)) × AreServed before now old statuses new × Ends statuses

@@ -1,5 +1,5 @@
 -- The work of a subcommand over the office of an open connection: what it reads and writes, and the office after it.
-use Rattle.std.specs.Prelude.{⊤, ◌≡◌, ◌⊎◌, ◌≤◌, ◌++◌, ℕ, Bool, true, false, List, [], ◌∷◌, length, Option, Ok, Err, codes}
+use Rattle.std.specs.Prelude.{⊤, ◌≡◌, ◌≢◌, ◌⊎◌, ◌≤◌, ◌++◌, ℕ, Bool, true, false, List, [], ◌∷◌, length, Option, Ok, Err, codes, string_bytes}
 use Rattle.std.specs.Fmt.{decimal}
 use Rattle.std.specs.Io.KnownBytes.{Appends, Consumes, IsAtEnd}
 use Rattle.sqlite.specs.Held.{Held}
@@ -18,9 +18,9 @@ use Rattle.role_csv.specs.Export.{exported}
 use Rattle.role_json.specs.RequestContent.{Change}
 use Rattle.role_tables.specs.Creation.{MayCreate}
 use Rattle.role_tables.specs.TableContents.{contents_of}
-use Rattle.role_tables.specs.Migration.{LeavesEitherVersion, RefusesMigration, StaysRefused}
+use Rattle.role_tables.specs.Migration.{IsMigratedFrom, LeavesEitherVersion, RefusesMigration, StaysRefused}
 use Rattle.role_tables.specs.Office.{OfficeModel}
-use Rattle.role_tables.specs.OpeningChecks.{IsMemoryOrStore, RefusesContents}
+use Rattle.role_tables.specs.OpeningChecks.{IsMemoryOrStore, ReadsState, RefusesContents}
 use Rattle.role_tables.specs.Runs.{IsInRun}
 use Rattle.role_tables.specs.Durability.{HoldsAsBefore, LeavesBeforeOr, LeavesOnly, WhateverIsDurable}
 use Rattle.role_wire.specs.Continuation.{Continues, ReachesState}
@@ -29,7 +29,9 @@ use Rattle.role_wire.specs.Outcome.{after_lines, asking_lines}
 use Rattle.role_wire.specs.OfficeRequest.{Declines, Performs}
 use Rattle.role_wire.specs.OfficeReplay.{IsAnswered, IsHalted}
 use Rattle.role_wire.specs.declared.lines.Cause.TheVariants.{Read}
-use Rattle.role_cli.specs.ServedConnections.{AllServed, EndsBy, Serves}
+use Rattle.role_cli.specs.Environment.{CsvFailed, Environment, IsReadOf, ReadFailed, WriteFailed}
+use Rattle.role_cli.specs.FailureCause.{IsCaused, IsOpeningFailure, IsUnwritten}
+use Rattle.role_cli.specs.ServedConnections.{AllServed, Clients, EndsBy, Serves}
 use Rattle.role_cli.specs.declared.choice.Choice.{Choice}
 use Rattle.role_cli.specs.declared.choice.Choice.TheVariants as choice
 use Rattle.role_cli.specs.declared.failure.Failure.{Failure}
@@ -40,6 +42,23 @@ abbrev pub reads_input : Choice → Bool
 reads_input (choice.Replay _) = true
 reads_input _ = false
 
+-- the subcommand reads a CSV file or serves clients
+abbrev pub asks_host : Choice → Bool
+asks_host (choice.Serve _ _ _) = true
+asks_host (choice.Import _ _) = true
+asks_host _ = false
+
+-- the subcommand creates an office: only `init` does
+abbrev pub creates : Choice → Bool
+creates (choice.Init _) = true
+creates _ = false
+
+-- it creates an office, or makes one of version 2
+abbrev pub makes : Choice → Bool
+makes (choice.Init _) = true
+makes (choice.Migrate _) = true
+makes _ = false
+
 -- the line by which a server reports where it listens
 abbrev pub listening_line : ℕ → List ℕ
 listening_line port = codes "listening on 127.0.0.1:" ++ (decimal port ++ codes "\n")
@@ -48,9 +67,9 @@ listening_line port = codes "listening on 127.0.0.1:" ++ (decimal port ++ codes 
 abbrev pub WritesPart : List ℕ → Option (List ℕ) → Option (List ℕ) → Type 0
 WritesPart text written now_written = (part rest : List ℕ) × (text ≡ part ++ rest) × (1 ≤ length rest) × Appends written now_written part
 
--- why a file to be imported was not read
-abbrev pub IsUnread : Failure → Type 0
-IsUnread failure = (failure ≡ Refused Memory) ⊎ (failure ≡ Stopped (record { cause = Read; answered = 0 }))
+-- why a file to be imported was not read: an allocation failed, or the file could not be opened or read
+abbrev pub IsUnread : (csv_failed : Type 0) → Failure → Type 0
+IsUnread csv_failed failure = (failure ≡ Refused Memory) ⊎ ((failure ≡ Stopped (record { cause = Read; answered = 0 })) × csv_failed)
 
 -- this refuses the text, or an allocation failed
 abbrev pub RefusesText : List ℕ → Refusal → Type 0
@@ -63,69 +82,81 @@ StartsWell (choice.Migrate _) S = S.version ≡ 2
 StartsWell _ S = ⊤
 
 module _ {C : Type 0} (shown : Held C → State) where
+  -- ---- a replay
+
+  -- the lines of an input, read to its end, were answered, and the office has the state after their commands
+  abbrev pub AnswersInput : OfficeModel C → (remaining now_remaining written now_written : Option (List ℕ)) → OfficeModel C → Type 0
+  AnswersInput old remaining now_remaining written now_written new =
+      (input : List ℕ) × Consumes remaining now_remaining input × IsAtEnd now_remaining
+      × ((answered : ℕ) × IsAnswered old.facts input written now_written answered) × ReachesState shown old (after_lines old.facts (asking_lines input)) new
+
   -- ---- an import
 
-  -- the pairs of a text were imported, and the answer was written as a line
-  abbrev pub Imports : OfficeModel C → Option (List ℕ) → Option (List ℕ) → OfficeModel C → Type 0
-  Imports old written now_written new = (text : List ℕ) × (pairs : List Pair) × (line : List ℕ)
-      × (assignments text ≡ Ok pairs) × Performs shown old (Change (Import pairs)) line new × Appends written now_written (line ++ line_feed ∷ [])
+  -- the pairs of the text of a file were imported, and the answer was written as a line
+  abbrev pub Imports : (file : Option (List ℕ)) → OfficeModel C → Option (List ℕ) → Option (List ℕ) → OfficeModel C → Type 0
+  Imports file old written now_written new = (text : List ℕ) × (pairs : List Pair) × (line : List ℕ)
+      × IsReadOf file text × (assignments text ≡ Ok pairs) × Performs shown old (Change (Import pairs)) line new × Appends written now_written (line ++ line_feed ∷ [])
 
   -- the file was not read or its text was refused, which changes nothing; or the office refused to import its pairs; or it
-  -- imported them, and the answer line was not written whole
-  abbrev pub FailsToImport : OfficeModel C → Failure → Option (List ℕ) → Option (List ℕ) → OfficeModel C → Type 0
-  FailsToImport old failure written now_written new =
-      ((IsUnread failure ⊎ ((text : List ℕ) × (refusal : Refusal) × (failure ≡ Refused refusal) × RefusesText text refusal)) × (new ≡ old) × Appends written now_written [])
-      ⊎ ((text : List ℕ) × (pairs : List Pair) × (refusal : Refusal) × (assignments text ≡ Ok pairs) × (failure ≡ Refused refusal)
-      × ((Declines shown old (Change (Import pairs)) refusal new × Appends written now_written [])
-      ⊎ (IsMemoryOrStore refusal × ((line : List ℕ) × Performs shown old (Change (Import pairs)) line new × WritesPart (line ++ line_feed ∷ []) written now_written))))
+  -- imported them, and the answer line was not written whole, because an allocation or the output failed
+  abbrev pub FailsToImport : (file : Option (List ℕ)) → OfficeModel C → Failure → (write_failed csv_failed : Type 0) → Option (List ℕ) → Option (List ℕ) → OfficeModel C → Type 0
+  FailsToImport file old failure write_failed csv_failed written now_written new =
+      ((IsUnread csv_failed failure ⊎ ((text : List ℕ) × (refusal : Refusal) × IsReadOf file text × (failure ≡ Refused refusal) × RefusesText text refusal)) × (new ≡ old) × (now_written ≡ written))
+      ⊎ ((text : List ℕ) × (pairs : List Pair) × (refusal : Refusal) × IsReadOf file text × (assignments text ≡ Ok pairs) × (failure ≡ Refused refusal)
+      × ((Declines shown old (Change (Import pairs)) refusal new × (now_written ≡ written))
+      ⊎ ((refusal ≡ Memory) × (now_written ≡ written) × ((line : List ℕ) × Performs shown old (Change (Import pairs)) line new))
+      ⊎ ((refusal ≡ Store) × write_failed × ((line : List ℕ) × Performs shown old (Change (Import pairs)) line new × WritesPart (line ++ line_feed ∷ []) written now_written))))
 
   -- ---- a server
 
   -- It could not listen, or the line that says so could not be allocated or written whole, which changes nothing; or the line was
   -- written, and this failure ended it before all connections were served.
-  abbrev pub FailsToServe : (port limit : ℕ) → OfficeModel C → Failure → Option (List ℕ) → Option (List ℕ) → OfficeModel C → Type 0
-  FailsToServe port limit old failure written now_written new =
-      (((failure ≡ NotListening) ⊎ (failure ≡ Refused Memory)) × (new ≡ old) × (now_written ≡ written))
-      ⊎ (((failure ≡ Refused Store) × (new ≡ old) × WritesPart (listening_line port) written now_written)
-      ⊎ (Appends written now_written (listening_line port) × Serves shown (EndsBy limit failure) old new))
+  abbrev pub FailsToServe : (port limit : ℕ) → Clients → Clients → OfficeModel C → Failure → (write_failed : Type 0) → Option (List ℕ) → Option (List ℕ) → OfficeModel C → Type 0
+  FailsToServe port limit clients now_clients old failure write_failed written now_written new =
+      (((failure ≡ NotListening) ⊎ (failure ≡ Refused Memory)) × (now_clients ≡ clients) × (new ≡ old) × (now_written ≡ written))
+      ⊎ (((failure ≡ Refused Store) × write_failed × (now_clients ≡ clients) × (new ≡ old) × WritesPart (listening_line port) written now_written)
+      ⊎ (Appends written now_written (listening_line port) × Serves shown (EndsBy limit failure) clients now_clients old new))
 
   -- ---- any subcommand
 
-  -- The work was done over an open office: what was read of the source, what was written to the output, and the office after it.
-  abbrev pub Does : Choice → OfficeModel C → (remaining now_remaining written now_written : Option (List ℕ)) → OfficeModel C → Type 0
-  Does (choice.Init _) old remaining now_remaining written now_written new = (now_written ≡ written) × (new ≡ old)
-  Does (choice.Migrate _) old remaining now_remaining written now_written new = (now_written ≡ written) × (new ≡ old)
-  Does (choice.Replay _) old remaining now_remaining written now_written new =
-      (input : List ℕ) × Consumes remaining now_remaining input × IsAtEnd now_remaining
-      × ((answered : ℕ) × IsAnswered old.facts input written now_written answered) × ReachesState shown old (after_lines old.facts (asking_lines input)) new
-  Does (choice.Serve _ port limit) old remaining now_remaining written now_written new =
-      Appends written now_written (listening_line port) × Serves shown (AllServed limit) old new
-  Does (choice.Import _ _) old remaining now_remaining written now_written new = Imports old written now_written new
-  Does (choice.Export _) old remaining now_remaining written now_written new = Appends written now_written (exported old.facts) × (new ≡ old)
-  Does (choice.Report _) old remaining now_remaining written now_written new = Appends written now_written (report old.facts) × (new ≡ old)
-  Does (choice.Check _) old remaining now_remaining written now_written new = Appends written now_written (codes "good\n") × (new ≡ old)
+  -- The work was done over an open office, from what it reads and writes at first to what that is at last, and led to this office.
+  abbrev pub Does : Choice → OfficeModel C → Environment → Environment → OfficeModel C → Type 0
+  Does (choice.Init _) old from to new = (to.written ≡ from.written) × (new ≡ old)
+  Does (choice.Migrate _) old from to new = (to.written ≡ from.written) × (new ≡ old)
+  Does (choice.Replay _) old from to new = AnswersInput old from.remaining to.remaining from.written to.written new
+  Does (choice.Serve _ port limit) old from to new = Appends from.written to.written (listening_line port) × Serves shown (AllServed limit) from.clients to.clients old new
+  Does (choice.Import _ path) old from to new = Imports (from.csv_at (string_bytes path)) old from.written to.written new
+  Does (choice.Export _) old from to new = Appends from.written to.written (exported old.facts) × (new ≡ old)
+  Does (choice.Report _) old from to new = Appends from.written to.written (report old.facts) × (new ≡ old)
+  Does (choice.Check _) old from to new = Appends from.written to.written (codes "good\n") × (new ≡ old)
 
-  -- The work failed over an open office.
-  abbrev pub Fails : Choice → Failure → OfficeModel C → (remaining now_remaining written now_written : Option (List ℕ)) → OfficeModel C → Type 0
-  Fails (choice.Init _) failure old remaining now_remaining written now_written new = ⊥
-  Fails (choice.Migrate _) failure old remaining now_remaining written now_written new = ⊥
-  Fails (choice.Replay _) (Stopped stop) old remaining now_remaining written now_written new =
-      (taken : List ℕ) × Consumes remaining now_remaining taken × IsHalted shown old new taken (IsAtEnd now_remaining) written now_written stop.cause stop.answered
-  Fails (choice.Replay _) failure old remaining now_remaining written now_written new = ⊥
-  Fails (choice.Serve _ port limit) failure old remaining now_remaining written now_written new = FailsToServe port limit old failure written now_written new
-  Fails (choice.Import _ _) failure old remaining now_remaining written now_written new = FailsToImport old failure written now_written new
-  Fails (choice.Export _) failure old remaining now_remaining written now_written new = WritesPart (exported old.facts) written now_written × (new ≡ old)
-  Fails (choice.Report _) failure old remaining now_remaining written now_written new = WritesPart (report old.facts) written now_written × (new ≡ old)
-  Fails (choice.Check _) failure old remaining now_remaining written now_written new = WritesPart (codes "good\n") written now_written × (new ≡ old)
+  -- The work failed over an open office, and led to this one.
+  abbrev pub Fails : Choice → Failure → OfficeModel C → Environment → Environment → OfficeModel C → Type 0
+  Fails (choice.Init _) failure old from to new = ⊥
+  Fails (choice.Migrate _) failure old from to new = ⊥
+  Fails (choice.Replay _) (Stopped stop) old from to new =
+      (taken : List ℕ) × Consumes from.remaining to.remaining taken × IsHalted shown old new taken (IsAtEnd to.remaining) from.written to.written stop.cause stop.answered
+      × IsCaused (Stopped stop) (WriteFailed from to) (ReadFailed from to)
+  Fails (choice.Replay _) failure old from to new = ⊥
+  Fails (choice.Serve _ port limit) failure old from to new = FailsToServe port limit from.clients to.clients old failure (WriteFailed from to) from.written to.written new
+  Fails (choice.Import _ path) failure old from to new = FailsToImport (from.csv_at (string_bytes path)) old failure (WriteFailed from to) (CsvFailed from to) from.written to.written new
+  Fails (choice.Export _) failure old from to new = IsUnwritten failure (WriteFailed from to) × WritesPart (exported old.facts) from.written to.written × (new ≡ old)
+  Fails (choice.Report _) failure old from to new = IsUnwritten failure (WriteFailed from to) × WritesPart (report old.facts) from.written to.written × (new ≡ old)
+  Fails (choice.Check _) failure old from to new = (failure ≡ Refused Store) × WriteFailed from to × WritesPart (codes "good\n") from.written to.written × (new ≡ old)
 
   -- ---- over a connection
 
-  -- The office begins a run over what the connection held: a new office if one could be created, a migrated one, or the one whose
-  -- state was stored.
+  -- The office begins a run over what the connection held: a new office if one could be created, or the one whose state was read
+  -- from the rows that were stored there, migrated if that was asked for. What was read is the state that was durable, if one was.
   abbrev pub Begins : Choice → State → OfficeModel C → Type 0
   Begins (choice.Init _) before office = MayCreate 2 before × IsInRun shown (empty_state 2) [] office
-  Begins (choice.Migrate _) before office = WhateverIsDurable before (λ S. (S.version ≡ 1) × IsInRun shown (migrated_to_version_2 S) [] office)
-  Begins _ before office = WhateverIsDurable before (λ S. IsInRun shown S [] office)
+  Begins (choice.Migrate _) before office = IsMigratedFrom before.now office.facts × WhateverIsDurable before (λ S. (S.version ≡ 1) × IsInRun shown (migrated_to_version_2 S) [] office)
+  Begins _ before office = ReadsState before (shown office.conn) office.facts × WhateverIsDurable before (λ S. IsInRun shown S [] office)
+
+  -- if an opening is refused because of what a connection holds, no office begins a run over it, unless it is a new one
+  abbrev pub NoneBeginsOverRefused : Type 0
+  NoneBeginsOverRefused = (chosen : Choice) (old : Held C) (office : OfficeModel C) (refusal : Refusal) → creates chosen ≡ false → refusal ≢ Memory
+      → RefusesContents (contents_of (shown old).now) refusal → Begins chosen (shown old) office → ⊥
 
   -- No office was created, migrated or opened: why, what the connection holds now, and what a crash would leave.
   abbrev pub IsUnopened : Choice → State → Refusal → State → Type 0
@@ -135,7 +166,7 @@ module _ {C : Type 0} (shown : Held C → State) where
       ((refusal ≡ Store) ⊎ RefusesContents (contents_of before.now) refusal) × HoldsAsBefore before after × WhateverIsDurable before (λ S. IsMemoryOrStore refusal × LeavesOnly after S)
 
   -- Work that led from the first office to the last: the first began a run over what the connection held, the last continues it,
-  -- and its connection was handed back.
+  -- and its connection was handed back, outside a transaction.
   pub record Works (chosen : Choice) (before : State) (Work : OfficeModel C → OfficeModel C → Type 0) (handed_back : Held C) : Type 0 where
     pub first : OfficeModel C
     pub last : OfficeModel C
@@ -144,14 +175,24 @@ module _ {C : Type 0} (shown : Held C → State) where
     pub work : Work first last
     pub continues : Continues shown first last
     pub is_last : handed_back ≡ last.conn
+    pub is_outside : handed_back.in_transaction ≡ false
 
   -- the work failed, or there was no office to work on
-  abbrev pub FailsOn : Choice → State → Failure → (remaining now_remaining written now_written : Option (List ℕ)) → Held C → Type 0
-  FailsOn chosen before failure remaining now_remaining written now_written after =
-      Works chosen before (λ first last. Fails chosen failure first remaining now_remaining written now_written last) after
-      ⊎ ((refusal : Refusal) × (failure ≡ Refused refusal) × (now_remaining ≡ remaining) × (now_written ≡ written) × IsUnopened chosen before refusal (shown after))
+  abbrev pub FailsOn : Choice → State → Failure → (untouched : Type 0) → Environment → Environment → Held C → Type 0
+  FailsOn chosen before failure untouched from to after =
+      Works chosen before (λ first last. Fails chosen failure first from to last) after
+      ⊎ ((refusal : Refusal) × (failure ≡ Refused refusal) × untouched × IsUnopened chosen before refusal (shown after))
 
   -- the work was done over an office of some good state, whatever the disk returned
-  abbrev pub DoesOverSome : Choice → (remaining now_remaining written now_written : Option (List ℕ)) → Type 0
-  DoesOverSome chosen remaining now_remaining written now_written = (first last : OfficeModel C) × (first.is_closed ≡ false)
-      × IsGood first.facts × AreNamed first.facts × StartsWell chosen first.facts × Does chosen first remaining now_remaining written now_written last
+  abbrev pub DoesOverSome : Choice → Environment → Environment → Type 0
+  DoesOverSome chosen from to = (first last : OfficeModel C) × (first.is_closed ≡ false)
+      × IsGood first.facts × AreNamed first.facts × StartsWell chosen first.facts × Does chosen first from to last
+
+  -- the work failed over an office of some good state, whatever the disk returned
+  abbrev pub FailsOverSome : Choice → Failure → Environment → Environment → Type 0
+  FailsOverSome chosen failure from to = (first last : OfficeModel C) × (first.is_closed ≡ false)
+      × IsGood first.facts × AreNamed first.facts × StartsWell chosen first.facts × Fails chosen failure first from to last
+
+  -- it failed so, or there was no office to work on, and nothing was read or written
+  abbrev pub FailsWhatever : Choice → Failure → (untouched : Type 0) → Environment → Environment → Type 0
+  FailsWhatever chosen failure untouched from to = FailsOverSome chosen failure from to ⊎ (IsOpeningFailure chosen failure × untouched)

@@ -3,7 +3,10 @@
 
 pub use choice::{Choice, Place, Unchosen, choose};
 pub use failure::Failure;
-pub use files::run_on_path;
+pub use files::{run_in_file, run_on_path};
+pub use host::{Accept, CsvFiles};
+pub use machine::Machine;
+pub use memory_host::MemoryHost;
 pub use program::run;
 pub use serving::serve_on;
 pub use work::run_on_connection;
@@ -12,8 +15,13 @@ pub mod choice;
 mod command_line;
 pub mod failure;
 pub mod files;
+pub mod host;
+pub mod laws;
+pub mod leftovers;
+pub mod machine;
 mod memory;
 mod memory_file;
+pub mod memory_host;
 pub mod program;
 pub mod serving;
 pub mod work;

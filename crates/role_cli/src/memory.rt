@@ -2,7 +2,8 @@
 ghost use Rattle.std.specs.Prelude.{◌≡◌, ◌⊎◌, ◌≤◌, ◌+◌, OnOk, IfOk, IfErr};
 ghost use Rattle.rbac_sets.specs.Stream.{HasRisen};
 ghost use Rattle.role_wire.specs.Replay.{IsAtBound, most_reads};
-ghost use Rattle.role_cli.specs.MemoryReplay.{FailsInMemory, IsCaused, IsNewOffice, IsUnmade, ReplaysInMemory};
+ghost use Rattle.role_cli.specs.FailureCause.{IsCaused};
+ghost use Rattle.role_cli.specs.MemoryReplay.{FailsInMemory, IsNewOffice, IsUnmade, ReplaysInMemory};
 
 use crate::failure::Failure;
 use crate::memory_file::MemoryFile;

@@ -1,10 +1,11 @@
 //! The work of each subcommand over the office of an open connection, whatever its store.
-ghost use Rattle.std.specs.Prelude.{◌≡◌, ◌⊎◌, ◌≤◌, ◌+◌, ◌++◌, ◌∷◌, [], ℕ, List, false, Ok, Err, IfErr, IfOk, MatchResult, OnErr, OnOk, codes, string_bytes};
+ghost use Rattle.std.specs.Prelude.{◌≡◌, ◌⊎◌, ◌≤◌, ◌+◌, ◌++◌, ◌∷◌, [], ℕ, List, false, Ok, Err, IfErr, IfOk, IsOk, IsTrue, MatchResult, OnOk, codes, string_bytes};
 ghost use Rattle.std.specs.Io.KnownBytes.{Appends};
 ghost use Rattle.sqlite.specs.Held.{state};
 ghost use Rattle.sqlite.specs.State.{HasCleanDisk};
 ghost use Rattle.rbac_sets.specs.CommandContent.{Import, content_of};
 ghost use Rattle.rbac_sets.specs.Sets.{Pair};
+ghost use Rattle.rbac_sets.specs.Stream.{HasRisen};
 ghost use Rattle.admin_mgr.specs.PlanEffect.{tally_of_report};
 ghost use Rattle.review_mgr.specs.Report.{report};
 ghost use Rattle.role_csv.specs.Assignments.{assignments};
@@ -15,24 +16,27 @@ ghost use Rattle.role_tables.specs.Durability.{ForgetsNoFault};
 ghost use Rattle.role_wire.specs.Continuation.{Continues};
 ghost use Rattle.role_wire.specs.OfficeRequest.{Declines, Performs};
 ghost use Rattle.role_wire.specs.Replay.{most_reads};
-ghost use Rattle.role_cli.specs.Work.{Begins, Does, DoesOverSome, Fails, FailsOn, FailsToImport, Imports, IsUnopened, IsUnread, RefusesText, StartsWell, Works, WritesPart, reads_input};
+ghost use Rattle.role_cli.specs.Environment.{HasFailed, environment};
+ghost use Rattle.role_cli.specs.FailureCause.{IsOpeningFailure, IsUnwritten};
+ghost use Rattle.role_cli.specs.Work.{Begins, Does, DoesOverSome, Fails, FailsOn, FailsToImport, FailsWhatever, Imports, IsUnopened, RefusesText, StartsWell, Works, WritesPart, asks_host, reads_input};
 
 use crate::choice::Choice;
 use crate::failure::Failure;
+use crate::host::{Accept, CsvFiles};
 use crate::serving::serve;
 use admin_mgr::Report;
-use rbac_sets::{Command, Kind, Refusal, Sink, Source, write_all};
+use rbac_sets::{Command, Refusal, Sink, Source, write_all};
 use review_mgr::report_roles;
+use role_http::ReadError;
 use role_tables::{Office, Unopened, create, migrate, open};
 use role_wire::{Cause, Stop, Verdict, answer_text, read_assignments, replay, write_assignments};
 use sqlite::{Alter, Connection};
 use std::alloc::Global;
-use std::fs::File;
-use std::io::{self, ErrorKind, Read};
 
 /// Does the work of a subcommand over an open connection, whatever its store, and hands the connection
 /// back: creates, migrates or opens the office in its tables, does what the subcommand does, and writes
-/// its output to `out`. Only a replay reads `source`. `rt` opens the CSV file and the port of a server.
+/// its output to `out`. Only a replay reads `source`. `host` has the CSV file of an import and the clients of a
+/// server.
 ///
 /// While the disk returns what was written, the work is done over the state that was stored in the
 /// connection. From the opening on the office is in one run, in which a crash leaves what its answers
@@ -45,28 +49,37 @@ use std::io::{self, ErrorKind, Read};
 /// - `Refused` if an allocation, the store or the output failed, or an import was refused.
 /// - `Stopped` if a replay stopped, or a CSV file can't be read.
 /// - `NotListening`, `NotAccepting` or `Closed` for a server.
-pub fn run_on_connection<S: Alter, R: Source, W: Sink>(
-    rt: &HostRuntime,
+pub fn run_on_connection<S: Alter, H: Accept + CsvFiles, R: Source, W: Sink>(
+    alloc: Global,
     conn: Connection<S>,
     choice: &Choice,
+    host: &mut H,
     source: &mut R,
     out: &mut W,
 ) -> (Result<(), Failure>, Connection<S>)
     ensures clean { ForgetsNoFault (state S.Store conn) (state S.Store result.1) }
-    ensures done { HasCleanDisk (state S.Store result.1) → OnOk result.0 (Works (state S.Store) choice.now (state S.Store conn)
-        (λ first last. Does (state S.Store) choice.now first (R.remaining source.old) (R.remaining source.new) (W.written out.old) (W.written out.new) last) result.1) }
-    ensures failed { HasCleanDisk (state S.Store result.1) → IfErr result.0 (λ failure. FailsOn (state S.Store) choice.now (state S.Store conn) failure
-        (R.remaining source.old) (R.remaining source.new) (W.written out.old) (W.written out.new) result.1) }
+    ensures done { HasCleanDisk (state S.Store result.1) → OnOk result.0 (Works (state S.Store) choice.now (state S.Store conn) (λ first last. Does (state S.Store) choice.now first
+        (environment (R.remaining source.old) (R.reads source.old) (R.failed source.old) (W.written out.old) (W.failed out.old) (W.idle out.old) (H.csv_at host.old) (H.failed_csv host.old) (H.clients host.old))
+        (environment (R.remaining source.new) (R.reads source.new) (R.failed source.new) (W.written out.new) (W.failed out.new) (W.idle out.new) (H.csv_at host.new) (H.failed_csv host.new) (H.clients host.new)) last) result.1) }
+    ensures failed { HasCleanDisk (state S.Store result.1) → IfErr result.0 (λ failure. FailsOn (state S.Store) choice.now (state S.Store conn) failure ((source.new ≡ source.old) × (out.new ≡ out.old) × (host.new ≡ host.old))
+        (environment (R.remaining source.old) (R.reads source.old) (R.failed source.old) (W.written out.old) (W.failed out.old) (W.idle out.old) (H.csv_at host.old) (H.failed_csv host.old) (H.clients host.old))
+        (environment (R.remaining source.new) (R.reads source.new) (R.failed source.new) (W.written out.new) (W.failed out.new) (W.idle out.new) (H.csv_at host.new) (H.failed_csv host.new) (H.clients host.new)) result.1) }
 
     // Whatever the disk returns, the work is done over an office of some good state.
-    ensures some { OnOk result.0 (DoesOverSome (state S.Store) choice.now (R.remaining source.old) (R.remaining source.new) (W.written out.old) (W.written out.new)) }
+    ensures some { OnOk result.0 (DoesOverSome (state S.Store) choice.now
+        (environment (R.remaining source.old) (R.reads source.old) (R.failed source.old) (W.written out.old) (W.failed out.old) (W.idle out.old) (H.csv_at host.old) (H.failed_csv host.old) (H.clients host.old))
+        (environment (R.remaining source.new) (R.reads source.new) (R.failed source.new) (W.written out.new) (W.failed out.new) (W.idle out.new) (H.csv_at host.new) (H.failed_csv host.new) (H.clients host.new))) }
+    ensures some_failed { IfErr result.0 (λ failure. FailsWhatever (state S.Store) choice.now failure ((source.new ≡ source.old) × (out.new ≡ out.old) × (host.new ≡ host.old))
+        (environment (R.remaining source.old) (R.reads source.old) (R.failed source.old) (W.written out.old) (W.failed out.old) (W.idle out.old) (H.csv_at host.old) (H.failed_csv host.old) (H.clients host.old))
+        (environment (R.remaining source.new) (R.reads source.new) (R.failed source.new) (W.written out.new) (W.failed out.new) (W.idle out.new) (H.csv_at host.new) (H.failed_csv host.new) (H.clients host.new))) }
     ensures unread { reads_input choice.now ≡ false → source.new ≡ source.old }
+    ensures unasked { asks_host choice.now ≡ false → host.new ≡ host.old }
     ensures reads { R.reads source.new ≤ R.reads source.old + most_reads }
 {
-    match office_of(rt.alloc(), conn, choice) {
+    match office_of(alloc, conn, choice) {
         Ok(mut office) => {
             office.recall_good();
-            let done = run_on_office(rt, &mut office, choice, source, out);
+            let done = run_on_office(alloc, &mut office, choice, host, source, out);
             (done, office.into_connection())
         }
         Err(Unopened { refusal, conn }) => (Err(Failure::Refused(refusal)), conn),
@@ -83,6 +96,7 @@ fn office_of<S: Alter>(
     ensures made { IfOk result (λ office. StartsWell choice.now office.facts) }
     ensures clean { MatchResult result (λ office. ForgetsNoFault (state S.Store conn) (state S.Store office.conn)) (λ u. ForgetsNoFault (state S.Store conn) (state S.Store u.conn)) }
     ensures begins { IfOk result (λ office. HasCleanDisk (state S.Store office.conn) → Begins (state S.Store) choice.now (state S.Store conn) office) }
+    ensures refusal { IfErr result (λ u. IsOpeningFailure choice.now (Failure.Refused u.refusal)) }
     ensures unopened { IfErr result (λ u. HasCleanDisk (state S.Store u.conn) → IsUnopened (state S.Store) choice.now (state S.Store conn) u.refusal (state S.Store u.conn)) }
 {
     match choice {
@@ -93,30 +107,36 @@ fn office_of<S: Alter>(
 }
 
 // Does the work of the subcommand over an open office.
-fn run_on_office<S: Alter, R: Source, W: Sink>(
-    rt: &HostRuntime,
+fn run_on_office<S: Alter, H: Accept + CsvFiles, R: Source, W: Sink>(
+    alloc: Global,
     office: &mut Office<S>,
     choice: &Choice,
+    host: &mut H,
     source: &mut R,
     out: &mut W,
 ) -> Result<(), Failure>
     requires open { office.old.is_closed ≡ false }
-    ensures done { OnOk result (Does (state S.Store) choice.now office.old (R.remaining source.old) (R.remaining source.new) (W.written out.old) (W.written out.new) office.new) }
-    ensures failed { IfErr result (λ failure. Fails (state S.Store) choice.now failure office.old (R.remaining source.old) (R.remaining source.new) (W.written out.old) (W.written out.new) office.new) }
+    ensures done { OnOk result (Does (state S.Store) choice.now office.old
+        (environment (R.remaining source.old) (R.reads source.old) (R.failed source.old) (W.written out.old) (W.failed out.old) (W.idle out.old) (H.csv_at host.old) (H.failed_csv host.old) (H.clients host.old))
+        (environment (R.remaining source.new) (R.reads source.new) (R.failed source.new) (W.written out.new) (W.failed out.new) (W.idle out.new) (H.csv_at host.new) (H.failed_csv host.new) (H.clients host.new)) office.new) }
+    ensures failed { IfErr result (λ failure. Fails (state S.Store) choice.now failure office.old
+        (environment (R.remaining source.old) (R.reads source.old) (R.failed source.old) (W.written out.old) (W.failed out.old) (W.idle out.old) (H.csv_at host.old) (H.failed_csv host.old) (H.clients host.old))
+        (environment (R.remaining source.new) (R.reads source.new) (R.failed source.new) (W.written out.new) (W.failed out.new) (W.idle out.new) (H.csv_at host.new) (H.failed_csv host.new) (H.clients host.new)) office.new) }
     ensures continues { Continues (state S.Store) office.old office.new }
     ensures unread { reads_input choice.now ≡ false → source.new ≡ source.old }
+    ensures unasked { asks_host choice.now ≡ false → host.new ≡ host.old }
     ensures reads { R.reads source.new ≤ R.reads source.old + most_reads }
 {
     match choice {
         Choice::Init(_) | Choice::Migrate(_) => Ok(()),
-        Choice::Replay(_) => match replay(rt.alloc(), office, source, out) {
+        Choice::Replay(_) => match replay(alloc, office, source, out) {
             Ok(_) => Ok(()),
             Err(stop) => Err(Failure::Stopped(stop)),
         },
-        Choice::Serve(_, port, limit) => serve(rt, office, *port, *limit, out),
-        Choice::Import(_, path) => import(rt, office, path.as_str(), out),
-        Choice::Export(_) => export(rt.alloc(), office, out),
-        Choice::Report(_) => report(rt.alloc(), office, out),
+        Choice::Serve(_, port, limit) => serve(alloc, office, *port, *limit, host, out),
+        Choice::Import(_, path) => import(alloc, office, path.as_str(), host, out),
+        Choice::Export(_) => export(alloc, office, out),
+        Choice::Report(_) => report(alloc, office, out),
         Choice::Check(_) => say(out, b"good\n"),
     }
 }
@@ -124,7 +144,8 @@ fn run_on_office<S: Alter, R: Source, W: Sink>(
 /// Writes a line. Output that fails counts as a failed store.
 pub(crate) fn say<W: Sink>(out: &mut W, line: &[u8]) -> Result<(), Failure>
     ensures ok { OnOk result (Appends (W.written out.old) (W.written out.new) line.now) }
-    ensures part { IfErr result (λ failure. (failure ≡ Failure.Refused Refusal.Store) × WritesPart line.now (W.written out.old) (W.written out.new)) }
+    ensures part { IfErr result (λ failure. (failure ≡ Failure.Refused Refusal.Store)
+        × HasFailed (W.failed out.old) (W.failed out.new) (W.idle out.old) (W.idle out.new) × WritesPart line.now (W.written out.old) (W.written out.new)) }
 {
     match write_all(out, line) {
         Ok(()) => Ok(()),
@@ -136,10 +157,11 @@ pub(crate) fn say<W: Sink>(out: &mut W, line: &[u8]) -> Result<(), Failure>
 fn export<S: Alter, W: Sink>(alloc: Global, office: &Office<S>, out: &mut W) -> Result<(), Failure>
     requires { office.now.is_closed ≡ false }
     ensures ok { OnOk result (Appends (W.written out.old) (W.written out.new) (exported office.now.facts)) }
-    ensures part { OnErr result (WritesPart (exported office.now.facts) (W.written out.old) (W.written out.new)) }
+    ensures part { IfErr result (λ failure. IsUnwritten failure (HasFailed (W.failed out.old) (W.failed out.new) (W.idle out.old) (W.idle out.new))
+        × WritesPart (exported office.now.facts) (W.written out.old) (W.written out.new)) }
 {
     match office.state() {
-        Ok(state) => write_assignments(alloc, state, out).map_err(Failure::Refused),
+        Ok(state) => as_failure(write_assignments(alloc, state, out)),
         Err(refusal) => Err(Failure::Refused(refusal)),
     }
 }
@@ -148,55 +170,50 @@ fn export<S: Alter, W: Sink>(alloc: Global, office: &Office<S>, out: &mut W) -> 
 fn report<S: Alter, W: Sink>(alloc: Global, office: &Office<S>, out: &mut W) -> Result<(), Failure>
     requires { office.now.is_closed ≡ false }
     ensures ok { OnOk result (Appends (W.written out.old) (W.written out.new) (report office.now.facts)) }
-    ensures part { OnErr result (WritesPart (report office.now.facts) (W.written out.old) (W.written out.new)) }
+    ensures part { IfErr result (λ failure. IsUnwritten failure (HasFailed (W.failed out.old) (W.failed out.new) (W.idle out.old) (W.idle out.new))
+        × WritesPart (report office.now.facts) (W.written out.old) (W.written out.new)) }
 {
     match office.state() {
-        Ok(state) => report_roles(alloc, state, out).map_err(Failure::Refused),
+        Ok(state) => as_failure(report_roles(alloc, state, out)),
+        Err(refusal) => Err(Failure::Refused(refusal)),
+    }
+}
+
+// A refusal as a failure of the program.
+fn as_failure(done: Result<(), Refusal>) -> Result<(), Failure>
+    ensures { MatchResult done (λ _. IsOk result) (λ refusal. result ≡ Err (Failure.Refused refusal)) }
+{
+    match done {
+        Ok(()) => Ok(()),
         Err(refusal) => Err(Failure::Refused(refusal)),
     }
 }
 
 // Imports the assignments of a file, and writes the answer.
-fn import<S: Alter, W: Sink>(
-    rt: &HostRuntime,
+fn import<S: Alter, C: CsvFiles, W: Sink>(
+    alloc: Global,
     office: &mut Office<S>,
     path: &str,
+    files: &mut C,
     out: &mut W,
 ) -> Result<(), Failure>
-    ensures ok { OnOk result (Imports (state S.Store) office.old (W.written out.old) (W.written out.new) office.new) }
-    ensures err { IfErr result (λ failure. FailsToImport (state S.Store) office.old failure (W.written out.old) (W.written out.new) office.new) }
+    ensures ok { OnOk result (Imports (state S.Store) (C.csv_at files.old path.now) office.old (W.written out.old) (W.written out.new) office.new) }
+    ensures err { IfErr result (λ failure. FailsToImport (state S.Store) (C.csv_at files.old path.now) office.old failure
+        (HasFailed (W.failed out.old) (W.failed out.new) (W.idle out.old) (W.idle out.new)) (HasRisen (C.failed_csv files.old) (C.failed_csv files.new)) (W.written out.old) (W.written out.new) office.new) }
 {
-    let text = text_of(rt, path)?;
-    let line = match imported(rt.alloc(), office, &text) {
+    let text = match files.read_csv(alloc, path) {
+        Ok(text) => text,
+        Err(ReadError::Memory) => return Err(Failure::Refused(Refusal::Memory)),
+        Err(ReadError::Fault) => return Err(Failure::Stopped(Stop {
+            cause: Cause::Read,
+            answered: 0,
+        })),
+    };
+    let line = match imported(alloc, office, &text) {
         Ok(line) => line,
         Err(refusal) => return Err(Failure::Refused(refusal)),
     };
     say(out, line.as_bytes())
-}
-
-// The bytes of a CSV file, at most one more than it may have.
-fn text_of(rt: &HostRuntime, path: &str) -> Result<Vec<u8>, Failure>
-    ensures { IfErr result IsUnread }
-{
-    match bytes_of(rt, path) {
-        Ok(bytes) => Ok(bytes),
-        Err(error) if error.kind() == ErrorKind::OutOfMemory => {
-            Err(Failure::Refused(Refusal::Memory))
-        }
-        Err(_) => Err(Failure::Stopped(Stop {
-            cause: Cause::Read,
-            answered: 0,
-        })),
-    }
-}
-
-// One byte more than a file of assignments may have is enough: such a text is refused.
-fn bytes_of(rt: &HostRuntime, path: &str) -> io::Result<Vec<u8>> {
-    let mut bytes = Vec::new(rt.alloc());
-    File::open(rt, path)?
-        .take(u64::from(Kind::Byte.limit(2)) + 1)
-        .read_to_end(&mut bytes)?;
-    Ok(bytes)
 }
 
 // Imports the assignments of a text, and returns the line of the answer.

@@ -11,7 +11,7 @@ use Rattle.matchit.specs.Params.{next_at, walk, named, AllText}
 use Rattle.std.specs.Str.{IsUtf8, is_utf8}
 use Rattle.std.proofs.lemmas.Str.{IsUtf8-past_char, IsUtf8-from_ascii, IsUtf8-from_is_utf8, is_utf8-from_IsUtf8, encode_ascii}
 use Rattle.matchit.specs.Router.{RouteOf}
-use Rattle.role_json.specs.Function.{function_named}
+use Rattle.role_functions.specs.Function.{function_named}
 use Rattle.role_http.specs.Route.{after, function_in, one_part, part_of, route, routes, slash}
 
 slash-any : (path : List ℕ) → has_slash path ≡ list_any (λ byte. byte == slash) path

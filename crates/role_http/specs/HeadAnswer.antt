@@ -3,7 +3,7 @@ use Rattle.std.specs.Prelude.{◌≡◌, ◌⊎◌, ◌++◌, ℕ, List, [], len
 use Rattle.std.specs.Io.KnownBytes.{IsAtEnd}
 use Rattle.httparse.specs.Grammar.{RequestHead, HasNoRequest, NeverHasRequest}
 use Rattle.httparse.specs.Spans.{RequestExceeds, RequestOverflows}
-use Rattle.role_json.specs.declared.function.Function.{Function}
+use Rattle.role_functions.specs.declared.function.Function.{Function}
 use Rattle.role_http.specs.Head.{HasHead, longest_head, most_fields}
 use Rattle.role_http.specs.HeadChecks.{judged_head}
 

@@ -6,10 +6,8 @@ use Rattle.std.specs.Str.{bytes_eq, str_eq_ignore_ascii_case}
 use Rattle.std.specs.Str.Parse.{digits_value}
 use Rattle.httparse.specs.Grammar.{RequestHead}
 use Rattle.httparse.specs.Spans.{name_and_value}
-use Rattle.role_csv.specs.Assignments.{most_bytes}
-use Rattle.role_json.specs.Function.{takes_csv}
-use Rattle.role_json.specs.Request.{longest_line}
-use Rattle.role_json.specs.declared.function.Function.{Function}
+use Rattle.role_functions.specs.Function.{longest_body}
+use Rattle.role_functions.specs.declared.function.Function.{Function}
 use Rattle.role_http.specs.Route.{function_in}
 
 -- a field of a head: its name and its value
@@ -50,10 +48,6 @@ unfoldable pub one_length : Option (List ℕ) → List (List ℕ) → Result (Op
 one_length before [] = Ok before
 one_length before (value ∷ values) = if is_length value && agrees before value then one_length (Some value) values else Err 400
 
--- the most bytes of a body
-abbrev pub most_bytes_of : Function → ℕ
-most_bytes_of called = if takes_csv called then most_bytes else longest_line
-
 -- the number of bytes of a body, if it is at most `most`
 unfoldable pub length_of : ℕ → List ℕ → Result ℕ ℕ
 length_of most digits = if nat_le (digits_value 10 digits) most then Ok (digits_value 10 digits) else Err 413
@@ -67,7 +61,7 @@ judged method named fields =
     or_status 404 named >>= λ called.
     if bytes_eq method (codes "POST") then (
     or_status 411 told >>= λ digits.
-    length_of (most_bytes_of called) digits >>= λ count.
+    length_of (longest_body called) digits >>= λ count.
     Ok (called, count)) else Err 405)
 
 -- the same for a complete head

@@ -1,7 +1,7 @@
 -- Laws of heads.
 use Rattle.std.specs.Prelude.{◌≡◌, ℕ, List, Option, Result}
 use Rattle.httparse.specs.Grammar.{RequestHead, print_request}
-use Rattle.role_json.specs.declared.function.Function.{Function}
+use Rattle.role_functions.specs.declared.function.Function.{Function}
 use Rattle.role_http.specs.HeadAnswer.{Answers, RefusesBytes, with_left}
 use Rattle.role_http.specs.Head.{HasHead}
 use Rattle.role_http.specs.HeadChecks.{judged_head}

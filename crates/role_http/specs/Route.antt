@@ -4,8 +4,8 @@ use Rattle.std.specs.List.{list_any}
 use Rattle.std.specs.Str.{is_utf8}
 use Rattle.matchit.specs.Rows.{RowsOf, param_token}
 use Rattle.matchit.specs.Router.{RouteOf}
-use Rattle.role_json.specs.Function.{function_named}
-use Rattle.role_json.specs.declared.function.Function.{Function}
+use Rattle.role_functions.specs.Function.{function_named}
+use Rattle.role_functions.specs.declared.function.Function.{Function}
 
 -- the byte between the parts of a path
 abbrev pub slash : ℕ

@@ -1,6 +1,6 @@
 //! The answer to the head of a request.
 ghost use Rattle.std.specs.Prelude.{◌≡◌, ◌≤◌, ℕ, List, IfErr, IfOk, OnErr, OnOk, length};
-ghost use Rattle.httparse.specs.Grammar.{RequestHead};
+ghost use Rattle.httparse.specs.Grammar.{HasNoRequest, RequestHead};
 ghost use Rattle.httparse.specs.Spans.{IsRequestAt, IsRequestWithin};
 ghost use Rattle.rbac_sets.specs.Stream.{HasRisen};
 ghost use Rattle.role_http.specs.HeadAnswer.{Answers};
@@ -16,7 +16,7 @@ use http::StatusCode;
 use httparse::spans::{EMPTY_HEADER_SPAN, HeaderSpan, RequestSpans};
 use matchit::Router;
 use rbac_sets::Source;
-use role_json::Function;
+use role_functions::Function;
 use std::alloc::Global;
 
 /// Reads the head of a request from `source`, and no byte past it, and judges it. `router` must be the
@@ -38,8 +38,7 @@ use std::alloc::Global;
 ///
 /// # Errors
 ///
-/// `Fault` if a read of the source failed, and `Memory` if allocation failed. Then, too, no byte past the
-/// head was read.
+/// `Fault` if a read of the source failed, and `Memory` if allocation failed. Then no complete head was read.
 pub fn answer_head<R: Source>(
     alloc: Global,
     router: &Router<()>,
@@ -47,7 +46,7 @@ pub fn answer_head<R: Source>(
 ) -> Result<Result<(Function, u32), StatusCode>, ReadError>
     requires route { router.now ≡ routes }
     ensures answers { IfOk result (λ answer. (taken : List ℕ) × ConsumesHead (R.remaining source.old) (R.remaining source.new) taken × Answers taken (R.remaining source.new) answer) }
-    ensures stops { OnErr result ((taken : List ℕ) × ConsumesHead (R.remaining source.old) (R.remaining source.new) taken) }
+    ensures stops { OnErr result ((taken : List ℕ) × ConsumesHead (R.remaining source.old) (R.remaining source.new) taken × HasNoRequest taken) }
     ensures steady { OnOk result (R.failed source.new ≡ R.failed source.old) }
     ensures fault { IfErr result (λ why. why ≡ ReadError.Fault → HasRisen (R.failed source.old) (R.failed source.new)) }
     ensures memory { IfErr result (λ why. why ≡ ReadError.Memory → R.failed source.new ≡ R.failed source.old) }

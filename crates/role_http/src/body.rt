@@ -11,11 +11,11 @@ use std::alloc::Global;
 const PIECE: usize = 8192;
 
 /// Reads `count` bytes, or all bytes of the source if there are fewer, and none past them. It allocates for
-/// the bytes that arrive, and not for those that were announced.
+/// the bytes that arrive and one piece more, and not for those that were announced.
 ///
 /// # Errors
 ///
-/// `Fault` if a read of the source failed, and `Memory` if allocation failed. At most `count` bytes were
+/// `Fault` if a read of the source failed, and `Memory` if allocation failed. Fewer than `count` bytes were
 /// read then.
 pub fn read_bytes<R: Source>(
     alloc: Global,
@@ -25,7 +25,7 @@ pub fn read_bytes<R: Source>(
     ensures reads { IfOk result (λ bytes. Consumes (R.remaining source.old) (R.remaining source.new) bytes.items) }
     ensures within { IfOk result (λ bytes. length bytes.items ≤ count) }
     ensures end { IfOk result (λ bytes. length bytes.items < count → IsAtEnd (R.remaining source.new)) }
-    ensures stops { OnErr result ((taken : List ℕ) × Consumes (R.remaining source.old) (R.remaining source.new) taken × (length taken ≤ count)) }
+    ensures stops { OnErr result ((taken : List ℕ) × Consumes (R.remaining source.old) (R.remaining source.new) taken × (length taken < count)) }
     ensures steady { OnOk result (R.failed source.new ≡ R.failed source.old) }
     ensures fault { IfErr result (λ why. why ≡ ReadError.Fault → HasRisen (R.failed source.old) (R.failed source.new)) }
     ensures memory { IfErr result (λ why. why ≡ ReadError.Memory → R.failed source.new ≡ R.failed source.old) }
@@ -34,6 +34,7 @@ pub fn read_bytes<R: Source>(
     let mut bytes = Vec::new(alloc);
     while bytes.len() < count {
         let most = PIECE.min(count - bytes.len());
+        bytes.reserve(most)?;
         let taken = source.read(&mut piece[..most])?;
         if taken == 0 {
             return Ok(bytes);

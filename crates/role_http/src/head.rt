@@ -1,6 +1,7 @@
 //! The head of a request, read a byte at a time.
 ghost use Rattle.std.specs.Prelude.{◌≡◌, ◌∷◌, [], ℕ, List, IfErr, IfOk, OnErr, OnOk, length, MatchOption};
 ghost use Rattle.std.specs.Io.KnownBytes.{Consumes, IsAtEnd, Keeps};
+ghost use Rattle.httparse.specs.Grammar.{HasNoRequest};
 ghost use Rattle.rbac_sets.specs.Stream.{HasRisen};
 ghost use Rattle.role_http.specs.Head.{ConsumesHead};
 ghost use Rattle.role_http.specs.private.HeadEnd.{EndsHead, IsWholeWithin};
@@ -31,7 +32,8 @@ pub enum HeadEnd {
 }
 
 /// Reads up to the end of a head, and no byte past it. The bytes are written to `bytes`, which must be empty
-/// before, and the positions of the fields to `headers`, whose length limits their number.
+/// before, and the positions of the fields to `headers`, whose length limits their number. After an error no
+/// complete head was read.
 pub fn read_head<R: Source>(
     source: &mut R,
     bytes: &mut Vec<u8>,
@@ -42,12 +44,13 @@ pub fn read_head<R: Source>(
     ensures within { IfOk result (IsWholeWithin bytes.new.items headers.new) }
     ensures takes { OnOk result (ConsumesHead (R.remaining source.old) (R.remaining source.new) bytes.new.items) }
     ensures room { length headers.new ≡ length headers.old }
-    ensures stops { OnErr result ((taken : List ℕ) × ConsumesHead (R.remaining source.old) (R.remaining source.new) taken) }
+    ensures stops { OnErr result ((taken : List ℕ) × ConsumesHead (R.remaining source.old) (R.remaining source.new) taken × HasNoRequest taken) }
     ensures steady { OnOk result (R.failed source.new ≡ R.failed source.old) }
     ensures fault { IfErr result (λ why. why ≡ ReadError.Fault → HasRisen (R.failed source.old) (R.failed source.new)) }
     ensures memory { IfErr result (λ why. why ≡ ReadError.Memory → R.failed source.new ≡ R.failed source.old) }
 {
     for _ in 0..MOST_BYTES {
+        bytes.reserve(1)?;
         let Some(byte) = next_byte(source)? else {
             return Ok(HeadEnd::Ended);
         };

@@ -1,18 +1,16 @@
 //! The answer to a head, before its body is read.
-ghost use Rattle.std.specs.Prelude.{◌≡◌, ◌≤◌, ◌&&◌, true, Ok, Err, IfOk, IfErr, IfSome, All, Some, None, length, map, codes, option_map};
+ghost use Rattle.std.specs.Prelude.{◌≡◌, ◌<◌, ◌^◌, ◌&&◌, true, Ok, Err, IfOk, IfErr, IfSome, All, Some, None, length, map, codes, option_map};
 ghost use Rattle.std.specs.Char.{is_ascii_digit};
 ghost use Rattle.std.specs.List.{list_all};
 ghost use Rattle.std.specs.Str.{bytes_eq, str_eq_ignore_ascii_case};
 ghost use Rattle.httparse.specs.Grammar.{RequestHead};
 ghost use Rattle.httparse.specs.Spans.{IsHeaderWithin, IsRequestAt, IsRequestWithin, header_bytes};
-ghost use Rattle.role_csv.specs.Assignments.{most_bytes};
 ghost use Rattle.role_http.specs.Route.{function_in};
-ghost use Rattle.role_http.specs.HeadChecks.{agrees, has_field, is_length, judged, judged_head, length_of, most_bytes_of, one_length, values_of};
+ghost use Rattle.role_http.specs.HeadChecks.{agrees, has_field, is_length, judged, judged_head, length_of, one_length, values_of};
 
 use http::{Method, StatusCode};
 use httparse::spans::{HeaderSpan, RequestSpans};
-use rbac_sets::Kind;
-use role_json::{Function, LONGEST_LINE};
+use role_functions::Function;
 
 /// The function that a head calls and the number of bytes that its body has, or the status by which the head
 /// is refused.
@@ -57,7 +55,7 @@ fn judge(
     let Some(digits) = told else {
         return Err(StatusCode::LENGTH_REQUIRED);
     };
-    let count = length_of(most_bytes_of(called), digits)?;
+    let count = length_of(called.longest_body(), digits)?;
     Ok((called, count))
 }
 
@@ -140,20 +138,9 @@ fn are_digits(value: &[u8]) -> bool
     value.iter().all(|byte| byte.is_ascii_digit())
 }
 
-// The most bytes of a body.
-fn most_bytes_of(called: Function) -> u32
-    ensures { result ≡ most_bytes_of called }
-{
-    if called.takes_csv() {
-        Kind::Byte.limit(2)
-    } else {
-        LONGEST_LINE as u32
-    }
-}
-
 // The number that the digits denote, if it is at most `most`.
 fn length_of(most: u32, digits: &[u8]) -> Result<u32, StatusCode>
-    requires small { most ≤ most_bytes }
+    requires small { most < 2 ^ 28 }
     requires digits { is_length digits.now ≡ true }
     ensures { result ≡ length_of most digits.now }
 {

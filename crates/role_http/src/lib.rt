@@ -8,7 +8,7 @@ pub use answer::answer_head;
 pub use body::read_bytes;
 pub use reply::write_reply;
 pub use route::one_route;
-pub use status::{refused_body, status_of};
+pub use status::status_of;
 pub use unread::ReadError;
 
 pub mod answer;

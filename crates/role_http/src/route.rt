@@ -4,7 +4,7 @@ ghost use Rattle.role_http.specs.Route.{function_in, routes};
 
 use matchit::Router;
 use rbac_sets::Refusal;
-use role_json::Function;
+use role_functions::Function;
 use std::alloc::Global;
 
 /// The router of the one route, `/v1/{function}`. Create it once, and pass it to each `answer_head`.

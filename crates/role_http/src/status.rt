@@ -1,13 +1,9 @@
-//! The statuses of refusals, and the body of a reply that refuses a head.
+//! The statuses of refusals.
 ghost use Rattle.std.specs.Prelude.{◌≡◌};
-ghost use Rattle.role_http.specs.Status.{head_body, status_of};
+ghost use Rattle.role_http.specs.Status.{status_of};
 
 use http::StatusCode;
 use rbac_sets::Refusal;
-
-const BAD_REQUEST: &str = "{\"code\":34,\"error\":\"BadRequest\"}";
-
-const UNKNOWN_FUNCTION: &str = "{\"code\":35,\"error\":\"UnknownFunction\"}";
 
 /// The status of a reply that reports a refusal: 400 for malformed input (`1 BadName`, `34 BadRequest`,
 /// `36 BadCsv`), 404 for an unknown function (`35 UnknownFunction`), 503 if allocation failed (`40 Memory`),
@@ -21,17 +17,5 @@ pub fn status_of(refusal: &Refusal) -> StatusCode
         Refusal::Memory => StatusCode::SERVICE_UNAVAILABLE,
         Refusal::Store | Refusal::Closed => StatusCode::INTERNAL_SERVER_ERROR,
         _ => StatusCode::CONFLICT,
-    }
-}
-
-/// The body of a reply that refuses a head by this status: the text of `UnknownFunction` for 404, and that of
-/// `BadRequest` for every other. It doesn't allocate.
-pub fn refused_body(status: StatusCode) -> &'static str
-    ensures { result.now ≡ head_body status }
-{
-    if status == StatusCode::NOT_FOUND {
-        UNKNOWN_FUNCTION
-    } else {
-        BAD_REQUEST
     }
 }

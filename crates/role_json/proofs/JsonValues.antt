@@ -7,7 +7,7 @@ use Rattle.std.proofs.lemmas.Bool.{cases_Bool}
 use Rattle.serde_json.specs.Data.{Data}
 use Rattle.serde_json.specs.Read.{read}
 use Rattle.rbac_sets.specs.declared.refusal.Refusal.TheVariants.{BadRequest}
-use Rattle.role_json.specs.Request.{longest_line}
+use Rattle.role_functions.specs.Function.{longest_line}
 use Rattle.role_json.specs.Request.{json_of}
 
 -- a line that is too long has no value

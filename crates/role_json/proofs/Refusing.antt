@@ -15,13 +15,13 @@ use Rattle.role_csv.specs.TextLaws.{refuses_texts}
 use Rattle.role_csv.proofs.Refusing.{refusals_of_texts}
 use Rattle.role_json.specs.Calls.{request_to}
 use Rattle.role_json.specs.Fields.{access_at, activation_at, assignment_at, cardinality_at, grant_at, inheritance_at, set_cardinality_at, member_at, name, name_at, name_set, names_at, new_session_at, new_session_keys, owned_session_at, permission_at, roles_at, separation_at, separation_keys, text_at, three_texts_at, three_names_at, three_names}
-use Rattle.role_json.specs.Function.{function_named, takes_csv}
+use Rattle.role_functions.specs.Function.{function_named, takes_csv}
 use Rattle.role_json.specs.Request.{an_object, body_request, body_to, json_body, json_of, request}
 use Rattle.role_json.specs.RequestLaws.{refuses_arguments, refuses_bodies, refuses_requests, RefusalsOfBodies, RefusalsOfLines, RefusalsOfNamedBodies, CallsNothing, UnknownCallsNothing}
 use Rattle.role_json.specs.RequestContent.{RequestContent, Change}
 use Rattle.role_json.specs.Steps.{◌>>=◌, or_refuse}
-use Rattle.role_json.specs.declared.function.Function.{Function}
-use Rattle.role_json.specs.declared.function.Function.TheVariants.{AddUser, DeleteUser, AddRole, DeleteRole, AddPermObj, DeletePermObj, AddPermission, DeletePermission, GrantPermission, RevokePermission, AssignUser, DeassignUser, AddInheritance, DeleteInheritance, AddAscendant, AddDescendant, CreateSsdSet, AddSsdRoleMember, DeleteSsdRoleMember, SetSsdSetCardinality, DeleteSsdSet, CreateDsdSet, AddDsdRoleMember, DeleteDsdRoleMember, SetDsdSetCardinality, DeleteDsdSet, CreateSession, DeleteSession, AddActiveRole, DropActiveRole, LockUserAccount, UnlockUserAccount, ImportAssignments, CheckAccess, AssignedUsers, AssignedRoles, AuthorizedUsers, AuthorizedRoles, RolePermissions, UserPermissions, SessionRoles, SessionPermissions, RoleOperationsOnObject, UserOperationsOnObject, SsdRoleSets, SsdRoleSetRoles, SsdRoleSetCardinality, DsdRoleSets, DsdRoleSetRoles, DsdRoleSetCardinality, PermissionRoles}
+use Rattle.role_functions.specs.declared.function.Function.{Function}
+use Rattle.role_functions.specs.declared.function.Function.TheVariants.{AddUser, DeleteUser, AddRole, DeleteRole, AddPermObj, DeletePermObj, AddPermission, DeletePermission, GrantPermission, RevokePermission, AssignUser, DeassignUser, AddInheritance, DeleteInheritance, AddAscendant, AddDescendant, CreateSsdSet, AddSsdRoleMember, DeleteSsdRoleMember, SetSsdSetCardinality, DeleteSsdSet, CreateDsdSet, AddDsdRoleMember, DeleteDsdRoleMember, SetDsdSetCardinality, DeleteDsdSet, CreateSession, DeleteSession, AddActiveRole, DropActiveRole, LockUserAccount, UnlockUserAccount, ImportAssignments, CheckAccess, AssignedUsers, AssignedRoles, AuthorizedUsers, AuthorizedRoles, RolePermissions, UserPermissions, SessionRoles, SessionPermissions, RoleOperationsOnObject, UserOperationsOnObject, SsdRoleSets, SsdRoleSetRoles, SsdRoleSetCardinality, DsdRoleSets, DsdRoleSetRoles, DsdRoleSetCardinality, PermissionRoles}
 
 -- ---- steps
 

@@ -11,8 +11,8 @@ use Rattle.role_csv.specs.Assignments.{assignments}
 use Rattle.role_json.specs.Fields.{access_at, activation_at, assignment_at, grant_at, inheritance_at, set_cardinality_at, member_at, name_at, names_at, new_session_at, owned_session_at, permission_at, separation_at, text_at}
 use Rattle.role_json.specs.RequestContent.{RequestContent, Change, Ask}
 use Rattle.role_json.specs.Steps.{◌>>=◌}
-use Rattle.role_json.specs.declared.function.Function.{Function}
-use Rattle.role_json.specs.declared.function.Function.TheVariants as function
+use Rattle.role_functions.specs.declared.function.Function.{Function}
+use Rattle.role_functions.specs.declared.function.Function.TheVariants as function
 
 -- the call asks for this command
 abbrev pub change : Command → Result RequestContent Refusal

@@ -1,7 +1,6 @@
 pub mod Answer
 pub mod Calls
 pub mod Fields
-pub mod Function
 pub mod Request
 pub mod RequestContent
 pub mod RequestLaws

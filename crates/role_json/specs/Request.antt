@@ -10,14 +10,10 @@ use Rattle.rbac_sets.specs.declared.refusal.Refusal.TheVariants.{BadRequest, Unk
 use Rattle.role_csv.specs.Assignments.{assignments}
 use Rattle.role_json.specs.Calls.{request_to}
 use Rattle.role_json.specs.Fields.{text_at}
-use Rattle.role_json.specs.Function.{function_named, takes_csv}
+use Rattle.role_functions.specs.Function.{function_named, longest_line, takes_csv}
 use Rattle.role_json.specs.RequestContent.{RequestContent, Change}
 use Rattle.role_json.specs.Steps.{◌>>=◌, or_refuse}
-use Rattle.role_json.specs.declared.function.Function.{Function}
-
--- the most bytes of a line
-abbrev pub longest_line : ℕ
-longest_line = 65536
+use Rattle.role_functions.specs.declared.function.Function.{Function}
 
 -- the JSON value of a line, which must be UTF-8 of at most 65,536 bytes and a JSON text. If a key occurs more than once, the last
 -- occurrence counts

@@ -5,9 +5,9 @@ use Rattle.rbac_sets.specs.declared.refusal.Refusal.{Refusal}
 use Rattle.rbac_sets.specs.declared.refusal.Refusal.TheVariants.{BadName, BadRequest, UnknownFunction}
 use Rattle.role_csv.specs.TextLaws.{refuses_texts}
 use Rattle.role_json.specs.Fields.{text_at}
-use Rattle.role_json.specs.Function.{function_named, takes_csv}
+use Rattle.role_functions.specs.Function.{function_named, takes_csv}
 use Rattle.role_json.specs.Request.{json_of, request, body_request, body_to}
-use Rattle.role_json.specs.declared.function.Function.{Function}
+use Rattle.role_functions.specs.declared.function.Function.{Function}
 
 -- whether a call may be refused by this for its arguments: they cannot be read, or a text among them is not a valid name
 abbrev pub refuses_arguments : Refusal → Bool

@@ -9,11 +9,11 @@ use crate::fields::{
     names_at, new_session_at, owned_session_at, permission_at, separation_at, set_cardinality_at,
     text_at,
 };
-use crate::function::Function;
 use crate::request::Request;
 use rbac_sets::{Command, Refusal};
 use review_mgr::Query;
 use role_csv::read_assignments;
+use role_functions::Function;
 use serde_json::Value;
 use std::alloc::Global;
 

@@ -20,12 +20,11 @@
 #![tactic(auto)]
 
 pub use answer::{Verdict, answer_text};
-pub use function::Function;
-pub use request::{LONGEST_LINE, Request, body_to, read_body, read_request};
+pub use request::{Request, body_to, read_body, read_request};
+pub use role_functions::{Function, LONGEST_LINE};
 
 pub mod answer;
 mod calls;
 mod fields;
-pub mod function;
 pub mod laws;
 pub mod request;

@@ -6,15 +6,12 @@ ghost use Rattle.role_json.specs.RequestContent.{requested};
 
 use crate::calls::request_to;
 use crate::fields::text_at;
-use crate::function::Function;
 use rbac_sets::{Command, Refusal};
 use review_mgr::Query;
 use role_csv::read_assignments;
+use role_functions::{Function, LONGEST_LINE};
 use serde_json::Value;
 use std::alloc::Global;
-
-/// The most bytes of a line, and of a body that isn't CSV.
-pub const LONGEST_LINE: usize = 65_536;
 
 /// What a request asks for.
 #[derive(Drop)]

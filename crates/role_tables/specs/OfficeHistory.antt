@@ -11,7 +11,7 @@ use Rattle.admin_mgr.specs.After.{after}
 use Rattle.admin_mgr.specs.Verdict.{verdict}
 use Rattle.admin_mgr.specs.Run.{run, tally}
 use Rattle.admin_mgr.specs.Good.{IsGood}
-use Rattle.admin_mgr.specs.OfficeRun.{Event, Leaves, OfficeRun, OpensAfter, AreRuns, IsSameButVersion, may_have_taken_effect, events_of, IsDeassignedInForce, IsRevokedInForce}
+use Rattle.admin_mgr.specs.OfficeRun.{Event, Leaves, OfficeRun, OpensAfter, AreRuns, AreSuccessiveRuns, IsSameButVersion, may_have_taken_effect, events_of, IsDeassignedInForce, IsRevokedInForce}
 
 -- ---- the commands of the events
 
@@ -59,17 +59,25 @@ pub record IsAfterPrefix (office_run : OfficeRun) (T : RbacState) : Type 0 where
   pub state : IsSameButVersion (run office_run.start done) T
   pub version : NeverFalls office_run.start.version T.version
 
+-- the runs of one office, in order: the first begins with some good state, however the rows of the office came about
+abbrev pub AreRunsFromGood : List OfficeRun → Type 0
+AreRunsFromGood runs = AreSuccessiveRuns IsGood runs
+
+-- the runs of an office that was created empty are such runs
+abbrev pub CreatedRunsAreFromGood : Type 0
+CreatedRunsAreFromGood = (runs : List OfficeRun) → AreRuns runs → AreRunsFromGood runs
+
 -- each run begins with a good state
 abbrev pub OpeningsAreGood : Type 0
-OpeningsAreGood = (before : List OfficeRun) (office_run : OfficeRun) (later : List OfficeRun) → AreRuns (before ++ office_run ∷ later) → IsGood office_run.start
+OpeningsAreGood = (before : List OfficeRun) (office_run : OfficeRun) (later : List OfficeRun) → AreRunsFromGood (before ++ office_run ∷ later) → IsGood office_run.start
 
 -- and each run but the first with the state after such a prefix of the run before
 abbrev pub OpeningsFollow : Type 0
-OpeningsFollow = (before : List OfficeRun) (office_run next : OfficeRun) (later : List OfficeRun) → AreRuns (before ++ office_run ∷ next ∷ later) → IsAfterPrefix office_run next.start
+OpeningsFollow = (before : List OfficeRun) (office_run next : OfficeRun) (later : List OfficeRun) → AreRunsFromGood (before ++ office_run ∷ next ∷ later) → IsAfterPrefix office_run next.start
 
 -- these are runs of one office, and T is the state so far of the last one, or a state that a next opening may give
 pub record IsReached (before : List OfficeRun) (last : OfficeRun) (T : RbacState) : Type 0 where
-  pub are_runs : AreRuns (before ++ last ∷ [])
+  pub are_runs : AreRunsFromGood (before ++ last ∷ [])
   pub is_found : (T ≡ so_far last.start last.events) ⊎ OpensAfter last T
 
 -- the same holds of the last run's state so far, and of each state that a next opening may give

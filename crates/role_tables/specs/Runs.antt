@@ -5,9 +5,9 @@ use Rattle.sqlite.specs.Tree.{Trees}
 use Rattle.sqlite.specs.State.{State, HasCleanDisk}
 use Rattle.admin_mgr.specs.RbacState.{RbacState}
 use Rattle.admin_mgr.specs.Good.{IsGood}
-use Rattle.admin_mgr.specs.OfficeRun.{Event, Leaves, OfficeRun, AreRuns}
+use Rattle.admin_mgr.specs.OfficeRun.{Event, Leaves, OfficeRun}
 use Rattle.admin_mgr.specs.StateNames.{AreNamed}
-use Rattle.role_tables.specs.OfficeHistory.{ArePossible, IsAfterPrefix, is_closed_by, so_far}
+use Rattle.role_tables.specs.OfficeHistory.{AreRunsFromGood, ArePossible, IsAfterPrefix, is_closed_by, so_far}
 use Rattle.role_tables.specs.Office.{OfficeModel}
 use Rattle.role_tables.specs.Durability.{IsDurable, LeavesByEvents}
 use Rattle.role_tables.specs.StoredState.{HoldsState}
@@ -39,8 +39,8 @@ module _ {S : Type 0} (shown : Held S → State) where
   -- begin. It is the state after a prefix of the accepted commands of the run, and the prefix has every acknowledged one.
   abbrev pub RecoversRun : State → Type 0
   RecoversRun next = (before : List OfficeRun) (start : RbacState) (events : List Event) (office : OfficeModel S) (trees : Trees)
-      → AreRuns (before ++ run_of start events ∷ []) → IsInRun start events office
+      → AreRunsFromGood (before ++ run_of start events ∷ []) → IsInRun start events office
       → HasCleanDisk (shown office.conn) → (shown office.conn).may_leave trees
       → IsTrue next.is_open → next.in_transaction ≡ false → next.now.trees ≡ trees
       → (T : RbacState) × IsDurable next T × IsGood T × AreNamed T
-      × IsAfterPrefix (run_of start events) T × AreRuns (before ++ run_of start events ∷ run_of T [] ∷ [])
+      × IsAfterPrefix (run_of start events) T × AreRunsFromGood (before ++ run_of start events ∷ run_of T [] ∷ [])

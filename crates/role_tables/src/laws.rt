@@ -2,7 +2,7 @@
 //! that an opening is refused; and that the next connection holds what a crash left. The headline theorem,
 //! with the steps of its argument, is the last law, `recovers`.
 ghost use Rattle.sqlite.specs.Held.{state};
-ghost use Rattle.role_tables.specs.OfficeHistory.{OpeningsAreGood, OpeningsFollow, LastIsSound, DeassignedStays, RevokedStays};
+ghost use Rattle.role_tables.specs.OfficeHistory.{CreatedRunsAreFromGood, OpeningsAreGood, OpeningsFollow, LastIsSound, DeassignedStays, RevokedStays};
 ghost use Rattle.role_tables.specs.OfficeHistory.{OneCall, EarlierArePossible, SoFarIsLeft, OpenLeavesSoFar, OpenGoesOn, ClosedStays, SoFarGoesOn};
 ghost use Rattle.role_tables.specs.OpeningChecks.{StateIsUnique, GoodContentsAreRead, RefusedHaveNoState};
 ghost use Rattle.role_tables.specs.Runs.{RecoversRun};
@@ -11,13 +11,15 @@ ghost use Rattle.role_tables.specs.Durability.{HoldsWhatWasLeft, SameTreesHoldSa
 use admin_mgr::laws::{accepted_good, effects, empty_states, migrated_good};
 use sqlite::{Alter, Connection};
 
-/// Over every list of runs of one office, which are the lives of the name: each run begins with a good
+/// Over every list of runs of one office, which are the lives of the name, the first of which begins with
+/// some good state, as that of an office that was created empty does: each run begins with a good
 /// state. For each run but the first this is, except for the version, the state after a prefix of the
 /// accepted commands of the run before, and the prefix has every acknowledged one. The same holds of the
 /// last run's state so far and of each state that a next opening may give. In these, an assignment or a
 /// grant is not there if its removal was acknowledged and no later command may have restored it:
 /// sessions have their roles through other assignments, and access through other grants.
 pub fn lives()
+    ensures created { CreatedRunsAreFromGood }
     ensures good { OpeningsAreGood }
     ensures follow { OpeningsFollow }
     ensures last { LastIsSound }

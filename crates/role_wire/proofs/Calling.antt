@@ -1,5 +1,6 @@
 -- Calls: what follows a head.
 use Rattle.std.proofs.Common.{◌≡◌, ◌≤◌, ◌<◌, ◌∙◌, inl, ℕ, List, length, length-append, length-take, take, Option, Some, None, Err, sym, refl, arith, subst}
+use Rattle.std.specs.Cow.{cow_str_bytes}
 use Rattle.std.specs.Io.KnownBytes.{IsAtEnd}
 use Rattle.std.proofs.lemmas.Bool.{le-ltb, lt-ltb}
 use Rattle.std.proofs.lemmas.List.{append-nil, take-append-le, take_all}
@@ -7,13 +8,11 @@ use Rattle.sqlite.specs.Held.{Held}
 use Rattle.sqlite.specs.State.{State}
 use Rattle.rbac_sets.specs.declared.refusal.Refusal.TheVariants.{BadRequest}
 use Rattle.role_json.specs.Request.{body_to}
-use Rattle.role_json.specs.declared.function.Function.{Function}
+use Rattle.role_functions.specs.declared.function.Function.{Function}
 use Rattle.role_http.specs.HeadAnswer.{with_left}
-use Rattle.role_http.specs.Status.{head_body}
 use Rattle.role_tables.specs.Office.{OfficeModel}
-use Rattle.role_wire.specs.private.PreparedReply.{bytes_in}
-use Rattle.role_wire.specs.Reply.{called_for}
-use Rattle.role_wire.specs.ServedRequest.{AnswersBody, IsReadAs}
+use Rattle.role_wire.specs.private.PreparedReply.{AnswersBody, IsReadAs}
+use Rattle.role_wire.specs.Reply.{called_for, head_body}
 use Rattle.role_wire.specs.declared.prepared_reply.PreparedReply.{PreparedReply}
 use Rattle.role_wire.proofs.Performed.{stays}
 use Rattle.role_wire.proofs.HttpAnswers.{asks_nothing}
@@ -50,10 +49,10 @@ taken_within taken left count within = omega (arith, within, length-take count (
 module _ {S : Type 0} (shown : Held S → State) where
   -- the reply to a short body
   pub short_told : (office : OfficeModel S) (taken : List ℕ) (left : Option (List ℕ)) (called : Function) (count : ℕ) (made : PreparedReply) → length taken < count → IsAtEnd left
-      → made.status ≡ 400 → bytes_in made.body ≡ head_body 400 → AnswersBody shown office (called_for (with_left taken left) called count) made office
+      → made.status ≡ 400 → cow_str_bytes made.body ≡ head_body 400 → AnswersBody shown office (called_for (with_left taken left) called count) made office
   unfolding head_body
   short_told office taken left called count made less at_end status body =
       subst (λ read. AnswersBody shown office read made office) (sym (called_short taken left called count less at_end)) (
         inl (λ _. (status, body, stays shown office)),
-        asks_nothing office office (IsReadAs (Err BadRequest)) made.status (bytes_in made.body) refl (λ asked reads. (cc)),
+        asks_nothing office office (IsReadAs (Err BadRequest)) made.status (cow_str_bytes made.body) refl (λ asked reads. (cc)),
       )

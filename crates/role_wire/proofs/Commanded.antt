@@ -14,12 +14,12 @@ use Rattle.rbac_sets.proofs.SetLaws.{from_members}
 use Rattle.role_csv.specs.Assignments.{assignments}
 use Rattle.role_json.specs.Calls.{change, request_to}
 use Rattle.role_json.specs.Fields.{access_at, activation_at, assignment_at, grant_at, inheritance_at, set_cardinality_at, member_at, name_at, names_at, new_session_at, owned_session_at, permission_at, separation_at, text_at}
-use Rattle.role_json.specs.Function.{function_named}
+use Rattle.role_functions.specs.Function.{function_named}
 use Rattle.role_json.specs.Request.{json_of, request}
 use Rattle.role_json.specs.RequestContent.{RequestContent}
 use Rattle.role_json.specs.Steps.{◌>>=◌, or_refuse}
-use Rattle.role_json.specs.declared.function.Function.{Function}
-use Rattle.role_json.specs.declared.function.Function.TheVariants as function
+use Rattle.role_functions.specs.declared.function.Function.{Function}
+use Rattle.role_functions.specs.declared.function.Function.TheVariants as function
 use Rattle.role_wire.specs.LineCommands.{command_read, line_command, commands_in, is_import, LinesHaveCommands}
 
 -- a command asks for this

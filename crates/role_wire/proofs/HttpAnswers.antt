@@ -1,26 +1,22 @@
 -- How requests over HTTP are answered.
-use Rattle.std.proofs.Common.{◌≡◌, ◌⊎◌, inl, inr, ℕ, List, false, None, Some, Option, Result, Ok, Err, refl, sym, ap, subst, ◌∙◌}
+use Rattle.std.proofs.Common.{◌≡◌, ◌⊎◌, inl, inr, ℕ, List, false, Result, Ok, Err, refl, sym, ap, subst, ◌∙◌}
+use Rattle.std.specs.Cow.{cow_str_bytes}
 use Rattle.sqlite.specs.Held.{Held}
 use Rattle.sqlite.specs.State.{State}
 use Rattle.rbac_sets.specs.declared.refusal.Refusal.{Refusal}
 use Rattle.rbac_sets.specs.declared.refusal.Refusal.TheVariants.{Memory, Store, Closed}
-use Rattle.admin_mgr.specs.CommandContent.{content_verdict}
 use Rattle.role_json.specs.Answer.{refusal_text}
-use Rattle.role_json.specs.RequestContent.{RequestContent, Change}
+use Rattle.role_json.specs.RequestContent.{RequestContent}
 use Rattle.role_tables.specs.Office.{OfficeModel}
 use Rattle.role_wire.specs.Continuation.{ReachesState}
-use Rattle.role_wire.specs.private.PreparedReply.{IsRefusal, ReportsRefusal, bytes_in, is_fixed}
-use Rattle.role_wire.specs.Outcome.{outcome_of, state_after, unless}
-use Rattle.role_wire.specs.OfficeRequest.{IsCommand, IsQuestion, Performs, Declines}
+use Rattle.role_wire.specs.private.PreparedReply.{AnswersBody, IsReadAs, IsRefusal, ReportsRefusal, is_fixed}
+use Rattle.role_wire.specs.Outcome.{outcome_of, state_after}
+use Rattle.role_wire.specs.OfficeRequest.{IsImport, IsQuestion, Performs, Declines}
 use Rattle.role_wire.specs.Reply.{reply_of}
-use Rattle.role_wire.specs.ServedRequest.{IsThisReply, IsAnsweredInstead, IsDone, IsReadAs, AnswersBody, StaysClosed}
+use Rattle.role_wire.specs.ServedRequest.{IsThisReply, IsAnsweredInstead, IsImported, StaysClosed}
 use Rattle.role_wire.specs.declared.prepared_reply.PreparedReply.{PreparedReply}
-use Rattle.role_wire.proofs.Judged.{stays_refused}
-use Rattle.role_wire.proofs.Performed.{stays}
-
-was_accepted : {X : Type 0} (v : Option Refusal) (value told : X) → unless v value ≡ Ok told → v ≡ None
-was_accepted None value told is = refl
-was_accepted (Some refusal) value told is = absurd (cc)
+use Rattle.role_wire.proofs.Judged.{import_accepted, stays_refused}
+use Rattle.role_wire.proofs.Performed.{same_state, stays}
 
 -- ---- a closed office
 
@@ -44,19 +40,16 @@ module _ {S : Type 0} (old new : OfficeModel S) (AsksFor : RequestContent → Ty
 -- ---- requests
 
 module _ {S : Type 0} (shown : Held S → State) where
-  same_state : (old new : OfficeModel S) → new ≡ old → ReachesState shown old old.facts new
-  same_state old new same = subst (ReachesState shown old old.facts) (sym same) (stays shown old)
-
   -- an allocation failed before anything was done
   pub no_memory_told : (old new : OfficeModel S) (AsksFor : RequestContent → Type 0) (made : PreparedReply) → IsRefusal Memory made → ReachesState shown old old.facts new
-      → IsAnsweredInstead shown old AsksFor made.status (bytes_in made.body) new
+      → IsAnsweredInstead shown old AsksFor made.status (cow_str_bytes made.body) new
   no_memory_told old new AsksFor made is same = inl (is.0, is.1, same)
 
   -- the same, as an answer to a body
   pub memory_refused : (old new : OfficeModel S) (read : Result RequestContent Refusal) (made : PreparedReply) → new ≡ old → IsRefusal Memory made → AnswersBody shown old read made new
   memory_refused old new read made same is = (
-    inr (no_memory_told old new (IsReadAs read) made is (same_state old new same)),
-    has_no_memory old new (IsReadAs read) made.status (bytes_in made.body) same is.0 is.1,
+    inr (no_memory_told old new (IsReadAs read) made is (same_state shown old new same)),
+    has_no_memory old new (IsReadAs read) made.status (cow_str_bytes made.body) same is.0 is.1,
   )
 
   -- a request that was done or answered
@@ -70,15 +63,13 @@ module _ {S : Type 0} (shown : Held S → State) where
   unfolding state_after
   question_untold old new asked text made performs (query, is) tells = (
     inr (no_memory_told old new (IsReadAs (Ok asked)) made tells (subst (λ T. ReachesState shown old T new) (ap (state_after old.facts) is) performs.reaches)),
-    works_on old new (IsReadAs (Ok asked)) made.status (bytes_in made.body) performs.is_open,
+    works_on old new (IsReadAs (Ok asked)) made.status (cow_str_bytes made.body) performs.is_open,
   )
 
-  -- a command whose answer text could not be allocated
-  pub command_untold : (old new : OfficeModel S) (asked : RequestContent) (text : List ℕ) → Performs shown old asked text new → IsCommand asked → IsDone shown old (IsReadAs (Ok asked)) new
-  unfolding outcome_of
-  command_untold old new asked text performs (command, is) =
-      let outcome : outcome_of old.facts (Change command) ≡ Ok text = subst (λ a. outcome_of old.facts a ≡ Ok text) is performs.outcome in
-      (asked, refl, performs.is_open, (command, is, was_accepted (content_verdict old.facts command) _ text outcome), performs.reaches)
+  -- an import whose answer text could not be allocated
+  pub import_untold : (old new : OfficeModel S) (asked : RequestContent) (text : List ℕ) → Performs shown old asked text new → IsImport asked → IsImported shown old (IsReadAs (Ok asked)) new
+  import_untold old new asked text performs imports =
+      (asked, refl, performs.is_open, (imports, import_accepted old.facts asked text performs.outcome imports), performs.reaches)
 
   -- a request that was not done
   pub declined_told : (old new : OfficeModel S) (asked : RequestContent) (refusal : Refusal) (made : PreparedReply) → Declines shown old asked refusal new → ReportsRefusal refusal made
@@ -88,24 +79,24 @@ module _ {S : Type 0} (shown : Held S → State) where
   declined_told old new asked refusal made (inr (inl (is, broke))) (inl tells) =
       let told : IsRefusal Store made = rw is at tells in (
         inr (inr (inl (told.0, told.1, (asked, refl, broke)))),
-        works_on old new (IsReadAs (Ok asked)) made.status (bytes_in made.body) broke.is_open,
+        works_on old new (IsReadAs (Ok asked)) made.status (cow_str_bytes made.body) broke.is_open,
       )
   declined_told old new asked refusal made (inr (inl (is, broke))) (inr (tells, plain)) =
       absurd (let wrong : is_fixed Store ≡ false = rw is at plain in cc)
   declined_told old new asked refusal made (inr (inr (inl (is, shut, same)))) (inl tells) =
       let told : IsRefusal Closed made = rw is at tells in (
         inr (inr (inr (told.0, told.1, shut, same, (asked, refl)))),
-        says_closed old new (IsReadAs (Ok asked)) made.status (bytes_in made.body) same told.0 told.1,
+        says_closed old new (IsReadAs (Ok asked)) made.status (cow_str_bytes made.body) same told.0 told.1,
       )
   declined_told old new asked refusal made (inr (inr (inl (is, shut, same)))) (inr (tells, plain)) =
       absurd (let wrong : is_fixed Closed ≡ false = rw is at plain in cc)
   declined_told old new asked refusal made (inr (inr (inr (is, works, same)))) (inl tells) = (
     inl (λ taken. rw is (tells.0, tells.1, stays_told old new asked refusal is same)),
-    works_on old new (IsReadAs (Ok asked)) made.status (bytes_in made.body) works,
+    works_on old new (IsReadAs (Ok asked)) made.status (cow_str_bytes made.body) works,
   )
     where
       stays_told : (old new : OfficeModel S) (asked : RequestContent) (refusal : Refusal) → outcome_of old.facts asked ≡ Err refusal → new ≡ old → ReachesState shown old (state_after old.facts asked) new
-      stays_told old new asked refusal is same = subst (λ T. ReachesState shown old T new) (sym (stays_refused old.facts asked refusal is)) (same_state old new same)
+      stays_told old new asked refusal is same = subst (λ T. ReachesState shown old T new) (sym (stays_refused old.facts asked refusal is)) (same_state shown old new same)
   declined_told old new asked refusal made (inr (inr (inr (is, works, same)))) (inr (tells, plain)) = memory_refused old new (Ok asked) made same tells
 
   -- a body that is no request
@@ -115,5 +106,5 @@ module _ {S : Type 0} (shown : Held S → State) where
   unread_told office read refusal made why (inr (tells, plain)) = memory_refused office office read made refl tells
   unread_told office read refusal made (inr is) (inl tells) = (
     inl (λ taken. rw is (tells.0, tells.1, stays shown office)),
-    asks_nothing office office (IsReadAs read) made.status (bytes_in made.body) refl (λ asked reads. (let no = sym is ∙ reads in cc)),
+    asks_nothing office office (IsReadAs read) made.status (cow_str_bytes made.body) refl (λ asked reads. (let no = sym is ∙ reads in cc)),
   )

@@ -1,5 +1,5 @@
 -- The verdicts on requests and on lines.
-use Rattle.std.proofs.Common.{◌≡◌, ◌⊎◌, inl, inr, ℕ, List, [], ◌∷◌, length, Bool, true, false, Option, Some, None, Ok, Err, IfOk, IfErr, refl, sym, ap, subst}
+use Rattle.std.proofs.Common.{◌≡◌, ◌≢◌, ◌⊎◌, inl, inr, ℕ, List, [], ◌∷◌, length, Bool, true, false, Option, Some, None, Ok, Err, IfOk, IfErr, refl, sym, ap, subst}
 use Rattle.std.proofs.lemmas.Bool.{cases_Bool}
 use Rattle.sqlite.specs.Held.{Held}
 use Rattle.sqlite.specs.State.{State}
@@ -21,19 +21,20 @@ use Rattle.role_json.specs.Answer.{text_of}
 use Rattle.role_json.specs.Request.{request}
 use Rattle.role_json.specs.RequestContent.{RequestContent, Change, Ask}
 use Rattle.role_json.specs.declared.answer.Verdict.{Verdict}
+use Rattle.role_json.specs.declared.answer.Verdict.TheVariants.{Done}
 use Rattle.role_tables.specs.Office.{OfficeModel}
 use Rattle.role_wire.specs.Continuation.{ReachesState}
 use Rattle.role_wire.specs.LineAnswer.{AnswersLine, FailsLine, FailsRequest, verdict_of_refusal, unread_verdict}
 use Rattle.role_wire.specs.Outcome.{outcome_of, state_after, outcome_text, unless, answer_to, after_line}
-use Rattle.role_wire.specs.OfficeRequest.{Declines}
+use Rattle.role_wire.specs.OfficeRequest.{Declines, IsAccepted, IsImport, IsQuestion, Performs}
 use Rattle.role_wire.specs.declared.lines.Unanswered.{Unanswered}
 use Rattle.role_wire.specs.declared.lines.Unanswered.TheVariants as unanswered
-use Rattle.role_wire.proofs.Performed.{stays}
+use Rattle.role_wire.proofs.Performed.{same_state, stays}
 
 -- ---- what refuses a request
 
 -- a refusal that is about the request, and not about memory or the store
-abbrev IsJudged : Refusal → Type 0
+abbrev pub IsJudged : Refusal → Type 0
 IsJudged Memory = ⊥
 IsJudged Store = ⊥
 IsJudged Closed = ⊥
@@ -60,13 +61,24 @@ too_large true refusal is = subst IsJudged (let same : TooMany Record ≡ refusa
 too_large false refusal is = absurd (cc)
 
 -- if a request has a refusal as its outcome, the refusal is about the request
-is_judged : (S : RbacState) (asked : RequestContent) (refusal : Refusal) → outcome_of S asked ≡ Err refusal → IsJudged refusal
+pub is_judged : (S : RbacState) (asked : RequestContent) (refusal : Refusal) → outcome_of S asked ≡ Err refusal → IsJudged refusal
 unfolding outcome_of content_verdict
 is_judged S (Change (Single command)) refusal is = of_command refusal (verdicts_refuse_commands S command refusal (was_refused (verdict S command) _ refusal is))
 is_judged S (Change (Import pairs)) refusal is = too_large _ refusal (was_refused (first (too_many S Record (length pairs) ∷ [])) _ refusal is)
 is_judged S (Ask query) refusal is = of_question refusal (refusals_of_questions S query refusal (was_refused (refused S query) _ refusal is))
 
--- and the request doesn't change the state
+-- an import that was done is accepted
+was_accepted : {X : Type 0} (v : Option Refusal) (value told : X) → unless v value ≡ Ok told → v ≡ None
+was_accepted None value told is = refl
+was_accepted (Some refusal) value told is = absurd (cc)
+
+pub import_accepted : (S : RbacState) (asked : RequestContent) (text : List ℕ) → outcome_of S asked ≡ Ok text → IsImport asked → IsAccepted S asked
+unfolding outcome_of
+import_accepted S asked text outcome (pairs, is) =
+    let told : outcome_of S (Change (Import pairs)) ≡ Ok text = subst (λ a. outcome_of S a ≡ Ok text) is outcome in
+    (Import pairs, is, was_accepted (content_verdict S (Import pairs)) _ text told)
+
+-- a request whose outcome is a refusal doesn't change the state
 pub stays_refused : (S : RbacState) (asked : RequestContent) (refusal : Refusal) → outcome_of S asked ≡ Err refusal → state_after S asked ≡ S
 unfolding outcome_of state_after
 stays_refused S (Change asked) refusal is = rw (was_refused (content_verdict S asked) _ refusal is) refl
@@ -76,23 +88,36 @@ module _ {S : Type 0} (shown : Held S → State) where
   abbrev Told : OfficeModel S → RequestContent → OfficeModel S → Verdict → Type 0
   Told old asked new verdict = (text_of verdict ≡ outcome_text (outcome_of old.facts asked)) × ReachesState shown old (state_after old.facts asked) new
 
+  -- without an answer to a verdict other than `Done`, an allocation failed
+  abbrev Untold : OfficeModel S → RequestContent → OfficeModel S → Verdict → Type 0
+  Untold old asked new verdict = verdict ≢ Done → FailsRequest shown old asked unanswered.Memory new
+
+  -- a question that was answered, or an import that was done
+  pub performed_untold : (old new : OfficeModel S) (asked : RequestContent) (text : List ℕ) → Performs shown old asked text new → IsQuestion asked ⊎ IsImport asked → FailsRequest shown old asked unanswered.Memory new
+  unfolding state_after
+  performed_untold old new asked text performs (inl (query, is)) = inl (subst (λ T. ReachesState shown old T new) (ap (state_after old.facts) is) performs.reaches)
+  performed_untold old new asked text performs (inr imports) = inr ((imports, import_accepted old.facts asked text performs.outcome imports), performs.reaches)
+
   judged_so : (old new : OfficeModel S) (asked : RequestContent) (refusal : Refusal) → IsJudged refusal → outcome_of old.facts asked ≡ Err refusal → new ≡ old
-      → IfOk (verdict_of_refusal refusal) (Told old asked new) × IfErr (verdict_of_refusal refusal) (λ unanswered. FailsRequest shown old asked unanswered new)
+      → IfOk (verdict_of_refusal refusal) (Told old asked new) × IfOk (verdict_of_refusal refusal) (Untold old asked new)
+      × IfErr (verdict_of_refusal refusal) (λ unanswered. FailsRequest shown old asked unanswered new)
   unfolding text_of
   judged_so old new asked Memory judged is same = absurd judged
   judged_so old new asked Store judged is same = absurd judged
   judged_so old new asked Closed judged is same = absurd judged
   judged_so old new asked refusal judged is same = (
     (sym (ap outcome_text is), subst (λ o. ReachesState shown old (state_after old.facts asked) o) (sym same) (subst (λ T. ReachesState shown old T old) (sym (stays_refused old.facts asked refusal is)) (stays shown old))),
+    λ other. inl (same_state shown old new same),
     tt,
   )
 
   -- a request that was not done
   pub judged_refusal : (old new : OfficeModel S) (asked : RequestContent) (refusal : Refusal) → Declines shown old asked refusal new
-      → IfOk (verdict_of_refusal refusal) (Told old asked new) × IfErr (verdict_of_refusal refusal) (λ unanswered. FailsRequest shown old asked unanswered new)
-  judged_refusal old new asked refusal (inl (is, same)) = rw is (tt, inl same)
-  judged_refusal old new asked refusal (inr (inl (is, broke))) = rw is (tt, (broke.breaks.is_closed, inr (broke.accepted, broke.breaks)))
-  judged_refusal old new asked refusal (inr (inr (inl (is, shut, same)))) = rw is (tt, (rw same shut, inl (shut, same)))
+      → IfOk (verdict_of_refusal refusal) (Told old asked new) × IfOk (verdict_of_refusal refusal) (Untold old asked new)
+      × IfErr (verdict_of_refusal refusal) (λ unanswered. FailsRequest shown old asked unanswered new)
+  judged_refusal old new asked refusal (inl (is, same)) = rw is (tt, tt, inl (same_state shown old new same))
+  judged_refusal old new asked refusal (inr (inl (is, broke))) = rw is (tt, tt, (broke.breaks.is_closed, inr (broke.accepted, broke.breaks)))
+  judged_refusal old new asked refusal (inr (inr (inl (is, shut, same)))) = rw is (tt, tt, (rw same shut, inl (shut, same)))
   judged_refusal old new asked refusal (inr (inr (inr (is, works, same)))) = judged_so old new asked refusal (is_judged old.facts asked refusal is) is same
 
   -- ---- lines
@@ -104,16 +129,19 @@ module _ {S : Type 0} (shown : Held S → State) where
 
   pub line_failed : (old new : OfficeModel S) (line : List ℕ) (asked : RequestContent) (why : Unanswered) → request line ≡ Ok asked → FailsRequest shown old asked why new → FailsLine shown old line why new
   unfolding after_line
-  line_failed old new line asked unanswered.Memory read failed = rw read failed
+  line_failed old new line asked unanswered.Memory read (inl same) = inl same
+  line_failed old new line asked unanswered.Memory read (inr (accepted, reaches)) = inr ((asked, read, accepted), rw read reaches)
   line_failed old new line asked unanswered.Store read (closed, inl shut) = (closed, inl shut)
   line_failed old new line asked unanswered.Store read (closed, inr (accepted, broke)) = (closed, inr ((asked, read, accepted), rw read broke))
 
   -- a line that is no request
   pub line_unread : (office : OfficeModel S) (line : List ℕ) (refusal : Refusal) → (refusal ≡ Memory) ⊎ (request line ≡ Err refusal)
-      → IfOk (unread_verdict refusal) (λ verdict. AnswersLine shown office line (text_of verdict) office) × IfErr (unread_verdict refusal) (λ unanswered. FailsLine shown office line unanswered office)
+      → IfOk (unread_verdict refusal) (λ verdict. AnswersLine shown office line (text_of verdict) office)
+      × IfOk (unread_verdict refusal) (λ verdict. verdict ≢ Done → FailsLine shown office line unanswered.Memory office)
+      × IfErr (unread_verdict refusal) (λ unanswered. FailsLine shown office line unanswered office)
   unfolding answer_to after_line text_of
-  line_unread office line refusal (inl memory) = rw memory (tt, inl refl)
+  line_unread office line refusal (inl memory) = rw memory (tt, tt, inl (stays shown office))
   line_unread office line refusal (inr read) = elim (cases_Bool (is_memory refusal)) [
-    | inl memory ↦ rw memory (tt, inl refl)
-    | inr plain ↦ rw plain (record { text_is = rw read refl; reaches = rw read (stays shown office) }, tt)
+    | inl memory ↦ rw memory (tt, tt, inl (stays shown office))
+    | inr plain ↦ rw plain (record { text_is = rw read refl; reaches = rw read (stays shown office) }, λ other. inl (stays shown office), tt)
   ]

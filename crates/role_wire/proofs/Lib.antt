@@ -1,5 +1,6 @@
 pub mod Answering
 pub mod Calling
+pub mod ClosedOffice
 pub mod Commanded
 pub mod FirstLines
 pub mod HttpAnswers
@@ -14,3 +15,4 @@ pub mod Requesting
 pub mod Results
 pub mod Splitting
 pub mod Stopping
+pub mod WholeRequests

@@ -39,6 +39,9 @@ module _ {S : Type 0} (shown : Held S → State) where
   pub stays : (office : OfficeModel S) → ReachesState shown office office.facts office
   stays office = record { state = refl; is_closed = refl; keeps = unchanged office }
 
+  pub same_state : (old new : OfficeModel S) → new ≡ old → ReachesState shown old old.facts new
+  same_state old new same = subst (ReachesState shown old old.facts) (sym same) (stays old)
+
   -- ---- commands
 
   module _ (old new : OfficeModel S) (command : Command) (result : Result Report Refusal)

@@ -10,7 +10,7 @@ use Rattle.role_wire.specs.Continuation.{StaysDurable, ReachesState, StoreFails,
 use Rattle.role_wire.specs.Lines.{asking, line_feed, split_lines, with_line_feeds}
 use Rattle.role_wire.specs.LineAnswer.{AnswersLine, FailsLine}
 use Rattle.role_wire.specs.Outcome.{answer_to, after_line, answers_to, output_for, lines, after_lines, asking_lines}
-use Rattle.role_wire.specs.OfficeRequest.{AsksAccepted}
+use Rattle.role_wire.specs.OfficeRequest.{AsksAccepted, AsksImport}
 use Rattle.role_wire.specs.Replay.{AreAnswered, IsReplayed, IsStopped, LeavesLine}
 use Rattle.role_wire.specs.OfficeReplay.{IsAnswered, LeavesNext, IsHalted}
 use Rattle.role_wire.specs.declared.lines.Cause.{Cause}
@@ -95,8 +95,8 @@ module _ {S : Type 0} (shown : Held S → State) where
     further later = subst (λ T. ReachesState shown old T new) (ap (λ s. after_line s line) first.state ∙ sym (after_lines-more old.facts done line))
         (reaches_then old between new (after_lines old.facts done) (after_line between.facts line) first later)
 
-    same_state : new ≡ between → ReachesState shown old (after_lines old.facts done) new
-    same_state same = subst (λ o. ReachesState shown old (after_lines old.facts done) o) (sym same) first
+    kept : ReachesState shown between between.facts new → ReachesState shown old (after_lines old.facts done) new
+    kept later = subst (λ T. ReachesState shown old T new) first.state (reaches_then old between new (after_lines old.facts done) between.facts first later)
 
     further_broken : StoreFails shown between between.facts (after_line between.facts line) new → StoreFails shown old (after_lines old.facts done) (after_lines old.facts (done ++ line ∷ [])) new
     further_broken broke = subst (λ T. StoreFails shown old (after_lines old.facts done) T new) (sym (after_lines-more old.facts done line))
@@ -110,9 +110,8 @@ module _ {S : Type 0} (shown : Held S → State) where
     )
     next_left Store ((closed, inl (shut, same)), none) = absurd (let no = sym shut ∙ (first.is_closed ∙ works) in cc)
     next_left Store ((closed, inr (accepted, broke)), none) = (subst (λ s. AsksAccepted s line) first.state accepted, further_broken broke, none)
-    next_left Memory (inl (inl same), none) = (inl (same_state same), none)
-    next_left Memory (inl (inr reaches), none) = (inr (further reaches), none)
-    next_left Memory (inr (text, is), none) = (inr (further is.reaches), none)
+    next_left Memory (inl reaches, none) = (inl (kept reaches), none)
+    next_left Memory (inr (imports, reaches), none) = (inr (subst (λ s. AsksImport s line) first.state imports, further reaches), none)
     next_left Read left = absurd left
     next_left (Line number) left = absurd left
     next_left Closed left = absurd left

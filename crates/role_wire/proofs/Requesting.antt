@@ -1,6 +1,7 @@
 -- Whole requests: a head and a call.
 use Rattle.std.proofs.Common.{◌≡◌, ◌≤◌, ◌+◌, ◌∙◌, ◌⊎◌, inl, inr, ℕ, List, [], ◌++◌, length, length-append, append_assoc, take, Option, Some, None, Result, Ok, Err, ap, sym, refl, arith, subst}
 use Rattle.std.proofs.lemmas.List.{append-nil}
+use Rattle.std.specs.Cow.{cow_str_bytes}
 use Rattle.std.specs.Io.KnownBytes.{Appends, Consumes}
 use Rattle.httparse.specs.Grammar.{RequestHead, HasNoRequest, print_request}
 use Rattle.sqlite.specs.Held.{Held}
@@ -10,17 +11,16 @@ use Rattle.rbac_sets.proofs.Known.{Appends-none, Consumes-more}
 use Rattle.admin_mgr.specs.RbacState.{RbacState}
 use Rattle.role_json.specs.Answer.{refusal_text}
 use Rattle.role_json.specs.RequestContent.{RequestContent}
-use Rattle.role_json.specs.declared.function.Function.{Function}
+use Rattle.role_functions.specs.declared.function.Function.{Function}
 use Rattle.role_http.specs.HeadAnswer.{Answers, RefusesBytes, with_left}
 use Rattle.role_http.specs.Head.{HasHead, ConsumesHead}
 use Rattle.role_http.specs.HeadChecks.{judged_head}
 use Rattle.role_http.specs.ReplyBytes.{reply_bytes}
-use Rattle.role_http.specs.Status.{head_body}
 use Rattle.role_http.proofs.Heads.{HasHead-append, with_left-later, heads_are_unique, refused_have_no_head}
 use Rattle.role_tables.specs.Office.{OfficeModel}
-use Rattle.role_wire.specs.private.PreparedReply.{bytes_in}
-use Rattle.role_wire.specs.Reply.{Asks, Replies, RepliesOnce, Reply, TakesNoFurther, called_for, reply_of, reply_to}
-use Rattle.role_wire.specs.ServedRequest.{AnswersBody, IsReadAs, IsAnsweredInstead, LeavesUnanswered, StopsAt, AnswersBytes}
+use Rattle.role_wire.specs.private.PreparedReply.{AnswersBody, IsReadAs}
+use Rattle.role_wire.specs.Reply.{Asks, Replies, RepliesOnce, Reply, TakesNoFurther, called_for, head_body, reply_of, reply_to}
+use Rattle.role_wire.specs.ServedRequest.{IsAnsweredInstead, LeavesUnanswered, StopsAt, AnswersBytes}
 use Rattle.role_wire.specs.declared.lines.Cause.{Cause}
 use Rattle.role_wire.specs.declared.lines.Cause.TheVariants as cause
 use Rattle.role_wire.specs.declared.prepared_reply.PreparedReply.{PreparedReply}
@@ -106,12 +106,12 @@ module _ {S : Type 0} (shown : Held S → State) where
   in_place old new status body First Then step (inr (inr (is, told, shut, same, (asked, for)))) = inr (inr (is, told, shut, same, (asked, step asked for)))
 
   tells_called : (old new : OfficeModel S) (bytes rest : List ℕ) (head : RequestHead) (called : Function) (count : ℕ) (made : PreparedReply) → HasHead (bytes ++ rest) head rest
-      → judged_head head ≡ Ok (called, count) → AnswersBody shown old (called_for rest called count) made new → AnswersBytes shown old (bytes ++ rest) made.status (bytes_in made.body) new
+      → judged_head head ≡ Ok (called, count) → AnswersBody shown old (called_for rest called count) made new → AnswersBytes shown old (bytes ++ rest) made.status (cow_str_bytes made.body) new
   unfolding reply_to
   tells_called old new bytes rest head called count made has is (told, closed) = (
     elim told [
       | inl told ↦ inl (reply_of old.facts (length (take count rest)) (called_for rest called count), inl (head, rest, has, rw is refl), told (length (take count rest)))
-      | inr place ↦ inr (in_place old new made.status (bytes_in made.body) (IsReadAs (called_for rest called count)) (Asks (bytes ++ rest)) (λ asked read. (head, rest, has, (called, count, is, read))) place)
+      | inr place ↦ inr (in_place old new made.status (cow_str_bytes made.body) (IsReadAs (called_for rest called count)) (Asks (bytes ++ rest)) (λ asked read. (head, rest, has, (called, count, is, read))) place)
     ],
     λ shut. ((closed shut).0, λ asked asks. (closed shut).1 asked (asked_by (bytes ++ rest) rest head (Ok (called, count)) has is asked asks)),
   )
@@ -130,7 +130,7 @@ module _ {S : Type 0} (shown : Held S → State) where
   pub made_called : (old new : OfficeModel S) (source mid end : Option (List ℕ)) (called : Function) (count : ℕ) (made : PreparedReply)
       → ((taken : List ℕ) × ConsumesHead source mid taken × Answers taken mid (Ok (called, count)))
       → ((taken : List ℕ) × Consumes mid end taken × (length taken ≤ length (take count (with_left taken end))) × AnswersBody shown old (called_for (with_left taken end) called count) made new)
-      → Replied old source end made.status (bytes_in made.body) new
+      → Replied old source end made.status (cow_str_bytes made.body) new
   unfolding reply_to
   made_called old new source mid end called count made (bytes, first, inl (head, has, is)) (more, later, part, comes) =
       let stands = HasHead-append bytes (with_left more end) head has in
@@ -138,7 +138,7 @@ module _ {S : Type 0} (shown : Held S → State) where
         bytes ++ more,
         Consumes-more source mid end bytes more first.0 later,
         subst (λ l. TakesNoFurther old.facts l (bytes ++ more)) (sym all) (further old.facts bytes (with_left more end) more head stands (length-head bytes head has) (rw is part)),
-        subst (λ l. AnswersBytes shown old l made.status (bytes_in made.body) new) (sym all) (tells_called old new bytes (with_left more end) head called count made stands is comes),
+        subst (λ l. AnswersBytes shown old l made.status (cow_str_bytes made.body) new) (sym all) (tells_called old new bytes (with_left more end) head called count made stands is comes),
       )
   made_called old new source mid end called count made (bytes, first, inr none) second = absurd none
 
@@ -192,17 +192,17 @@ module _ {S : Type 0} (shown : Held S → State) where
   )
 
   -- reading stopped within the head
-  pub made_stopped : (office : OfficeModel S) (source mid : Option (List ℕ)) (status : ℕ) (body : List ℕ) → ((taken : List ℕ) × ConsumesHead source mid taken) → status ≡ 503 → body ≡ refusal_text Memory
+  pub made_stopped : (office : OfficeModel S) (source mid : Option (List ℕ)) (status : ℕ) (body : List ℕ) → ((taken : List ℕ) × ConsumesHead source mid taken × HasNoRequest taken) → status ≡ 503 → body ≡ refusal_text Memory
       → Replied office source mid status body office
-  made_stopped office source mid status body (bytes, first) same text = (
+  made_stopped office source mid status body (bytes, first, none) same text = (
     bytes,
     first.0,
     within_head office.facts source mid bytes first,
     (inr (inl (same, text, stays shown office)), has_no_memory office office (Asks (with_left bytes mid)) status body refl same text),
   )
 
-  pub left_stopped : (office : OfficeModel S) (source mid : Option (List ℕ)) → ((taken : List ℕ) × ConsumesHead source mid taken) → Untold cause.Read office source mid office
-  left_stopped office source mid (bytes, first) = (bytes, first.0, within_head office.facts source mid bytes first, refl)
+  pub left_stopped : (office : OfficeModel S) (source mid : Option (List ℕ)) → ((taken : List ℕ) × ConsumesHead source mid taken × HasNoRequest taken) → Untold cause.Read office source mid office
+  left_stopped office source mid (bytes, first, none) = (bytes, first.0, within_head office.facts source mid bytes first, refl)
 
   -- ---- writing
 

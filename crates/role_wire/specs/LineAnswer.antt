@@ -14,7 +14,7 @@ use Rattle.role_json.specs.declared.answer.Verdict.TheVariants.{Refused}
 use Rattle.role_tables.specs.Office.{OfficeModel}
 use Rattle.role_wire.specs.Continuation.{StoreFails, ReachesState}
 use Rattle.role_wire.specs.Outcome.{answer_to, after_line, outcome_of, state_after, outcome_text}
-use Rattle.role_wire.specs.OfficeRequest.{IsAccepted, AsksAccepted}
+use Rattle.role_wire.specs.OfficeRequest.{IsAccepted, IsAcceptedImport, AsksAccepted, AsksImport}
 
 module _ {S : Type 0} (shown : Held S → State) where
   -- the office answers the request with this text
@@ -26,18 +26,18 @@ module _ {S : Type 0} (shown : Held S → State) where
     pub text_is : text ≡ answer_to old.facts line
     pub reaches : ReachesState shown old (after_line old.facts line) new
 
-  -- There is no answer to what was asked for. If an allocation failed, it was done, or nothing was. If the store failed, the
-  -- office is closed: either it was before, or the store failed now, for an accepted command.
-  abbrev pub FailsFor : OfficeModel S → (accepted : Type 0) → RbacState → Unanswered → OfficeModel S → Type 0
-  FailsFor old accepted to Memory new = (new ≡ old) ⊎ ReachesState shown old to new
-  FailsFor old accepted to Store new = (new.is_closed ≡ true) × (((old.is_closed ≡ true) × (new ≡ old)) ⊎ (accepted × StoreFails shown old old.facts to new))
+  -- There is no answer to what was asked for. If an allocation failed, nothing was done, or it is an accepted import, which was
+  -- done. If the store failed, the office is closed: either it was before, or the store failed now, for an accepted command.
+  abbrev pub FailsFor : OfficeModel S → (accepted imports : Type 0) → RbacState → Unanswered → OfficeModel S → Type 0
+  FailsFor old accepted imports to Memory new = ReachesState shown old old.facts new ⊎ (imports × ReachesState shown old to new)
+  FailsFor old accepted imports to Store new = (new.is_closed ≡ true) × (((old.is_closed ≡ true) × (new ≡ old)) ⊎ (accepted × StoreFails shown old old.facts to new))
 
   -- no answer to a request, or to a line
   abbrev pub FailsRequest : OfficeModel S → RequestContent → Unanswered → OfficeModel S → Type 0
-  FailsRequest old asked = FailsFor old (IsAccepted old.facts asked) (state_after old.facts asked)
+  FailsRequest old asked = FailsFor old (IsAccepted old.facts asked) (IsAcceptedImport old.facts asked) (state_after old.facts asked)
 
   abbrev pub FailsLine : OfficeModel S → List ℕ → Unanswered → OfficeModel S → Type 0
-  FailsLine old line = FailsFor old (AsksAccepted old.facts line) (after_line old.facts line)
+  FailsLine old line = FailsFor old (AsksAccepted old.facts line) (AsksImport old.facts line) (after_line old.facts line)
 
 -- the verdict on a line that is no request, or why there is none
 abbrev pub unread_verdict : Refusal → Result Verdict Unanswered

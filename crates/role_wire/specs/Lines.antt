@@ -1,7 +1,7 @@
 -- The lines of an input.
 use Rattle.std.specs.Prelude.{◌≡◌, ◌≤◌, ℕ, Bool, not, ◌||◌, ◌==◌, nat_lt, List, [], ◌∷◌, ◌++◌, length, All, if◌then◌else◌}
 use Rattle.std.specs.List.{list_all, filter}
-pub use Rattle.role_json.specs.Request.{longest_line}
+pub use Rattle.role_functions.specs.Function.{longest_line}
 
 -- no line is longer than a request may be, without its LF
 abbrev pub AllFit : List (List ℕ) → Type 0

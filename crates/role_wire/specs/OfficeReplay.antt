@@ -8,7 +8,7 @@ use Rattle.role_tables.specs.Office.{OfficeModel}
 use Rattle.role_wire.specs.Continuation.{StoreFails, ReachesState}
 use Rattle.role_wire.specs.Lines.{line_feed, split_lines, with_line_feeds, AllFit}
 use Rattle.role_wire.specs.Outcome.{answer_to, answers_to, lines, output_for, after_lines}
-use Rattle.role_wire.specs.OfficeRequest.{AsksAccepted}
+use Rattle.role_wire.specs.OfficeRequest.{AsksAccepted, AsksImport}
 use Rattle.role_wire.specs.Replay.{IsNext, LeavesOff}
 use Rattle.role_wire.specs.declared.lines.Cause.{Cause}
 use Rattle.role_wire.specs.declared.lines.Cause.TheVariants.{Write, Store, Memory}
@@ -28,14 +28,16 @@ pub record WritesFirst (S : RbacState) (bytes : List ℕ) (answered : ℕ) (writ
 
 module _ {S : Type 0} (shown : Held S → State) where
   -- A stop at the line after those that are done: this part of its answer was written. The store fails only for a command that
-  -- is accepted in the state after those lines.
+  -- is accepted in the state after those lines. If an allocation failed, nothing of the line was done, unless it asks for an
+  -- import that is accepted.
   abbrev pub LeavesNext : Cause → OfficeModel S → List (List ℕ) → List ℕ → List ℕ → OfficeModel S → Type 0
   LeavesNext Write old done line part new = ReachesState shown old (after_lines old.facts (done ++ line ∷ [])) new
       × ((rest : List ℕ) × (answer_to (after_lines old.facts done) line ++ line_feed ∷ [] ≡ part ++ rest) × (1 ≤ length rest))
   LeavesNext Store old done line part new = AsksAccepted (after_lines old.facts done) line
       × StoreFails shown old (after_lines old.facts done) (after_lines old.facts (done ++ line ∷ [])) new × (part ≡ [])
   LeavesNext Memory old done line part new =
-      (ReachesState shown old (after_lines old.facts done) new ⊎ ReachesState shown old (after_lines old.facts (done ++ line ∷ [])) new) × (part ≡ [])
+      (ReachesState shown old (after_lines old.facts done) new
+      ⊎ (AsksImport (after_lines old.facts done) line × ReachesState shown old (after_lines old.facts (done ++ line ∷ [])) new)) × (part ≡ [])
   LeavesNext _ old done line part new = ⊥
 
   -- Of the bytes that were read, the first lines that ask were done and their answers written. Then the replay stopped at the

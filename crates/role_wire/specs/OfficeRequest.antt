@@ -2,7 +2,8 @@
 use Rattle.std.specs.Prelude.{◌≡◌, ◌⊎◌, true, false, ℕ, List, None, Ok, Err}
 use Rattle.sqlite.specs.Held.{Held}
 use Rattle.sqlite.specs.State.{State}
-use Rattle.rbac_sets.specs.CommandContent.{CommandContent}
+use Rattle.rbac_sets.specs.CommandContent.{CommandContent, Import}
+use Rattle.rbac_sets.specs.Sets.{Pair}
 use Rattle.rbac_sets.specs.declared.refusal.Refusal.{Refusal}
 use Rattle.rbac_sets.specs.declared.refusal.Refusal.TheVariants.{Memory, Store, Closed}
 use Rattle.admin_mgr.specs.CommandContent.{content_verdict}
@@ -14,9 +15,9 @@ use Rattle.role_tables.specs.Office.{OfficeModel}
 use Rattle.role_wire.specs.Continuation.{StoreFails, ReachesState}
 use Rattle.role_wire.specs.Outcome.{outcome_of, state_after}
 
--- it is a command, or a question
-abbrev pub IsCommand : RequestContent → Type 0
-IsCommand requested = (asked : CommandContent) × (requested ≡ Change asked)
+-- it is an import, or a question
+abbrev pub IsImport : RequestContent → Type 0
+IsImport requested = (pairs : List Pair) × (requested ≡ Change (Import pairs))
 
 abbrev pub IsQuestion : RequestContent → Type 0
 IsQuestion requested = (query : Query) × (requested ≡ Ask query)
@@ -25,9 +26,17 @@ IsQuestion requested = (query : Query) × (requested ≡ Ask query)
 abbrev pub IsAccepted : RbacState → RequestContent → Type 0
 IsAccepted S requested = (asked : CommandContent) × (requested ≡ Change asked) × (content_verdict S asked ≡ None)
 
+-- the request is an import that is accepted in this state
+abbrev pub IsAcceptedImport : RbacState → RequestContent → Type 0
+IsAcceptedImport S requested = IsImport requested × IsAccepted S requested
+
 -- the line asks for a command that is accepted in this state
 abbrev pub AsksAccepted : RbacState → List ℕ → Type 0
 AsksAccepted S line = (asked : RequestContent) × (request line ≡ Ok asked) × IsAccepted S asked
+
+-- the line asks for an import that is accepted in this state
+abbrev pub AsksImport : RbacState → List ℕ → Type 0
+AsksImport S line = (asked : RequestContent) × (request line ≡ Ok asked) × IsAcceptedImport S asked
 
 module _ {S : Type 0} (shown : Held S → State) where
   -- an open office did the command or answered the question, and this is the answer text

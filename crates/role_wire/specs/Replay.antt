@@ -55,7 +55,7 @@ module _ {S : Type 0} (answers : S → List ℕ → List ℕ → S → Type 0) (
   abbrev pub LeavesLine : Cause → S → List ℕ → S → List ℕ → Type 0
   LeavesLine Write old line new part = (text : List ℕ) × answers old line text new × (rest : List ℕ) × (text ++ line_feed ∷ [] ≡ part ++ rest) × (1 ≤ length rest)
   LeavesLine Store old line new part = fails old line unanswered.Store new × (part ≡ [])
-  LeavesLine Memory old line new part = (fails old line unanswered.Memory new ⊎ ((text : List ℕ) × answers old line text new)) × (part ≡ [])
+  LeavesLine Memory old line new part = fails old line unanswered.Memory new × (part ≡ [])
   LeavesLine _ old line new part = ⊥
 
   -- of the bytes that were read, the first lines that ask were answered, and then this cause stopped the replay

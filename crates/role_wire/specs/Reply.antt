@@ -1,15 +1,17 @@
 -- The reply to a request over HTTP, from its head and the bytes after it.
-use Rattle.std.specs.Prelude.{◌≡◌, ◌⊎◌, ℕ, ◌+◌, ◌≤◌, List, length, nat_lt, take, Result, Ok, Err, if◌then◌else◌}
+use Rattle.std.specs.Prelude.{◌≡◌, ◌⊎◌, ◌↔◌, ℕ, ◌+◌, ◌≤◌, ◌==◌, Bool, IsTrue, List, length, nat_lt, take, Option, Result, Ok, Err, if◌then◌else◌}
+use Rattle.std.specs.Io.KnownBytes.{Consumes}
 use Rattle.httparse.specs.Grammar.{RequestHead, HasNoRequest, print_request}
 use Rattle.rbac_sets.specs.declared.refusal.Refusal.{Refusal}
-use Rattle.rbac_sets.specs.declared.refusal.Refusal.TheVariants.{BadRequest}
+use Rattle.rbac_sets.specs.declared.refusal.Refusal.TheVariants.{BadRequest, UnknownFunction}
 use Rattle.admin_mgr.specs.RbacState.{RbacState}
+use Rattle.role_json.specs.Answer.{refusal_text}
 use Rattle.role_json.specs.Request.{body_to}
 use Rattle.role_json.specs.RequestContent.{RequestContent}
-use Rattle.role_json.specs.declared.function.Function.{Function}
+use Rattle.role_functions.specs.declared.function.Function.{Function}
 use Rattle.role_http.specs.Head.{HasHead, longest_head}
 use Rattle.role_http.specs.HeadChecks.{judged_head}
-use Rattle.role_http.specs.Status.{status_of, head_body}
+use Rattle.role_http.specs.Status.{status_of}
 use Rattle.role_wire.specs.Outcome.{outcome, after_reading, outcome_text}
 
 -- a reply: its status and its body, the state after it, and how many bytes after its head the request has
@@ -18,6 +20,10 @@ pub record Reply : Type 0 where
   pub body : List ℕ
   pub after : RbacState
   pub taken : ℕ
+
+-- the body of a reply that refuses a head by this status
+unfoldable pub head_body : ℕ → List ℕ
+head_body status = if status == 404 then refusal_text UnknownFunction else refusal_text BadRequest
 
 -- the status of an outcome
 abbrev pub status_in : Result (List ℕ) Refusal → ℕ
@@ -63,6 +69,16 @@ abbrev pub TakesNoFurther : RbacState → List ℕ → List ℕ → Type 0
 TakesNoFurther S bytes taken =
     ((head : RequestHead) (rest : List ℕ) → HasHead bytes head rest → length taken ≤ length (print_request head) + (reply_to S head rest).taken)
     × (HasNoHead bytes → length taken ≤ longest_head)
+
+-- the bytes are a whole request: a head within the limits that calls a function, and a body as long as the head says
+abbrev pub IsWholeRequest : List ℕ → Type 0
+IsWholeRequest bytes = (head : RequestHead) × (body : List ℕ) × HasHead bytes head body
+    × ((called : Function) × (count : ℕ) × (judged_head head ≡ Ok (called, count)) × (length body ≡ count))
+
+-- `has_read_all` says whether the bytes that were read from a source are a whole request. The source had the remaining bytes
+-- `left` before, and has `now_left` after
+abbrev pub SaysIfWhole : (left now_left : Option (List ℕ)) → Bool → Type 0
+SaysIfWhole left now_left has_read_all = (taken : List ℕ) × Consumes left now_left taken × (IsTrue has_read_all ↔ IsWholeRequest taken)
 
 -- a request with a head within the limits has only one reply
 abbrev pub RepliesOnce : Type 0

@@ -1,9 +1,8 @@
 -- The answer to a request over HTTP, and the office after it.
-use Rattle.std.specs.Prelude.{◌≡◌, ◌⊎◌, ◌++◌, ℕ, ◌≤◌, true, false, List, [], length, Option, Result, Ok}
+use Rattle.std.specs.Prelude.{◌≡◌, ◌⊎◌, ◌++◌, ℕ, ◌≤◌, true, false, List, [], length, Option}
 use Rattle.std.specs.Io.KnownBytes.{Appends, Consumes}
 use Rattle.sqlite.specs.Held.{Held}
 use Rattle.sqlite.specs.State.{State}
-use Rattle.rbac_sets.specs.declared.refusal.Refusal.{Refusal}
 use Rattle.rbac_sets.specs.declared.refusal.Refusal.TheVariants.{Memory, Store, Closed}
 use Rattle.role_json.specs.Answer.{refusal_text}
 use Rattle.role_json.specs.RequestContent.{RequestContent}
@@ -11,17 +10,11 @@ use Rattle.role_http.specs.HeadAnswer.{with_left}
 use Rattle.role_http.specs.ReplyBytes.{reply_bytes}
 use Rattle.role_tables.specs.Office.{OfficeModel}
 use Rattle.role_wire.specs.Continuation.{ReachesState}
-use Rattle.role_wire.specs.private.PreparedReply.{bytes_in}
 use Rattle.role_wire.specs.Outcome.{state_after}
-use Rattle.role_wire.specs.OfficeRequest.{IsAccepted, StoreFailsFor}
-use Rattle.role_wire.specs.Reply.{Reply, Replies, Asks, TakesNoFurther, reply_of}
+use Rattle.role_wire.specs.OfficeRequest.{IsAcceptedImport, StoreFailsFor}
+use Rattle.role_wire.specs.Reply.{Reply, Replies, Asks, TakesNoFurther}
 use Rattle.role_wire.specs.declared.lines.Cause.{Cause}
 use Rattle.role_wire.specs.declared.lines.Cause.TheVariants as cause
-use Rattle.role_wire.specs.declared.prepared_reply.PreparedReply.{PreparedReply}
-
--- this request was read
-abbrev pub IsReadAs : Result RequestContent Refusal → RequestContent → Type 0
-IsReadAs read asked = read ≡ Ok asked
 
 -- a closed office stays as it is, and a request that asks for this is answered by 500 with 42 Closed, or by 503 with 40 Memory
 abbrev pub StaysClosed : {S : Type 0} → OfficeModel S → (RequestContent → Type 0) → ℕ → List ℕ → OfficeModel S → Type 0
@@ -41,24 +34,16 @@ module _ {S : Type 0} (shown : Held S → State) where
       ⊎ (((status ≡ 500) × (body ≡ refusal_text Store) × ((asked : RequestContent) × AsksFor asked × StoreFailsFor shown old asked new))
       ⊎ ((status ≡ 500) × (body ≡ refusal_text Closed) × (old.is_closed ≡ true) × (new ≡ old) × ((asked : RequestContent) × AsksFor asked)))
 
-  -- an open office did an accepted command
-  abbrev pub IsDone : OfficeModel S → (RequestContent → Type 0) → OfficeModel S → Type 0
-  IsDone old AsksFor new = (asked : RequestContent) × AsksFor asked × (old.is_closed ≡ false) × IsAccepted old.facts asked × ReachesState shown old (state_after old.facts asked) new
+  -- an open office did an accepted import
+  abbrev pub IsImported : OfficeModel S → (RequestContent → Type 0) → OfficeModel S → Type 0
+  IsImported old AsksFor new = (asked : RequestContent) × AsksFor asked × (old.is_closed ≡ false) × IsAcceptedImport old.facts asked
+      × ReachesState shown old (state_after old.facts asked) new
 
-  -- There is no reply: a read failed and nothing was done, or an accepted command was done and its text could not be allocated.
+  -- There is no reply: a read failed and nothing was done, or an accepted import was done and its text could not be allocated.
   abbrev pub LeavesUnanswered : Cause → OfficeModel S → (RequestContent → Type 0) → OfficeModel S → Type 0
   LeavesUnanswered cause.Read old AsksFor new = new ≡ old
-  LeavesUnanswered cause.Memory old AsksFor new = IsDone old AsksFor new
+  LeavesUnanswered cause.Memory old AsksFor new = IsImported old AsksFor new
   LeavesUnanswered _ old AsksFor new = ⊥
-
-  -- ---- the result of reading a body
-
-  -- This is the reply to it, or the answer instead of the reply. The reply doesn't depend on the length of the body.
-  abbrev pub AnswersBody : OfficeModel S → Result RequestContent Refusal → PreparedReply → OfficeModel S → Type 0
-  AnswersBody old read made new =
-      (((taken : ℕ) → IsThisReply old (reply_of old.facts taken read) made.status (bytes_in made.body) new)
-      ⊎ IsAnsweredInstead old (IsReadAs read) made.status (bytes_in made.body) new)
-      × StaysClosed old (IsReadAs read) made.status (bytes_in made.body) new
 
   -- ---- whole requests
 

@@ -28,7 +28,7 @@ pub use lines::{Cause, Count, Stop};
 pub use office_replay::replay;
 pub use role_csv::{read_assignments, write_assignments};
 pub use role_json::{Function, Request, Verdict, answer_text, read_body, read_request};
-pub use serving::{Served, serve_one, serve_with};
+pub use serving::{Answered, Served, Server, serve_one};
 
 pub mod laws;
 pub mod lines;

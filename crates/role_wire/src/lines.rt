@@ -1,5 +1,6 @@
 //! Reads an input line by line, and writes an answer line for each line that isn't blank.
-ghost use Rattle.std.specs.Prelude.{◌≡◌, ◌≢◌, ◌⊎◌, ◌≤◌, ◌<◌, ◌+◌, ◌^◌, ◌==◌, ℕ, Bool, true, false, List, [], ◌∷◌, ◌++◌, length, IfOk, OnOk, OnErr, IfSome, IfErr, string_bytes};
+ghost use Rattle.std.specs.Prelude.{◌≡◌, ◌≢◌, ◌⊎◌, ◌≤◌, ◌<◌, ◌+◌, ◌^◌, ◌==◌, ℕ, Bool, true, false, List, [], ◌∷◌, ◌++◌, length, IfOk, OnOk, OnErr, IfSome, IfErr};
+ghost use Rattle.std.specs.Cow.{cow_str_bytes};
 ghost use Rattle.std.specs.List.{position};
 ghost use Rattle.std.specs.Io.KnownBytes.{Appends, Consumes, IsAtEnd};
 ghost use Rattle.rbac_sets.specs.Stream.{HasRisen};
@@ -10,6 +11,7 @@ ghost use Rattle.role_wire.specs.Replay.{IsAtBound, IsReplayed, IsStopped, most_
 use rbac_sets::{Fault, Sink, Source, write_all};
 use role_json::LONGEST_LINE;
 use std::alloc::Global;
+use std::borrow::CowStr;
 use std::fmt;
 use std::fmt::{Display, Formatter, Write};
 
@@ -47,13 +49,13 @@ pub trait AnswerLines {
         ensures { result ≡ closed self.now };
 
     /// Answers `line`, which has at most 65,536 bytes, no LF, and at least one byte that is not a space,
-    /// tab or CR. The answer is one line of text without its LF.
+    /// tab or CR. The answer is one line of text, with its LF.
     ///
     /// # Errors
     ///
     /// `Memory` if an allocation failed, and `Store` if the store failed.
-    fn answer_line(&mut self, alloc: Global, line: &[u8]) -> Result<String, Unanswered>
-        ensures ok { IfOk result (λ text. answers self.old line.now (string_bytes text) self.new) }
+    fn answer_line(&mut self, alloc: Global, line: &[u8]) -> Result<CowStr<'static>, Unanswered>
+        ensures ok { IfOk result (λ answer. (text : List ℕ) × answers self.old line.now text self.new × (cow_str_bytes answer ≡ text ++ line_feed ∷ [])) }
         ensures err { IfErr result (λ unanswered. fails self.old line.now unanswered self.new) };
 
     // After a failure of the store it is closed.
@@ -222,23 +224,6 @@ fn line_end(bytes: &[u8]) -> Option<usize>
     bytes.iter().position(|byte| *byte == b'\n')
 }
 
-// The answer to the line, with LF.
-fn answer_with_line_feed<A: AnswerLines>(
-    alloc: Global,
-    office: &mut A,
-    line: &[u8],
-) -> Result<String, Unanswered>
-    ensures ok { IfOk result (λ answer. (text : List ℕ) × A.answers office.old line.now text office.new × (string_bytes answer ≡ text ++ line_feed ∷ [])) }
-    ensures err { IfErr result (λ unanswered. A.fails office.old line.now unanswered office.new
-        ⊎ ((unanswered ≡ Unanswered.Memory) × ((text : List ℕ) × A.answers office.old line.now text office.new))) }
-{
-    let mut answer = office.answer_line(alloc, line)?;
-    match answer.push('\n') {
-        Ok(()) => Ok(answer),
-        Err(_) => Err(Unanswered::Memory),
-    }
-}
-
 // Answers the line that ended, unless it is blank, and begins the next.
 fn end_line<A: AnswerLines, W: Sink>(
     alloc: Global,
@@ -259,7 +244,7 @@ fn end_line<A: AnswerLines, W: Sink>(
     ensures no_read { IfErr result (λ cause. cause ≢ Cause.Read) }
 {
     if !is_blank(&progress.line) {
-        let answer = match answer_with_line_feed(alloc, office, &progress.line) {
+        let answer = match office.answer_line(alloc, &progress.line) {
             Ok(answer) => answer,
             Err(Unanswered::Memory) => return Err(Cause::Memory),
             Err(Unanswered::Store) => return Err(Cause::Store),

@@ -1,5 +1,6 @@
 //! A replay: the lines of an input, answered by an office one after the other.
-ghost use Rattle.std.specs.Prelude.{◌≡◌, ◌⊎◌, ◌≤◌, ◌+◌, ℕ, List, true, false, Err, OnOk, IfOk, IfErr};
+ghost use Rattle.std.specs.Prelude.{◌≡◌, ◌≢◌, ◌⊎◌, ◌≤◌, ◌+◌, ◌++◌, ◌∷◌, [], ℕ, List, true, false, Err, OnOk, IfOk, IfErr, string_bytes};
+ghost use Rattle.std.specs.Cow.{cow_str_bytes};
 ghost use Rattle.std.specs.Io.KnownBytes.{Consumes, IsAtEnd};
 ghost use Rattle.sqlite.specs.Held.{state};
 ghost use Rattle.rbac_sets.specs.Stream.{HasRisen};
@@ -7,6 +8,7 @@ ghost use Rattle.role_json.specs.Answer.{text_of};
 ghost use Rattle.role_json.specs.RequestContent.{requested};
 ghost use Rattle.role_wire.specs.Continuation.{ReachesState};
 ghost use Rattle.role_wire.specs.LineAnswer.{AnswersLine, AnswersRequest, FailsLine, FailsRequest, verdict_of_refusal, unread_verdict};
+ghost use Rattle.role_wire.specs.Lines.{line_feed};
 ghost use Rattle.role_wire.specs.Outcome.{after_lines, asking_lines, outcome_of, state_after, outcome_text};
 ghost use Rattle.role_wire.specs.Replay.{IsAtBound, most_reads};
 ghost use Rattle.role_wire.specs.OfficeReplay.{IsAnswered, IsHalted, WritesFirst};
@@ -18,6 +20,10 @@ use role_json::{Request, Verdict, answer_text, read_request};
 use role_tables::Office;
 use sqlite::Alter;
 use std::alloc::Global;
+use std::borrow::CowStr;
+
+// The answer to a command that was done.
+const DONE_LINE: &str = "{\"ok\":true}\n";
 
 /// Replays an input: reads the lines of `source` until it ends, and writes the answer of `office` to each
 /// of them to `sink`, in order.
@@ -38,7 +44,8 @@ use std::alloc::Global;
 ///   bytes. It was not judged.
 /// - `Write`: a write failed, or accepted no byte. A part of the next answer may have been written, and what
 ///   its line asks for is done.
-/// - `Memory`: an allocation failed. What the next line asks for may have been done.
+/// - `Memory`: an allocation failed. Nothing of the next line was done, unless it asks for an import that is
+///   accepted: that may have been done.
 /// - `Store`: the store failed in the command of the next line, which is accepted in the state after the
 ///   lines before it. The office is closed. While the disk returns what was written, the open tables hold
 ///   the state before the command, and a crash leaves that state or the state after the command.
@@ -79,24 +86,46 @@ impl<S: Alter> AnswerLines for Office<S> {
         Office::is_closed(self)
     }
 
-    fn answer_line(&mut self, alloc: Global, line: &[u8]) -> Result<String, Unanswered> {
+    fn answer_line(&mut self, alloc: Global, line: &[u8]) -> Result<CowStr<'static>, Unanswered> {
         let verdict = perform_line(alloc, self, line)?;
-        match answer_text(alloc, &verdict) {
-            Ok(text) => Ok(text),
-            Err(_) => Err(Unanswered::Memory),
-        }
+        answer_to_verdict(alloc, &verdict)
     }
 
     ghost store_closes = { λ old new line fails. fails.0 };
 }
 
-// Does or answers what a line asks for, and returns the verdict.
+// The answer to a verdict, with its LF. That to `Done` isn't allocated.
+fn answer_to_verdict(alloc: Global, verdict: &Verdict) -> Result<CowStr<'static>, Unanswered>
+    ensures ok { IfOk result (λ answer. cow_str_bytes answer ≡ text_of verdict.now ++ line_feed ∷ []) }
+    ensures err { IfErr result (λ unanswered. (unanswered ≡ Unanswered.Memory) × (verdict.now ≢ Verdict.Done)) }
+{
+    match verdict {
+        Verdict::Done => Ok(CowStr::Borrowed(DONE_LINE)),
+        _ => match allocated_line(alloc, verdict) {
+            Ok(line) => Ok(CowStr::Owned(line)),
+            Err(_) => Err(Unanswered::Memory),
+        },
+    }
+}
+
+// The answer to a verdict, with its LF.
+fn allocated_line(alloc: Global, verdict: &Verdict) -> Result<String, Refusal>
+    ensures { IfOk result (λ line. string_bytes line ≡ text_of verdict.now ++ line_feed ∷ []) }
+{
+    let mut line = answer_text(alloc, verdict)?;
+    line.push('\n')?;
+    Ok(line)
+}
+
+// Does or answers what a line asks for, and returns the verdict. If it isn't `Done`, a failed allocation of its
+// answer is a failure as any other.
 fn perform_line<S: Alter>(
     alloc: Global,
     office: &mut Office<S>,
     line: &[u8],
 ) -> Result<Verdict, Unanswered>
     ensures answered { IfOk result (λ verdict. AnswersLine (state S.Store) office.old line.now (text_of verdict) office.new) }
+    ensures other { IfOk result (λ verdict. verdict ≢ Verdict.Done → FailsLine (state S.Store) office.old line.now Unanswered.Memory office.new) }
     ensures failed { IfErr result (λ unanswered. FailsLine (state S.Store) office.old line.now unanswered office.new) }
 {
     match read_request(alloc, line) {
@@ -112,6 +141,7 @@ fn perform_request<S: Alter>(
     request: &Request,
 ) -> Result<Verdict, Unanswered>
     ensures answered { IfOk result (λ verdict. AnswersRequest (state S.Store) office.old (requested request.now) (text_of verdict) office.new) }
+    ensures other { IfOk result (λ verdict. verdict ≢ Verdict.Done → FailsRequest (state S.Store) office.old (requested request.now) Unanswered.Memory office.new) }
     ensures failed { IfErr result (λ unanswered. FailsRequest (state S.Store) office.old (requested request.now) unanswered office.new) }
 {
     match perform(alloc, office, request) {

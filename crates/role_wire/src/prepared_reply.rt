@@ -1,61 +1,54 @@
 //! Replies before they are written: a status and a body.
 ghost use Rattle.std.specs.Prelude.{◌≡◌, None, false, IfSome};
-ghost use Rattle.role_json.specs.Answer.{refusal_text};
-ghost use Rattle.role_http.specs.Status.{head_body};
-ghost use Rattle.role_wire.specs.private.PreparedReply.{ReportsRefusal, bytes_in, is_fixed};
+ghost use Rattle.std.specs.Cow.{cow_str_bytes};
+ghost use Rattle.role_json.specs.Answer.{done_text, refusal_text};
+ghost use Rattle.role_wire.specs.Reply.{head_body};
+ghost use Rattle.role_wire.specs.private.PreparedReply.{ReportsRefusal, is_fixed};
 
 use http::StatusCode;
 use rbac_sets::Refusal;
-use role_http::{refused_body, status_of};
+use role_http::status_of;
 use role_json::{Verdict, answer_text};
 use std::alloc::Global;
+use std::borrow::CowStr;
 
-// The body of a reply.
-#[derive(Drop)]
-pub(crate) enum Body {
-    // A constant text, which isn't allocated.
-    Fixed(&'static str),
-    // An allocated text.
-    Text(String),
-}
-
-impl Body {
-    pub(crate) fn as_bytes(&self) -> &[u8]
-        ensures { result.now ≡ bytes_in self.now }
-    {
-        match self {
-            Body::Fixed(text) => text.as_bytes(),
-            Body::Text(text) => text.as_bytes(),
-        }
-    }
-}
-
-// A reply that is to be written.
+// A reply that is to be written. Its body is a constant, or was allocated.
 #[derive(Drop)]
 pub(crate) struct PreparedReply {
     pub(crate) status: StatusCode,
-    pub(crate) body: Body,
+    pub(crate) body: CowStr<'static>,
+}
+
+// The reply to a command that was done. It doesn't allocate.
+pub(crate) fn done() -> PreparedReply
+    ensures status { result.status ≡ 200 }
+    ensures body { cow_str_bytes result.body ≡ done_text }
+{
+    PreparedReply {
+        status: StatusCode::OK,
+        body: CowStr::Borrowed("{\"ok\":true}"),
+    }
 }
 
 // The reply after a failed allocation. It doesn't allocate.
 pub(crate) fn no_memory() -> PreparedReply
     ensures status { result.status ≡ 503 }
-    ensures body { bytes_in result.body ≡ refusal_text Refusal.Memory }
+    ensures body { cow_str_bytes result.body ≡ refusal_text Refusal.Memory }
 {
     PreparedReply {
         status: StatusCode::SERVICE_UNAVAILABLE,
-        body: Body::Fixed(memory_text()),
+        body: CowStr::Borrowed(memory_text()),
     }
 }
 
 // The reply that refuses a head with this status. It doesn't allocate.
 pub(crate) fn refused_head(status: StatusCode) -> PreparedReply
     ensures status { result.status ≡ status }
-    ensures body { bytes_in result.body ≡ head_body status }
+    ensures body { cow_str_bytes result.body ≡ head_body status }
 {
     PreparedReply {
         status,
-        body: Body::Fixed(refused_body(status)),
+        body: CowStr::Borrowed(refused_body(status)),
     }
 }
 
@@ -68,13 +61,13 @@ pub(crate) fn refused(alloc: Global, refusal: Refusal) -> PreparedReply
     if let Some(text) = fixed_text(&refusal) {
         return PreparedReply {
             status,
-            body: Body::Fixed(text),
+            body: CowStr::Borrowed(text),
         };
     }
     match answer_text(alloc, &Verdict::Refused(refusal)) {
         Ok(text) => PreparedReply {
             status,
-            body: Body::Text(text),
+            body: CowStr::Owned(text),
         },
         Err(_) => no_memory(),
     }
@@ -95,16 +88,27 @@ fn fixed_text(refusal: &Refusal) -> Option<&'static str>
     }
 }
 
+// The body of a reply that refuses a head with this status.
+fn refused_body(status: StatusCode) -> &'static str
+    ensures { result.now ≡ head_body status }
+{
+    if status == StatusCode::NOT_FOUND {
+        unknown_function_text()
+    } else {
+        bad_request_text()
+    }
+}
+
 fn bad_request_text() -> &'static str
     ensures { result.now ≡ refusal_text Refusal.BadRequest }
 {
-    refused_body(StatusCode::BAD_REQUEST)
+    "{\"code\":34,\"error\":\"BadRequest\"}"
 }
 
 fn unknown_function_text() -> &'static str
     ensures { result.now ≡ refusal_text Refusal.UnknownFunction }
 {
-    refused_body(StatusCode::NOT_FOUND)
+    "{\"code\":35,\"error\":\"UnknownFunction\"}"
 }
 
 fn memory_text() -> &'static str

@@ -14,7 +14,7 @@ use Rattle.admin_mgr.specs.Run.{run, next}
 use Rattle.admin_mgr.specs.Good.{IsGood}
 use Rattle.admin_mgr.specs.CommandLaws.{VersionStays}
 use Rattle.admin_mgr.specs.OfficeRun.{Event, IsClosedReply, Leaves, OfficeRun, OpensAfter, AreSuccessiveRuns, may_have_taken_effect}
-use Rattle.role_tables.specs.OfficeHistory.{acknowledged, accepted, MayLose, NeverFalls, IsAfterPrefix, OpeningsAreGood, OpeningsFollow, IsReached, LastIsSound}
+use Rattle.role_tables.specs.OfficeHistory.{acknowledged, accepted, MayLose, NeverFalls, IsAfterPrefix, CreatedRunsAreFromGood, OpeningsAreGood, OpeningsFollow, IsReached, LastIsSound}
 use Rattle.role_tables.specs.Runs.{run_of}
 use Rattle.role_tables.proofs.OfficeHistory.Known.{GoodnessLaws}
 use Rattle.role_tables.proofs.OfficeHistory.Induction.{event_with, by_events}
@@ -133,23 +133,27 @@ module _ (laws : GoodnessLaws) where
   first_good S (inl e) = subst IsGood (sym e) (laws.empty 1 (inl refl))
   first_good S (inr e) = subst IsGood (sym e) (laws.empty 2 (inr refl))
 
+  pub created_are_good : CreatedRunsAreFromGood
+  created_are_good [] are = are
+  created_are_good (first ∷ runs) are = (first_good first.start are.0, are.1, are.2)
+
   pub openings_are_good : OpeningsAreGood
-  openings_are_good before office_run later are = (run_at _ first_good before office_run later are).0
+  openings_are_good before office_run later are = (run_at _ (λ S good. good) before office_run later are).0
 
   pub openings_follow : OpeningsFollow
   openings_follow before office_run following later are =
-      let here = run_at _ first_good before office_run (following ∷ later) are in
+      let here = run_at _ (λ S good. good) before office_run (following ∷ later) are in
       prefix_opening office_run here.0 following.start here.2.0
 
   -- the state so far is one of those that a next opening may give
   pub reached_opens : (before : List OfficeRun) (last : OfficeRun) (T : RbacState) → IsReached before last T → OpensAfter last T
   reached_opens before last T reached = elim reached.is_found [
-    | inl now ↦ inl (subst (Leaves last.start last.events) (sym now) (so_far_left last.start last.events (run_at _ first_good before last [] reached.are_runs).1))
+    | inl now ↦ inl (subst (Leaves last.start last.events) (sym now) (so_far_left last.start last.events (run_at _ (λ S good. good) before last [] reached.are_runs).1))
     | inr opens ↦ opens
   ]
 
   pub last_is_sound : LastIsSound
   last_is_sound before last T reached =
-      let good = (run_at _ first_good before last [] reached.are_runs).0 in
+      let good = (run_at _ (λ S good. good) before last [] reached.are_runs).0 in
       let found = reached_opens before last T reached in
       (good_opening last good T found, prefix_opening last good T found)

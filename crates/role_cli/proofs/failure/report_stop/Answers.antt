@@ -1,16 +1,10 @@
-use Rattle.std.proofs.Common.{◌≡◌, ◌++◌, inl, ap, rules, ◌∙◌}
-use Rattle.std.proofs.lemmas.Fmt.{contents_after_writes}
-use Rattle.std.specs.Prelude.{IsOk}
-use Rattle.arrayvec.specs.ArrayString.{ArrayString}
-use Rattle.role_cli.specs.ErrorOutput.{stop_line}
-use Rattle.role_cli.proofs.Results.{on_ok-holds}
+use Rattle.std.proofs.Common.{◌≡◌, ◌∙◌, subst}
+use Rattle.role_cli.specs.Environment.{HasFailed}
+use Rattle.role_cli.specs.ErrorOutput.{Says, stop_line}
 use Rattle.role_cli.proofs.failure.report_stop.Goals as goal
 
--- The line holds what was formatted into it, and was empty before.
-pub returns-then-is_ok : goal.returns-then-is_ok
-returns-then-is_ok g c =
-    let ok : IsOk c.writeln.result = search rules in
-    let text = contents_after_writes _ (λ (line : ArrayString). line.bytes) (λ _ _ _ appended. appended) _ _ _ (on_ok-holds c.writeln.result _ ok c.writeln.ensures.writes) in
-    let is : c.as_bytes.result.now ≡ stop_line c.args.stop.now =
-    c.as_bytes.ensures.value ∙ c.as_str.ensures.value ∙ text ∙ ap (λ before. before ++ stop_line c.args.stop.now) c.new-line.ensures in
-    (c.as_bytes.result.now, inl is, c.write.ensures)
+-- The text that is written is the line.
+pub returns : goal.returns
+returns g c =
+    let is : c.as_bytes.result.now ≡ stop_line c.args.stop.now = c.as_bytes.ensures.value ∙ c.as_str.ensures.value ∙ c.stop_line-line.ensures in
+    subst (λ line. Says line (g.E.Sink.written c.args.err.now) (g.E.Sink.written c.write.new.err) (HasFailed (g.E.Sink.failed c.args.err.now) (g.E.Sink.failed c.write.new.err) (g.E.Sink.idle c.args.err.now) (g.E.Sink.idle c.write.new.err))) is c.write.ensures

@@ -1,24 +1,40 @@
-use Rattle.std.proofs.Common.{inl, inr, refl}
-use Rattle.role_cli.proofs.Results.{if_err-all, on_ok-holds}
-use Rattle.rbac_sets.specs.declared.refusal.Refusal.TheVariants.{Memory}
-use Rattle.role_cli.specs.ErrorOutput.{no_memory_line}
-use Rattle.role_cli.specs.declared.failure.Failure.TheVariants.{Refused}
+use Rattle.std.proofs.Common.{inl, inr}
+use Rattle.role_cli.specs.Hosts.{accepted_on_machine, failed_on_machine}
+use Rattle.role_cli.specs.ProgramOutcome.{FailsBy, IsDone}
+use Rattle.role_cli.proofs.Beginning.{fails_less}
+use Rattle.role_cli.proofs.Machines.{on_machine}
 use Rattle.role_cli.proofs.program.run.Goals as goal
 
--- The choice is the one in the arguments, and status 0 means that it was done.
-pub returns-in-Ok-clause-done : goal.returns-in-Ok-clause-done
-returns-in-Ok-clause-done g c zero =
-    inr (c.in-Ok.choice, c.in-Ok.ensures.ok, on_ok-holds c.done.result _ (c.status_of.ensures.done.0 zero) c.done.ensures.done, c.done.ensures.unread)
+-- It was done on the machine of this runtime.
+pub returns-clause-done : goal.returns-clause-done
+returns-clause-done g c zero = elim (c.run_with-status.ensures.done zero) [
+  | inl (asks, same, _) ↦ inl (asks, same)
+  | inr (choice, chooses, unread, _, is, _) ↦ inr (
+    choice,
+    chooses,
+    unread,
+    on_machine (IsDone _ _ choice) (g.R.Source.remaining c.args.source.now) (g.R.Source.reads c.args.source.now) (g.R.Source.failed c.args.source.now) (g.W.Sink.written c.args.out.now) (g.W.Sink.failed c.args.out.now) (g.W.Sink.idle c.args.out.now)
+        (g.R.Source.remaining c.run_with-status.new.source) (g.R.Source.reads c.run_with-status.new.source) (g.R.Source.failed c.run_with-status.new.source) (g.W.Sink.written c.run_with-status.new.out) (g.W.Sink.failed c.run_with-status.new.out) (g.W.Sink.idle c.run_with-status.new.out) (accepted_on_machine c.new-machine.result) (failed_on_machine c.new-machine.result) (accepted_on_machine c.run_with-status.new.host) (failed_on_machine c.run_with-status.new.host)
+        c.new-machine.ensures.accepted c.new-machine.ensures.failed is,
+  )
+]
 
--- Status 1 means that it failed, and the line reports that failure.
-pub returns-in-Ok-clause-stopped : goal.returns-in-Ok-clause-stopped
-returns-in-Ok-clause-stopped g c one =
-    let failed = if_err-all c.done.result _ _ _ _ (c.status_of.ensures.stopped one) (c.status_of.ensures.reported one) c.done.ensures.stopped c.done.ensures.caused in
-    (failed.0, failed.1, inr (c.in-Ok.choice, c.in-Ok.ensures.ok, c.done.ensures.unread, failed.2))
-
--- An allocation failed before anything was chosen.
-pub returns-in-Err-Memory-clause-stopped : goal.returns-in-Err-Memory-clause-stopped
-returns-in-Err-Memory-clause-stopped g c _ = (Refused Memory, (no_memory_line, inl refl, c.report_no_memory.ensures), inl (refl, refl))
-
-pub returns-in-Err-Fault-clause-stopped : goal.returns-in-Err-Fault-clause-stopped
-returns-in-Err-Fault-clause-stopped g c stopped = (Refused Memory, (no_memory_line, inl refl, c.explain.ensures.reported stopped), inl (refl, c.explain.ensures.refused (inr stopped)))
+-- And so it failed.
+pub returns-clause-stopped : goal.returns-clause-stopped
+returns-clause-stopped g c one =
+    let (failure, reported, why) = c.run_with-status.ensures.stopped one in
+    elim why [
+      | inl (memory, kept) ↦ (failure, reported, inl (memory, kept.0, kept.1))
+      | inr (choice, chooses, unread, _, fails, _) ↦ (
+        failure,
+        reported,
+        inr (
+          choice,
+          chooses,
+          unread,
+          on_machine (FailsBy _ _ choice failure _) (g.R.Source.remaining c.args.source.now) (g.R.Source.reads c.args.source.now) (g.R.Source.failed c.args.source.now) (g.W.Sink.written c.args.out.now) (g.W.Sink.failed c.args.out.now) (g.W.Sink.idle c.args.out.now)
+              (g.R.Source.remaining c.run_with-status.new.source) (g.R.Source.reads c.run_with-status.new.source) (g.R.Source.failed c.run_with-status.new.source) (g.W.Sink.written c.run_with-status.new.out) (g.W.Sink.failed c.run_with-status.new.out) (g.W.Sink.idle c.run_with-status.new.out) (accepted_on_machine c.new-machine.result) (failed_on_machine c.new-machine.result) (accepted_on_machine c.run_with-status.new.host) (failed_on_machine c.run_with-status.new.host)
+              c.new-machine.ensures.accepted c.new-machine.ensures.failed (fails_less _ _ choice failure _ _ _ _ (λ kept. (kept.0, kept.1)) fails),
+        ),
+      )
+    ]

@@ -1,6 +1,9 @@
+use Rattle.std.proofs.Common.{ap, refl}
 use Rattle.sqlite.specs.Held.{state}
-use Rattle.role_cli.proofs.Beginning.{begins_open, starts_open, unopened_open}
-use Rattle.role_cli.proofs.Results.{if_err-three, if_ok-join}
+use Rattle.role_wire.proofs.Results.{if_err-then}
+use Rattle.role_cli.specs.declared.failure.Failure.TheVariants.{Refused}
+use Rattle.role_cli.proofs.Beginning.{begins_open, refusal_fails, starts_open, unopened_open}
+use Rattle.role_cli.proofs.Results.{if_err-three, if_ok-join, if_ok-three}
 use Rattle.role_cli.proofs.work.office_of.Goals as goal
 
 -- ---- an office is created
@@ -13,16 +16,22 @@ pub returns-in-Init-clause-unopened : goal.returns-in-Init-clause-unopened
 returns-in-Init-clause-unopened g c =
     rw c.in-Init.is (if_err-three c.create.result _ _ _ _ c.create.ensures.err c.create.ensures.undone c.create.ensures.crash (λ u why held left clean. (why, held clean, left clean)))
 
+pub returns-in-Init-clause-refusal : goal.returns-in-Init-clause-refusal
+returns-in-Init-clause-refusal g c = rw c.in-Init.is (if_err-then c.create.result _ _ c.create.ensures.err (λ u is. ap Refused is))
+
 -- ---- an office is migrated
 
 pub returns-in-Migrate-clause-begins : goal.returns-in-Migrate-clause-begins
 returns-in-Migrate-clause-begins g c =
-    rw c.in-Migrate.is (if_ok-join c.migrate.result _ _ _ c.migrate.ensures.moved c.migrate.ensures.run
-    (λ office moved run clean S good named stands. ((moved clean S good named stands).0, run clean S good named stands)))
+    rw c.in-Migrate.is (if_ok-three c.migrate.result _ _ _ _ c.migrate.ensures.ok c.migrate.ensures.moved c.migrate.ensures.run
+    (λ office ok moved run clean. (ok.2 clean, λ S good named stands. ((moved clean S good named stands).0, run clean S good named stands))))
 
 pub returns-in-Migrate-clause-unopened : goal.returns-in-Migrate-clause-unopened
 returns-in-Migrate-clause-unopened g c =
     rw c.in-Migrate.is (if_err-three c.migrate.result _ _ _ _ c.migrate.ensures.err c.migrate.ensures.unmoved c.migrate.ensures.crash (λ u why stays left clean. (why clean, stays clean, left clean)))
+
+pub returns-in-Migrate-clause-refusal : goal.returns-in-Migrate-clause-refusal
+returns-in-Migrate-clause-refusal g c = rw c.in-Migrate.is (if_err-then c.migrate.result _ _ c.migrate.ensures.refusal (λ u is. (u.refusal, refl, is)))
 
 -- ---- an office is opened
 
@@ -33,9 +42,12 @@ returns-in_default-clause-made g c =
 pub returns-in_default-clause-begins : goal.returns-in_default-clause-begins
 returns-in_default-clause-begins g c =
     if_ok-join c.open.result _ _ _ c.open.ensures.ok c.open.ensures.run
-    (λ office ok run clean. begins_open c.args.choice.now c.in_default.not-Init c.in_default.not-Migrate (state g.S.Store) (state g.S.Store c.args.conn) office (run clean))
+    (λ office ok run clean. begins_open c.args.choice.now c.in_default.not-Init c.in_default.not-Migrate (state g.S.Store) (state g.S.Store c.args.conn) office (ok.2 clean) (run clean))
 
 pub returns-in_default-clause-unopened : goal.returns-in_default-clause-unopened
 returns-in_default-clause-unopened g c =
     if_err-three c.open.result _ _ _ _ c.open.ensures.err c.open.ensures.undone c.open.ensures.refused
     (λ u why held left clean. unopened_open c.args.choice.now c.in_default.not-Init c.in_default.not-Migrate (state g.S.Store) (state g.S.Store c.args.conn) u.refusal (state g.S.Store u.conn) (why clean) (held clean) (left clean))
+
+pub returns-in_default-clause-refusal : goal.returns-in_default-clause-refusal
+returns-in_default-clause-refusal g c = if_err-then c.open.result _ _ c.open.ensures.refusal (λ u is. refusal_fails c.args.choice.now u.refusal c.in_default.not-Init is)

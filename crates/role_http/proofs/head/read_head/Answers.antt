@@ -36,18 +36,18 @@ returns-in-Ok-Complete-clause-ends g c =
 pub returns-in_default-clause-takes : goal.returns-in_default-clause-takes
 returns-in_default-clause-takes g c =
     let l = c.loop.invariant in
-    ConsumesHead-kept _ _ _ c.loop.bytes.items l.none (rw l.counted (omega (arith, c.loop-test.true))) l.read (rw c.in_default.is at c.in_ok-byte.ensures.end)
+    rw c.in_ok-reserve.ensures.items (ConsumesHead-kept _ _ _ c.loop.bytes.items l.none (rw l.counted (omega (arith, c.loop-test.true))) l.read (rw c.in_default.is at c.in_ok-byte.ensures.end))
+
+pub returns-in_err-reserve-clause-stops : goal.returns-in_err-reserve-clause-stops
+returns-in_err-reserve-clause-stops g c =
+    let l = c.loop.invariant in
+    on_err _ c.from_residual.result (c.loop.bytes.items, ConsumesHead-all _ _ c.loop.bytes.items l.none (rw l.counted (omega (arith, c.loop-test.true))) l.read, l.none)
 
 pub returns-in_err-byte-clause-stops : goal.returns-in_err-byte-clause-stops
 returns-in_err-byte-clause-stops g c =
     let l = c.loop.invariant in
-    on_err _ c.from_residual.result (c.loop.bytes.items, ConsumesHead-kept _ _ _ c.loop.bytes.items l.none (rw l.counted (omega (arith, c.loop-test.true))) l.read c.in_err-byte.ensures.err)
-
-pub returns-in_err-push-clause-stops : goal.returns-in_err-push-clause-stops
-returns-in_err-push-clause-stops g c =
-    let l = c.loop.invariant in
-    on_err _ c.from_residual-in_err-push.result
-    (_, ConsumesHead-more _ _ _ c.loop.bytes.items c.in-Some.byte l.none (rw l.counted (omega (arith, c.loop-test.true))) l.read (rw c.in-Some.is at c.in_ok-byte.ensures.byte))
+    on_err _ c.from_residual-in_err-byte.result
+    (c.loop.bytes.items, ConsumesHead-kept _ _ _ c.loop.bytes.items l.none (rw l.counted (omega (arith, c.loop-test.true))) l.read c.in_err-byte.ensures.err, l.none)
 
 pub returns-in-Ok-Complete-clause-takes : goal.returns-in-Ok-Complete-clause-takes
 returns-in-Ok-Complete-clause-takes g c =

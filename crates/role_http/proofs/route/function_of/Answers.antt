@@ -1,5 +1,5 @@
 use Rattle.std.proofs.Common.{◌≡◌, ◌∙◌, sym, ap}
-use Rattle.role_json.specs.Function.{function_named}
+use Rattle.role_functions.specs.Function.{function_named}
 use Rattle.role_http.proofs.RouteLookup.{function_in-other, function_in-unrouted, took}
 use Rattle.role_http.proofs.route.function_of.Goals as goal
 

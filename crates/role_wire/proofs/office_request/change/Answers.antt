@@ -18,5 +18,5 @@ pub returns-clause-done : goal.returns-clause-done
 returns-clause-done g c =
     let is : c.apply.result ≡ Ok c.in_ok-report.report = search rules in
     let e = c.apply.ensures in
-    subst (λ text. Performs (state g.S.Store) c.args.office.now (Change (content_of c.args.command.now)) text c.apply.new.self) (sym c.verdict_on.ensures)
+    subst (λ text. Performs (state g.S.Store) c.args.office.now (Change (content_of c.args.command.now)) text c.apply.new.self) (sym c.verdict_on.ensures.text)
     (command_done (state g.S.Store) c.args.office.now c.apply.new.self c.args.command.now c.apply.result e.closed e.answers e.clean e.done e.undone e.crash e.run c.in_ok-report.report is)

@@ -1,7 +1,8 @@
 use Rattle.std.proofs.Common.{subst, sym}
 use Rattle.sqlite.specs.Held.{state}
 use Rattle.role_json.specs.Request.{body_to}
-use Rattle.role_wire.specs.ServedRequest.{AnswersBody, IsDone, IsReadAs}
+use Rattle.role_wire.specs.ServedRequest.{IsImported}
+use Rattle.role_wire.specs.private.PreparedReply.{AnswersBody, IsReadAs}
 use Rattle.role_wire.proofs.Results.{if_ok-then, if_err-then}
 use Rattle.role_wire.proofs.HttpAnswers.{unread_told}
 use Rattle.role_wire.proofs.serving.answer_body.Goals as goal
@@ -14,7 +15,7 @@ returns-in-Ok-clause-made g c =
 pub returns-in-Ok-clause-left : goal.returns-in-Ok-clause-left
 returns-in-Ok-clause-left g c =
     if_err-then c.answer_request.result _ _ c.answer_request.ensures.left (λ cause left.
-    (left.0, subst (λ read. IsDone (state g.S.Store) c.args.office.now (IsReadAs read) c.answer_request.new.office) (sym c.in-Ok.ensures.ok) left.1))
+    (left.0, subst (λ read. IsImported (state g.S.Store) c.args.office.now (IsReadAs read) c.answer_request.new.office) (sym c.in-Ok.ensures.ok) left.1))
 
 pub returns-in-Err-clause-made : goal.returns-in-Err-clause-made
 returns-in-Err-clause-made g c =

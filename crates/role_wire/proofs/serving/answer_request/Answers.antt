@@ -1,11 +1,11 @@
 use Rattle.std.proofs.Common.{inl, inr, Ok}
+use Rattle.std.specs.Cow.{cow_str_bytes}
 use Rattle.sqlite.specs.Held.{state}
 use Rattle.role_json.specs.Answer.{text_of}
 use Rattle.role_json.specs.RequestContent.{requested}
 use Rattle.role_wire.proofs.Results.{if_ok-then, if_err-then}
-use Rattle.role_wire.specs.private.PreparedReply.{bytes_in}
-use Rattle.role_wire.specs.ServedRequest.{IsReadAs}
-use Rattle.role_wire.proofs.HttpAnswers.{works_on, performed_told, question_untold, command_untold, declined_told}
+use Rattle.role_wire.specs.private.PreparedReply.{IsReadAs}
+use Rattle.role_wire.proofs.HttpAnswers.{works_on, performed_told, question_untold, import_untold, declined_told}
 use Rattle.role_wire.proofs.serving.answer_request.Goals as goal
 
 pub returns-in-Ok-clause-made : goal.returns-in-Ok-clause-made
@@ -16,7 +16,7 @@ returns-in-Ok-clause-made g c =
     if_ok-then c.reply_to_verdict.result _ _ c.reply_to_verdict.ensures.made (λ made told. elim told [
       | inl replied ↦ (
         inl (λ taken. performed_told shown c.args.office.now c.perform.new.office asked text _ _ taken c.in-Ok.ensures.done replied.0 replied.1),
-        works_on c.args.office.now c.perform.new.office (IsReadAs (Ok asked)) made.status (bytes_in made.body) c.in-Ok.ensures.done.is_open,
+        works_on c.args.office.now c.perform.new.office (IsReadAs (Ok asked)) made.status (cow_str_bytes made.body) c.in-Ok.ensures.done.is_open,
       )
       | inr untold ↦ question_untold shown c.args.office.now c.perform.new.office asked text made c.in-Ok.ensures.done untold.1 untold.0
     ])
@@ -24,7 +24,7 @@ returns-in-Ok-clause-made g c =
 pub returns-in-Ok-clause-left : goal.returns-in-Ok-clause-left
 returns-in-Ok-clause-left g c =
     if_err-then c.reply_to_verdict.result _ _ c.reply_to_verdict.ensures.left (λ cause left.
-    (left.0, command_untold (state g.S.Store) c.args.office.now c.perform.new.office (requested c.args.request.now) (text_of c.in-Ok.verdict) c.in-Ok.ensures.done left.1))
+    (left.0, import_untold (state g.S.Store) c.args.office.now c.perform.new.office (requested c.args.request.now) (text_of c.in-Ok.verdict) c.in-Ok.ensures.done left.1))
 
 pub returns-in-Err-clause-made : goal.returns-in-Err-clause-made
 returns-in-Err-clause-made g c =

@@ -1,0 +1,105 @@
+-- What a call from C returns and leaves.
+use Rattle.std.specs.Prelude.{◌≡◌, ◌⊎◌, ◌<◌, ◌≤◌, ◌-ℤ◌, ℤ, pos, true, false, ℕ, List, length, take, Option, Some, None}
+use Rattle.rbac_sets.specs.Refusal.{code_of}
+use Rattle.rbac_sets.specs.Table.{number_of}
+use Rattle.rbac_sets.specs.declared.refusal.Refusal.{Refusal}
+use Rattle.rbac_sets.specs.declared.table.Table.{Table}
+use Rattle.rbac_sets.specs.declared.table.TheConstants.Table.{COUNT}
+use Rattle.admin_mgr.specs.RowChecks.{IsStateOf, RefusesRows}
+use Rattle.role_lines.specs.Decision.{Decides, Refuses}
+use Rattle.role_lines.specs.LineAnswer.{StopsAt}
+use Rattle.role_lines.specs.OfficeInMemory.{OfficeInMemory, after, starting, with_row, without_rows}
+use Rattle.role_lines.specs.StoredRow.{HasNames, IsRowAt, Parts, names_in, row_with}
+use Rattle.rbac_c.specs.declared.calls.TheConstants.{DONE, BAD_NAME, MEMORY, CLOSED, SHORT, ABSENT}
+use Rattle.rbac_c.specs.declared.calls.RowLengths.{RowLengths}
+
+-- the text stands at the beginning of the buffer, or the buffer is shorter than the text; either way this is the text's length
+abbrev pub Copies : List ℕ → List ℕ → ℕ → ℕ → Type 0
+Copies text out count code =
+    (count ≡ length text)
+    × (((code ≡ DONE) × (take (length text) out ≡ text))
+    ⊎ ((code ≡ SHORT) × (length out < length text)))
+
+-- The handle has an office, which answers the line, and the answer is copied. If an allocation failed, the line was done, or nothing
+-- was, and the office keeps no answer.
+abbrev pub AnswersIn : OfficeInMemory → OfficeInMemory → List ℕ → List ℕ → ℕ → ℕ → Type 0
+AnswersIn old new line out count code =
+    ((new ≡ after old line) × Copies new.kept out count code)
+    ⊎ ((code ≡ MEMORY) × ((count ≡ 0) × StopsAt old line new))
+
+-- the same for a handle: one without an office has none afterwards
+abbrev pub Answers : Option OfficeInMemory → Option OfficeInMemory → List ℕ → List ℕ → ℕ → ℕ → Type 0
+Answers None new line out count code = (new ≡ None) × ((count ≡ 0) × (code ≡ CLOSED))
+Answers (Some old) None line out count code = ⊥
+Answers (Some old) (Some new) line out count code = AnswersIn old new line out count code
+
+-- the answer that the office keeps is copied
+abbrev pub CopiesKept : Option OfficeInMemory → List ℕ → ℕ → ℕ → Type 0
+CopiesKept None out count code = (count ≡ 0) × (code ≡ CLOSED)
+CopiesKept (Some office) out count code = Copies office.kept out count code
+
+-- this is the revision of the office
+abbrev pub TellsRevision : Option OfficeInMemory → ℕ → ℕ → Type 0
+TellsRevision None revision code = (revision ≡ 0) × (code ≡ CLOSED)
+TellsRevision (Some office) revision code = (revision ≡ office.revision) × (code ≡ DONE)
+
+-- The number that stands for a decision: 1 or 0, or minus the code of the refusal. Without an office it is that of `Closed`.
+abbrev pub Decided : Option OfficeInMemory → List ℕ → List ℕ → List ℕ → ℤ → Type 0
+Decided None session operation object code = code ≡ pos 0 -ℤ pos CLOSED
+Decided (Some office) session operation object code =
+    (Decides office.facts session operation object true × (code ≡ pos 1))
+    ⊎ ((Decides office.facts session operation object false × (code ≡ pos 0))
+    ⊎ ((refusal : Refusal) × (Refuses office.facts session operation object refusal × (code ≡ pos 0 -ℤ pos (code_of refusal)))))
+
+-- ---- rows
+
+-- the lengths of the names of a row, and its number
+abbrev pub lengths_of : Parts → RowLengths
+lengths_of row = record { first = length row.first; second = length row.second; third = length row.third; number = row.number }
+
+-- the table has no row at this place, or there is no such table
+abbrev pub IsAbsent : OfficeInMemory → ℕ → ℕ → Type 0
+IsAbsent office table index = (COUNT ≤ table) ⊎ ((t : Table) × ((number_of t ≡ table) × IsRowAt office.facts t index None))
+
+-- this is the row at this place of the table
+abbrev pub HasRow : OfficeInMemory → ℕ → ℕ → Parts → Type 0
+HasRow office table index row = (t : Table) × ((number_of t ≡ table) × IsRowAt office.facts t index (Some row))
+
+-- the names of the row are copied, one after the other, and their lengths are written; or an allocation failed
+abbrev pub CopiesParts : Parts → List ℕ → RowLengths → ℕ → Type 0
+CopiesParts row out lengths code =
+    (lengths ≡ lengths_of row)
+    × (((code ≡ DONE) × (take (length (names_in row)) out ≡ names_in row))
+    ⊎ (((code ≡ SHORT) × (length out < length (names_in row)))
+    ⊎ (code ≡ MEMORY)))
+
+-- a row is copied, or there is none
+abbrev pub CopiesRow : Option OfficeInMemory → ℕ → ℕ → List ℕ → RowLengths → ℕ → Type 0
+CopiesRow None table index out lengths code = code ≡ CLOSED
+CopiesRow (Some office) table index out lengths code =
+    ((row : Parts) × (HasRow office table index row × CopiesParts row out lengths code))
+    ⊎ ((code ≡ ABSENT) × IsAbsent office table index)
+
+-- the row is added, or the office is the same: one of the row's names isn't a name, there is no such table, or an allocation failed
+abbrev pub AddsRowIn : OfficeInMemory → OfficeInMemory → ℕ → Parts → ℕ → Type 0
+AddsRowIn old new table row code =
+    ((t : Table) × ((number_of t ≡ table) × ((new ≡ with_row old (row_with t row)) × (code ≡ DONE))))
+    ⊎ ((new ≡ old) × (((t : Table) × ((number_of t ≡ table) × ((code ≡ BAD_NAME) × ¬ (HasNames t row))))
+    ⊎ (((code ≡ ABSENT) × (COUNT ≤ table))
+    ⊎ (code ≡ MEMORY))))
+
+abbrev pub AddsRow : Option OfficeInMemory → Option OfficeInMemory → ℕ → Parts → ℕ → Type 0
+AddsRow None new table row code = (new ≡ None) × (code ≡ CLOSED)
+AddsRow (Some old) None table row code = ⊥
+AddsRow (Some old) (Some new) table row code = AddsRowIn old new table row code
+
+-- the office starts again with the state of the added rows; or they are refused, and the office stays the same but for them
+abbrev pub LoadsIn : OfficeInMemory → OfficeInMemory → ℕ → ℕ → Type 0
+LoadsIn old new revision code =
+    ((code ≡ DONE) × ((new ≡ starting new.facts revision) × IsStateOf 2 old.rows new.facts))
+    ⊎ ((refusal : Refusal) × ((code ≡ code_of refusal) × ((new ≡ without_rows old) × RefusesRows 2 old.rows refusal)))
+
+abbrev pub Loads : Option OfficeInMemory → Option OfficeInMemory → ℕ → ℕ → Type 0
+Loads None new revision code = (new ≡ None) × (code ≡ CLOSED)
+Loads (Some old) None revision code = ⊥
+Loads (Some old) (Some new) revision code = LoadsIn old new revision code

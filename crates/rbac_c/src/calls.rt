@@ -1,0 +1,340 @@
+//! The functions that C calls. library/rbac.h says in words what each does.
+ghost use Rattle.std.specs.Prelude.{◌≡◌, ◌⊎◌, ◌<◌, Some, None, length, take};
+ghost use Rattle.admin_mgr.specs.RbacState.{empty_state};
+ghost use Rattle.role_lines.specs.OfficeInMemory.{starting};
+ghost use Rattle.role_lines.specs.RowParts.{parts_of};
+ghost use Rattle.role_lines.specs.StoredRow.{parts};
+ghost use Rattle.rbac_c.specs.Calls.{AddsRow, Answers, Copies, CopiesKept, CopiesParts, CopiesRow, Decided, Loads, TellsRevision};
+
+use crate::handle::OfficeHandle;
+use role_lines::{MemoryOffice, RowParts, decide, row_at, row_of, table_numbered};
+use std::alloc::Global;
+use std::mem::replace;
+
+/// What a call returns if it was done.
+pub const DONE: u32 = 0;
+
+/// What a call returns if a name isn't one: the code of `BadName`.
+pub const BAD_NAME: u32 = 1;
+
+/// What a call returns if an allocation failed: the code of `Memory`.
+pub const MEMORY: u32 = 40;
+
+/// What a call returns if the handle has no office: the code of `Closed`.
+pub const CLOSED: u32 = 42;
+
+/// What a call returns if a text is longer than the buffer.
+pub const SHORT: u32 = 60;
+
+/// What a call returns if there is no such table, or no such row in it.
+pub const ABSENT: u32 = 61;
+
+/// The lengths of the names of a row, and its number.
+#[repr(C)]
+#[derive(Clone, Copy)]
+pub struct RowLengths {
+    pub first: usize,
+    pub second: usize,
+    pub third: usize,
+    pub number: u32,
+}
+
+/// Makes a new and empty office of version 2. If the handle has an office already, that one is freed.
+#[unsafe(no_mangle)]
+pub extern "C" fn rbac_office_open(alloc: Global, office: &mut OfficeHandle) -> u32
+    ensures opened { result ≡ DONE → office.new.office ≡ Some (starting (empty_state 2) 0) }
+    ensures failed { (result ≡ DONE) ⊎ ((result ≡ MEMORY) × (office.new.office ≡ office.old.office)) }
+{
+    match Box::new(alloc, MemoryOffice::empty(alloc)) {
+        Ok(made) => {
+            put(alloc, office, OfficeHandle::of(made));
+            DONE
+        }
+        Err(_) => MEMORY,
+    }
+}
+
+/// Frees the office. The handle has none then.
+#[unsafe(no_mangle)]
+pub extern "C" fn rbac_office_close(alloc: Global, office: &mut OfficeHandle)
+    ensures { office.new.office ≡ None }
+{
+    put(alloc, office, OfficeHandle::none());
+}
+
+/// Answers a line of JSON, and writes the answer into `out` and its length to `count`. The office keeps the answer.
+#[unsafe(no_mangle)]
+pub extern "C" fn rbac_office_answer(
+    alloc: Global,
+    office: &mut OfficeHandle,
+    line: &[u8],
+    out: &mut [u8],
+    count: &mut usize,
+) -> u32
+    ensures { Answers office.old.office office.new.office line.now out.new count.new result }
+{
+    *count = 0;
+    match replace(office, OfficeHandle::none()).into_box(alloc) {
+        Some(mut held) => {
+            let result = answer(alloc, &mut held, line, out, count);
+            put(alloc, office, OfficeHandle::of(held));
+            result
+        }
+        None => CLOSED,
+    }
+}
+
+/// Writes the answer that the office keeps into `out`, and its length to `count`. It is empty if the last line had none.
+#[unsafe(no_mangle)]
+pub extern "C" fn rbac_office_kept_answer(
+    alloc: Global,
+    office: &mut OfficeHandle,
+    out: &mut [u8],
+    count: &mut usize,
+) -> u32
+    ensures keeps { office.new.office ≡ office.old.office }
+    ensures copies { CopiesKept office.old.office out.new count.new result }
+{
+    *count = 0;
+    match replace(office, OfficeHandle::none()).into_box(alloc) {
+        Some(held) => {
+            let result = copy(held.kept_answer(), out, count);
+            put(alloc, office, OfficeHandle::of(held));
+            result
+        }
+        None => CLOSED,
+    }
+}
+
+/// Writes to `revision` how many commands the office has accepted since it was made.
+#[unsafe(no_mangle)]
+pub extern "C" fn rbac_office_revision(
+    alloc: Global,
+    office: &mut OfficeHandle,
+    revision: &mut u64,
+) -> u32
+    ensures keeps { office.new.office ≡ office.old.office }
+    ensures tells { TellsRevision office.old.office revision.new result }
+{
+    *revision = 0;
+    match replace(office, OfficeHandle::none()).into_box(alloc) {
+        Some(held) => {
+            *revision = held.revision();
+            put(alloc, office, OfficeHandle::of(held));
+            DONE
+        }
+        None => CLOSED,
+    }
+}
+
+/// Whether the session may do the operation on the object: 1 or 0, or minus the code of the refusal.
+#[unsafe(no_mangle)]
+pub extern "C" fn rbac_office_check(
+    alloc: Global,
+    office: &mut OfficeHandle,
+    session: &[u8],
+    operation: &[u8],
+    object: &[u8],
+) -> i32
+    ensures keeps { office.new.office ≡ office.old.office }
+    ensures decided { Decided office.old.office session.now operation.now object.now result }
+{
+    match replace(office, OfficeHandle::none()).into_box(alloc) {
+        Some(held) => {
+            let result = check(alloc, &held, session, operation, object);
+            put(alloc, office, OfficeHandle::of(held));
+            result
+        }
+        None => -(CLOSED as i32),
+    }
+}
+
+/// Writes the names of the row at this place of the table into `out`, one after the other, and their lengths and the
+/// number of the row to `lengths`. The tables are numbered as in `rbac_sets::Table`.
+#[unsafe(no_mangle)]
+pub extern "C" fn rbac_office_row(
+    alloc: Global,
+    office: &mut OfficeHandle,
+    table: u32,
+    index: usize,
+    out: &mut [u8],
+    lengths: &mut RowLengths,
+) -> u32
+    ensures keeps { office.new.office ≡ office.old.office }
+    ensures copies { CopiesRow office.old.office table index out.new lengths.new result }
+{
+    match replace(office, OfficeHandle::none()).into_box(alloc) {
+        Some(held) => {
+            let result = row(alloc, &held, table, index, out, lengths);
+            put(alloc, office, OfficeHandle::of(held));
+            result
+        }
+        None => CLOSED,
+    }
+}
+
+/// Adds a row to those of which `rbac_office_load` makes an office.
+#[unsafe(no_mangle)]
+pub extern "C" fn rbac_office_add_row(
+    alloc: Global,
+    office: &mut OfficeHandle,
+    table: u32,
+    first: &[u8],
+    second: &[u8],
+    third: &[u8],
+    number: u32,
+) -> u32
+    ensures { AddsRow office.old.office office.new.office table (parts first.now second.now third.now number) result }
+{
+    match replace(office, OfficeHandle::none()).into_box(alloc) {
+        Some(mut held) => {
+            let result = add_row(alloc, &mut held, table, first, second, third, number);
+            put(alloc, office, OfficeHandle::of(held));
+            result
+        }
+        None => CLOSED,
+    }
+}
+
+/// Has the office start again with the rows that were added, and with this revision. Returns the code of the refusal if
+/// the rows aren't those of an office.
+#[unsafe(no_mangle)]
+pub extern "C" fn rbac_office_load(alloc: Global, office: &mut OfficeHandle, revision: u64) -> u32
+    ensures { Loads office.old.office office.new.office revision result }
+{
+    match replace(office, OfficeHandle::none()).into_box(alloc) {
+        Some(mut held) => {
+            let result = load(alloc, &mut held, revision);
+            put(alloc, office, OfficeHandle::of(held));
+            result
+        }
+        None => CLOSED,
+    }
+}
+
+// Puts another handle in place of this one, whose office is freed.
+fn put(alloc: Global, office: &mut OfficeHandle, new: OfficeHandle)
+    ensures { office.new.office ≡ new.office }
+{
+    let old = replace(office, new);
+    drop(old.into_box(alloc));
+}
+
+// Has the office answer the line, and copies the answer.
+fn answer(
+    alloc: Global,
+    office: &mut MemoryOffice,
+    line: &[u8],
+    out: &mut [u8],
+    count: &mut usize,
+) -> u32
+    ensures { Answers (Some office.old) (Some office.new) line.now out.new count.new result }
+{
+    *count = 0;
+    match office.answer(alloc, line) {
+        Ok(()) => copy(office.kept_answer(), out, count),
+        Err(_) => MEMORY,
+    }
+}
+
+// The number that stands for the decision.
+fn check(
+    alloc: Global,
+    office: &MemoryOffice,
+    session: &[u8],
+    operation: &[u8],
+    object: &[u8],
+) -> i32
+    ensures { Decided (Some office.now) session.now operation.now object.now result }
+{
+    match decide(alloc, office.state(), session, operation, object) {
+        Ok(true) => 1,
+        Ok(false) => 0,
+        Err(refusal) => -(refusal.code() as i32),
+    }
+}
+
+// Copies the row at this place of the table.
+fn row(
+    alloc: Global,
+    office: &MemoryOffice,
+    table: u32,
+    index: usize,
+    out: &mut [u8],
+    lengths: &mut RowLengths,
+) -> u32
+    ensures { CopiesRow (Some office.now) table index out.new lengths.new result }
+{
+    let Some(table) = table_numbered(table) else {
+        return ABSENT;
+    };
+    match row_at(office.state(), table, index) {
+        Some(row) => copy_row(alloc, &row, out, lengths),
+        None => ABSENT,
+    }
+}
+
+// Copies a row.
+fn copy_row(alloc: Global, row: &RowParts<'_>, out: &mut [u8], lengths: &mut RowLengths) -> u32
+    ensures { CopiesParts (parts_of row.now) out.new lengths.new result }
+{
+    *lengths = RowLengths {
+        first: row.first.len(),
+        second: row.second.len(),
+        third: row.third.len(),
+        number: row.number,
+    };
+    match row.text(alloc) {
+        Ok(text) => {
+            let mut count = 0;
+            copy(&text, out, &mut count)
+        }
+        Err(_) => MEMORY,
+    }
+}
+
+// Adds a row of this table.
+fn add_row(
+    alloc: Global,
+    office: &mut MemoryOffice,
+    table: u32,
+    first: &[u8],
+    second: &[u8],
+    third: &[u8],
+    number: u32,
+) -> u32
+    ensures { AddsRow (Some office.old) (Some office.new) table (parts first.now second.now third.now number) result }
+{
+    let Some(table) = table_numbered(table) else {
+        return ABSENT;
+    };
+    match row_of(alloc, table, first, second, third, number) {
+        Ok(row) => match office.add_row(row) {
+            Ok(()) => DONE,
+            Err(_) => MEMORY,
+        },
+        Err(refusal) => refusal.code(),
+    }
+}
+
+// Loads the rows that were added.
+fn load(alloc: Global, office: &mut MemoryOffice, revision: u64) -> u32
+    ensures { Loads (Some office.old) (Some office.new) revision result }
+{
+    match office.load(alloc, revision) {
+        Ok(()) => DONE,
+        Err(refusal) => refusal.code(),
+    }
+}
+
+// Copies a text into the buffer, if it is long enough, and writes the length of the text.
+fn copy(text: &[u8], out: &mut [u8], count: &mut usize) -> u32
+    ensures { Copies text.now out.new count.new result }
+{
+    *count = text.len();
+    if out.len() < text.len() {
+        return SHORT;
+    }
+    out[..text.len()].copy_from_slice(text);
+    DONE
+}

@@ -1,0 +1,32 @@
+use Rattle.std.proofs.Common.{inl, inr, refl}
+use Rattle.rbac_sets.specs.declared.refusal.Refusal.TheVariants.{Memory}
+use Rattle.role_cli.specs.ErrorOutput.{no_memory_line}
+use Rattle.role_cli.specs.declared.failure.Failure.TheVariants.{Refused}
+use Rattle.role_cli.proofs.Results.{if_err-all, if_some-then, on_ok-holds}
+use Rattle.role_cli.proofs.program.run_with.Goals as goal
+
+-- The choice is the one in the arguments, and status 0 means that it was done.
+pub returns-in-Ok-clause-done : goal.returns-in-Ok-clause-done
+returns-in-Ok-clause-done g c zero =
+    let is = c.status_of.ensures.done.0 zero in
+    inr (
+      c.in-Ok.choice,
+      c.in-Ok.ensures.ok,
+      c.run_choice-done.ensures.unread,
+      c.run_choice-done.ensures.unasked,
+      on_ok-holds c.run_choice-done.result.0 _ is c.run_choice-done.ensures.done,
+      if_some-then c.run_choice-done.result.1 _ _ c.run_choice-done.ensures.closed (λ files closed clean. on_ok-holds c.run_choice-done.result.0 _ is (closed clean)),
+    )
+
+-- Status 1 means that it failed, and the line reports that failure.
+pub returns-in-Ok-clause-stopped : goal.returns-in-Ok-clause-stopped
+returns-in-Ok-clause-stopped g c one =
+    let (failure, reported, fails, closed) = if_err-all c.run_choice-done.result.0 _ _ c.run_choice-done.result.1 _ _ (c.status_of.ensures.stopped one) (c.status_of.ensures.reported one) c.run_choice-done.ensures.failed c.run_choice-done.ensures.closed_failed in
+    (failure, reported, inr (c.in-Ok.choice, c.in-Ok.ensures.ok, c.run_choice-done.ensures.unread, c.run_choice-done.ensures.unasked, fails, closed))
+
+-- An allocation failed before anything was chosen.
+pub returns-in-Err-Memory-clause-stopped : goal.returns-in-Err-Memory-clause-stopped
+returns-in-Err-Memory-clause-stopped g c _ = (Refused Memory, (no_memory_line, inl refl, c.report_no_memory.ensures), inl (refl, (refl, refl, refl)))
+
+pub returns-clause-stopped : goal.returns-clause-stopped
+returns-clause-stopped g c stopped = (Refused Memory, (no_memory_line, inl refl, c.explain.ensures.reported stopped), inl (refl, (refl, c.explain.ensures.refused (inr stopped), refl)))

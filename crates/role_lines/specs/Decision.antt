@@ -1,0 +1,27 @@
+-- The access decision for names that are given as bytes.
+use Rattle.std.specs.Prelude.{◌≡◌, ◌⊎◌, Bool, true, ℕ, List, Some, None}
+use Rattle.std.specs.Str.{IsUtf8}
+use Rattle.rbac_sets.specs.Name.{is_name}
+use Rattle.rbac_sets.specs.declared.refusal.Refusal.{Refusal}
+use Rattle.rbac_sets.specs.declared.refusal.Refusal.TheVariants.{BadName, Memory}
+use Rattle.admin_mgr.specs.Authorization.{has_access}
+use Rattle.admin_mgr.specs.RbacState.{RbacState}
+use Rattle.review_mgr.specs.Questions.{refused}
+use Rattle.review_mgr.specs.declared.query.Query.TheVariants.{CheckAccess}
+
+-- the bytes are the text of a name
+abbrev pub IsNameText : List ℕ → Type 0
+IsNameText bytes = IsUtf8 bytes × (is_name bytes ≡ true)
+
+module _ (S : RbacState) (session operation object : List ℕ) where
+  -- the question isn't refused, and this is its answer
+  pub record Decides (access : Bool) : Type 0 where
+    pub unrefused : refused S (CheckAccess session operation object) ≡ None
+    pub access_is : access ≡ has_access S session operation object
+
+  -- there is no decision: an allocation failed, one of the three isn't a name, or the question is refused
+  abbrev pub Refuses : Refusal → Type 0
+  Refuses refusal =
+      (refusal ≡ Memory)
+      ⊎ (((refusal ≡ BadName) × ¬ (IsNameText session × IsNameText operation × IsNameText object))
+      ⊎ (refused S (CheckAccess session operation object) ≡ Some refusal))

@@ -1,0 +1,43 @@
+//! The access decision for names that are given as bytes.
+ghost use Rattle.std.specs.Prelude.{◌≡◌, ◌⊎◌, IfOk, IfErr};
+ghost use Rattle.role_lines.specs.Decision.{Decides, IsNameText, Refuses};
+
+use admin_mgr::State;
+use rbac_sets::{Name, Refusal};
+use review_mgr::check_access;
+use std::alloc::Global;
+
+/// CheckAccess: whether the session may do the operation on the object. The three may be any bytes.
+///
+/// It allocates three names.
+///
+/// # Errors
+///
+/// `BadName` if one of the three isn't a name, `Memory` if an allocation failed, otherwise the refusals of
+/// `check_access`.
+pub fn decide(
+    alloc: Global,
+    state: &State,
+    session: &[u8],
+    operation: &[u8],
+    object: &[u8],
+) -> Result<bool, Refusal>
+    ensures decided { IfOk result (λ access. Decides state.now.facts session.now operation.now object.now access) }
+    ensures refused { IfErr result (λ refusal. Refuses state.now.facts session.now operation.now object.now refusal) }
+{
+    let session = name(alloc, session)?;
+    let operation = name(alloc, operation)?;
+    let object = name(alloc, object)?;
+    check_access(state, &session, &operation, &object)
+}
+
+// The name with these bytes. `BadName` if they aren't the text of a name.
+pub(crate) fn name(alloc: Global, bytes: &[u8]) -> Result<Name, Refusal>
+    ensures ok { IfOk result (λ name. (name ≡ bytes.now) × IsNameText bytes.now) }
+    ensures err { IfErr result (λ refusal. (refusal ≡ Refusal.Memory) ⊎ ((refusal ≡ Refusal.BadName) × ¬ (IsNameText bytes.now))) }
+{
+    match str::from_utf8(bytes) {
+        Ok(text) => Name::new(alloc, text),
+        Err(_) => Err(Refusal::BadName),
+    }
+}

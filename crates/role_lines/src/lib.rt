@@ -1,0 +1,29 @@
+//! An office in memory, without a store: it answers lines of JSON, and decides about access.
+//!
+//! The answers are those that `role_wire` gives over a store.
+//!
+//! # Example
+//!
+//! ```
+//! use role_lines::MemoryOffice;
+//! use std::test::Fail;
+//!
+//! fn a_line_is_answered(rt: HostRuntime) -> Result<(), Fail> {
+//!     let alloc = rt.alloc();
+//!     let mut office = MemoryOffice::empty(alloc);
+//!     office.answer(alloc, br#"{"fn":"addUser","user":"ann"}"#)?;
+//!     assert!(rt; office.kept_answer() == br#"{"ok":true}"#.as_slice());
+//!     assert_eq!(rt; office.revision(), 1);
+//!     Ok(())
+//! }
+//! ```
+#![tactic(auto)]
+
+pub use deciding::decide;
+pub use office::MemoryOffice;
+pub use rows::{RowParts, row_at, row_of, table_numbered};
+
+mod answering;
+pub mod deciding;
+pub mod office;
+pub mod rows;
