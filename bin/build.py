@@ -1,9 +1,11 @@
 #!/usr/bin/env python3
-"""bin/build: proves the crates that the program uses, builds it, and copies it to out/release.
+"""bin/build.py [library]: proves the crates that the program uses, builds it, and copies it to out/release.
+bin/build.py left FILE: proves rbac_c alone, over the libraries that `rt ci` has left in crates/, and builds its archive to FILE.
 
-Crates that don't use each other are proved side by side. A crate that was proved by an earlier run here is
-proved again only if a file of its own, or a library below it, has changed since. It reports
-progress on standard error every ten seconds. `bin/rbac --build` is the command for this.
+With `library` it proves and builds the static library of rbac_c instead of the program. Crates that don't use each other are
+proved side by side. A crate that was proved by an earlier run here is proved again only if a file of its own, or a library below
+it, has changed since. It reports progress on standard error every ten seconds. `bin/rbac --build` and `bin/release library` are
+the commands for this.
 """
 
 import contextlib
@@ -68,9 +70,9 @@ class Build:
         """Returns the built library of a crate."""
         return f"{self.at(crate)}/{crate.name}.rlib"
 
-    def program(self, crate):
-        """Returns the executable of a crate that is a program."""
-        return f"{self.at(crate)}/{crate.name}"
+    def product(self, crate):
+        """Returns the executable of a crate that is a program, or the archive of a static library."""
+        return f"{self.at(crate)}/{f'lib{crate.name}.a' if crate.is_static else crate.name}"
 
     def key(self, crate):
         """Returns a digest of everything that the crate is built from."""
@@ -96,18 +98,20 @@ class Build:
         shutil.rmtree(at, ignore_errors=True)
         os.makedirs(at)
         logic = ["--logic-built", f"{self.kit}/logic_built"]
-        cut = [] if crate.is_program else ["--statements"]
+        cut = [] if crate.is_program or crate.is_static else ["--statements"]
         self.rattle(crate, "check", *words, *logic, *cut, "--jobs", str(jobs), "--progress", "-o", f"{at}/checked")
         self.doing[crate.name] = "all functions proved", "its build"
         words += ["--crate-checked", f"{at}/checked"]
-        if not crate.is_program:
+        toolchain = ["--toolchain", f"{self.kit}/toolchain"]
+        if crate.is_static:
+            self.rattle(crate, "build", *words, *toolchain, "--backend", "llvm", "-o", self.product(crate))
+        elif not crate.is_program:
             self.rattle(crate, "build", *words, *cut, "-o", self.library(crate))
         else:
-            toolchain = ["--toolchain", f"{self.kit}/toolchain"]
-            self.rattle(crate, "build", *words, *toolchain, "--backend", "llvm", "-o", f"{self.program(crate)}.o")
+            self.rattle(crate, "build", *words, *toolchain, "--backend", "llvm", "-o", f"{self.product(crate)}.o")
             with_c = [f"{self.kit}/c/{it}" for it in ("libos_c.a", "liblibc_c.a")]
             link = [f"{self.kit}/bin/rattle-link", "--target", "x86_64-unknown-linux-gnu", *toolchain]
-            subprocess.run([*link, "-o", self.program(crate), f"{self.program(crate)}.o", *with_c], check=True, stdin=subprocess.DEVNULL)
+            subprocess.run([*link, "-o", self.product(crate), f"{self.product(crate)}.o", *with_c], check=True, stdin=subprocess.DEVNULL)
         shutil.rmtree(f"{at}/checked")
 
     def make(self, crate, jobs):
@@ -121,7 +125,7 @@ class Build:
         self.prove(crate, jobs)
         if self.key(crate) != key:
             raise Failed(f"{crate.name}: one of its files changed while it was proved")
-        if not crate.is_program:
+        if not crate.is_static and not crate.is_program:
             self.sums[crate.name] = sum_of(self.library(crate))
         with open(kept, "w", encoding="utf-8") as file:
             file.write(key)
@@ -164,20 +168,44 @@ class Build:
                     done.add(crate)
 
 
-def digest():
-    """Returns the digest of the sources."""
-    return subprocess.run([f"{kit.TOP}/bin/release", "--digest"], stdout=subprocess.PIPE, text=True, check=True).stdout.strip()
+class OverLeft(Build):
+    """A build over the libraries that `rt ci` has left in the crates' folders."""
+
+    def library(self, crate):
+        """Returns the library of a crate that `rt ci` has left."""
+        return f"{crate.folder}/out/rlib/{crate.name}.rlib"
 
 
-def main():
-    """Builds the program."""
-    program = kit.crates()["rbac"]
-    claimed, build = digest(), Build([*program.below(), program])
-    say(f"proving {len(build.crates)} crates and building the program. {LASTS}")
+def build_over_left(path):
+    """Builds the static library over what `rt ci` has left, and copies it to a path."""
+    crate = kit.crates()["rbac_c"]
+    build = OverLeft([crate])
+    try:
+        build.prove(crate, kit.lanes())
+        os.makedirs(os.path.dirname(os.path.abspath(path)), exist_ok=True)
+        shutil.copyfile(build.product(crate), path)
+    except (Failed, OSError) as error:
+        sys.exit(f"rbac: the build failed: {error}")
+
+
+def digest(sort):
+    """Returns the digest of the sources of the program, or of the library."""
+    return subprocess.run([f"{kit.TOP}/bin/release", *sort, "--digest"], stdout=subprocess.PIPE, text=True, check=True).stdout.strip()
+
+
+def main(words):
+    """Builds the program, or the library."""
+    if words[:1] == ["left"] and len(words) == 2:
+        return build_over_left(words[1])
+    if words not in ([], ["library"]):
+        sys.exit(__doc__)
+    crate = kit.crates()["rbac_c" if words else "rbac"]
+    claimed, build = digest(words), Build([*crate.below(), crate])
+    say(f"proving {len(build.crates)} crates and building the {words[0] if words else 'program'}. {LASTS}")
     try:
         build.run()
-        subprocess.run([f"{kit.TOP}/bin/release", "--record", build.program(program), claimed, f"{kit.TOP}/out/release"], check=True)
-        if digest() != claimed:
+        subprocess.run([f"{kit.TOP}/bin/release", *words, "--record", build.product(crate), claimed, f"{kit.TOP}/out/release"], check=True)
+        if digest(words) != claimed:
             raise Failed("the sources changed meanwhile: build again")
     except (Failed, OSError, subprocess.CalledProcessError) as error:
         sys.exit(f"rbac: the build failed: {error}")
@@ -186,4 +214,4 @@ def main():
 
 
 if __name__ == "__main__":
-    main()
+    main(sys.argv[1:])

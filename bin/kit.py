@@ -35,8 +35,8 @@ def identity():
 class Crate:
     """A crate of the repository: its name, its folder, and the crates that it uses, here and in the kit."""
 
-    def __init__(self, name, folder, names, known):
-        self.name, self.folder = name, folder
+    def __init__(self, name, folder, names, known, is_static=False):
+        self.name, self.folder, self.is_static = name, folder, is_static
         self.own = [known[it] for it in names if it in known]
         self.of_kit = ["std", *(it for it in names if it not in known)]
         self.is_program = os.path.isfile(f"{folder}/src/main.rt")
@@ -63,6 +63,7 @@ class Crate:
     def words(self, kit, library_of):
         """Returns the arguments with which rattle finds what the crate reads; library_of(crate) is a built library."""
         words = ["--crate-name", self.name, "src/main.rt" if self.is_program else "src/lib.rt"]
+        words += ["--crate-type", "staticlib"] if self.is_static else []
         for name in self.of_kit:
             words += ["--extern", f"{name}={kit}/rlibs/{name}.rlib"]
         words += ["-L", f"dependency={kit}/rlibs"]
@@ -77,14 +78,14 @@ class Crate:
 def crates(top=TOP):
     """Returns the crates of a repository by their names, each after those that it uses."""
     lines = [it.split("#")[0].partition(":") for it in read(f"{top}/crates.txt").split("\n")]
-    needs = {name.strip(): words.split() for name, _, words in lines if name.strip()}
-    found = {}
+    heads = {name.split()[0]: (name.split()[1:], words.split()) for name, _, words in lines if name.strip()}
+    needs, found = {name: words for name, (_, words) in heads.items()}, {}
 
     def visit(name):
         for it in needs[name]:
             if it in needs and it not in found:
                 visit(it)
-        found.setdefault(name, Crate(name, f"{top}/crates/{name}", needs[name], found))
+        found.setdefault(name, Crate(name, f"{top}/crates/{name}", needs[name], found, "staticlib" in heads[name][0]))
 
     for name in needs:
         visit(name)

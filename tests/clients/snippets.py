@@ -1,6 +1,7 @@
 """The examples of docs/INTEGRATING.md in Python, curl, Go and Java, asked the same questions; and its statements of SQL."""
 
 import json
+import logging
 import re
 import shutil
 import subprocess
@@ -23,6 +24,9 @@ ON_DISK = True
 
 # The port that the page names.
 PORT = "8080"
+
+# What an example reports if no answer decides.
+REPORTED = "no decision"
 
 # An object with a name that has to be escaped, and the commands that make it.
 ODD = 'a"b\\c é\U0001f600'
@@ -115,19 +119,22 @@ def bodies(questions):
 
 
 def decides(bench, asking):
-    """Counts whether an example decides as the plain model does, and denies for each wrong answer.
+    """Counts whether an example decides as the plain model does, and denies and reports each wrong answer and each refusal.
 
     It gets all questions in one run: a server in front of the program passes on the first ones, and answers the others itself.
     """
     office = odd_office(bench)
     requests = [{"fn": "checkAccess", **json.loads(body)} for body in bodies(QUESTIONS).splitlines()]
-    wanted = [b'"value":true' in office.model.answer(json.dumps(request).encode()) for request in requests]
-    bench.same("some are allowed, and some are not", set(wanted), {True, False})
+    answers = [office.model.answer(json.dumps(request).encode()) for request in requests]
+    wanted, refused = [b'"value":true' in answer for answer in answers], sum(b'"code":' in answer for answer in answers)
+    bench.same("some are allowed, some are not, and some are refused", (set(wanted), refused > 1), ({True, False}, True))
     with Server(bench, office.path, len(QUESTIONS)) as server, Fake([], server.port) as fake:
         wrong = wrong_answers(fake.port)
         fake.answers = [*[PASSED_ON] * len(QUESTIONS), *wrong.values(), RIGHT]
-        given = asking(fake.port, [*QUESTIONS, *[QUESTIONS[0]] * (len(wrong) + 1)])
+        given, said = asking(fake.port, [*QUESTIONS, *[QUESTIONS[0]] * (len(wrong) + 1)])
         server.ends()
+    bench.same("how many answers are reported", said.count(REPORTED), refused + len(wrong))
+    bench.same("sessions in the reports", [name for name, *_ in QUESTIONS if re.search(rf"\b{name}\b", said)], [])
     names = [*map(str, QUESTIONS), *wrong, "the right answer"]
     bench.same("the number of decisions", len(given), len(names))
     for name, decision, is_wanted in zip(names, given, [*wanted, *[False] * len(wrong), True]):
@@ -135,11 +142,12 @@ def decides(bench, asking):
 
 
 def printed(command, text, folder):
-    """The decisions that a command prints for the questions of its input."""
+    """The decisions that a command prints for the questions of its input, and what it reports."""
     done = subprocess.run(command, input=text.encode(), cwd=folder, capture_output=True, timeout=SECONDS, check=False)
     if done.returncode != 0:
         raise OSError(f"{command} ended with {done.returncode}: {done.stderr.decode()}")
-    return [{"true": True, "false": False}.get(line, line) for line in done.stdout.decode().splitlines()]
+    decisions = [{"true": True, "false": False}.get(line, line) for line in done.stdout.decode().splitlines()]
+    return decisions, done.stderr.decode(errors="replace")
 
 
 def in_shell(bench):
@@ -186,19 +194,33 @@ def in_java(bench):
     decides(bench, asking)
 
 
-def python_example(port):
-    """The example in Python, with what it defines."""
+class Kept(logging.Handler):
+    """Keeps what is logged."""
+
+    def __init__(self):
+        super().__init__()
+        self.lines = []
+
+    def emit(self, record):
+        self.lines.append(record.getMessage())
+
+
+def python_example(port, kept=None):
+    """The example in Python, with what it defines. What it reports is kept."""
     module = types.ModuleType("example")
     exec(compile(example("python", port), "INTEGRATING.md", "exec"), vars(module))
+    module.logging = logging.Logger("example")
+    module.logging.addHandler(kept or Kept())
     return module
 
 
 def in_python(bench):
     """The decision of the example in Python."""
+    kept = Kept()
 
     def asking(port, questions):
-        module = python_example(port)
-        return [module.allowed(*question) for question in questions]
+        module = python_example(port, kept)
+        return [module.allowed(*question) for question in questions], "\n".join(kept.lines)
 
     decides(bench, asking)
 
@@ -232,6 +254,12 @@ def in_python_log_in(bench):
     bench.same("the number of sessions", sum(row[0] == 7 for row in read_rows(path)["pair_row"]), 1 + 5 - 1)
 
 
+def set_rows(sets):
+    """The rows of sets, each with its cardinality, and those of their members."""
+    members = {(name, role) for name, (roles, _) in sets.items() for role in roles}
+    return {(name, most) for name, (_, most) in sets.items()} | members
+
+
 def lists(bench):
     """Each statement of the page lists what the model has."""
     office = odd_office(bench)
@@ -242,19 +270,25 @@ def lists(bench):
         "roles": state.roles,
         "objects": state.objects,
         "permissions: object, operation": state.permissions,
+        "grants: object, operation, role": state.grants,
+        "assignments: user, role": state.assignments,
         "immediate inheritances: ascendant, descendant": state.edges,
+        "static sets: set, cardinality; their members: set, role": set_rows(state.static_sets),
+        "dynamic sets: set, cardinality; their members: set, role": set_rows(state.dynamic_sets),
         "sessions: session, user": {(name, user) for name, (user, _) in state.sessions.items()},
         "locked users": state.locked,
     }
     (table,) = markdown.tables(LISTS)
     bench.same("the lists", [row[0] for row in table], list(wanted))
-    for what, statement in table:
-        command = ["sqlite3", "-json", office.path, statement.strip("`")]
-        done = subprocess.run(command, capture_output=True, timeout=SECONDS, check=False)
-        bench.same(f"SQLite on {what}", done.stderr, b"")
-        rows = [tuple(row.values()) for row in json.loads(done.stdout)]
+    for what, statements in table:
+        rows = []
+        for statement in re.findall(r"`([^`]*)`", statements):
+            command = ["sqlite3", "-json", office.path, statement]
+            done = subprocess.run(command, capture_output=True, timeout=SECONDS, check=False)
+            bench.same(f"SQLite on {what}", done.stderr, b"")
+            rows += [tuple(row.values()) for row in json.loads(done.stdout)]
         members = [row if len(row) > 1 else row[0] for row in rows]
-        bench.same(f"the list of {what}", (bool(members), sorted(members)), (True, sorted(wanted[what])))
+        bench.same(f"the list of {what}", (bool(members), set(members)), (True, wanted[what]))
 
 
 JOBS = [(in_java,), (in_go,), (in_shell,), (in_python,), (in_python_log_in,), (lists,)]

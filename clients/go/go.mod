@@ -1,0 +1,3 @@
+module rbac/clients/go
+
+go 1.19

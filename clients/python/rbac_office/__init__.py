@@ -1,0 +1,125 @@
+"""An office of roles in this process, for Python 3.10 or later on Linux.
+
+    office = Office()
+    office.call("addUser", user="ann")
+    ..
+    if office.check("s1", "open", "safe"):
+
+It is the library librbac, and no server is needed. docs/API.md describes the functions, docs/EMBEDDING.md when to use this
+and what is proved. An office may be used by several threads: each call waits for the one before it.
+"""
+
+from __future__ import annotations
+
+import json
+from typing import Any, Iterable, Iterator, NamedTuple
+
+from ._library import Library, set_on_refusal
+
+__all__ = ["Office", "Refused", "Row", "TABLES"]
+
+# The tables of an office, by their numbers in rbac.h, with the names that a row of each has.
+TABLES = {
+    "users": ("user",),
+    "roles": ("role",),
+    "objects": ("object",),
+    "permissions": ("object", "operation"),
+    "assignments": ("user", "role"),
+    "inheritances": ("ascendant", "descendant"),
+    "closurePairs": ("senior", "junior"),
+    "staticMembers": ("set", "role"),
+    "dynamicMembers": ("set", "role"),
+    "sessions": ("session", "user"),
+    "activatedRoles": ("session", "role"),
+    "grants": ("object", "operation", "role"),
+    "staticCardinalities": ("set",),
+    "dynamicCardinalities": ("set",),
+    "locks": ("user",),
+}
+_NUMBERS = {name: number for number, name in enumerate(TABLES)}
+# The refusals of a decision and of a load, by their codes.
+_NAMES = {1: "BadName", 6: "NoObject", 26: "NoSession", 32: "TooMany", 33: "NoOperation", 52: "Damaged"}
+
+
+class Refused(Exception):
+    """The office refused a request, and nothing was done. `code` and `name` are those of docs/API.md."""
+
+    def __init__(self, code: int, name: str, details: dict[str, Any] | None = None) -> None:
+        super().__init__(code, name, details or {})
+        self.code, self.name, self.details = code, name, details or {}
+
+
+class Row(NamedTuple):
+    """A row of a table. `number` is the cardinality of a separation of duty set, and otherwise 0."""
+
+    table: str
+    names: tuple[str, ...]
+    number: int = 0
+
+
+def _refuse(code: int) -> None:
+    """Raises the refusal of this code."""
+    raise Refused(code, _NAMES.get(code, "Unknown"))
+
+
+set_on_refusal(_refuse)
+
+
+class Office(Library):
+    """An office in memory. It is empty, or has the rows that `Office.load` is given.
+
+    `answer`, `check` and `close` are in C. A method raises `Refused` if the office refuses, `MemoryError` if an allocation
+    failed, and `ValueError` if the office is closed.
+    """
+
+    @classmethod
+    def load(cls, rows: Iterable[Row], revision: int = 0) -> Office:
+        """The office that has exactly these rows, in any order, as `rows` returned them.
+
+        The revision counts on from the one that is given.
+        """
+        office = cls()
+        for table, names, number in rows:
+            first, second, third = (*names, "", "", "")[:3]
+            office._accept(office._add_row(_NUMBERS[table], first, second, third, number))
+        office._accept(office._load(revision))
+        return office
+
+    @staticmethod
+    def _accept(code: int) -> None:
+        """Raises the refusal of this code, unless it is 0."""
+        if code:
+            _refuse(code)
+
+    def call(self, function: str, /, **arguments: Any) -> Any:
+        """Calls any function: `call("createSsdSet", set="pay", roles=["auditor", "clerk"], cardinality=2)`.
+
+        Returns None for a command, the counts for importAssignments, and the value for a question.
+        """
+        line = json.dumps({**arguments, "fn": function}, ensure_ascii=False)
+        answer = json.loads(self.answer(line.encode()))
+        if answer.get("ok") is True:
+            return answer.get("value")
+        raise Refused(answer.pop("code"), answer.pop("error"), answer)
+
+    @property
+    def revision(self) -> int:
+        """How many commands the office has accepted. A decision holds as long as this stays the same."""
+        return self._revision()
+
+    def rows(self) -> Iterator[Row]:
+        """The rows of all tables, which `Office.load` takes. Raises RuntimeError if a command is done meanwhile."""
+        revision = self.revision
+        for number, (table, parts) in enumerate(TABLES.items()):
+            index = 0
+            while (row := self._row(number, index)) is not None:
+                yield Row(table, row[: len(parts)], row[3])
+                index += 1
+        if self.revision != revision:
+            raise RuntimeError("the office changed while its rows were read")
+
+    def __enter__(self) -> Office:
+        return self
+
+    def __exit__(self, *_: Any) -> None:
+        self.close()

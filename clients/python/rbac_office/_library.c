@@ -1,0 +1,288 @@
+/* The functions of librbac for Python. Each office has a lock, and lines are answered without the interpreter's lock. */
+#define PY_SSIZE_T_CLEAN
+#include <Python.h>
+#include <pthread.h>
+#include "rbac.h"
+
+/* Answers of this length need no allocation. */
+#define ROOM 4096
+
+typedef struct {
+    PyObject_HEAD
+    pthread_mutex_t lock;
+    rbac_office office;
+} Library;
+
+/* What is called with the code of a decision that was refused, and raises the exception. */
+static PyObject *on_refusal;
+
+/* Waits for the office, without the interpreter's lock if another thread has it. */
+static void enter(Library *self)
+{
+    if (pthread_mutex_trylock(&self->lock) == 0)
+        return;
+    Py_BEGIN_ALLOW_THREADS
+    pthread_mutex_lock(&self->lock);
+    Py_END_ALLOW_THREADS
+}
+
+static void leave(Library *self)
+{
+    pthread_mutex_unlock(&self->lock);
+}
+
+/* Sets the exception for a code and returns NULL. */
+static PyObject *raise(uint32_t code)
+{
+    if (code == RBAC_MEMORY)
+        return PyErr_NoMemory();
+    if (code == RBAC_CLOSED) {
+        PyErr_SetString(PyExc_ValueError, "the office is closed");
+        return NULL;
+    }
+    return PyErr_Format(PyExc_SystemError, "librbac returned %u", code);
+}
+
+static PyObject *library_new(PyTypeObject *type, PyObject *args, PyObject *keywords)
+{
+    Library *self;
+    uint32_t code;
+
+    if (PyTuple_GET_SIZE(args) != 0 || (keywords != NULL && PyDict_GET_SIZE(keywords) != 0)) {
+        PyErr_SetString(PyExc_TypeError, "an office takes no arguments");
+        return NULL;
+    }
+    self = (Library *)type->tp_alloc(type, 0);
+    if (self == NULL)
+        return NULL;
+    pthread_mutex_init(&self->lock, NULL);
+    code = rbac_open(&self->office);
+    if (code != RBAC_DONE) {
+        Py_DECREF(self);
+        return raise(code);
+    }
+    return (PyObject *)self;
+}
+
+static void library_dealloc(Library *self)
+{
+    rbac_close(&self->office);
+    pthread_mutex_destroy(&self->lock);
+    Py_TYPE(self)->tp_free((PyObject *)self);
+}
+
+static PyObject *library_close(Library *self, PyObject *Py_UNUSED(ignored))
+{
+    enter(self);
+    rbac_close(&self->office);
+    leave(self);
+    Py_RETURN_NONE;
+}
+
+/* Returns the answer that the office keeps. The caller has the lock. */
+static PyObject *kept_answer(Library *self, size_t length)
+{
+    PyObject *answer = PyBytes_FromStringAndSize(NULL, (Py_ssize_t)length);
+    uint32_t code;
+
+    if (answer == NULL)
+        return NULL;
+    code = rbac_kept_answer(&self->office, PyBytes_AS_STRING(answer), length, &length);
+    if (code == RBAC_DONE)
+        return answer;
+    Py_DECREF(answer);
+    return raise(code);
+}
+
+static PyObject *library_answer(Library *self, PyObject *line)
+{
+    char room[ROOM];
+    size_t length = 0;
+    uint32_t code;
+    Py_buffer view;
+    PyObject *answer;
+
+    if (PyObject_GetBuffer(line, &view, PyBUF_SIMPLE) < 0)
+        return NULL;
+    Py_BEGIN_ALLOW_THREADS
+    pthread_mutex_lock(&self->lock);
+    code = rbac_answer(&self->office, view.buf, (size_t)view.len, room, sizeof room, &length);
+    Py_END_ALLOW_THREADS
+    PyBuffer_Release(&view);
+    if (code == RBAC_DONE)
+        answer = PyBytes_FromStringAndSize(room, (Py_ssize_t)length);
+    else if (code == RBAC_SHORT)
+        answer = kept_answer(self, length);
+    else
+        answer = raise(code);
+    leave(self);
+    return answer;
+}
+
+/* Whether an argument is a text; its bytes are UTF-8. */
+static int is_text(PyObject *argument, const char **text, size_t *length)
+{
+    Py_ssize_t size;
+
+    *text = PyUnicode_AsUTF8AndSize(argument, &size);
+    *length = *text != NULL ? (size_t)size : 0;
+    return *text != NULL;
+}
+
+static PyObject *library_check(Library *self, PyObject *const *args, Py_ssize_t count)
+{
+    const char *session, *operation, *object;
+    size_t session_length, operation_length, object_length;
+    int32_t decision;
+
+    if (count != 3) {
+        PyErr_SetString(PyExc_TypeError, "check takes a session, an operation and an object");
+        return NULL;
+    }
+    if (!is_text(args[0], &session, &session_length) || !is_text(args[1], &operation, &operation_length)
+        || !is_text(args[2], &object, &object_length))
+        return NULL;
+    enter(self);
+    decision = rbac_check(&self->office, session, session_length, operation, operation_length, object, object_length);
+    leave(self);
+    if (decision == 1)
+        Py_RETURN_TRUE;
+    if (decision == 0)
+        Py_RETURN_FALSE;
+    if (decision == -RBAC_MEMORY || decision == -RBAC_CLOSED || on_refusal == NULL)
+        return raise((uint32_t)-decision);
+    return PyObject_CallFunction(on_refusal, "i", (int)-decision);
+}
+
+static PyObject *library_revision(Library *self, PyObject *Py_UNUSED(ignored))
+{
+    uint64_t revision = 0;
+    uint32_t code;
+
+    enter(self);
+    code = rbac_revision(&self->office, &revision);
+    leave(self);
+    return code == RBAC_DONE ? PyLong_FromUnsignedLongLong(revision) : raise(code);
+}
+
+static PyObject *library_row(Library *self, PyObject *args)
+{
+    unsigned int table;
+    Py_ssize_t index;
+    char names[RBAC_LONGEST_ROW];
+    rbac_row row = {0, 0, 0, 0};
+    uint32_t code;
+
+    if (!PyArg_ParseTuple(args, "In:row", &table, &index))
+        return NULL;
+    enter(self);
+    code = rbac_row_at(&self->office, table, (size_t)index, names, sizeof names, &row);
+    leave(self);
+    if (code == RBAC_ABSENT)
+        Py_RETURN_NONE;
+    if (code != RBAC_DONE)
+        return raise(code);
+    return Py_BuildValue("(s#s#s#I)", names, (Py_ssize_t)row.first, names + row.first, (Py_ssize_t)row.second,
+        names + row.first + row.second, (Py_ssize_t)row.third, (unsigned int)row.number);
+}
+
+static PyObject *library_add_row(Library *self, PyObject *args)
+{
+    unsigned int table, number;
+    const char *first, *second, *third;
+    Py_ssize_t first_length, second_length, third_length;
+    uint32_t code;
+
+    if (!PyArg_ParseTuple(args, "Is#s#s#I:add_row", &table, &first, &first_length, &second, &second_length, &third,
+            &third_length, &number))
+        return NULL;
+    enter(self);
+    code = rbac_add_row(&self->office, table, first, (size_t)first_length, second, (size_t)second_length, third,
+        (size_t)third_length, number);
+    leave(self);
+    if (code == RBAC_MEMORY || code == RBAC_CLOSED)
+        return raise(code);
+    return PyLong_FromUnsignedLong(code);
+}
+
+static PyObject *library_load(Library *self, PyObject *argument)
+{
+    unsigned long long revision = PyLong_AsUnsignedLongLong(argument);
+    uint32_t code;
+
+    if (revision == (unsigned long long)-1 && PyErr_Occurred())
+        return NULL;
+    Py_BEGIN_ALLOW_THREADS
+    pthread_mutex_lock(&self->lock);
+    code = rbac_load(&self->office, revision);
+    pthread_mutex_unlock(&self->lock);
+    Py_END_ALLOW_THREADS
+    if (code == RBAC_MEMORY || code == RBAC_CLOSED)
+        return raise(code);
+    return PyLong_FromUnsignedLong(code);
+}
+
+/* Sets what raises the exception for the code of a decision that was refused. */
+static PyObject *set_on_refusal(PyObject *Py_UNUSED(module), PyObject *function)
+{
+    Py_INCREF(function);
+    Py_XDECREF(on_refusal);
+    on_refusal = function;
+    Py_RETURN_NONE;
+}
+
+PyDoc_STRVAR(answer_doc, "answer($self, line, /)\n--\n\n"
+    "The answer to a line of docs/API.md, as `rbac replay` writes it, both as bytes without a line feed.\n\n"
+    "Raises MemoryError if an allocation failed: the line was done, or nothing was, and `revision` shows which.");
+PyDoc_STRVAR(check_doc, "check($self, session, operation, object, /)\n--\n\n"
+    "Whether the session may do the operation on the object. It takes about a microsecond.");
+PyDoc_STRVAR(close_doc, "close($self, /)\n--\n\nFrees the office. Its methods raise ValueError then.");
+
+static PyMethodDef methods[] = {
+    {"answer", (PyCFunction)library_answer, METH_O, answer_doc},
+    {"check", (PyCFunction)(void (*)(void))library_check, METH_FASTCALL, check_doc},
+    {"close", (PyCFunction)library_close, METH_NOARGS, close_doc},
+    {"_revision", (PyCFunction)library_revision, METH_NOARGS, "How many commands were accepted."},
+    {"_row", (PyCFunction)library_row, METH_VARARGS, "The row at a place of a table, or None."},
+    {"_add_row", (PyCFunction)library_add_row, METH_VARARGS, "Adds a row for the next load. 0, or the code of the refusal."},
+    {"_load", (PyCFunction)library_load, METH_O, "Starts again with the added rows. 0, or the code of the refusal."},
+    {NULL, NULL, 0, NULL},
+};
+
+static PyMethodDef functions[] = {
+    {"set_on_refusal", set_on_refusal, METH_O, "Sets what raises the exception for the code of a decision that was refused."},
+    {NULL, NULL, 0, NULL},
+};
+
+static PyTypeObject library_type = {
+    PyVarObject_HEAD_INIT(NULL, 0)
+    .tp_name = "rbac_office._library.Library",
+    .tp_doc = "An office of librbac.",
+    .tp_basicsize = sizeof(Library),
+    .tp_flags = Py_TPFLAGS_DEFAULT | Py_TPFLAGS_BASETYPE,
+    .tp_new = library_new,
+    .tp_dealloc = (destructor)library_dealloc,
+    .tp_methods = methods,
+};
+
+static struct PyModuleDef module = {
+    PyModuleDef_HEAD_INIT,
+    .m_name = "_library",
+    .m_doc = "The functions of librbac.",
+    .m_size = -1,
+    .m_methods = functions,
+};
+
+PyMODINIT_FUNC PyInit__library(void)
+{
+    PyObject *made;
+
+    if (PyType_Ready(&library_type) < 0)
+        return NULL;
+    made = PyModule_Create(&module);
+    if (made == NULL || PyModule_AddObjectRef(made, "Library", (PyObject *)&library_type) < 0) {
+        Py_XDECREF(made);
+        return NULL;
+    }
+    return made;
+}

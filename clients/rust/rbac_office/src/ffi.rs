@@ -1,0 +1,80 @@
+//! The functions of rbac.h.
+
+use std::ptr;
+
+pub const DONE: u32 = 0;
+pub const MEMORY: u32 = 40;
+pub const SHORT: u32 = 60;
+pub const ABSENT: u32 = 61;
+
+/// The handle of an office.
+#[derive(Debug)]
+#[repr(C)]
+pub struct Handle {
+    at: *mut u8,
+}
+
+// SAFETY: a handle may go from thread to thread, as crates/rbac_c proves.
+unsafe impl Send for Handle {}
+
+impl Handle {
+    /// The handle of no office.
+    pub fn none() -> Handle {
+        Handle { at: ptr::null_mut() }
+    }
+}
+
+/// The lengths of the names of a row, and its number.
+#[derive(Default)]
+#[repr(C)]
+pub struct RowLengths {
+    pub first: usize,
+    pub second: usize,
+    pub third: usize,
+    pub number: u32,
+}
+
+#[link(name = "rbac")]
+extern "C" {
+    pub fn rbac_open(office: *mut Handle) -> u32;
+    pub fn rbac_close(office: *mut Handle);
+    pub fn rbac_answer(
+        office: *mut Handle,
+        line: *const u8,
+        line_length: usize,
+        out: *mut u8,
+        out_length: usize,
+        length: *mut usize,
+    ) -> u32;
+    pub fn rbac_kept_answer(office: *mut Handle, out: *mut u8, out_length: usize, length: *mut usize) -> u32;
+    pub fn rbac_check(
+        office: *mut Handle,
+        session: *const u8,
+        session_length: usize,
+        operation: *const u8,
+        operation_length: usize,
+        object: *const u8,
+        object_length: usize,
+    ) -> i32;
+    pub fn rbac_revision(office: *mut Handle, revision: *mut u64) -> u32;
+    pub fn rbac_row_at(
+        office: *mut Handle,
+        table: u32,
+        index: usize,
+        out: *mut u8,
+        out_length: usize,
+        row: *mut RowLengths,
+    ) -> u32;
+    pub fn rbac_add_row(
+        office: *mut Handle,
+        table: u32,
+        first: *const u8,
+        first_length: usize,
+        second: *const u8,
+        second_length: usize,
+        third: *const u8,
+        third_length: usize,
+        number: u32,
+    ) -> u32;
+    pub fn rbac_load(office: *mut Handle, revision: u64) -> u32;
+}

@@ -1,0 +1,352 @@
+//! An office of roles in this process, by the library librbac.
+//!
+//! ```no_run
+//! let office = rbac_office::Office::new()?;
+//! office.answer(br#"{"fn":"addUser","user":"ann"}"#)?;
+//! if office.check("s1", "open", "safe")? {
+//!     // ..
+//! }
+//! # Ok::<(), rbac_office::Error>(())
+//! ```
+//!
+//! An `Office` answers the lines of docs/API.md, and decides about access without a line. docs/EMBEDDING.md says when to use
+//! it, and what is proved about it. An office may be used by several threads: each call waits for the one before it.
+
+use std::fmt;
+use std::sync::{Mutex, MutexGuard, PoisonError};
+
+mod ffi;
+
+use ffi::{Handle, RowLengths};
+
+/// Answers of this length need no second call.
+const ROOM: usize = 4096;
+/// So many bytes are enough for the names of a row.
+const LONGEST_ROW: usize = 192;
+
+/// Why a call has no result.
+#[derive(Clone, Debug, PartialEq, Eq)]
+pub enum Error {
+    /// The office refused: the code and the name are those of docs/API.md.
+    Refused { code: u32, name: &'static str },
+    /// An allocation failed. A line was done then, or nothing was, and the revision shows which.
+    Memory,
+    /// There is no such table.
+    NoTable,
+}
+
+impl Error {
+    /// The error for a code of the library that isn't `ffi::DONE`.
+    fn of(code: u32) -> Error {
+        match code {
+            ffi::MEMORY => Error::Memory,
+            ffi::ABSENT => Error::NoTable,
+            _ => Error::Refused { code, name: name_of(code) },
+        }
+    }
+}
+
+/// The name of a refusal of a decision or of a load.
+fn name_of(code: u32) -> &'static str {
+    match code {
+        1 => "BadName",
+        6 => "NoObject",
+        26 => "NoSession",
+        32 => "TooMany",
+        33 => "NoOperation",
+        52 => "Damaged",
+        _ => "Unknown",
+    }
+}
+
+impl fmt::Display for Error {
+    fn fmt(&self, to: &mut fmt::Formatter<'_>) -> fmt::Result {
+        match self {
+            Error::Refused { code, name } => write!(to, "the office refused: {code} {name}"),
+            Error::Memory => write!(to, "an allocation failed"),
+            Error::NoTable => write!(to, "there is no such table"),
+        }
+    }
+}
+
+impl std::error::Error for Error {}
+
+/// A table of an office.
+#[derive(Clone, Copy, Debug, PartialEq, Eq)]
+#[repr(u32)]
+pub enum Table {
+    Users,
+    Roles,
+    Objects,
+    /// Object, operation.
+    Permissions,
+    /// User, role.
+    Assignments,
+    /// Ascendant, descendant.
+    Inheritances,
+    /// Senior, junior.
+    ClosurePairs,
+    /// Static separation of duty set, role.
+    StaticMembers,
+    /// Dynamic separation of duty set, role.
+    DynamicMembers,
+    /// Session, user.
+    Sessions,
+    /// Session, role.
+    ActivatedRoles,
+    /// Object, operation, role.
+    Grants,
+    /// Static separation of duty set.
+    StaticCardinalities,
+    /// Dynamic separation of duty set.
+    DynamicCardinalities,
+    /// Locked user.
+    Locks,
+}
+
+impl Table {
+    /// All tables, in the order of their numbers.
+    pub const ALL: [Table; 15] = [
+        Table::Users,
+        Table::Roles,
+        Table::Objects,
+        Table::Permissions,
+        Table::Assignments,
+        Table::Inheritances,
+        Table::ClosurePairs,
+        Table::StaticMembers,
+        Table::DynamicMembers,
+        Table::Sessions,
+        Table::ActivatedRoles,
+        Table::Grants,
+        Table::StaticCardinalities,
+        Table::DynamicCardinalities,
+        Table::Locks,
+    ];
+}
+
+/// A row of a table. Names that the table doesn't have are empty.
+#[derive(Clone, Debug, PartialEq, Eq)]
+pub struct Row {
+    pub table: Table,
+    pub names: [String; 3],
+    /// The cardinality of a separation of duty set, otherwise 0.
+    pub number: u32,
+}
+
+/// An office in memory.
+#[derive(Debug)]
+pub struct Office {
+    handle: Mutex<Handle>,
+}
+
+impl Office {
+    /// A new and empty office.
+    pub fn new() -> Result<Office, Error> {
+        let mut handle = Handle::none();
+        // SAFETY: the handle has no office yet.
+        match unsafe { ffi::rbac_open(&mut handle) } {
+            ffi::DONE => Ok(Office { handle: Mutex::new(handle) }),
+            code => Err(Error::of(code)),
+        }
+    }
+
+    /// The office that has exactly these rows, in any order. Its revision counts on from the one that is given.
+    pub fn load(rows: &[Row], revision: u64) -> Result<Office, Error> {
+        let office = Office::new()?;
+        {
+            let mut handle = office.lock();
+            for row in rows {
+                let [first, second, third] = &row.names;
+                // SAFETY: the pointers and lengths are those of texts, and the lock is held.
+                let code = unsafe {
+                    ffi::rbac_add_row(
+                        &mut *handle,
+                        row.table as u32,
+                        first.as_ptr(),
+                        first.len(),
+                        second.as_ptr(),
+                        second.len(),
+                        third.as_ptr(),
+                        third.len(),
+                        row.number,
+                    )
+                };
+                if code != ffi::DONE {
+                    return Err(Error::of(code));
+                }
+            }
+            // SAFETY: the lock is held.
+            let code = unsafe { ffi::rbac_load(&mut *handle, revision) };
+            if code != ffi::DONE {
+                return Err(Error::of(code));
+            }
+        }
+        Ok(office)
+    }
+
+    /// The handle, while no other thread uses it. No call of the library panics, so it is whole also if a thread did.
+    fn lock(&self) -> MutexGuard<'_, Handle> {
+        self.handle.lock().unwrap_or_else(PoisonError::into_inner)
+    }
+
+    /// The answer to a line of docs/API.md, as `rbac replay` writes it, both without a line feed.
+    pub fn answer(&self, line: &[u8]) -> Result<Vec<u8>, Error> {
+        let mut answer = vec![0; ROOM];
+        let mut length = 0;
+        let mut handle = self.lock();
+        // SAFETY: the pointers and lengths are those of slices, and the lock is held.
+        let mut code = unsafe {
+            ffi::rbac_answer(&mut *handle, line.as_ptr(), line.len(), answer.as_mut_ptr(), answer.len(), &mut length)
+        };
+        if code == ffi::SHORT {
+            answer.resize(length, 0);
+            // SAFETY: as above.
+            code = unsafe { ffi::rbac_kept_answer(&mut *handle, answer.as_mut_ptr(), answer.len(), &mut length) };
+        }
+        drop(handle);
+        if code != ffi::DONE {
+            return Err(Error::of(code));
+        }
+        answer.truncate(length);
+        Ok(answer)
+    }
+
+    /// Whether the session may do the operation on the object. It takes about a microsecond.
+    ///
+    /// With an error the access has to be denied.
+    pub fn check(&self, session: &str, operation: &str, object: &str) -> Result<bool, Error> {
+        let mut handle = self.lock();
+        // SAFETY: the pointers and lengths are those of texts, and the lock is held.
+        let decision = unsafe {
+            ffi::rbac_check(
+                &mut *handle,
+                session.as_ptr(),
+                session.len(),
+                operation.as_ptr(),
+                operation.len(),
+                object.as_ptr(),
+                object.len(),
+            )
+        };
+        match decision {
+            1 => Ok(true),
+            0 => Ok(false),
+            refusal => Err(Error::of(refusal.unsigned_abs())),
+        }
+    }
+
+    /// How many commands the office has accepted. A decision holds as long as this stays the same.
+    pub fn revision(&self) -> Result<u64, Error> {
+        let mut revision = 0;
+        // SAFETY: the lock is held.
+        match unsafe { ffi::rbac_revision(&mut *self.lock(), &mut revision) } {
+            ffi::DONE => Ok(revision),
+            code => Err(Error::of(code)),
+        }
+    }
+
+    /// The rows of all tables, which `load` takes.
+    pub fn rows(&self) -> Result<Vec<Row>, Error> {
+        let mut rows = Vec::new();
+        let mut handle = self.lock();
+        for table in Table::ALL {
+            for index in 0.. {
+                match row_at(&mut handle, table, index)? {
+                    Some(row) => rows.push(row),
+                    None => break,
+                }
+            }
+        }
+        Ok(rows)
+    }
+}
+
+/// The row at this place of the table, if there is one.
+fn row_at(handle: &mut Handle, table: Table, index: usize) -> Result<Option<Row>, Error> {
+    let mut names = [0; LONGEST_ROW];
+    let mut row = RowLengths::default();
+    // SAFETY: the pointers and lengths are those of an array and a struct, and the caller holds the lock.
+    match unsafe { ffi::rbac_row_at(handle, table as u32, index, names.as_mut_ptr(), names.len(), &mut row) } {
+        ffi::DONE => {
+            let (second, third) = (row.first + row.second, row.first + row.second + row.third);
+            let text = |from, to| String::from_utf8_lossy(&names[from..to]).into_owned();
+            let names = [text(0, row.first), text(row.first, second), text(second, third)];
+            Ok(Some(Row { table, names, number: row.number }))
+        }
+        ffi::ABSENT => Ok(None),
+        code => Err(Error::of(code)),
+    }
+}
+
+impl Drop for Office {
+    fn drop(&mut self) {
+        // SAFETY: nothing uses the office afterwards.
+        unsafe { ffi::rbac_close(self.handle.get_mut().unwrap_or_else(PoisonError::into_inner)) }
+    }
+}
+
+#[cfg(test)]
+mod tests {
+    use super::{Error, Office, Row, Table};
+    use std::thread;
+
+    fn row(table: Table, first: &str, second: &str) -> Row {
+        Row { table, names: [first.to_string(), second.to_string(), String::new()], number: 0 }
+    }
+
+    fn refused(code: u32, name: &'static str) -> Error {
+        Error::Refused { code, name }
+    }
+
+    #[test]
+    fn decisions_are_refused() {
+        let office = Office::new().unwrap();
+        assert_eq!(office.check("s", "p", "o"), Err(refused(26, "NoSession")));
+        assert_eq!(office.check("", "p", "o"), Err(refused(1, "BadName")));
+        assert_eq!(office.check("s", "\n", "o"), Err(refused(1, "BadName")));
+    }
+
+    #[test]
+    fn long_answers_are_whole() {
+        let office = Office::new().unwrap();
+        for number in 0..1000 {
+            let line = format!(r#"{{"fn":"addUser","user":"u{number}"}}"#);
+            assert_eq!(office.answer(line.as_bytes()).unwrap(), br#"{"ok":true}"#);
+        }
+        office.answer(br#"{"fn":"addRole","role":"r"}"#).unwrap();
+        let records: String = (0..1000).map(|number| format!("u{number},r\\r\\n")).collect();
+        let line = format!(r#"{{"fn":"importAssignments","csv":"user,role\r\n{records}"}}"#);
+        office.answer(line.as_bytes()).unwrap();
+        let answer = office.answer(br#"{"fn":"assignedUsers","role":"r"}"#).unwrap();
+        assert!(answer.len() > super::ROOM && answer.ends_with(br#""u999"]}"#));
+        assert_eq!(office.revision(), Ok(1002));
+    }
+
+    #[test]
+    fn rows_are_loaded() {
+        let rows = vec![row(Table::Users, "ann", ""), row(Table::Roles, "clerk", ""), row(Table::Assignments, "ann", "clerk")];
+        let office = Office::load(&rows, 7).unwrap();
+        assert_eq!(office.rows().unwrap(), rows);
+        assert_eq!(office.revision(), Ok(7));
+        assert_eq!(Office::load(&rows[2..], 0).unwrap_err(), refused(52, "Damaged"));
+        assert_eq!(Office::load(&[row(Table::Users, "", "")], 0).unwrap_err(), refused(1, "BadName"));
+    }
+
+    #[test]
+    fn threads_share_an_office() {
+        let office = Office::new().unwrap();
+        thread::scope(|scope| {
+            for number in 0..4 {
+                let office = &office;
+                scope.spawn(move || {
+                    for at in 0..200 {
+                        let line = format!(r#"{{"fn":"addUser","user":"t{number}-{at}"}}"#);
+                        office.answer(line.as_bytes()).unwrap();
+                    }
+                });
+            }
+        });
+        assert_eq!(office.revision(), Ok(800));
+    }
+}

@@ -1,0 +1,88 @@
+/* Refuses null pointers, and calls the proved functions of crates/rbac_c. This file is tested, and nothing proves it. */
+#include "rbac.h"
+
+uint32_t rbac_office_open(rbac_office *);
+void rbac_office_close(rbac_office *);
+uint32_t rbac_office_answer(rbac_office *, const void *, size_t, void *, size_t, size_t *);
+uint32_t rbac_office_kept_answer(rbac_office *, void *, size_t, size_t *);
+int32_t rbac_office_check(rbac_office *, const void *, size_t, const void *, size_t, const void *, size_t);
+uint32_t rbac_office_revision(rbac_office *, uint64_t *);
+uint32_t rbac_office_row(rbac_office *, uint32_t, size_t, void *, size_t, rbac_row *);
+uint32_t rbac_office_add_row(rbac_office *, uint32_t, const void *, size_t, const void *, size_t, const void *, size_t, uint32_t);
+uint32_t rbac_office_load(rbac_office *, uint64_t);
+
+/* Whether a text has no pointer, but a length. */
+static int lacks(const void *text, size_t length)
+{
+    return text == NULL && length != 0;
+}
+
+/* The text's pointer, or one that isn't null if the text is empty. */
+static const void *at(const void *text)
+{
+    return text != NULL ? text : "";
+}
+
+uint32_t rbac_open(rbac_office *office)
+{
+    return office != NULL ? rbac_office_open(office) : RBAC_NULL;
+}
+
+void rbac_close(rbac_office *office)
+{
+    if (office != NULL)
+        rbac_office_close(office);
+}
+
+uint32_t rbac_answer(rbac_office *office, const void *line, size_t line_length, void *out, size_t out_length, size_t *length)
+{
+    char empty;
+
+    if (office == NULL || length == NULL || lacks(line, line_length) || lacks(out, out_length))
+        return RBAC_NULL;
+    return rbac_office_answer(office, at(line), line_length, out != NULL ? out : &empty, out_length, length);
+}
+
+uint32_t rbac_kept_answer(rbac_office *office, void *out, size_t out_length, size_t *length)
+{
+    char empty;
+
+    if (office == NULL || length == NULL || lacks(out, out_length))
+        return RBAC_NULL;
+    return rbac_office_kept_answer(office, out != NULL ? out : &empty, out_length, length);
+}
+
+int32_t rbac_check(rbac_office *office, const void *session, size_t session_length, const void *operation,
+    size_t operation_length, const void *object, size_t object_length)
+{
+    if (office == NULL || lacks(session, session_length) || lacks(operation, operation_length) || lacks(object, object_length))
+        return -RBAC_NULL;
+    return rbac_office_check(office, at(session), session_length, at(operation), operation_length, at(object), object_length);
+}
+
+uint32_t rbac_revision(rbac_office *office, uint64_t *revision)
+{
+    return office != NULL && revision != NULL ? rbac_office_revision(office, revision) : RBAC_NULL;
+}
+
+uint32_t rbac_row_at(rbac_office *office, uint32_t table, size_t index, void *out, size_t out_length, rbac_row *row)
+{
+    char empty;
+
+    if (office == NULL || row == NULL || lacks(out, out_length))
+        return RBAC_NULL;
+    return rbac_office_row(office, table, index, out != NULL ? out : &empty, out_length, row);
+}
+
+uint32_t rbac_add_row(rbac_office *office, uint32_t table, const void *first, size_t first_length, const void *second,
+    size_t second_length, const void *third, size_t third_length, uint32_t number)
+{
+    if (office == NULL || lacks(first, first_length) || lacks(second, second_length) || lacks(third, third_length))
+        return RBAC_NULL;
+    return rbac_office_add_row(office, table, at(first), first_length, at(second), second_length, at(third), third_length, number);
+}
+
+uint32_t rbac_load(rbac_office *office, uint64_t revision)
+{
+    return office != NULL ? rbac_office_load(office, revision) : RBAC_NULL;
+}

@@ -1,0 +1,150 @@
+/* An office of roles in this process: the library librbac.
+ *
+ * An office holds users, roles, permissions and sessions, as ANSI INCITS 359-2012 defines them. It lies in memory, and
+ * no other process sees it. It answers the lines of docs/API.md exactly as `rbac replay --memory` does, and rbac_check
+ * decides about access without a line. docs/EMBEDDING.md says when to use it, and what is proved about it.
+ *
+ * What a caller has to guarantee, since nothing checks it:
+ *
+ * - A handle is RBAC_OFFICE_NONE, or what the library has left in it. It isn't copied, and only the library writes it.
+ * - A handle is given to one call at a time. It may go to another thread, ordered by a lock or by the start or the end of
+ *   a thread.
+ * - A pointer and its length are those of one array. Arrays of one call don't overlap, unless both are only read.
+ * - No call comes from a signal handler, or from the forked child of a process with several threads.
+ * - malloc, realloc and free are of one allocator, and align blocks as C demands, to 16 bytes at most.
+ * - The thread has 128 KiB of stack left.
+ *
+ * A text is bytes with a length: it needs no zero at its end, and gets none. A pointer to a text may be null if its length
+ * is 0. Any other null pointer is refused with RBAC_NULL, and nothing is done.
+ */
+#ifndef RBAC_H
+#define RBAC_H
+
+#include <stddef.h>
+#include <stdint.h>
+
+#ifdef __cplusplus
+extern "C" {
+#endif
+
+/* The handle of an office. At the end, rbac_close has to be called for it. */
+typedef struct rbac_office {
+    void *at;
+} rbac_office;
+
+/* The handle of no office, with which each handle begins. */
+#define RBAC_OFFICE_NONE { 0 }
+
+/* What the functions below return. Further codes are those of docs/API.md, "Refusals". */
+enum {
+    RBAC_DONE = 0,
+    RBAC_BAD_NAME = 1,  /* a name is empty, longer than 64 bytes, isn't UTF-8, or has a control character */
+    RBAC_MEMORY = 40,   /* an allocation failed */
+    RBAC_CLOSED = 42,   /* the handle has no office */
+    RBAC_SHORT = 60,    /* the text is longer than the buffer */
+    RBAC_ABSENT = 61,   /* there is no such table, or no such row in it */
+    RBAC_NULL = 62      /* a pointer is null that may not be */
+};
+
+/* Makes a new and empty office. If the handle has an office already, that one is freed.
+ *
+ * RBAC_DONE: the handle has the new office. Its revision is 0.
+ * RBAC_MEMORY: the handle is as before. */
+uint32_t rbac_open(rbac_office *office);
+
+/* Frees the office, if there is one. The handle has none then. */
+void rbac_close(rbac_office *office);
+
+/* Does what a line asks for, or answers its question. A line is a JSON object as in docs/API.md, without a line feed.
+ *
+ * Whatever it returns, `*length` is the length of the answer, or 0 if there is none.
+ *
+ * RBAC_DONE: the answer stands in `out`. It is an answer also if it reports a refusal.
+ * RBAC_SHORT: the line was answered, and the answer is longer than `out_length`. rbac_kept_answer returns it.
+ * RBAC_MEMORY: an allocation failed. Either the line was done, or nothing was: the revision shows which.
+ * RBAC_CLOSED: the handle has no office. */
+uint32_t rbac_answer(rbac_office *office, const void *line, size_t line_length, void *out, size_t out_length, size_t *length);
+
+/* Returns the answer to the last line once more, as rbac_answer does. The office stays the same.
+ *
+ * `*length` is 0 if there was no line yet, if rbac_answer returned RBAC_MEMORY, or if the office was loaded since.
+ * The results are those of rbac_answer, without RBAC_MEMORY. */
+uint32_t rbac_kept_answer(rbac_office *office, void *out, size_t out_length, size_t *length);
+
+/* Decides whether the session may do the operation on the object. The office stays the same.
+ *
+ * 1: it may. 0: it may not. Otherwise there is no decision, and the result is minus the code of the reason:
+ * -RBAC_BAD_NAME, -6 (there is no such object), -26 (no such session), -33 (no such operation), -RBAC_MEMORY,
+ * -RBAC_CLOSED, -RBAC_NULL. Only 1 allows the access. */
+int32_t rbac_check(rbac_office *office, const void *session, size_t session_length, const void *operation,
+    size_t operation_length, const void *object, size_t object_length);
+
+/* Writes to `*revision` how many commands the office has accepted. A decision that was made at a revision holds as long as
+ * the revision stays the same.
+ *
+ * RBAC_DONE, or RBAC_CLOSED with 0 in `*revision`. */
+uint32_t rbac_revision(rbac_office *office, uint64_t *revision);
+
+/* ---- saving and loading
+ *
+ * An office is saved by reading the rows of its 15 tables, and loaded by adding these rows to an office in any order. */
+
+/* The tables, and what the names of a row are. */
+enum {
+    RBAC_USERS = 0,                 /* user */
+    RBAC_ROLES = 1,                 /* role */
+    RBAC_OBJECTS = 2,               /* object */
+    RBAC_PERMISSIONS = 3,           /* object, operation */
+    RBAC_ASSIGNMENTS = 4,           /* user, role */
+    RBAC_INHERITANCES = 5,          /* ascendant, descendant */
+    RBAC_CLOSURE_PAIRS = 6,         /* a role, and another one that it inherits from, directly or through others */
+    RBAC_STATIC_MEMBERS = 7,        /* static separation of duty set, role */
+    RBAC_DYNAMIC_MEMBERS = 8,       /* dynamic separation of duty set, role */
+    RBAC_SESSIONS = 9,              /* session, user */
+    RBAC_ACTIVATED_ROLES = 10,      /* session, role */
+    RBAC_GRANTS = 11,               /* object, operation, role */
+    RBAC_STATIC_CARDINALITIES = 12, /* static separation of duty set; the number is its cardinality */
+    RBAC_DYNAMIC_CARDINALITIES = 13,/* dynamic separation of duty set; the number is its cardinality */
+    RBAC_LOCKS = 14,                /* locked user */
+    RBAC_TABLES = 15                /* how many tables there are */
+};
+
+/* The lengths of the names of a row, and its number. A name that the table doesn't have has length 0. */
+typedef struct rbac_row {
+    size_t first;
+    size_t second;
+    size_t third;
+    uint32_t number;
+} rbac_row;
+
+/* So many bytes are enough for the names of a row. */
+#define RBAC_LONGEST_ROW 192
+
+/* Returns the row at the place `index` of a table, from 0. The rows of a table are in the byte order of their names.
+ * The office stays the same.
+ *
+ * RBAC_DONE: the names stand in `out`, one directly after the other, and their lengths in `*row`.
+ * RBAC_ABSENT: the table has no such row, or there is no such table.
+ * RBAC_SHORT, RBAC_MEMORY, RBAC_CLOSED as above. */
+uint32_t rbac_row_at(rbac_office *office, uint32_t table, size_t index, void *out, size_t out_length, rbac_row *row);
+
+/* Adds a row to those of the next rbac_load. Names that the table doesn't have are ignored, and so is such a number.
+ * Decisions and answers don't depend on it.
+ *
+ * RBAC_DONE: it was added. Otherwise nothing was: RBAC_BAD_NAME, RBAC_ABSENT (there is no such table), RBAC_MEMORY,
+ * RBAC_CLOSED. */
+uint32_t rbac_add_row(rbac_office *office, uint32_t table, const void *first, size_t first_length, const void *second,
+    size_t second_length, const void *third, size_t third_length, uint32_t number);
+
+/* Has the office start again: its state is the one that has exactly the added rows, and its revision is `revision`.
+ *
+ * RBAC_DONE: it does, and no line is answered yet. Otherwise its state and its revision are as before: 32 (a limit is
+ * exceeded), 52 (the rows aren't those of an office, as docs/API.md says at 52 Damaged), RBAC_MEMORY, RBAC_CLOSED. Either
+ * way the added rows are used up. */
+uint32_t rbac_load(rbac_office *office, uint64_t revision);
+
+#ifdef __cplusplus
+}
+#endif
+
+#endif

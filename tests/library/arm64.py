@@ -1,0 +1,44 @@
+"""The library for arm64, linked by Debian's compiler for it and run by QEMU. The archive is the one that RBAC_ARCHIVE_ARM64 names."""
+
+import os
+import shutil
+import subprocess
+
+from .answers import random_script
+from .building import HERE, TOP, built, run, run_language
+
+ARCHIVE = os.environ.get("RBAC_ARCHIVE_ARM64", "")
+CROSS = "aarch64-linux-gnu"
+QEMU = ["qemu-aarch64-static", "-L", f"/usr/{CROSS}"]
+
+
+def is_there():
+    """Returns whether there is an archive with what links and runs it; otherwise it says what is left out."""
+    if os.path.isfile(ARCHIVE) and shutil.which(f"{CROSS}-gcc") and shutil.which(QEMU[0]):
+        return True
+    print("left out: arm64, whose archive, compiler or emulator is not there")
+    return False
+
+
+def program(source):
+    """Builds a program for arm64 over the static library."""
+    folder = built() / "arm64"
+    if not folder.exists():
+        tools = {"CC": f"{CROSS}-gcc", "OBJCOPY": f"{CROSS}-objcopy", "AR": f"{CROSS}-ar", "RBAC_ARCHIVE": ARCHIVE}
+        run([TOP / "bin/library", folder], env={**os.environ, **tools})
+    made = folder / source.removesuffix(".c")
+    run([f"{CROSS}-gcc", "-std=gnu99", "-O1", f"-I{TOP}/library", HERE / source, folder / "librbac.a", "-o", made])
+    return made
+
+
+def check_arm64(bench):
+    """Codes, and the answers to random lines."""
+    if not is_there():
+        return
+    done = subprocess.run([*QEMU, program("interface.c")], capture_output=True, text=True, check=False, timeout=120)
+    bench.same("codes", (done.stdout, done.stderr, done.returncode), ("", "", 0))
+    command = [*QEMU, program("lines.c")]
+    for seed in (4, 5, 6):
+        script = random_script(seed)
+        given, said, status = run_language(command, b"\n".join(script.lines) + b"\n")
+        bench.same(f"seed {seed}", (given, said, status), (script.wanted, b"", 0))

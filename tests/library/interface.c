@@ -1,0 +1,152 @@
+/* What rbac.h promises about codes: for tests/library/interface.py. Prints a line for each promise that isn't kept. */
+#include "rbac.h"
+#include <inttypes.h>
+#include <stdio.h>
+#include <string.h>
+
+#define TEXT(text) text, sizeof text - 1
+#define LINE(text) TEXT("{\"fn\":" text "}")
+
+static int broken;
+static char out[256];
+static size_t length;
+
+static void want(const char *what, int64_t given, int64_t wanted)
+{
+    if (given != wanted) {
+        printf("%s: %" PRId64 " and not %" PRId64 "\n", what, given, wanted);
+        broken = 1;
+    }
+}
+
+static void nulls(rbac_office *office)
+{
+    uint64_t revision;
+    rbac_row row;
+
+    want("open null", rbac_open(NULL), RBAC_NULL);
+    rbac_close(NULL);
+    want("answer by null", rbac_answer(NULL, TEXT("{}"), out, sizeof out, &length), RBAC_NULL);
+    want("answer of null", rbac_answer(office, NULL, 1, out, sizeof out, &length), RBAC_NULL);
+    want("answer to null", rbac_answer(office, TEXT("{}"), NULL, 1, &length), RBAC_NULL);
+    want("answer without a length", rbac_answer(office, TEXT("{}"), out, sizeof out, NULL), RBAC_NULL);
+    want("kept by null", rbac_kept_answer(NULL, out, sizeof out, &length), RBAC_NULL);
+    want("kept to null", rbac_kept_answer(office, NULL, 1, &length), RBAC_NULL);
+    want("kept without a length", rbac_kept_answer(office, out, sizeof out, NULL), RBAC_NULL);
+    want("check by null", rbac_check(NULL, TEXT("s"), TEXT("p"), TEXT("o")), -RBAC_NULL);
+    want("check of no session", rbac_check(office, NULL, 1, TEXT("p"), TEXT("o")), -RBAC_NULL);
+    want("check of no operation", rbac_check(office, TEXT("s"), NULL, 1, TEXT("o")), -RBAC_NULL);
+    want("check of no object", rbac_check(office, TEXT("s"), TEXT("p"), NULL, 1), -RBAC_NULL);
+    want("revision of null", rbac_revision(NULL, &revision), RBAC_NULL);
+    want("revision to null", rbac_revision(office, NULL), RBAC_NULL);
+    want("row of null", rbac_row_at(NULL, 0, 0, out, sizeof out, &row), RBAC_NULL);
+    want("row to null", rbac_row_at(office, 0, 0, NULL, 1, &row), RBAC_NULL);
+    want("row without lengths", rbac_row_at(office, 0, 0, out, sizeof out, NULL), RBAC_NULL);
+    want("add to null", rbac_add_row(NULL, 0, TEXT("u"), NULL, 0, NULL, 0, 0), RBAC_NULL);
+    want("add null", rbac_add_row(office, 0, NULL, 1, NULL, 0, NULL, 0, 0), RBAC_NULL);
+    want("add a second null", rbac_add_row(office, 4, TEXT("u"), NULL, 1, NULL, 0, 0), RBAC_NULL);
+    want("add a third null", rbac_add_row(office, 11, TEXT("u"), TEXT("u"), NULL, 1, 0), RBAC_NULL);
+    want("load null", rbac_load(NULL, 0), RBAC_NULL);
+}
+
+static void closed(rbac_office *office)
+{
+    uint64_t revision = 7;
+    rbac_row row;
+
+    length = 7;
+    want("answer when closed", rbac_answer(office, TEXT("{}"), out, sizeof out, &length), RBAC_CLOSED);
+    want("its length", length, 0);
+    length = 7;
+    want("kept when closed", rbac_kept_answer(office, out, sizeof out, &length), RBAC_CLOSED);
+    want("its length", length, 0);
+    want("check when closed", rbac_check(office, TEXT("s"), TEXT("p"), TEXT("o")), -RBAC_CLOSED);
+    want("revision when closed", rbac_revision(office, &revision), RBAC_CLOSED);
+    want("the revision", revision, 0);
+    want("row when closed", rbac_row_at(office, 0, 0, out, sizeof out, &row), RBAC_CLOSED);
+    want("add when closed", rbac_add_row(office, 0, TEXT("u"), NULL, 0, NULL, 0, 0), RBAC_CLOSED);
+    want("load when closed", rbac_load(office, 0), RBAC_CLOSED);
+    rbac_close(office);
+    want("the handle", office->at != NULL, 0);
+}
+
+static void short_buffers(rbac_office *office)
+{
+    static const char done[] = "{\"ok\":true}";
+    rbac_row row;
+
+    memset(out, '-', sizeof out);
+    want("too short", rbac_answer(office, LINE("\"addUser\",\"user\":\"ann\""), out, sizeof done - 2, &length), RBAC_SHORT);
+    want("its length", length, sizeof done - 1);
+    want("nothing beyond", out[sizeof done - 2], '-');
+    want("kept, too short", rbac_kept_answer(office, out, 0, &length), RBAC_SHORT);
+    want("kept", rbac_kept_answer(office, out, sizeof done - 1, &length), RBAC_DONE);
+    want("its bytes", memcmp(out, done, sizeof done - 1), 0);
+    want("nothing beyond", out[sizeof done - 1], '-');
+    want("done once", rbac_answer(office, LINE("\"addUser\",\"user\":\"ann\""), out, sizeof out, &length), RBAC_DONE);
+    want("no buffer", rbac_answer(office, LINE("\"addUser\",\"user\":\"bob\""), NULL, 0, &length), RBAC_SHORT);
+    want("an empty line", rbac_answer(office, NULL, 0, out, sizeof out, &length), RBAC_DONE);
+    want("a row, too short", rbac_row_at(office, RBAC_USERS, 1, out, 2, &row), RBAC_SHORT);
+    want("its length", row.first, 3);
+    want("a row", rbac_row_at(office, RBAC_USERS, 1, out, 3, &row), RBAC_DONE);
+    want("its name", memcmp(out, "bob", 3), 0);
+    want("no row", rbac_row_at(office, RBAC_USERS, 2, out, sizeof out, &row), RBAC_ABSENT);
+    want("no table", rbac_row_at(office, RBAC_TABLES, 0, out, sizeof out, &row), RBAC_ABSENT);
+    want("the last row", rbac_row_at(office, RBAC_USERS, SIZE_MAX, out, sizeof out, &row), RBAC_ABSENT);
+}
+
+static void names(rbac_office *office)
+{
+    char longest[65];
+
+    memset(longest, 'x', sizeof longest);
+    want("no session", rbac_check(office, TEXT("s"), TEXT("p"), TEXT("o")), -26);
+    want("an empty name", rbac_check(office, TEXT(""), TEXT("p"), TEXT("o")), -RBAC_BAD_NAME);
+    want("null as an empty name", rbac_check(office, NULL, 0, TEXT("p"), TEXT("o")), -RBAC_BAD_NAME);
+    want("not UTF-8", rbac_check(office, TEXT("\xff"), TEXT("p"), TEXT("o")), -RBAC_BAD_NAME);
+    want("a surrogate", rbac_check(office, TEXT("s"), TEXT("\xed\xa0\x80"), TEXT("o")), -RBAC_BAD_NAME);
+    want("a zero", rbac_check(office, TEXT("s"), TEXT("p"), TEXT("o\0")), -RBAC_BAD_NAME);
+    want("64 bytes", rbac_check(office, longest, 64, TEXT("p"), TEXT("o")), -26);
+    want("65 bytes", rbac_check(office, longest, 65, TEXT("p"), TEXT("o")), -RBAC_BAD_NAME);
+    want("a row that isn't UTF-8", rbac_add_row(office, RBAC_USERS, TEXT("\xff"), NULL, 0, NULL, 0, 0), RBAC_BAD_NAME);
+    want("a row without its second name", rbac_add_row(office, RBAC_ASSIGNMENTS, TEXT("u"), NULL, 0, NULL, 0, 0), RBAC_BAD_NAME);
+    want("a row without its third name", rbac_add_row(office, RBAC_GRANTS, TEXT("u"), TEXT("u"), NULL, 0, 0), RBAC_BAD_NAME);
+    want("a row of no table", rbac_add_row(office, RBAC_TABLES, TEXT("u"), NULL, 0, NULL, 0, 0), RBAC_ABSENT);
+}
+
+static void loads(rbac_office *office)
+{
+    uint64_t revision;
+
+    want("an assignment of nobody", rbac_add_row(office, RBAC_ASSIGNMENTS, TEXT("u"), TEXT("r"), NULL, 0, 0), RBAC_DONE);
+    want("it is damaged", rbac_load(office, 5), 52);
+    want("the revision stays", rbac_revision(office, &revision), RBAC_DONE);
+    want("it", revision, 2);
+    want("the answer stays", rbac_kept_answer(office, out, sizeof out, &length), RBAC_DONE);
+    want("its length", length > 0, 1);
+    want("a user", rbac_add_row(office, RBAC_USERS, TEXT("eve"), NULL, 0, NULL, 0, 0), RBAC_DONE);
+    want("the rows before are used up", rbac_load(office, UINT64_MAX), RBAC_DONE);
+    want("the revision", rbac_revision(office, &revision), RBAC_DONE);
+    want("it", revision == UINT64_MAX, 1);
+    want("no answer is kept", rbac_kept_answer(office, out, sizeof out, &length), RBAC_DONE);
+    want("its length", length, 0);
+    want("a command", rbac_answer(office, LINE("\"addUser\",\"user\":\"ann\""), out, sizeof out, &length), RBAC_DONE);
+    want("the greatest revision stays", rbac_revision(office, &revision), RBAC_DONE);
+    want("it", revision == UINT64_MAX, 1);
+}
+
+int main(void)
+{
+    rbac_office office = RBAC_OFFICE_NONE;
+
+    closed(&office);
+    want("open", rbac_open(&office), RBAC_DONE);
+    want("open again", rbac_open(&office), RBAC_DONE);
+    nulls(&office);
+    short_buffers(&office);
+    names(&office);
+    loads(&office);
+    rbac_close(&office);
+    closed(&office);
+    return broken;
+}

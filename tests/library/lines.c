@@ -1,0 +1,112 @@
+/* Answers the lines of standard input, for tests/library.py. The lines of all languages are the same:
+ *
+ *   {..}       a line of docs/API.md: prints the answer
+ *   ?A\tB\tC   a decision for the session A, the operation B and the object C: prints what rbac_check returns
+ *   #          prints the revision
+ *   =          saves the office, loads the rows into another one, which is used from then on, and prints how many rows
+ */
+#include "rbac.h"
+#include <inttypes.h>
+#include <stdio.h>
+#include <stdlib.h>
+#include <string.h>
+
+static rbac_office office = RBAC_OFFICE_NONE;
+
+static void need(uint32_t code, const char *what)
+{
+    if (code != RBAC_DONE) {
+        fprintf(stderr, "%s: %" PRIu32 "\n", what, code);
+        exit(1);
+    }
+}
+
+/* Prints the answer to a line. The buffer is short, so that many answers need rbac_kept_answer. */
+static void answer(const char *line, size_t length)
+{
+    char few[64], *out = few;
+    size_t count;
+    uint32_t code = rbac_answer(&office, line, length, few, sizeof few, &count);
+
+    if (code == RBAC_SHORT) {
+        out = malloc(count);
+        if (out == NULL)
+            exit(1);
+        code = rbac_kept_answer(&office, out, count, &count);
+    }
+    need(code, "the answer");
+    fwrite(out, 1, count, stdout);
+    putchar('\n');
+    if (out != few)
+        free(out);
+}
+
+/* Prints the decision that three names ask for, between which there are tabs. */
+static void decide(const char *names, size_t length)
+{
+    const char *end = names + length, *operation = memchr(names, '\t', length), *object;
+
+    if (operation == NULL || (object = memchr(operation + 1, '\t', end - operation - 1)) == NULL)
+        exit(2);
+    printf("%" PRId32 "\n", rbac_check(&office, names, operation - names, operation + 1, object - operation - 1, object + 1, end - object - 1));
+}
+
+static void say_revision(void)
+{
+    uint64_t revision;
+
+    need(rbac_revision(&office, &revision), "the revision");
+    printf("%" PRIu64 "\n", revision);
+}
+
+/* Moves all rows into a new office. They are added from the last table to the first. */
+static void save_and_load(void)
+{
+    rbac_office other = RBAC_OFFICE_NONE;
+    char names[RBAC_LONGEST_ROW];
+    rbac_row row;
+    uint64_t revision;
+    unsigned long rows = 0;
+    uint32_t code;
+
+    need(rbac_open(&other), "another office");
+    for (uint32_t table = RBAC_TABLES; table-- > 0;) {
+        size_t index = 0;
+        for (; (code = rbac_row_at(&office, table, index, names, sizeof names, &row)) == RBAC_DONE; index++) {
+            need(rbac_add_row(&other, table, names, row.first, names + row.first, row.second, names + row.first + row.second,
+                row.third, row.number), "a row");
+            rows++;
+        }
+        if (code != RBAC_ABSENT)
+            need(code, "the rows");
+    }
+    need(rbac_revision(&office, &revision), "the revision");
+    need(rbac_load(&other, revision), "the load");
+    rbac_close(&office);
+    office = other;
+    printf("%lu\n", rows);
+}
+
+int main(void)
+{
+    char *line = NULL;
+    size_t room = 0;
+    ssize_t length;
+
+    need(rbac_open(&office), "an office");
+    while ((length = getline(&line, &room, stdin)) >= 0) {
+        if (length > 0 && line[length - 1] == '\n')
+            length--;
+        if (length > 0 && line[0] == '?')
+            decide(line + 1, length - 1);
+        else if (length == 1 && line[0] == '#')
+            say_revision();
+        else if (length == 1 && line[0] == '=')
+            save_and_load();
+        else
+            answer(line, length);
+    }
+    rbac_close(&office);
+    free(line);
+    return office.at != NULL;
+}

@@ -1,0 +1,94 @@
+// Answers the lines of standard input by the Go package, as lines.c does by the library.
+package main
+
+import (
+	"bufio"
+	"errors"
+	"fmt"
+	"io"
+	"log"
+	"os"
+	"strings"
+
+	"rbac/clients/go/rbacoffice"
+)
+
+// decide returns what rbac_check returns for three names, between which there are tabs.
+func decide(office *rbacoffice.Office, line string) (int, error) {
+	names := strings.Split(line, "\t")
+	allowed, err := office.Check(names[0], names[1], names[2])
+	var refused *rbacoffice.RefusedError
+	switch {
+	case errors.As(err, &refused):
+		return -refused.Code, nil
+	case allowed:
+		return 1, err
+	default:
+		return 0, err
+	}
+}
+
+// reload saves the office and returns one with the same rows, and how many rows there are.
+func reload(office *rbacoffice.Office) (*rbacoffice.Office, int, error) {
+	rows, err := office.Rows()
+	if err != nil {
+		return nil, 0, err
+	}
+	revision, err := office.Revision()
+	if err != nil {
+		return nil, 0, err
+	}
+	office.Close()
+	for i, j := 0, len(rows)-1; i < j; i, j = i+1, j-1 {
+		rows[i], rows[j] = rows[j], rows[i]
+	}
+	office, err = rbacoffice.Load(rows, revision)
+	return office, len(rows), err
+}
+
+func run(in *bufio.Reader, out *bufio.Writer) error {
+	office, err := rbacoffice.Open()
+	if err != nil {
+		return err
+	}
+	defer func() { office.Close() }()
+	for {
+		line, err := in.ReadBytes('\n')
+		if err == io.EOF && len(line) == 0 {
+			return nil
+		}
+		if err != nil && err != io.EOF {
+			return err
+		}
+		text := strings.TrimSuffix(string(line), "\n")
+		var said interface{}
+		switch {
+		case strings.HasPrefix(text, "?"):
+			said, err = decide(office, text[1:])
+		case text == "#":
+			said, err = office.Revision()
+		case text == "=":
+			var count int
+			office, count, err = reload(office)
+			said = count
+		default:
+			var answer []byte
+			answer, err = office.Answer([]byte(text))
+			said = string(answer)
+		}
+		if err != nil {
+			return err
+		}
+		fmt.Fprintln(out, said)
+	}
+}
+
+func main() {
+	out := bufio.NewWriter(os.Stdout)
+	if err := run(bufio.NewReader(os.Stdin), out); err != nil {
+		log.Fatal(err)
+	}
+	if err := out.Flush(); err != nil {
+		log.Fatal(err)
+	}
+}

@@ -1,0 +1,38 @@
+"""Answers the lines of standard input by the Python module, as lines.c does by the library."""
+
+import sys
+
+from rbac_office import Office, Refused
+
+
+def decide(office, line):
+    """Returns what rbac_check returns for three names, between which there are tabs."""
+    session, operation, object = line.decode(errors="surrogateescape").split("\t")
+    try:
+        return int(office.check(session, operation, object))
+    except Refused as refused:
+        return -refused.code
+    except UnicodeEncodeError:
+        return -1
+
+
+def main():
+    office = Office()
+    for line in sys.stdin.buffer:
+        line = line.removesuffix(b"\n")
+        if line.startswith(b"?"):
+            said = str(decide(office, line[1:])).encode()
+        elif line == b"#":
+            said = str(office.revision).encode()
+        elif line == b"=":
+            rows, revision = list(office.rows()), office.revision
+            office.close()
+            office = Office.load(reversed(rows), revision)
+            said = str(len(rows)).encode()
+        else:
+            said = office.answer(line)
+        sys.stdout.buffer.write(said + b"\n")
+
+
+if __name__ == "__main__":
+    main()

@@ -1,0 +1,44 @@
+"""Each allocation fails in turn; what sanitizers and valgrind find."""
+
+import shutil
+import subprocess
+
+from .answers import random_script
+from .building import built, compile_c, run_language
+
+SANITIZED = ["-g", "-fsanitize=address,undefined"]
+
+
+def check_failing(bench):
+    """Each allocation of each call fails in turn, and no block is left in the end."""
+    program = compile_c("failing.c", "failing", *SANITIZED, parts=["rbac.c"])
+    done = subprocess.run([program], capture_output=True, text=True, check=False, timeout=300)
+    bench.judge("each allocation fails", [done.stdout + done.stderr] if done.returncode else [])
+    return {"tries with an allocation that fails": int(done.stdout.split()[0])} if not done.returncode else {}
+
+
+def check_sanitized(bench):
+    """The address sanitizer sees the heap's functions, and the program that calls the library."""
+    program = compile_c("lines.c", "lines_sanitized", *SANITIZED, parts=["rbac.c", "heap.c"])
+    for seed in (1, 2):
+        script = random_script(seed)
+        given, said, status = run_language([program], b"\n".join(script.lines) + b"\n")
+        bench.same(f"sanitized, seed {seed}", (given, said, status), (script.wanted, b"", 0))
+
+
+def check_threads(bench):
+    """Threads share an office under a lock, and the thread sanitizer finds nothing."""
+    program = compile_c("threads.c", "threads", "-g", "-fsanitize=thread", parts=["rbac.c", "heap.c"])
+    done = subprocess.run([program], capture_output=True, text=True, check=False, timeout=300)
+    bench.same("threads", (done.stdout, done.stderr, done.returncode), ("", "", 0))
+
+
+def check_valgrind(bench):
+    """Valgrind sees the proved code too."""
+    if not shutil.which("valgrind"):
+        print("left out: valgrind, which is not installed")
+        return
+    script = random_script(3)
+    command = ["valgrind", "-q", "--error-exitcode=9", "--leak-check=full", built() / "lines_c"]
+    given, said, status = run_language(command, b"\n".join(script.lines) + b"\n")
+    bench.same("valgrind", (given, said, status), (script.wanted, b"", 0))
