@@ -8,7 +8,7 @@ from pages.api import all_pairs
 from program.heads import REFUSED
 
 from .heads import judge_differences
-from .machines import Cluster
+from .machines import SECONDS, Cluster
 from .running import build
 
 DONE = b'{"ok":true}'
@@ -27,15 +27,22 @@ BODY = re.compile(rb"\{.*\}")
 
 def exchange(cluster, request, machine=0):
     """The status and the body of a node's first answer to some bytes, None if there is none."""
+    status, body, _ = exchange_all(cluster, request, machine)
+    return status, body
+
+
+def exchange_all(cluster, request, machine):
+    """As exchange, and the fields of the head."""
     host, port = cluster.network.address(machine, 8080).split(":")
-    with socket.create_connection((host, int(port)), 10) as client:
+    with socket.create_connection((host, int(port)), SECONDS) as client:
         client.sendall(request)
         client.shutdown(socket.SHUT_WR)
         said = b""
         while piece := client.recv(65_536):
             said += piece
     head, _, body = said.partition(b"\r\n\r\n")
-    return int(head.split()[1]) if head else None, body
+    fields = dict(line.lower().split(": ", 1) for line in head.decode("latin-1").split("\r\n")[1:])
+    return int(head.split()[1]) if head else None, body, fields
 
 
 def of_line(line):

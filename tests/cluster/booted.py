@@ -32,6 +32,11 @@ awk '/open files/ { print ($4 == $5) }' "/proc/$(process)/limits"
 systemctl restart rbac-node; ready; ask addUser
 systemctl kill -s KILL rbac-node; ready; ask addUser; of_node NRestarts
 kill -9 "$(pgrep -x -P "$(process)" rbac)"; sleep 0.5; ready; ask addUser; of_node NRestarts
+mkdir /etc/systemd/system/rbac-node.service.d
+printf '[Service]\nWatchdogSec=2s\n' > /etc/systemd/system/rbac-node.service.d/watchdog.conf
+systemctl daemon-reload; systemctl restart rbac-node; ready; hung=$(process); kill -STOP "$hung"
+for turn in $(seq 200); do [ "$(process)" = "$hung" ] || break; sleep 0.1; done
+sleep 0.5; ready; ask addUser; of_node NRestarts
 systemctl stop rbac-node; of_node Result; of_node ExecMainStatus
 systemctl stop etcd; systemctl start rbac-node; systemctl stop rbac-node; of_node Result
 """
@@ -46,6 +51,8 @@ SAID = f"""{{"ok":true}}
 NRestarts=1
 {EXISTS}
 NRestarts=2
+{EXISTS}
+NRestarts=1
 Result=success
 ExecMainStatus=0
 Result=success

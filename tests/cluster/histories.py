@@ -62,7 +62,7 @@ class Client(threading.Thread):
         """Sends a request to a node, and records what came of it."""
         node = self.random.choice([self.number % MACHINES] * 3 + list(range(MACHINES))) if node is None else node
         self.tags += 1
-        line, body = tagged(line, f"{self.number}-{self.tags}")
+        line, body = written(line, f"{self.number}-{self.tags}")
         asked = Asked(kind, node, line, time.monotonic())
         try:
             connection = self.connection(node)
@@ -145,19 +145,13 @@ class Client(threading.Thread):
         return kind, line
 
 
-def tagged(line, tag):
-    """Returns a line that no other request has, and its body. A key that the office ignores makes it unique, and in a text of
-    assignments a record of a user that doesn't exist."""
+def written(line, tag):
+    """Returns a line and its body. No other request has the same text of assignments, by a record of a user that doesn't exist."""
     if "csv" in line:
         line = {**line, "csv": f"{line['csv']}{tag},r\n"}
         return line, line["csv"]
-    line = {**line, "tag": tag}
-    return line, json.dumps({key: value for key, value in line.items() if key != "fn"})
-
-
-def tag_of(line):
-    """The tag of a line."""
-    return line["csv"].split("\n")[-2].partition(",")[0] if "csv" in line else line["tag"]
+    # The node leaves out what the office ignores.
+    return line, json.dumps({**{key: value for key, value in line.items() if key != "fn"}, "tag": tag})
 
 
 def keys_of(functions):
@@ -173,10 +167,11 @@ COMMANDS = (
     "createDsdSet deleteDsdSet lockUserAccount unlockUserAccount importAssignments"
 ).split()
 
-# Questions come as often as commands. Those by which access is decided come most often.
+# Questions come as often as commands. Those by which access is decided come most often. Imports come often, since no two of
+# them are the same: if an entry is in the log twice, the judge can tell.
 QUESTIONS = (
-    ["checkAccess"] * 8
-    + ["assignedUsers", "authorizedUsers", "assignedRoles", "rolePermissions", "sessionRoles", "ssdRoleSets", "permissionRoles"] * 2
+    ["checkAccess"] * 12
+    + ["assignedUsers", "authorizedUsers", "assignedRoles", "rolePermissions", "sessionRoles", "ssdRoleSets", "permissionRoles"] * 3
 )
-FUNCTIONS = COMMANDS + ["assignUser", "grantPermission"] * 2 + QUESTIONS
+FUNCTIONS = COMMANDS + ["assignUser", "grantPermission"] * 2 + ["importAssignments"] * 8 + QUESTIONS
 FUNCTIONS_KEYS = keys_of({*COMMANDS, *FUNCTIONS})

@@ -102,22 +102,23 @@ WRONG = {
     "twice": ([Faults.pause_member], "ledger/ledger.go", "return t.If(clientv3.Compare", """defer func() { key += "x" }()
 return t.If(clientv3.Compare"""),
     # It answers questions from its own state at once.
-    "stale": ([Faults.pause_node], "node/requests.go", "if kind == Local &&", """if kind == Question {
-kind = Local
+    "stale": ([Faults.pause_node], "node/requests.go", "if kind == api.Local &&", """if kind == api.Question {
+kind = api.Local
 }
-if kind == Local &&"""),
+if kind == api.Local &&"""),
     # It answers before the log has the command.
-    "early": ([Faults.pause_member], "node/requests.go", "r := &request{within, line, make(chan Answer, 1)}", """r := &request{ctx, line, make(chan Answer, 1)}
-if kind == Command {
+    "early": ([Faults.pause_member], "node/requests.go", "r := &request{within.Done(), call.Line, make(chan api.Answer, 1)}", """
+r := &request{ctx.Done(), call.Line, make(chan api.Answer, 1)}
+if kind == api.Command {
 n.asked[kind] <- r
-return Answer{Text: []byte(`{"ok":true}`), Revision: n.revision.Load() + 1}, nil
+return api.Answer{Text: []byte(`{"ok":true}`), Revision: n.applied.Load().revision + 1}, nil
 }"""),
     # It keeps running after its replay has ended.
-    "endless": ([Faults.kill_busy_replay], "node/node.go", "case <-ctx.Done():\n\t\t\treturn nil\n", """
-n.replay, n.err = office.Start(n.Program, n.file())
-case <-ctx.Done():
-return nil
-"""),
+    "endless": ([Faults.kill_busy_replay], "node/node.go", """if err := n.replay.Close(); err != nil {
+				return err
+			}
+			return errors.New("the replay has ended")""", """n.replay, n.err = n.open()
+_ = errors.New"""),
 }  # fmt: skip
 
 

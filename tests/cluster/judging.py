@@ -11,7 +11,7 @@ import threading
 
 from machine.replaying import Replay
 
-from .histories import COMMAND, LINEARIZABLE, LOCAL, tag_of
+from .histories import COMMAND, LINEARIZABLE, LOCAL
 
 # The clock of an age is that of the node.
 SLACK = 0.05
@@ -62,40 +62,51 @@ class Judge:
 
     def judge(self, wanted=()):
         """Judges everything. Afterwards `snapshots` has the model's state at the wanted revisions, and `state` the last."""
-        self.judge_tags()
+        self.judge_places()
         self.judge_answers(set(wanted))
         self.judge_times()
         return self.faults
 
-    def judge_tags(self):
-        """Each line of the log was requested once, and each answered command is at the place in the log that its answer names."""
-        commands = {tag_of(one.line): one for one in self.asked if one.kind == COMMAND}
-        self.places = {}
-        for revision, lines in self.entries:
-            for place, line in enumerate(lines):
-                tag = tag_of(json.loads(line))
-                if tag in self.places:
-                    self.fault(f"the log has {line} twice, at {self.places[tag]} and {revision, place}")
-                if tag not in commands:
-                    self.fault(f"the log has {line} at {revision}, which nobody requested")
-                self.places[tag] = (revision, place)
-        for tag, asked in commands.items():
-            if asked.is_answered and self.places.get(tag) != (asked.revision, asked.place):
-                self.fault(f"an answered command is at {self.places.get(tag)} of the log", asked)
+    def judge_places(self):
+        """Each answered command is at the place in the log that its answer names, in an entry of the node that was asked. Each
+        other line of the log was requested of that node, and not answered, as often as the log has it."""
+        lines = {
+            (revision, place): (node, text_of(json.loads(line)))
+            for revision, entry, node in self.entries
+            for place, line in enumerate(entry)
+        }
+        self.asked_at, waiting = {}, {}
+        for asked in self.asked:
+            if asked.kind != COMMAND:
+                continue
+            request, place = (asked.node, text_of(asked.line)), (asked.revision, asked.place)
+            if not asked.is_answered:
+                waiting.setdefault(request, []).append(asked)
+            elif place in self.asked_at:
+                self.fault(f"another command was answered at the same place: {self.asked_at[place]}", asked)
+            elif lines.get(place) != request:
+                self.fault(f"an answered command is not at its place in the log, which has {lines.get(place)}", asked)
+            else:
+                self.asked_at[place] = asked
+        for place, request in lines.items():
+            if place not in self.asked_at:
+                if waiting.get(request):
+                    self.asked_at[place] = waiting[request].pop(0)
+                else:
+                    self.fault(f"the log has {request} at {place}, once more than it was requested")
 
     def judge_answers(self, wanted):
         """Each answer is that of the model after the entries up to its revision."""
-        commands = {tag_of(one.line): one for one in self.asked if one.kind == COMMAND and one.is_answered}
         questions = {}
         for one in self.asked:
             if one.kind != COMMAND and one.is_answered:
                 questions.setdefault(one.revision, []).append(one)
-        replay, revisions = Replay(), {revision for revision, _ in self.entries}
-        for revision, lines in [(0, []), *self.entries]:
-            for line in lines:
+        replay, revisions = Replay(), {entry[0] for entry in self.entries}
+        for revision, lines, _ in [(0, [], 0), *self.entries]:
+            for place, line in enumerate(lines):
                 answer = replay.answer(line)
-                asked = commands.get(tag_of(json.loads(line)))
-                if asked is not None and asked.answer != answer:
+                asked = self.asked_at.get((revision, place))
+                if asked is not None and asked.is_answered and asked.answer != answer:
                     self.fault(f"the model answers {answer}", asked)
             for asked in questions.get(revision, []):
                 answer = replay.answer(json.dumps(asked.line).encode())
@@ -114,10 +125,10 @@ class Judge:
         newest, times = [], [end for end, _ in ends]
         for _, place in ends:
             newest.append(max(place, newest[-1]) if newest else place)
-        begun = {tag_of(one.line): one.start for one in self.asked}
+        begun = {place: one.start for place, one in self.asked_at.items()}
         latest, seen = [], 0.0
-        for revision, lines in self.entries:
-            seen = max(seen, *(begun.get(tag_of(json.loads(line)), 0.0) for line in lines))
+        for revision, lines, _ in self.entries:
+            seen = max(seen, *(begun.get((revision, place), 0.0) for place in range(len(lines))))
             latest.append((revision, seen))
         for one in answered:
             # What was answered before the request began; for a local one, before its age.
@@ -131,6 +142,11 @@ class Judge:
             index = bisect.bisect_right(latest, (one.revision, float("inf")))
             if index and latest[index - 1][1] > one.end:
                 self.fault("it sees what was requested later", one)
+
+
+def text_of(line):
+    """A line with its keys in order."""
+    return json.dumps(line, sort_keys=True)
 
 
 def place_of(asked):

@@ -1,6 +1,7 @@
 """Snapshots, the trimming of the log, nodes that come and go, and nodes that differ."""
 
 import json
+import re
 import shutil
 import signal
 import sqlite3
@@ -79,7 +80,7 @@ def judge_trimmed(bench, cluster):
     last_but_one = revisions(cluster, 0)[-2]
     bench.same("none of the entries is below the floor", entries[0][0] > end, True)
     bench.same("the floor is below the last snapshot but one", end < last_but_one, True)
-    kept = sum(revision > last_but_one for revision, _ in entries)
+    kept = sum(entry[0] > last_but_one for entry in entries)
     bench.same("what came after that snapshot is kept", kept >= EVERY, True)
 
 
@@ -140,28 +141,39 @@ def judge_damaged(bench, cluster):
 
 
 def judge_diverged(bench, cluster):
-    """Nodes that differ refuse to serve, and report at which revision. Once the wrong one is gone, the others serve again."""
+    """A node with other rows than the two others refuses to serve, and reports at which revision. The others go on."""
     cluster.nodes[2].stop()
     newest = max(revisions(cluster, 2))
     says, path = snapshots_of(cluster, 2)[newest]
     tamper(path)
     path.rename(path.with_name(f"{newest}-{says['commands']}-{digest_of(path)}"))
     cluster.nodes[2].start()
-    cluster.until(lambda: not cluster.status(0).get("ready"), "node 0 refuses")
-    cluster.until(lambda: not cluster.status(2).get("ready"), "node 2 refuses")
-    why = cluster.status(0)["why"]
-    bench.same("why", why, f"at revision {newest} the snapshot of n0 differs from that of n2")
-    for function in ("addUser", "checkAccess"):
-        given = exchange(cluster, post(function, b'{"user":"z"}'))
+    cluster.until(lambda: "differs" in cluster.status(2).get("why", ""), "node 2 refuses")
+    why = cluster.status(2)["why"]
+    bench.same("why", re.sub("n[01]$", "n", why), f"at revision {newest} the snapshot of n2 differs from that of n")
+    for function in ("addUser", "assignedRoles"):
+        given = exchange(cluster, post(function, b'{"user":"z"}'), 2)
         bench.same(f"what is answered to {function}", given, (503, b'{"code":61,"error":"Diverged"}'))
-    cluster.nodes[2].stop()
-    shutil.rmtree(cluster.data("node2"))
-    cluster.ctl("del", f"{PREFIX}/nodes/n2")
-    cluster.until(lambda: cluster.status(0).get("ready") and cluster.status(1).get("ready"), "the others serve again")
+    add_users(cluster, "e", 2)
+    bench.same("the others are ready", [cluster.status(i).get("ready") for i in range(2)], [True, True])
+    judge_contested(bench, cluster, newest)
     cluster.nodes[2].start()
     cluster.until(cluster.ready, "all are ready")
     add_users(cluster, "d", 2)
     cluster.until(lambda: len({cluster.status(i)["commands"] for i in range(3)}) == 1, "all have all commands")
+
+
+def judge_contested(bench, cluster, revision):
+    """A node without its folder fetches no snapshot that others contest; once the wrong node is gone, it does."""
+    cluster.lose_node(1)
+    for other in (0, 2):
+        wanted = rf'"from":"n{other}","error":"the snapshot at revision {revision} differs from that of n'
+        cluster.until(lambda wanted=wanted: re.search(wanted, log_of(cluster, 1)), f"node {other} is not believed")
+    bench.same("it is not ready", cluster.status(1).get("ready"), False)
+    cluster.nodes[2].stop()
+    shutil.rmtree(cluster.data("node2"))
+    cluster.ctl("del", f"{PREFIX}/nodes/n2")
+    cluster.until(lambda: all(cluster.status(i).get("ready") for i in range(2)), "it has fetched the snapshot of the right node")
 
 
 def check_ends(bench):

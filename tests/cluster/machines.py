@@ -83,10 +83,10 @@ class Process:
 class Cluster:
     """The machines of one test, in a folder."""
 
-    def __init__(self, folder, node, every=500, timeout="4s", more=()):
+    def __init__(self, folder, node, every=500, timeout="4s", more=(), of_etcd=()):
         self.folder, self.node = folder, node
         self.network = network()
-        self.every, self.timeout, self.more = every, timeout, more
+        self.every, self.timeout, self.more, self.of_etcd = every, timeout, more, of_etcd
         self.members = [self.member(i) for i in range(MACHINES)]
         self.nodes = [self.node_of(i) for i in range(MACHINES)]
         self.done = threading.Event()
@@ -137,6 +137,7 @@ class Cluster:
             "--listen-client-urls", self.url(i, 2379), "--advertise-client-urls", self.url(i, 2379),
             "--listen-peer-urls", self.url(i, 2380), "--initial-advertise-peer-urls", self.url(i, 2380),
             "--initial-cluster", peers, "--initial-cluster-state", state, "--logger", "zap", "--log-level", "error",
+            *self.of_etcd,
         ]  # fmt: skip
         return Process(words, self.data(f"member{i}.log"))
 
@@ -204,7 +205,8 @@ class Cluster:
         return None
 
     def read_log(self, after=0):
-        """The entries of the log after a revision, as pairs of a revision and its lines, and the floor of the log."""
+        """The entries of the log after a revision, each as its revision, its lines and the number of the node that has written
+        it, and the floor of the log."""
         at, end = encoded(f"{PREFIX}/log/"), encoded(f"{PREFIX}/log0")
         reply = self.etcd_call("/v3/kv/txn", {"success": [
             {"requestRange": {"key": encoded(f"{PREFIX}/floor")}},
@@ -215,7 +217,7 @@ class Cluster:
             return None
         floors, entries = (one["response_range"].get("kvs", []) for one in reply["responses"])
         return (
-            [(int(kv["create_revision"]), base64.b64decode(kv["value"]).split(b"\n")) for kv in entries],
+            [(int(kv["create_revision"]), base64.b64decode(kv["value"]).split(b"\n"), writer_of(kv["key"])) for kv in entries],
             max((int(base64.b64decode(kv["value"])) for kv in floors), default=0),
         )
 
@@ -272,6 +274,12 @@ def send(process, number):
         os.kill(process, number)
     except ProcessLookupError:
         pass
+
+
+def writer_of(key):
+    """The number of the node that has written an entry, from its key."""
+    name = base64.b64decode(key).rpartition(b"/")[2].partition(b"-")[0]
+    return int(name[1:])
 
 
 def encoded(text):

@@ -8,9 +8,9 @@ from program.bench import PROGRAM, TESTS
 
 from .running import build
 
-ROOT = TESTS.parent / "cluster"
+ROOT, LOAD = TESTS.parent / "node", "../bench/load"
 ENVIRONMENT = {
-    **os.environ, "GO111MODULE": "off", "GOFLAGS": "", "GOPATH": f"{ROOT}:/usr/share/gocode", "RBAC_PROGRAM": PROGRAM,
+    **os.environ, "GO111MODULE": "off", "GOFLAGS": "-tags=etcd,jose", "GOPATH": f"{ROOT}:/usr/share/gocode", "RBAC_PROGRAM": PROGRAM,
 }  # fmt: skip
 
 
@@ -21,12 +21,14 @@ def go(*words):
 
 
 def check_form(bench):
-    bench.same("what gofmt would change", go("gofmt", "-l", "src"), ("", 0))
-    bench.same("what go vet finds", go("go", "vet", "rbac-node/...", "rbac-load"), ("", 0))
+    bench.same("what gofmt would change", go("gofmt", "-l", "src", LOAD), ("", 0))
+    bench.same("what go vet finds", go("go", "vet", "rbac-node/...", LOAD), ("", 0))
 
 
 def check_tests(bench):
-    said, status = go("go", "test", "-count=1", "-v", "rbac-node/...")
+    # tests/front.py runs those of the other packages.
+    packages = ["rbac-node", *(f"rbac-node/{name}" for name in ("ledger", "node", "office"))]
+    said, status = go("go", "test", "-count=1", "-v", *packages)
     bench.judge("go test", [] if status == 0 and "--- SKIP" not in said else [said[-2000:]])
     bench.passed += said.count("--- PASS")
 

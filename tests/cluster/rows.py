@@ -35,7 +35,7 @@ def snapshots_of(cluster, i):
     """The snapshots of a node by their revisions: what their names contain, and their files."""
     found = {}
     for path in Path(cluster.data(f"node{i}")).glob("snapshots/[0-9]*"):
-        revision, commands, digest = path.name.split("-")
+        revision, commands, digest = path.name.removesuffix("-copied").split("-")
         found[int(revision)] = ({"revision": int(revision), "commands": int(commands), "digest": digest}, path)
     return found
 

@@ -14,7 +14,7 @@ from program.bench import PROGRAM, TESTS, Bench
 
 # What needs nothing but the sources, and what needs etcd and a built node.
 OF_SOURCES = ["sources"]
-OF_CLUSTERS = ["program", "page", "booted", "answers", "secured", "keeping", "judged"]
+OF_CLUSTERS = ["program", "page", "booted", "answers", "secured", "callers", "hung", "full", "keeping", "judged"]
 
 NEEDED = ["go.etcd.io/etcd/clientv3", "github.com/prometheus/client_golang/prometheus"]
 
@@ -37,9 +37,9 @@ def build(folder, root=TESTS.parent):
 
 def build_wrong(folder, file, old, new):
     """Builds rbac-node with an edit of its sources into a folder, and returns its path."""
-    for part in ("bin", "cluster"):
+    for part in ("bin", "node"):
         shutil.copytree(TESTS.parent / part, folder / part)
-    source = folder / "cluster/src/rbac-node" / file
+    source = folder / "node/src/rbac-node" / file
     text = source.read_text(encoding="utf-8")
     if text.count(old) != 1:
         raise ValueError(f"{file} has {text.count(old)} times {old}")

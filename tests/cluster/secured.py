@@ -125,7 +125,7 @@ def check_secured(bench):
         for user in "abcdefgh":
             given = secured.ask(here, "POST", "/v1/addUser", json.dumps({"user": user}))
             bench.same("a command", given, (200, b'{"ok":true}'))
-        bench.same("the version of HTTP", http_2(bench, here), "2 200")
+        bench.same("the version of HTTP", http_2(bench, here), "1.1 200")
         for name in ("", "other"):
             for port, method, path in ((here, "POST", "/v1/addUser"), (peer, "GET", "/snapshot"), (peer, "GET", "/metrics")):
                 given = secured.ask(port, method, path, '{"user":"mallory"}', name)

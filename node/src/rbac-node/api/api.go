@@ -1,0 +1,238 @@
+// Package api answers requests over HTTP as `rbac serve` does.
+package api
+
+import (
+	"bytes"
+	"context"
+	"encoding/json"
+	"errors"
+	"fmt"
+	"io"
+	"net/http"
+	"strconv"
+	"strings"
+	"time"
+
+	"rbac-node/metrics"
+)
+
+// A Kind is how a request is answered.
+type Kind string
+
+// A command is done by all copies of an office in one order. The state that answers a question has everything that was
+// answered anywhere before the question came; a local one is answered from the state at hand.
+const (
+	Command  Kind = "command"
+	Question Kind = "question"
+	Local    Kind = "local"
+)
+
+// An Answer is what the program answered. On several machines Revision is that of the command's entry in the log, in which it has a
+// place, or that of the last entry before the question.
+type Answer struct {
+	Text     []byte
+	Revision int64
+	Place    int
+	// Newest is a moment at which the state that answered a question was the newest one.
+	Newest time.Time
+}
+
+// A Refusal is what is answered without the office: an HTTP status, a code and its name.
+type Refusal struct {
+	Status, Code int
+	Name         string
+}
+
+func (r Refusal) Error() string { return r.Name }
+
+var (
+	// Unavailable means that there was no answer in time. A command may be done or not.
+	Unavailable = Refusal{http.StatusServiceUnavailable, 60, "Unavailable"}
+	// Diverged means that the snapshot of this node is not that of most nodes at the same revision.
+	Diverged = Refusal{http.StatusServiceUnavailable, 61, "Diverged"}
+	// Unauthorized means that the request doesn't show who asks.
+	Unauthorized = Refusal{http.StatusUnauthorized, 62, "Unauthorized"}
+	// Forbidden means that the caller may not do this.
+	Forbidden = Refusal{http.StatusForbidden, 63, "Forbidden"}
+	// TooManyRequests means that the caller has too many requests at once.
+	TooManyRequests = Refusal{http.StatusTooManyRequests, 64, "TooManyRequests"}
+	// ForeignOrigin means that a page of a foreign site has made a browser send the request.
+	ForeignOrigin = Refusal{http.StatusForbidden, 65, "ForeignOrigin"}
+	// ForeignHost means that the request was sent to a name that isn't one of this machine.
+	ForeignHost     = Refusal{http.StatusMisdirectedRequest, 66, "ForeignHost"}
+	unknownFunction = Refusal{http.StatusNotFound, 35, "UnknownFunction"}
+)
+
+func badRequest(status int) Refusal { return Refusal{status, 34, "BadRequest"} }
+
+// An Office answers calls. An error that is no Refusal is answered as Unavailable.
+type Office interface {
+	Ask(ctx context.Context, kind Kind, call *Call) (Answer, error)
+	ServeHealth(w http.ResponseWriter, r *http.Request)
+}
+
+// These are limits of `rbac serve`. A longer import, which it accepts, would make a line that no replay accepts.
+const maxBodyBytes, maxFields = 65_536, 64
+
+// A Handler answers requests from an office.
+type Handler struct {
+	ctx     context.Context
+	office  Office
+	answers *metrics.Counter
+	seconds *metrics.Histogram
+}
+
+// NewHandler returns a handler. It answers until the context ends, also if the client has ended its side of the connection, as
+// `rbac serve` does: so requests have the context of the handler.
+func NewHandler(ctx context.Context, office Office, registry *metrics.Registry) *Handler {
+	bounds := make([]float64, 15)
+	for i := range bounds {
+		bounds[i] = 0.0005 * float64(int(1)<<i)
+	}
+	return &Handler{
+		ctx: ctx, office: office,
+		answers: registry.Counter("rbac_node_answers_total", "Requests that were answered.", "kind", "status"),
+		seconds: registry.Histogram("rbac_node_answer_seconds", "How long requests took.", "kind", bounds),
+	}
+}
+
+// ServeHTTP answers any request.
+func (h *Handler) ServeHTTP(w http.ResponseWriter, r *http.Request) {
+	if r.URL.Path == "/healthz" {
+		h.office.ServeHealth(w, r)
+		return
+	}
+	h.Serve(w, r, nil, func() {})
+}
+
+// A Judge decides whether a call may be done. An error refuses it.
+type Judge func(ctx context.Context, call *Call) error
+
+// Serve answers a request for a function that the judge lets through. Without a judge that is every one. done is called when
+// the office has nothing more to do for the request, before the client gets the answer.
+func (h *Handler) Serve(w http.ResponseWriter, r *http.Request, judge Judge, done func()) {
+	start := time.Now()
+	kind, call, err := read(r)
+	if err == nil && judge != nil {
+		err = judge(h.ctx, call)
+	}
+	var answer Answer
+	if err == nil {
+		answer, err = h.office.Ask(h.ctx, kind, call)
+	}
+	done()
+	status := respond(w, kind, answer, err)
+	h.answers.Add(string(kind), strconv.Itoa(status))
+	h.seconds.Observe(string(kind), time.Since(start).Seconds())
+}
+
+// respond writes an answer or an error, and returns its status.
+func respond(w http.ResponseWriter, kind Kind, answer Answer, err error) int {
+	if err != nil {
+		refused := Unavailable
+		_ = errors.As(err, &refused)
+		return Refuse(w, refused)
+	}
+	head := w.Header()
+	switch {
+	case answer.Revision == 0 && answer.Newest.IsZero():
+		// The office is that of one machine.
+	case kind == Command:
+		head.Set("Office-Revision", strconv.FormatInt(answer.Revision, 10))
+		head.Set("Office-Place", strconv.Itoa(answer.Place))
+	default:
+		head.Set("Office-Revision", strconv.FormatInt(answer.Revision, 10))
+		head.Set("Office-Age", strconv.FormatFloat(time.Since(answer.Newest).Seconds(), 'f', 3, 64))
+	}
+	return write(w, StatusOf(answer.Text), answer.Text)
+}
+
+// Refuse answers a request without the office, and returns the status.
+func Refuse(w http.ResponseWriter, refused Refusal) int {
+	head := w.Header()
+	switch refused.Status {
+	case http.StatusUnauthorized:
+		head.Set("WWW-Authenticate", "Bearer")
+	case http.StatusMethodNotAllowed:
+		head.Set("Allow", http.MethodPost)
+	case http.StatusNotImplemented:
+		// Nobody may take what follows for the next request.
+		head.Set("Connection", "close")
+	}
+	return write(w, refused.Status, []byte(fmt.Sprintf(`{"code":%d,"error":"%s"}`, refused.Code, refused.Name)))
+}
+
+func write(w http.ResponseWriter, status int, text []byte) int {
+	head := w.Header()
+	head["Content-Type"] = []string{"application/json"}
+	head["Content-Length"] = []string{strconv.Itoa(len(text))}
+	w.WriteHeader(status)
+	_, _ = w.Write(text) // If it fails, the client is gone.
+	return status
+}
+
+// StatusOf returns the status of an answer of the office.
+func StatusOf(answer []byte) int {
+	if bytes.HasPrefix(answer, []byte(`{"ok":true`)) {
+		return http.StatusOK
+	}
+	var refused struct{ Code int }
+	_ = json.Unmarshal(answer, &refused)
+	switch refused.Code {
+	case 1, 34, 36:
+		return http.StatusBadRequest
+	case 35:
+		return http.StatusNotFound
+	}
+	return http.StatusConflict
+}
+
+// read judges the head of a request in the order of `rbac serve`, reads the body, and makes a call of the two.
+func read(r *http.Request) (Kind, *Call, error) {
+	// A ServeMux would redirect paths that it would write differently.
+	name := strings.TrimPrefix(r.RequestURI, "/v1/")
+	called, known := functions[name]
+	known = known && name != r.RequestURI
+	kind := called.kind
+	if !known {
+		kind = "none"
+	}
+	if err := judgeHead(r, known); err != nil {
+		return kind, nil, err
+	}
+	if kind == Question && r.Header.Get("Consistency") == "local" {
+		kind = Local
+	}
+	body, err := io.ReadAll(r.Body)
+	if err != nil {
+		return kind, nil, badRequest(http.StatusBadRequest)
+	}
+	call, err := parseBody(name, body)
+	return kind, call, err
+}
+
+// judgeHead refuses a head that `rbac serve` would refuse.
+func judgeHead(r *http.Request, known bool) error {
+	fields := 1 // The library keeps Host apart.
+	for _, values := range r.Header {
+		fields += len(values)
+	}
+	consistency := r.Header.Get("Consistency")
+	switch {
+	case fields > maxFields:
+		return badRequest(http.StatusRequestHeaderFieldsTooLarge)
+	case len(r.TransferEncoding) > 0:
+		return badRequest(http.StatusNotImplemented)
+	case !known:
+		return unknownFunction
+	case r.Method != http.MethodPost:
+		return badRequest(http.StatusMethodNotAllowed)
+	case r.ContentLength < 0 || r.ContentLength == 0 && r.Header.Get("Content-Length") == "" && r.ProtoMajor == 1:
+		return badRequest(http.StatusLengthRequired)
+	case r.ContentLength > maxBodyBytes:
+		return badRequest(http.StatusRequestEntityTooLarge)
+	case consistency != "" && consistency != "local" && consistency != "linearizable":
+		return badRequest(http.StatusBadRequest)
+	}
+	return nil
+}

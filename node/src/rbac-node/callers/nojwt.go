@@ -1,0 +1,13 @@
+//go:build !jose
+
+package callers
+
+import "errors"
+
+// newVerifier refuses keys, since this program was built without the library for JWTs.
+func newVerifier(files Files) (verifier, error) {
+	if files.Keys != "" {
+		return nil, errors.New("this rbac-node was built without JWTs: docs/FRONT.md says what that needs")
+	}
+	return nil, nil
+}

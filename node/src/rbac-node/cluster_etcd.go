@@ -1,0 +1,211 @@
+//go:build etcd
+
+package main
+
+import (
+	"context"
+	"errors"
+	"fmt"
+	"io"
+	"net/http"
+	"os"
+	"path/filepath"
+	"strings"
+	"syscall"
+	"time"
+
+	"github.com/prometheus/client_golang/prometheus"
+	"github.com/prometheus/client_golang/prometheus/promhttp"
+	"go.etcd.io/etcd/clientv3"
+	"go.uber.org/zap"
+	"google.golang.org/grpc"
+
+	"rbac-node/front"
+	"rbac-node/ledger"
+	"rbac-node/logs"
+	"rbac-node/metrics"
+	"rbac-node/node"
+	"rbac-node/office"
+	"rbac-node/web"
+)
+
+const (
+	// snapshotTimeout is how long a snapshot may take to be sent to another node.
+	snapshotTimeout = 5 * time.Minute
+	// peerConnections is how many connections of other nodes and of monitoring there may be at once.
+	peerConnections = 128
+)
+
+// connect returns a client of etcd.
+func (s *clusterSettings) connect() (*clientv3.Client, error) {
+	quiet := zap.NewProductionConfig()
+	quiet.Level = zap.NewAtomicLevelAt(zap.ErrorLevel)
+	config := clientv3.Config{
+		Endpoints: strings.Split(s.etcd, ","), DialTimeout: 5 * time.Second, LogConfig: &quiet, Username: s.user,
+		DialKeepAliveTime: 10 * time.Second, DialKeepAliveTimeout: 3 * time.Second,
+		DialOptions: []grpc.DialOption{grpc.WithReturnConnectionError()},
+	}
+	var err error
+	if config.TLS, err = s.etcdTLS.Client(); err != nil {
+		return nil, err
+	}
+	if s.passwordFile != "" {
+		password, err := os.ReadFile(s.passwordFile)
+		if err != nil {
+			return nil, fmt.Errorf("password: %w", err)
+		}
+		config.Password = strings.TrimSpace(string(password))
+	}
+	return clientv3.New(config)
+}
+
+// isChosen reports whether the command line names members of etcd.
+func (s *clusterSettings) isChosen() bool { return s.etcd != "" }
+
+// adopt makes the office of a file the beginning of a new cluster.
+func (s *clusterSettings) adopt(common *settings, from string) error {
+	log, _, closeAll, err := s.open(common)
+	if err != nil {
+		return err
+	}
+	defer closeAll()
+	return untilSignal(func(ctx context.Context) error { return s.adoptInto(ctx, log, from) })
+}
+
+func (s *clusterSettings) adoptInto(ctx context.Context, log *ledger.Ledger, from string) error {
+	store, err := office.Open(s.Data, s.Program)
+	if err != nil {
+		return err
+	}
+	file, err := store.Begin(from)
+	if err != nil {
+		return err
+	}
+	defer os.Remove(file)
+	// From the moment when etcd knows of it, nodes wait for the snapshot.
+	if err := office.Run(ctx, s.Program, "check", file); err != nil {
+		return err
+	}
+	revision, err := log.Adopt(ctx)
+	if err != nil {
+		return err
+	}
+	snapshot, err := store.Finish(ctx, file, office.Snapshot{Revision: revision})
+	if err != nil {
+		return err
+	}
+	fmt.Printf("snapshot %d has the digest %s\n", snapshot.Revision, snapshot.Digest)
+	return nil
+}
+
+// open checks the settings, and opens the log in etcd.
+func (s *clusterSettings) open(common *settings) (*ledger.Ledger, *zap.Logger, func(), error) {
+	s.common, s.Program, s.AnswerTimeout, s.HangTimeout = common, common.program, common.answerTimeout, common.hangTimeout
+	if err := s.check(); err != nil {
+		return nil, nil, nil, err
+	}
+	logger, err := newLogger(s.Name)
+	if err != nil {
+		return nil, nil, nil, err
+	}
+	client, err := s.connect()
+	if err != nil {
+		return nil, nil, nil, fmt.Errorf("etcd: %w", err)
+	}
+	return ledger.New(client, s.prefix, logger), logger, func() { _ = client.Close() }, nil
+}
+
+// lockFolder makes a folder, and locks it until the file is closed.
+func lockFolder(folder string) (*os.File, error) {
+	if err := os.MkdirAll(folder, 0o700); err != nil {
+		return nil, err
+	}
+	lock, err := os.OpenFile(filepath.Join(folder, "lock"), os.O_RDWR|os.O_CREATE, 0o600)
+	if err != nil {
+		return nil, err
+	}
+	if err := syscall.Flock(int(lock.Fd()), syscall.LOCK_EX|syscall.LOCK_NB); err != nil {
+		lock.Close()
+		return nil, fmt.Errorf("lock of the folder, which no other node may use: %w", err)
+	}
+	return lock, nil
+}
+
+// serve runs a node until a signal comes or something fails.
+func (s *clusterSettings) serve(common *settings) error {
+	log, logger, closeAll, err := s.open(common)
+	if err != nil {
+		return err
+	}
+	defer closeAll()
+	// Until here a signal ends the process at once, even while etcd does not answer.
+	return untilSignal(func(ctx context.Context) error { return s.serveNode(ctx, log, logger) })
+}
+
+// serveNode serves clients and other nodes.
+func (s *clusterSettings) serveNode(ctx context.Context, log *ledger.Ledger, logger *zap.Logger) error {
+	lock, err := lockFolder(s.Data)
+	if err != nil {
+		return err
+	}
+	defer lock.Close()
+	config, err := s.peerTLS.Client()
+	if err != nil {
+		return fmt.Errorf("other nodes: %w", err)
+	}
+	s.Fetch = &http.Client{Timeout: snapshotTimeout, Transport: &http.Transport{TLSClientConfig: config}}
+	addresses, err := s.common.listenOr("127.0.0.1:8080")
+	if err != nil {
+		return err
+	}
+	if s.common.refused == "" {
+		s.common.refused = filepath.Join(s.Data, "refused")
+	}
+	events, registry := logs.New(os.Stderr, "node", s.Name), &metrics.Registry{}
+	f, err := front.New(ctx, s.common.frontOptions(addresses, events, registry))
+	if err != nil {
+		return err
+	}
+	defer f.Close()
+	s.IsOpen = s.common.callers.Callers == ""
+	n, err := node.New(s.Options, log, logger, prometheus.DefaultRegisterer)
+	if err != nil {
+		return err
+	}
+	if err := f.Listen(); err != nil {
+		return err
+	}
+	logger.Info("started", zap.String("peer", s.peer))
+	return s.answer(ctx, f, n, events, registry)
+}
+
+// answer answers clients and other nodes until the context ends or something fails.
+func (s *clusterSettings) answer(ctx context.Context, f *front.Front, n *node.Node, log *logs.Logger, all *metrics.Registry) error {
+	listener, err := web.Listen(s.peer, s.peerTLS)
+	if err != nil {
+		return err
+	}
+	failed := make(chan error, 1)
+	peers := web.Serve(reportingTo(failed), listener, peerHandler(n, all),
+		web.Limits{Connections: peerConnections, AnswerTimeout: snapshotTimeout})
+	err = answer(ctx, f, n, failed, log, func(within context.Context) { web.Shutdown(within, peers) })
+	if ctx.Err() != nil && errors.Is(err, context.Canceled) {
+		return nil // The signal came while the node was recovering.
+	}
+	return err
+}
+
+// peerHandler serves other nodes and monitoring.
+func peerHandler(n *node.Node, registry *metrics.Registry) http.Handler {
+	mux, library := http.NewServeMux(), promhttp.Handler()
+	mux.Handle("/snapshot", n.Snapshots())
+	mux.HandleFunc("/healthz", n.ServeHealth)
+	mux.HandleFunc("/metrics", func(w http.ResponseWriter, r *http.Request) {
+		// The library's metrics come first, in the same format.
+		r.Header.Del("Accept")
+		r.Header.Del("Accept-Encoding")
+		library.ServeHTTP(w, r)
+		_, _ = io.WriteString(w, registry.Text()) // If it fails, the client is gone.
+	})
+	return mux
+}

@@ -1,0 +1,322 @@
+// Package feed passes the lines of many clients to one replay of the program, in one order, and starts it again if it ends.
+//
+// What a client asks for at once is a unit: its lines follow one another, with nothing between them. One goroutine writes all
+// lines. Answers come in the same order, to a goroutine that never waits. If the replay ends, whoever waits for an answer gets
+// none: nobody knows which of the lines were done.
+package feed
+
+import (
+	"bytes"
+	"context"
+	"errors"
+	"fmt"
+	"sync"
+	"sync/atomic"
+	"time"
+
+	"rbac-node/api"
+	"rbac-node/logs"
+	"rbac-node/metrics"
+	"rbac-node/office"
+)
+
+const (
+	// most is how many units may wait for the replay, or for their answers.
+	most = 8192
+	// pause is the time before a replay that doesn't start is started again.
+	pause = time.Second
+	// leaving is how long a replay may take to answer the last lines.
+	leaving = 10 * time.Second
+	// chunk is the fewest bytes that one read of a full pipe returns.
+	chunk = 4096
+)
+
+// Options are what a feed needs.
+type Options struct {
+	// Name is what the replay is called in logs and metrics.
+	Name string
+	// Start starts a replay.
+	Start func() (*office.Replay, error)
+	// First has the lines, at least one, that a replay has to accept before it gets any other.
+	First [][]byte
+	// Reads is after how many reads of its input a replay is started anew, as soon as nobody waits. It ends by itself after
+	// 1,000,000,000 reads.
+	Reads int64
+	Log   *logs.Logger
+	// Starts counts the starts, by the name.
+	Starts *metrics.Counter
+}
+
+// A Feed has one replay, or tries to start one.
+type Feed struct {
+	Options
+	units chan *unit
+	alive chan struct{}
+	// sent has the units that the replay has got and not answered, in their order.
+	sent   chan *unit
+	replay *office.Replay
+	// reads is the most times that the replay can have read its input. Only the goroutine of Run uses it.
+	reads int64
+	mutex sync.Mutex // for First
+	// starting says that a replay is being started.
+	starting atomic.Bool
+	// why says why there is no replay, or is empty.
+	why atomic.Value
+}
+
+// A unit is some lines that are asked at once. lost says that the replay has ended before it answered all.
+type unit struct {
+	ctx     context.Context
+	lines   [][]byte
+	answers [][]byte
+	lost    bool
+	done    chan struct{}
+}
+
+// lose tells whoever waits that there is no answer.
+func (u *unit) lose() {
+	u.lost = true
+	close(u.done)
+}
+
+// A RefusedError reports which of the first lines was refused.
+type RefusedError struct {
+	Index  int
+	Answer string
+}
+
+func (e *RefusedError) Error() string { return fmt.Sprintf("line %d: %s", e.Index+1, e.Answer) }
+
+// Open returns a feed whose replay has accepted the first lines.
+func Open(ctx context.Context, options Options) (*Feed, error) {
+	f := &Feed{Options: options, units: make(chan *unit, most), alive: make(chan struct{}), sent: make(chan *unit, most)}
+	f.why.Store("")
+	return f, f.start(ctx)
+}
+
+// IsAccepted reports whether the office accepted what it answers.
+func IsAccepted(answer []byte) bool { return bytes.HasPrefix(answer, []byte(`{"ok":true`)) }
+
+// Why returns why no line is answered now, or an empty text.
+func (f *Feed) Why() string {
+	why, _ := f.why.Load().(string)
+	return why
+}
+
+// Ask returns the answers to some lines, unless the context ends first. Lines that haven't been sent by then never are.
+func (f *Feed) Ask(ctx context.Context, lines ...[]byte) ([][]byte, error) {
+	if len(lines) == 0 {
+		return nil, nil
+	}
+	u := &unit{ctx: ctx, lines: lines, answers: make([][]byte, len(lines)), done: make(chan struct{})}
+	select {
+	case f.units <- u:
+	case <-ctx.Done():
+		return nil, api.Unavailable
+	}
+	select {
+	case <-u.done:
+	case <-ctx.Done():
+		return nil, api.Unavailable
+	}
+	if u.lost {
+		return nil, api.Unavailable
+	}
+	return u.answers, nil
+}
+
+// IsAlive tells whether the goroutine that passes lines goes on, before the context ends.
+func (f *Feed) IsAlive(ctx context.Context) bool {
+	if f.starting.Load() {
+		return true // It is killed if it answers nothing for too long.
+	}
+	select {
+	case f.alive <- struct{}{}:
+		return true
+	case <-ctx.Done():
+		return false
+	}
+}
+
+// AlsoFirst adds a line to those that a replay has to accept before it gets any other. This one has accepted it.
+func (f *Feed) AlsoFirst(line []byte) {
+	f.mutex.Lock()
+	defer f.mutex.Unlock()
+	f.First = append(f.First, line)
+}
+
+// first returns the lines that a replay has to accept before it gets any other.
+func (f *Feed) first() [][]byte {
+	f.mutex.Lock()
+	defer f.mutex.Unlock()
+	return f.First
+}
+
+// Run passes lines until the context ends. It then answers those that it has got, and returns when the replay has ended.
+func (f *Feed) Run(ctx context.Context) error {
+	for {
+		err := f.pass(ctx)
+		if ctx.Err() != nil {
+			f.answerRest()
+			return f.end()
+		}
+		if err != nil {
+			f.why.Store("the replay has ended")
+			f.Log.Error("the replay has ended", "replay", f.Name, "why", err)
+		} else if err := f.end(); err != nil {
+			f.Log.Warn("the replay, which was to be started anew, has failed", "replay", f.Name, "why", err)
+		} else {
+			f.Log.Info("starting the replay anew", "replay", f.Name, "reads", f.reads)
+		}
+		f.lose()
+		if err := f.startAgain(ctx); err != nil {
+			return nil
+		}
+	}
+}
+
+// pass passes lines until the context or the replay ends, or until it is time for a new one, for which there is no error.
+func (f *Feed) pass(ctx context.Context) error {
+	ticker := time.NewTicker(pause)
+	defer ticker.Stop()
+	for f.reads < f.Reads+f.Reads/10 {
+		select {
+		case u := <-f.units:
+			f.send(u)
+		case <-ticker.C:
+			if f.reads >= f.Reads && len(f.units)+len(f.sent) == 0 {
+				return nil
+			}
+		case <-f.alive:
+		case <-f.replay.Ended():
+			return f.replay.Close()
+		case <-ctx.Done():
+			return ctx.Err()
+		}
+		if len(f.units) == 0 {
+			f.replay.Flush()
+		}
+	}
+	return nil
+}
+
+// send passes the lines of a unit to the replay, unless nobody waits for them any more.
+func (f *Feed) send(u *unit) {
+	if u.ctx.Err() != nil {
+		return
+	}
+	select {
+	case f.sent <- u:
+	case <-f.replay.Ended():
+		u.lose()
+		return
+	}
+	for i, line := range u.lines {
+		i := i
+		f.count(line)
+		f.replay.Send(line, func(answer []byte) {
+			if u.answers[i] = answer; i == len(u.lines)-1 {
+				<-f.sent // It is this unit, since answers come in order.
+				close(u.done)
+			}
+		})
+	}
+}
+
+// count counts the reads that a line can cost the replay.
+func (f *Feed) count(line []byte) { f.reads += 2 + int64(len(line)/chunk) }
+
+// lose tells those that wait for a replay that has ended that they get no answer.
+func (f *Feed) lose() {
+	for len(f.sent) > 0 {
+		(<-f.sent).lose()
+	}
+}
+
+// answerRest passes the lines that wait, after the last request was accepted.
+func (f *Feed) answerRest() {
+	for len(f.units) > 0 {
+		f.send(<-f.units)
+	}
+}
+
+// end ends the replay after it has answered all lines. One that doesn't is killed.
+func (f *Feed) end() error {
+	defer time.AfterFunc(leaving, f.replay.Kill).Stop()
+	err := f.replay.Close()
+	if err != nil {
+		f.lose()
+	}
+	return err
+}
+
+// startAgain starts a replay, again and again until one accepts the first lines. It fails only if the context ends.
+func (f *Feed) startAgain(ctx context.Context) error {
+	for last := ""; ; {
+		err := f.start(ctx)
+		if err == nil {
+			f.why.Store("")
+			f.Log.Info("the replay answers again", "replay", f.Name)
+			return nil
+		}
+		if why := "the replay doesn't start: " + err.Error(); why != last {
+			f.why.Store(why)
+			f.Log.Error("the replay doesn't start", "replay", f.Name, "why", err)
+			last = why
+		}
+		for timer, waiting := time.After(pause), true; waiting; {
+			select {
+			case u := <-f.units:
+				u.lose()
+			case <-f.alive:
+			case <-timer:
+				waiting = false
+			case <-ctx.Done():
+				return ctx.Err()
+			}
+		}
+	}
+}
+
+// start starts a replay, which has to accept the first lines.
+func (f *Feed) start(ctx context.Context) error {
+	f.starting.Store(true)
+	defer f.starting.Store(false)
+	replay, err := f.Start()
+	if err != nil {
+		return err
+	}
+	f.Starts.Add(f.Name)
+	f.replay, f.reads = replay, 0
+	done, refused := make(chan struct{}), (*RefusedError)(nil)
+	first := f.first()
+	for i, line := range first {
+		i := i
+		f.count(line)
+		replay.Send(line, func(answer []byte) {
+			if refused == nil && !IsAccepted(answer) {
+				refused = &RefusedError{i, string(answer)}
+			}
+			if i == len(first)-1 {
+				close(done)
+			}
+		})
+	}
+	replay.Flush()
+	select {
+	case <-done:
+	case <-replay.Ended():
+		if err := replay.Close(); err != nil {
+			return err
+		}
+		return errors.New("it has ended without an answer")
+	case <-ctx.Done():
+		replay.Kill()
+		return ctx.Err()
+	}
+	if refused != nil {
+		_ = replay.Close() // What was refused says more.
+		return refused
+	}
+	return nil
+}

@@ -1,0 +1,87 @@
+//go:build etcd
+
+package main
+
+import (
+	"errors"
+	"flag"
+	"fmt"
+	"os"
+	"strings"
+
+	"go.uber.org/zap"
+	"go.uber.org/zap/zapcore"
+
+	"rbac-node/node"
+	"rbac-node/web"
+)
+
+// clusterSettings are what the command line chooses for a node of several machines.
+type clusterSettings struct {
+	node.Options
+	common                   *settings
+	peer, prefix             string
+	etcd, user, passwordFile string
+	peerTLS, etcdTLS         web.TLS
+	isPeerOpen               bool
+}
+
+func init() { cluster = &clusterSettings{} }
+
+// define defines the flags, and where their values go.
+func (s *clusterSettings) define(flags *flag.FlagSet) {
+	host, _ := os.Hostname()
+	flags.StringVar(&s.Name, "name", host, "name of this node, which no other has")
+	flags.StringVar(&s.Data, "data", "", "folder for the snapshots")
+	flags.StringVar(&s.Scratch, "scratch", "", "folder for the office in use, made anew at each start (default: that of --data)")
+	flags.StringVar(&s.peer, "peer", "127.0.0.1:8081", "where other nodes fetch snapshots, and metrics are")
+	flags.StringVar(&s.Peer, "advertise", "", "URL of --peer for other nodes (default: made of --peer)")
+	flags.StringVar(&s.prefix, "prefix", "rbac", "prefix of the keys in etcd")
+	flags.Int64Var(&s.SnapshotCommands, "every", 10_000, "commands from one snapshot to the next, the same on all nodes")
+	flags.Int64Var(&s.SnapshotBytes, "every-bytes", 64<<20, "bytes of commands after which there is a snapshot too, the same on all nodes")
+	flags.StringVar(&s.etcd, "etcd", "", "URLs of the members of etcd, separated by commas, for an office on several machines")
+	flags.StringVar(&s.user, "etcd-user", "", "user of etcd")
+	flags.StringVar(&s.passwordFile, "etcd-password-file", "", "file with the password of that user")
+	flags.BoolVar(&s.isPeerOpen, "peer-open", false, "serve snapshots over TLS to everybody, without an authority of other nodes")
+	for _, side := range []struct {
+		name, other string
+		files       *web.TLS
+	}{{"peer", "other nodes", &s.peerTLS}, {"etcd", "etcd", &s.etcdTLS}} {
+		flags.StringVar(&side.files.Cert, side.name+"-cert", "", "certificate of this node for "+side.other)
+		flags.StringVar(&side.files.Key, side.name+"-key", "", "key of that certificate")
+		flags.StringVar(&side.files.CA, side.name+"-ca", "", "authority of the certificates of "+side.other)
+	}
+}
+
+// check refuses settings with which nothing can run, and makes those that follow from others.
+func (s *clusterSettings) check() error {
+	switch {
+	case s.SnapshotCommands < 1 || s.SnapshotBytes < 1:
+		return errors.New("--every and --every-bytes must be above zero")
+	case s.Data == "":
+		return errors.New("--data is missing")
+	case s.Name == "" || strings.Contains(s.Name, "/"):
+		return errors.New("--name is missing, or has a slash")
+	case s.peerTLS.Cert != "" && s.peerTLS.CA == "" && !s.isPeerOpen:
+		return errors.New("--peer-cert without --peer-ca gives everybody the whole policy; if that is wanted, add --peer-open")
+	}
+	if s.Scratch == "" {
+		s.Scratch = s.Data
+	}
+	if s.Peer == "" {
+		s.Peer = s.peerTLS.Scheme() + "://" + s.peer
+	}
+	return nil
+}
+
+// newLogger returns a logger that writes each event as a line of JSON to standard error.
+func newLogger(name string) (*zap.Logger, error) {
+	config := zap.NewProductionConfig()
+	config.EncoderConfig.EncodeTime = zapcore.ISO8601TimeEncoder
+	config.DisableCaller, config.DisableStacktrace = true, true
+	logger, err := config.Build(zap.Fields(zap.String("node", name)))
+	if err != nil {
+		return nil, fmt.Errorf("logger: %w", err)
+	}
+	return logger, nil
+}

@@ -1,0 +1,128 @@
+package front
+
+import (
+	"context"
+	"encoding/json"
+	"errors"
+	"math"
+	"net"
+	"net/http"
+	"strings"
+	"sync/atomic"
+
+	"rbac-node/api"
+	"rbac-node/callers"
+)
+
+// ServeHTTP answers a request, unless it comes from a foreign page or nobody knows who asks.
+func (f *Front) ServeHTTP(w http.ResponseWriter, r *http.Request) {
+	if origins, has := r.Header["Origin"]; has && !f.areOwn(origins) {
+		w.Header().Set("Connection", "close") // Nothing more is read from it.
+		f.refuse(w, r, "", errors.New("a page of "+strings.Join(origins, ", ")), api.ForeignOrigin)
+		return
+	}
+	if f.IsHostChecked && f.guard == nil && f.isLocal && !isLocalHost(r.Host) {
+		w.Header().Set("Connection", "close")
+		f.refuse(w, r, "", errors.New("the host "+r.Host), api.ForeignHost)
+		return
+	}
+	if r.URL.Path == "/healthz" {
+		f.serveHealth(w, r)
+		return
+	}
+	if f.guard == nil {
+		f.answer(w, r, nil)
+		return
+	}
+	visit, why, err := f.guard.Enter(r)
+	if err != nil {
+		f.refuse(w, r, "", why, refusalOf(err))
+		return
+	}
+	defer visit.Leave()
+	f.answer(w, r, visit)
+}
+
+// serveHealth reports the condition of the office, unless no caller can be judged.
+func (f *Front) serveHealth(w http.ResponseWriter, r *http.Request) {
+	if f.guard == nil || f.guard.Why() == "" {
+		f.office.ServeHealth(w, r)
+		return
+	}
+	text, _ := json.Marshal(map[string]any{"ready": false, "why": "callers: " + f.guard.Why()})
+	w.Header().Set("Content-Type", "application/json")
+	w.WriteHeader(http.StatusServiceUnavailable)
+	_, _ = w.Write(append(text, '\n')) // If it fails, the client is gone.
+}
+
+// answer answers a request of a caller, or of anybody if there is no visit.
+func (f *Front) answer(w http.ResponseWriter, r *http.Request, visit *callers.Visit) {
+	if f.HasMetrics && r.RequestURI == "/metrics" && r.Method == http.MethodGet {
+		f.answerMetrics(w, r, visit)
+		return
+	}
+	if visit == nil {
+		f.handler.Serve(w, r, nil, func() {})
+		return
+	}
+	f.handler.Serve(w, r, func(ctx context.Context, call *api.Call) error {
+		err := visit.May(ctx, call)
+		if err != nil {
+			f.note(r, visit.Caller, errDenied, refusalOf(err))
+		}
+		return err
+	}, visit.Done)
+}
+
+// answerMetrics reports the metrics to a caller who may read them.
+func (f *Front) answerMetrics(w http.ResponseWriter, r *http.Request, visit *callers.Visit) {
+	if visit != nil {
+		if err := visit.MayRead(r.Context(), callers.Metrics); err != nil {
+			f.refuse(w, r, visit.Caller, errDenied, refusalOf(err))
+			return
+		}
+	}
+	f.Metrics.ServeHTTP(w, r)
+}
+
+// refusalOf returns how an error is answered.
+func refusalOf(err error) api.Refusal {
+	refusal := api.Unavailable
+	_ = errors.As(err, &refusal)
+	return refusal
+}
+
+// areOwn reports whether all origins of a request are those of the front's pages.
+func (f *Front) areOwn(origins []string) bool {
+	for _, origin := range origins {
+		if !f.origins[origin] {
+			return false
+		}
+	}
+	return len(origins) > 0
+}
+
+// isLocalHost reports whether a Host is a name of this machine that no other name can be made to mean. A request without one
+// does not come from a browser.
+func isLocalHost(host string) bool {
+	if host == "" {
+		return true
+	}
+	name := host
+	if before, _, err := net.SplitHostPort(host); err == nil {
+		name = before
+	}
+	name = strings.TrimSuffix(strings.TrimPrefix(name, "["), "]")
+	if strings.EqualFold(name, "localhost") {
+		return true
+	}
+	ip := net.ParseIP(name)
+	return ip != nil && ip.IsLoopback()
+}
+
+// A gauge is a number that many goroutines may use.
+type gauge struct{ bits atomic.Uint64 }
+
+func (g *gauge) store(value float64) { g.bits.Store(math.Float64bits(value)) }
+
+func (g *gauge) load() float64 { return math.Float64frombits(g.bits.Load()) }

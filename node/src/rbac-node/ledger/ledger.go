@@ -1,0 +1,475 @@
+// Package ledger keeps the commands of an office in etcd, in the order in which all nodes apply them.
+//
+// An entry is a batch of command lines under a key of its own, log/GENERATION/ID. The revision at which etcd created
+// the key is the entry's place in the order. Entries stay as keys until they are trimmed, so that a compaction of
+// etcd's history by anybody loses none of them. The key head is written with each entry: its revision is that of the
+// newest one.
+//
+// A write of the key floor begins a generation, whose number is the revision of that write. It is 0 before the first
+// one. An entry is appended only to the newest generation, so all entries of earlier ones have lower revisions than
+// that number. The value of floor is the number below which generations were deleted.
+package ledger
+
+import (
+	"bytes"
+	"context"
+	"encoding/json"
+	"errors"
+	"fmt"
+	"path"
+	"strconv"
+	"sync/atomic"
+	"time"
+
+	"go.etcd.io/etcd/clientv3"
+	"go.etcd.io/etcd/clientv3/namespace"
+	"go.etcd.io/etcd/etcdserver/api/v3rpc/rpctypes"
+	"go.etcd.io/etcd/etcdserver/etcdserverpb"
+	"go.etcd.io/etcd/mvcc/mvccpb"
+	"go.uber.org/zap"
+
+	"rbac-node/office"
+)
+
+const (
+	// firstAttemptTimeout and maxAttemptTimeout are how long the first request to etcd and each later one may take.
+	// Each may take twice as long as the one before, so that a slow etcd isn't asked too often.
+	firstAttemptTimeout, maxAttemptTimeout = 500 * time.Millisecond, 4 * time.Second
+	// firstPause and maxPause are the time between two attempts, which doubles too.
+	firstPause, maxPause = 20 * time.Millisecond, 160 * time.Millisecond
+	// maxPageEntries is how many entries are read at once if they have fewer bytes than pageBytes.
+	maxPageEntries, pageBytes = 64, 512 << 10
+	// stallInterval is how long the log may be known to have more before it is followed anew.
+	stallInterval = time.Second
+)
+
+// ErrTrimmed reports that entries that are still needed were deleted.
+var ErrTrimmed = errors.New("the log was trimmed meanwhile")
+
+// errSlow reports that a page of the log didn't come in time.
+var errSlow = errors.New("a page of the log did not come in time")
+
+// A Ledger is the log of one office in etcd.
+type Ledger struct {
+	client  *clientv3.Client
+	members []string
+	prefix  string
+	// kv is the client below the prefix.
+	kv  clientv3.KV
+	log *zap.Logger
+	// pageTimeout is how long a page of the log may take before a smaller one is asked for.
+	pageTimeout time.Duration
+	// generation is the newest one that is known, and head the newest revision of an entry.
+	generation, head atomic.Int64
+}
+
+// New returns the ledger below a prefix of etcd's keys.
+func New(client *clientv3.Client, prefix string, log *zap.Logger) *Ledger {
+	prefix += "/"
+	return &Ledger{
+		client: client, members: client.Endpoints(), prefix: prefix, kv: namespace.NewKV(client, prefix), log: log,
+		pageTimeout: 2 * maxAttemptTimeout,
+	}
+}
+
+// finalErrors are those of etcd that no attempt changes: nothing was done.
+var finalErrors = []error{
+	rpctypes.ErrNoSpace, rpctypes.ErrRequestTooLarge, rpctypes.ErrTooManyOps, rpctypes.ErrPermissionDenied,
+	rpctypes.ErrUserEmpty,
+}
+
+// isFinal tells whether another attempt would fail in the same way.
+func isFinal(err error) bool {
+	for _, final := range finalErrors {
+		if errors.Is(err, final) {
+			return true
+		}
+	}
+	return false
+}
+
+// commit runs a transaction of etcd that may run twice: it tries until a member answers, the context ends, or no
+// attempt can succeed. A read is one that a quorum confirms.
+func (l *Ledger) commit(
+	ctx context.Context, what string, shape func(clientv3.Txn) clientv3.Txn,
+) (*clientv3.TxnResponse, error) {
+	timeout, pause := firstAttemptTimeout, firstPause
+	for {
+		limited, cancel := context.WithTimeout(ctx, timeout)
+		reply, err := shape(l.kv.Txn(limited)).Commit()
+		cancel()
+		if err == nil {
+			return reply, nil
+		}
+		l.client.SetEndpoints(l.members...)
+		if isFinal(err) || wait(ctx, pause) != nil {
+			return nil, fmt.Errorf("%s: %w", what, err)
+		}
+		l.log.Warn("asking etcd again", zap.String("what", what), zap.Error(err))
+		timeout, pause = twice(timeout, maxAttemptTimeout), twice(pause, maxPause)
+	}
+}
+
+// twice returns twice a duration, or a longest one.
+func twice(one, longest time.Duration) time.Duration {
+	if one *= 2; one > longest {
+		return longest
+	}
+	return one
+}
+
+// wait waits, unless the context ends before.
+func wait(ctx context.Context, pause time.Duration) error {
+	timer := time.NewTimer(pause)
+	defer timer.Stop()
+	select {
+	case <-timer.C:
+		return nil
+	case <-ctx.Done():
+		return ctx.Err()
+	}
+}
+
+// do runs a transaction without a condition.
+func (l *Ledger) do(ctx context.Context, what string, ops ...clientv3.Op) (*clientv3.TxnResponse, error) {
+	return l.commit(ctx, what, func(t clientv3.Txn) clientv3.Txn { return t.Then(ops...) })
+}
+
+// read returns what an operation of a transaction has read.
+func read(reply *clientv3.TxnResponse, op int) []*mvccpb.KeyValue {
+	return reply.Responses[op].GetResponseRange().Kvs
+}
+
+// revisionOf returns the revision at which the key of a read was last written, or 0 if the key does not exist.
+func revisionOf(kvs []*mvccpb.KeyValue) int64 {
+	if len(kvs) == 0 {
+		return 0
+	}
+	return kvs[0].ModRevision
+}
+
+// floorOf returns the floor that a transaction has read first.
+func floorOf(reply *clientv3.TxnResponse) (int64, error) {
+	kvs := read(reply, 0)
+	if len(kvs) == 0 {
+		return 0, nil
+	}
+	floor, err := strconv.ParseInt(string(kvs[0].Value), 10, 64)
+	if err != nil {
+		return 0, fmt.Errorf("floor: %w", err)
+	}
+	return floor, nil
+}
+
+// checkFloor reports whether the floor that a transaction has read first is above a place.
+func checkFloor(reply *clientv3.TxnResponse, place int64) error {
+	floor, err := floorOf(reply)
+	if err != nil {
+		return err
+	}
+	if floor > place {
+		return ErrTrimmed
+	}
+	return nil
+}
+
+// isAt is the condition that a key was last written at a revision.
+func isAt(key string, revision int64) clientv3.Cmp {
+	return clientv3.Compare(clientv3.ModRevision(key), "=", revision)
+}
+
+// keyOf returns the prefix of the keys of a generation. These prefixes sort as the generations do.
+func keyOf(generation int64) string { return fmt.Sprintf("log/%020d/", generation) }
+
+// UseLeader sends requests to the leader of etcd, to which the other members would pass them on. After a request that
+// fails, they go to all members.
+func (l *Ledger) UseLeader(ctx context.Context) {
+	if len(l.client.Endpoints()) == 1 {
+		return
+	}
+	limited, cancel := context.WithTimeout(ctx, firstAttemptTimeout)
+	defer cancel()
+	// The client's own Status would make a connection, and wait for it.
+	maintenance := etcdserverpb.NewMaintenanceClient(l.client.ActiveConnection())
+	status, failed := maintenance.Status(limited, &etcdserverpb.StatusRequest{})
+	list, err := l.client.MemberList(limited)
+	if failed != nil || err != nil {
+		return
+	}
+	for _, member := range list.Members {
+		for _, url := range l.members {
+			if member.ID == status.Leader && len(member.ClientURLs) > 0 && member.ClientURLs[0] == url {
+				l.client.SetEndpoints(url)
+			}
+		}
+	}
+}
+
+// Append puts an entry into the log, only once however often it has to be tried. An attempt that is delivered late
+// never appends a second time: it succeeds only if its key is new, and no other generation has begun since. Append
+// returns the revision of the entry and that of the one before it, or 0 if the entry is in the log by an attempt whose
+// reply was lost.
+func (l *Ledger) Append(ctx context.Context, id string, lines [][]byte) (revision, before int64, err error) {
+	for {
+		tried := l.generation.Load()
+		key := keyOf(tried) + id
+		reply, err := l.commit(ctx, "append", func(t clientv3.Txn) clientv3.Txn {
+			return t.If(clientv3.Compare(clientv3.Version(key), "=", 0), isAt("floor", tried)).Then(
+				clientv3.OpGet("head"), clientv3.OpPut(key, string(bytes.Join(lines, []byte("\n")))), clientv3.OpPut("head", ""),
+			).Else(clientv3.OpGet("floor"), clientv3.OpGet(key, clientv3.WithKeysOnly()))
+		})
+		switch {
+		case err != nil:
+			return 0, 0, err
+		case reply.Succeeded:
+			return reply.Header.Revision, revisionOf(read(reply, 0)), nil
+		case len(read(reply, 1)) > 0:
+			return 0, 0, nil
+		}
+		// The generation has ended without this entry, unless it is deleted already.
+		l.generation.Store(revisionOf(read(reply, 0)))
+		if err := checkFloor(reply, tried); err != nil {
+			return 0, 0, fmt.Errorf("append: %w", err)
+		}
+	}
+}
+
+// Head returns the revision of the newest entry.
+func (l *Ledger) Head(ctx context.Context) (int64, error) {
+	reply, err := l.do(ctx, "read of the head", clientv3.OpGet("head"))
+	if err != nil {
+		return 0, err
+	}
+	head := revisionOf(read(reply, 0))
+	raiseTo(&l.head, head)
+	return head, nil
+}
+
+// raiseTo makes a number at least as large as another one.
+func raiseTo(number *atomic.Int64, least int64) {
+	for old := number.Load(); old < least && !number.CompareAndSwap(old, least); old = number.Load() {
+	}
+}
+
+// Trim deletes all generations but the newest and begins another one, if the newest generation of a state began before
+// a revision up to which nobody needs entries, and is still the newest. It makes etcd forget its history as well. It
+// returns the new floor, or 0 if nothing was deleted.
+func (l *Ledger) Trim(ctx context.Context, s State, needless int64) (floor int64, err error) {
+	if s.generation >= needless {
+		return 0, nil
+	}
+	reply, err := l.commit(ctx, "trim", func(t clientv3.Txn) clientv3.Txn {
+		return t.If(isAt("floor", s.generation)).Then(
+			clientv3.OpPut("floor", strconv.FormatInt(s.generation, 10)),
+			clientv3.OpDelete("log/", clientv3.WithRange(keyOf(s.generation))),
+		)
+	})
+	if err != nil || !reply.Succeeded {
+		return 0, err
+	}
+	if _, err := l.client.Compact(ctx, s.generation); err != nil && !errors.Is(err, rpctypes.ErrCompacted) {
+		return 0, fmt.Errorf("compaction: %w", err)
+	}
+	return s.generation, nil
+}
+
+// Adopt makes an empty log begin after a snapshot that holds an earlier state of an office. It returns the revision of
+// that snapshot. Nodes without it have to fetch it.
+func (l *Ledger) Adopt(ctx context.Context) (int64, error) {
+	s, err := l.State(ctx)
+	if err != nil {
+		return 0, err
+	}
+	reply, err := l.commit(ctx, "adoption", func(t clientv3.Txn) clientv3.Txn {
+		return t.If(isAt("head", 0), isAt("floor", 0)).Then(clientv3.OpPut("floor", strconv.FormatInt(s.Revision, 10)))
+	})
+	if err != nil {
+		return 0, err
+	}
+	if !reply.Succeeded {
+		return 0, errors.New("the log has commands already: an office can be adopted only before the first one")
+	}
+	return s.Revision, nil
+}
+
+// A Member is what a node reports about itself. The log is kept for it until its key is deleted.
+type Member struct {
+	Name string `json:"name"`
+	// Peer is the URL at which other nodes fetch this node's newest snapshot.
+	Peer string `json:"peer"`
+	// Snapshots are those that it keeps, the newest first.
+	Snapshots []office.Snapshot `json:"snapshots"`
+}
+
+// Register writes what a node reports about itself.
+func (l *Ledger) Register(ctx context.Context, member Member) error {
+	text, err := json.Marshal(member)
+	if err != nil {
+		return fmt.Errorf("registration: %w", err)
+	}
+	_, err = l.do(ctx, "registration", clientv3.OpPut("nodes/"+member.Name, string(text)))
+	return err
+}
+
+// A State is what etcd has besides the entries: the revision up to which they may be gone, the newest generation, the
+// nodes that are registered, and the revision at which it was read.
+type State struct {
+	Floor, generation, Revision int64
+	Members                     []Member
+}
+
+// State reads the state.
+func (l *Ledger) State(ctx context.Context) (s State, err error) {
+	reply, err := l.do(ctx, "read of the nodes", clientv3.OpGet("floor"), clientv3.OpGet("nodes/", clientv3.WithPrefix()))
+	if err != nil {
+		return s, err
+	}
+	s = State{generation: revisionOf(read(reply, 0)), Revision: reply.Header.Revision}
+	l.generation.Store(s.generation)
+	if s.Floor, err = floorOf(reply); err != nil {
+		return s, err
+	}
+	for _, kv := range read(reply, 1) {
+		var member Member
+		if err := json.Unmarshal(kv.Value, &member); err != nil {
+			return s, fmt.Errorf("%s: %w", kv.Key, err)
+		}
+		s.Members = append(s.Members, member)
+	}
+	return s, nil
+}
+
+// An Entry is a batch of commands with its place in the order.
+type Entry struct {
+	Revision int64
+	ID       string
+	Lines    [][]byte
+}
+
+// Follow delivers the entries after a revision, in their order, until the context ends, a delivery fails, or the log
+// was trimmed past what is needed.
+func (l *Ledger) Follow(ctx context.Context, after int64, deliver func(Entry) error) error {
+	f := &follower{l, after, deliver}
+	for {
+		// What etcd's history may lack after a compaction is read from the keys, and the rest is watched.
+		revision, err := f.catchUp(ctx)
+		if err != nil {
+			return err
+		}
+		if err := f.watch(ctx, revision+1); err != nil {
+			return err
+		}
+		l.log.Info("following the log anew", zap.Int64("revision", f.after))
+		if err := wait(ctx, firstPause); err != nil {
+			return err
+		}
+	}
+}
+
+// A follower has delivered the entries up to the revision after.
+type follower struct {
+	*Ledger
+	after   int64
+	deliver func(Entry) error
+}
+
+// catchUp delivers the entries that the log has, and returns the revision up to which it has read. etcd reads all
+// entries for the keys in their order, so that is done once. Pages of entries are small enough for a slow link: after a
+// page that was too large, or did not come in time, the next one has half as many.
+func (f *follower) catchUp(ctx context.Context) (revision int64, err error) {
+	reply, err := f.do(ctx, "read of the log", clientv3.OpGet("floor"), clientv3.OpGet("log/", clientv3.WithPrefix(),
+		clientv3.WithMinCreateRev(f.after+1), clientv3.WithSort(clientv3.SortByCreateRevision, clientv3.SortAscend),
+		clientv3.WithKeysOnly()))
+	if err != nil {
+		return 0, err
+	}
+	if err := checkFloor(reply, f.after); err != nil {
+		return 0, err
+	}
+	keys := read(reply, 1)
+	for entries := 1; len(keys) > 0; {
+		if entries > len(keys) {
+			entries = len(keys)
+		}
+		size, err := f.page(ctx, keys[:entries])
+		if err != nil && !errors.Is(err, errSlow) {
+			return 0, err
+		}
+		if err == nil {
+			keys = keys[entries:]
+		}
+		switch {
+		case err != nil || size > pageBytes:
+			entries = (entries + 1) / 2
+		case size < pageBytes/2 && entries < maxPageEntries:
+			entries *= 2
+		}
+	}
+	return reply.Header.Revision, nil
+}
+
+// page reads and delivers the entries with these keys, and returns how many bytes they have.
+func (f *follower) page(ctx context.Context, keys []*mvccpb.KeyValue) (size int, err error) {
+	ops := []clientv3.Op{clientv3.OpGet("floor")}
+	for _, key := range keys {
+		ops = append(ops, clientv3.OpGet(string(key.Key)))
+	}
+	limited, cancel := context.WithTimeout(ctx, f.pageTimeout)
+	defer cancel()
+	reply, err := f.do(limited, "read of the log", ops...)
+	if err != nil && limited.Err() != nil && ctx.Err() == nil {
+		return 0, errSlow
+	}
+	if err != nil {
+		return 0, err
+	}
+	if err := checkFloor(reply, f.after); err != nil {
+		return 0, err
+	}
+	for i := range keys {
+		kvs := read(reply, i+1)
+		if len(kvs) == 0 {
+			return 0, ErrTrimmed
+		}
+		size += len(kvs[0].Value)
+		if err := f.hand(kvs[0]); err != nil {
+			return 0, err
+		}
+	}
+	return size, nil
+}
+
+// hand delivers an entry.
+func (f *follower) hand(kv *mvccpb.KeyValue) error {
+	f.after = kv.CreateRevision
+	return f.deliver(Entry{f.after, path.Base(string(kv.Key)), bytes.Split(kv.Value, []byte("\n"))})
+}
+
+// watch delivers what etcd's watch reports until it ends, or until entries that the log is known to have don't come: a
+// member of etcd that hangs reports nothing.
+func (f *follower) watch(ctx context.Context, from int64) error {
+	ctx, cancel := context.WithCancel(clientv3.WithRequireLeader(ctx))
+	defer cancel()
+	// The client itself, since that of a namespace hands each event on to another goroutine.
+	watch := f.client.Watch(ctx, f.prefix+"log/", clientv3.WithPrefix(), clientv3.WithRev(from), clientv3.WithFilterDelete())
+	ticker := time.NewTicker(stallInterval)
+	defer ticker.Stop()
+	for wanted := int64(0); ; {
+		select {
+		case <-ticker.C:
+			if f.after < wanted {
+				return nil
+			}
+			wanted = f.head.Load()
+		case reply := <-watch:
+			if reply.Err() != nil || len(reply.Events) == 0 {
+				return ctx.Err()
+			}
+			for _, event := range reply.Events {
+				if err := f.hand(event.Kv); err != nil {
+					return err
+				}
+			}
+		}
+	}
+}

@@ -1,0 +1,223 @@
+package ledger
+
+import (
+	"context"
+	"errors"
+	"fmt"
+	"net"
+	"os/exec"
+	"testing"
+	"time"
+
+	"go.etcd.io/etcd/clientv3"
+	"go.uber.org/zap"
+)
+
+// newLedger returns the ledger of an etcd of its own.
+func newLedger(t *testing.T, words ...string) *Ledger {
+	if _, err := exec.LookPath("etcd"); err != nil {
+		t.Skip("etcd is not installed")
+	}
+	var urls [2]string
+	for i := range urls {
+		listener, err := net.Listen("tcp", "127.0.0.1:0")
+		if err != nil {
+			t.Fatal(err)
+		}
+		urls[i] = "http://" + listener.Addr().String()
+		listener.Close()
+	}
+	etcd := exec.Command("etcd", append([]string{"--data-dir", t.TempDir(), "--listen-client-urls", urls[0], "--advertise-client-urls",
+		urls[0], "--listen-peer-urls", urls[1], "--initial-advertise-peer-urls", urls[1], "--initial-cluster", "default=" + urls[1],
+	}, words...)...)
+	if err := etcd.Start(); err != nil {
+		t.Fatal(err)
+	}
+	t.Cleanup(func() { _ = etcd.Process.Kill(); _ = etcd.Wait() })
+	client, err := clientv3.New(clientv3.Config{Endpoints: urls[:1], DialTimeout: 10 * time.Second})
+	if err != nil {
+		t.Fatal(err)
+	}
+	t.Cleanup(func() { client.Close() })
+	return New(client, "test", zap.NewNop())
+}
+
+func lines(text string) [][]byte { return [][]byte{[]byte(text), []byte(text + "2")} }
+
+func mustAppend(t *testing.T, l *Ledger, id string) {
+	if _, _, err := l.Append(context.Background(), id, lines(id)); err != nil {
+		t.Fatalf("append of %s: %v", id, err)
+	}
+}
+
+// all returns what a follower delivers up to the head.
+func all(t *testing.T, l *Ledger, after int64) ([]Entry, error) {
+	ctx, cancel := context.WithTimeout(context.Background(), 20*time.Second)
+	defer cancel()
+	head, err := l.Head(ctx)
+	if err != nil {
+		t.Fatal(err)
+	}
+	var found []Entry
+	done := errors.New("done")
+	err = l.Follow(ctx, after, func(entry Entry) error {
+		found = append(found, entry)
+		if entry.Revision == head {
+			return done
+		}
+		return nil
+	})
+	if errors.Is(err, done) {
+		err = nil
+	}
+	return found, err
+}
+
+func TestAppendOnce(t *testing.T) {
+	l, ctx := newLedger(t), context.Background()
+	first, _, err := l.Append(ctx, "a", lines("a"))
+	if err != nil {
+		t.Fatal(err)
+	}
+	if second, before, err := l.Append(ctx, "b", lines("b")); second <= first || before != first || err != nil {
+		t.Errorf("an append after %d: %d, %d, %v", first, second, before, err)
+	}
+	if again, _, err := l.Append(ctx, "a", lines("a")); again != 0 || err != nil {
+		t.Errorf("an append again: %d, %v", again, err)
+	}
+	entries, err := all(t, l, 0)
+	if err != nil || len(entries) != 2 || entries[0].ID != "a" || entries[1].ID != "b" {
+		t.Fatalf("the log has %v, %v", entries, err)
+	}
+	if text := string(entries[0].Lines[1]); len(entries[0].Lines) != 2 || text != "a2" {
+		t.Errorf("the second line is %s", text)
+	}
+}
+
+// head returns the revision of the newest entry.
+func head(t *testing.T, l *Ledger) int64 {
+	revision, err := l.Head(context.Background())
+	if err != nil {
+		t.Fatal(err)
+	}
+	return revision
+}
+
+func mustState(t *testing.T, l *Ledger) State {
+	s, err := l.State(context.Background())
+	if err != nil {
+		t.Fatal(err)
+	}
+	return s
+}
+
+// mustTrim trims the log, and checks whether that begins a generation.
+func mustTrim(t *testing.T, l *Ledger, needless int64, begins bool) {
+	before := mustState(t, l)
+	floor, err := l.Trim(context.Background(), before, needless)
+	after := mustState(t, l)
+	if err != nil || (after.generation > before.generation) != begins || begins && floor != before.generation || after.Floor < floor {
+		t.Fatalf("a trim of what is needless up to %d: %d, %v, %+v and then %+v", needless, floor, err, before, after)
+	}
+}
+
+// An attempt that is delivered after its entry was trimmed doesn't append again.
+func TestAppendAfterTrim(t *testing.T) {
+	l, ctx := newLedger(t), context.Background()
+	late := New(l.client, "test", zap.NewNop())
+	mustAppend(t, l, "a")
+	mustTrim(t, l, 0, false)
+	old := mustState(t, l)
+	mustTrim(t, l, head(t, l), true)
+	if again, err := l.Trim(ctx, old, head(t, l)); again != 0 || err != nil {
+		t.Errorf("a trim that another node has just done: %d, %v", again, err)
+	}
+	// In an earlier generation that still exists it counts as appended. What is in none of them is put into the newest.
+	if again, _, err := late.Append(ctx, "a", lines("a")); again != 0 || err != nil {
+		t.Errorf("a late attempt: %d, %v", again, err)
+	}
+	mustAppend(t, New(l.client, "test", zap.NewNop()), "b")
+	late.generation.Store(0)
+	mustTrim(t, l, head(t, l), true)
+	if _, _, err := late.Append(ctx, "a", lines("a")); !errors.Is(err, ErrTrimmed) {
+		t.Errorf("an attempt after its generation was deleted: %v", err)
+	}
+	mustAppend(t, late, "c")
+	found, err := all(t, l, mustState(t, l).Floor)
+	if err != nil || len(found) == 0 || found[len(found)-1].ID != "c" || found[0].ID == "a" {
+		t.Errorf("the log has %v, %v", found, err)
+	}
+}
+
+// A compaction of etcd's history loses no entry; one that was trimmed is missing.
+func TestFollowAfterCompaction(t *testing.T) {
+	const part = maxPageEntries
+	l, ctx := newLedger(t), context.Background()
+	for i := 0; i < 3*part; i++ {
+		if i == 2*part {
+			mustTrim(t, l, head(t, l), true)
+		}
+		mustAppend(t, l, fmt.Sprintf("e%d", i))
+	}
+	before, err := all(t, l, 0)
+	if err != nil {
+		t.Fatal(err)
+	}
+	if _, err := l.client.Compact(ctx, before[len(before)-1].Revision); err != nil {
+		t.Fatal(err)
+	}
+	after, err := all(t, l, 0)
+	if err != nil || len(after) != 3*part {
+		t.Fatalf("%d entries after a compaction, %v", len(after), err)
+	}
+	for i, entry := range after {
+		if entry.ID != before[i].ID || entry.Revision != before[i].Revision {
+			t.Fatalf("entry %d is %v and not %v", i, entry, before[i])
+		}
+	}
+	// Nobody needs what existed when the second generation began.
+	mustTrim(t, l, before[2*part].Revision, true)
+	if floor := mustState(t, l).Floor; floor <= before[2*part-1].Revision || floor >= before[2*part].Revision {
+		t.Fatalf("the floor is %d", floor)
+	}
+	if _, err := all(t, l, before[50].Revision); !errors.Is(err, ErrTrimmed) {
+		t.Errorf("what was trimmed: %v", err)
+	}
+	if rest, err := all(t, l, before[2*part].Revision); err != nil || len(rest) != part-1 {
+		t.Errorf("%d entries are left, %v", len(rest), err)
+	}
+}
+
+// After a request that failed they go to all members, and then to the leader again.
+func TestUseLeader(t *testing.T) {
+	l, ctx := newLedger(t), context.Background()
+	head(t, l)
+	l.members = append([]string{"http://127.0.0.1:1"}, l.members...)
+	over, cancel := context.WithCancel(ctx)
+	cancel()
+	if _, err := l.Head(over); err == nil {
+		t.Error("a read after the end of its context")
+	}
+	if used := l.client.Endpoints(); len(used) != 2 {
+		t.Errorf("after a failure used are %v", used)
+	}
+	head(t, l)
+	l.UseLeader(ctx)
+	if used := l.client.Endpoints(); len(used) != 1 || used[0] != l.members[1] {
+		t.Errorf("used are %v", used)
+	}
+}
+
+func TestAdopt(t *testing.T) {
+	l, ctx := newLedger(t), context.Background()
+	floor, err := l.Adopt(ctx)
+	if err != nil {
+		t.Fatal(err)
+	}
+	if read := mustState(t, l).Floor; read != floor {
+		t.Errorf("the floor is %d and not %d", read, floor)
+	}
+	if _, err := l.Adopt(ctx); err == nil {
+		t.Error("a second office was adopted")
+	}
+}

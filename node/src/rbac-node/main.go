@@ -1,0 +1,90 @@
+// Command rbac-node answers clients from an office: on one machine from its file, or on several machines over a log in etcd.
+//
+//	rbac-node serve --office FILE [--listen ADDRESS,..] [--callers FILE --tokens FILE ..]
+//	rbac-node serve --etcd URL,.. --name NAME --data FOLDER --listen HOST:PORT --peer HOST:PORT
+//	rbac-node adopt --etcd URL,.. --data FOLDER OFFICE
+//	rbac-node callers FILE
+//	rbac-node callers --check OPTION..
+//
+// See docs/FRONT.md, and docs/CLUSTER.md for several machines.
+package main
+
+import (
+	"context"
+	"errors"
+	"flag"
+	"fmt"
+	"os"
+	"os/signal"
+	"runtime/debug"
+	"syscall"
+)
+
+// mostMemory is from how much memory on garbage is collected more often.
+const mostMemory = 1 << 30
+
+var errUsage = errors.New("usage: rbac-node serve|adopt|callers [options]; see rbac-node serve --help")
+
+func main() {
+	if os.Getenv("GOGC") == "" {
+		// It keeps little memory and makes much garbage. Collecting it less often leaves more processor time to requests.
+		debug.SetGCPercent(400)
+	}
+	if os.Getenv("GOMEMLIMIT") == "" {
+		// With very many connections it is collected more often, rather than take five times the memory that they need.
+		debug.SetMemoryLimit(mostMemory)
+	}
+	err := run(os.Args[1:])
+	if err != nil && !errors.Is(err, flag.ErrHelp) {
+		fmt.Fprintln(os.Stderr, "rbac-node:", err)
+		os.Exit(1)
+	}
+}
+
+// run does what the command line asks for.
+func run(words []string) error {
+	if len(words) == 0 {
+		return errUsage
+	}
+	s, flags := &settings{}, flag.NewFlagSet("rbac-node "+words[0], flag.ContinueOnError)
+	s.define(flags)
+	cluster.define(flags)
+	if err := flags.Parse(words[1:]); err != nil {
+		return err
+	}
+	// What is made is for the user of the program alone.
+	syscall.Umask(0o077)
+	switch {
+	case words[0] == "serve" && flags.NArg() == 0:
+		return serve(s)
+	case words[0] == "adopt" && flags.NArg() == 1:
+		return cluster.adopt(s, flags.Arg(0))
+	case words[0] == "callers" && flags.NArg() == 1 && !s.isCheck:
+		s.callers.Callers = flags.Arg(0)
+		return untilSignal(s.printGrants)
+	case words[0] == "callers" && flags.NArg() == 0 && s.isCheck:
+		return untilSignal(s.checkCallers)
+	}
+	return errUsage
+}
+
+// serve runs the office that the settings choose.
+func serve(s *settings) error {
+	if (s.office == "") != cluster.isChosen() {
+		return errors.New("give --office FILE for one machine, or --etcd URL,.. for several")
+	}
+	if err := s.check(); err != nil {
+		return err
+	}
+	if cluster.isChosen() {
+		return cluster.serve(s)
+	}
+	return untilSignal(s.serveOne)
+}
+
+// untilSignal does something with a context that SIGTERM and SIGINT end.
+func untilSignal(work func(context.Context) error) error {
+	ctx, stop := signal.NotifyContext(context.Background(), syscall.SIGTERM, syscall.SIGINT)
+	defer stop()
+	return work(ctx)
+}

@@ -1,0 +1,223 @@
+package node
+
+import (
+	"context"
+	"errors"
+	"fmt"
+	"sync"
+	"sync/atomic"
+	"testing"
+	"time"
+
+	"github.com/prometheus/client_golang/prometheus"
+	"go.uber.org/zap"
+
+	"rbac-node/api"
+	"rbac-node/ledger"
+	"rbac-node/office"
+)
+
+// A fakeLog is a log in memory. Its Register fails if it is full.
+type fakeLog struct {
+	mutex      sync.Mutex
+	revision   int64
+	state      ledger.State
+	isFull     bool
+	refusals   atomic.Int64
+	registered []ledger.Member
+	entries    chan ledger.Entry
+}
+
+func newFakeLog() *fakeLog { return &fakeLog{entries: make(chan ledger.Entry, 100)} }
+
+var errFull = errors.New("no space")
+
+func (l *fakeLog) Append(_ context.Context, id string, lines [][]byte) (revision, before int64, err error) {
+	l.mutex.Lock()
+	defer l.mutex.Unlock()
+	if l.isFull {
+		return 0, 0, errFull
+	}
+	l.revision++
+	return l.revision, l.revision - 1, nil
+}
+
+func (l *fakeLog) Head(context.Context) (int64, error) {
+	l.mutex.Lock()
+	defer l.mutex.Unlock()
+	return l.revision, nil
+}
+
+func (l *fakeLog) Follow(ctx context.Context, _ int64, deliver func(ledger.Entry) error) error {
+	for {
+		select {
+		case entry := <-l.entries:
+			if err := deliver(entry); err != nil {
+				return err
+			}
+		case <-ctx.Done():
+			return ctx.Err()
+		}
+	}
+}
+
+func (l *fakeLog) State(context.Context) (ledger.State, error) {
+	l.mutex.Lock()
+	defer l.mutex.Unlock()
+	return l.state, nil
+}
+
+func (l *fakeLog) Trim(context.Context, ledger.State, int64) (int64, error) { return 0, nil }
+
+func (l *fakeLog) Register(_ context.Context, member ledger.Member) error {
+	l.mutex.Lock()
+	defer l.mutex.Unlock()
+	if l.isFull {
+		l.refusals.Add(1)
+		return errFull
+	}
+	l.registered = append(l.registered, member)
+	return nil
+}
+
+func (l *fakeLog) UseLeader(context.Context) {}
+
+// setFull makes a log refuse what it is asked to keep, or not.
+func (l *fakeLog) setFull(isFull bool) {
+	l.mutex.Lock()
+	defer l.mutex.Unlock()
+	l.isFull = isFull
+}
+
+func (l *fakeLog) registrations() int {
+	l.mutex.Lock()
+	defer l.mutex.Unlock()
+	return len(l.registered)
+}
+
+// A fakeReplay answers each line with its number, as soon as it is not paused.
+type fakeReplay struct {
+	mutex    sync.Mutex
+	lines    []string
+	times    []time.Time
+	waiting  []func([]byte)
+	isPaused bool
+	ended    chan struct{}
+	once     sync.Once
+}
+
+func newFakeReplay() *fakeReplay { return &fakeReplay{ended: make(chan struct{})} }
+
+func (r *fakeReplay) Send(line []byte, answered func([]byte)) {
+	r.mutex.Lock()
+	defer r.mutex.Unlock()
+	r.lines, r.times = append(r.lines, string(line)), append(r.times, time.Now())
+	r.waiting = append(r.waiting, answered)
+	r.answer()
+}
+
+// answer answers all that waits, unless the replay is paused.
+func (r *fakeReplay) answer() {
+	for !r.isPaused && len(r.waiting) > 0 {
+		r.waiting[0]([]byte(fmt.Sprint(len(r.lines) - len(r.waiting))))
+		r.waiting = r.waiting[1:]
+	}
+}
+
+func (r *fakeReplay) pause(isPaused bool) {
+	r.mutex.Lock()
+	defer r.mutex.Unlock()
+	r.isPaused = isPaused
+	r.answer()
+}
+
+func (r *fakeReplay) sent() []string {
+	r.mutex.Lock()
+	defer r.mutex.Unlock()
+	return append([]string{}, r.lines...)
+}
+
+// sentAt returns when a line was sent.
+func (r *fakeReplay) sentAt(line string) (at time.Time) {
+	r.mutex.Lock()
+	defer r.mutex.Unlock()
+	for i, text := range r.lines {
+		if text == line {
+			at = r.times[i]
+		}
+	}
+	return at
+}
+
+func (r *fakeReplay) Flush()                 {}
+func (r *fakeReplay) Ended() <-chan struct{} { return r.ended }
+
+func (r *fakeReplay) Close() error {
+	r.once.Do(func() { close(r.ended) })
+	return nil
+}
+
+// newNode returns a node with fakes, whose replay was started.
+func newNode(t *testing.T) (*Node, *fakeLog, *fakeReplay) {
+	log, first := newFakeLog(), newFakeReplay()
+	n, err := New(Options{
+		Name: "a", Data: t.TempDir(), Scratch: t.TempDir(), Program: "/nonexistent",
+		SnapshotCommands: 1000, SnapshotBytes: 1 << 20, AnswerTimeout: 5 * time.Second, HangTimeout: time.Minute,
+	}, log, zap.NewNop(), prometheus.NewRegistry())
+	if err != nil {
+		t.Fatal(err)
+	}
+	n.replay = first
+	n.open = func() (replay, error) { return newFakeReplay(), nil }
+	return n, log, first
+}
+
+// running runs parts of a node until the test ends.
+func running(t *testing.T, parts ...func(context.Context) error) {
+	ctx, cancel := context.WithCancel(context.Background())
+	var group sync.WaitGroup
+	for _, part := range parts {
+		part := part
+		group.Add(1)
+		go func() { defer group.Done(); _ = part(ctx) }()
+	}
+	t.Cleanup(func() { cancel(); group.Wait() })
+}
+
+// eventually waits until something holds.
+func eventually(t *testing.T, what string, holds func() bool) {
+	for deadline := time.Now().Add(20 * time.Second); !holds(); time.Sleep(time.Millisecond) {
+		if time.Now().After(deadline) {
+			t.Fatalf("not in time: %s", what)
+		}
+	}
+}
+
+func entry(revision int64, lines ...string) ledger.Entry {
+	e := ledger.Entry{Revision: revision, ID: fmt.Sprint(revision)}
+	for _, line := range lines {
+		e.Lines = append(e.Lines, []byte(line))
+	}
+	return e
+}
+
+func call(line string) *api.Call { return &api.Call{Line: []byte(line)} }
+
+func member(name string, snapshots ...office.Snapshot) ledger.Member {
+	return ledger.Member{Name: name, Snapshots: snapshots}
+}
+
+func members(all ...ledger.Member) []ledger.Member { return all }
+
+func at(revision int64) office.Snapshot { return office.Snapshot{Revision: revision, Digest: "d"} }
+
+// other is a snapshot with other rows, and copy one that was fetched.
+func other(s office.Snapshot) office.Snapshot {
+	s.Digest = "e"
+	return s
+}
+
+func fetched(s office.Snapshot) office.Snapshot {
+	s.Copied = true
+	return s
+}

@@ -1,0 +1,190 @@
+package node
+
+import (
+	"context"
+	"fmt"
+	"time"
+
+	"go.uber.org/zap"
+
+	"rbac-node/ledger"
+	"rbac-node/office"
+)
+
+const (
+	// lookInterval is the time between two looks at what other nodes report, and lookTimeout how long one may take.
+	lookInterval, lookTimeout = time.Second, 10 * time.Second
+	// checkTimeout is how long the checks and the digest of one office may take.
+	checkTimeout = 10 * time.Minute
+)
+
+// A copied office is to become a snapshot.
+type copied struct {
+	file     string
+	snapshot office.Snapshot
+}
+
+// takeSnapshot copies the office between two runs of the replay. What takes long is done in the background. If an
+// earlier snapshot isn't finished yet, none is made at this place.
+func (n *Node) takeSnapshot() error {
+	if len(n.copies) == cap(n.copies) {
+		n.log.Warn("no snapshot: the last one is not finished yet", zap.Int64("revision", n.revision))
+		return nil
+	}
+	if err := n.replay.Close(); err != nil {
+		return err
+	}
+	file, err := n.store.Begin(n.file())
+	if err != nil {
+		return err
+	}
+	// The replay that has ended stays in place if no other one can be started.
+	started, err := n.open()
+	if err != nil {
+		return err
+	}
+	n.replay = started
+	n.copies <- copied{file, office.Snapshot{Revision: n.revision, Count: n.count}}
+	return nil
+}
+
+// keep finishes snapshots, and checks again and again what all nodes report about theirs. A full etcd refuses what is
+// registered, but all else goes on.
+func (n *Node) keep(ctx context.Context) error {
+	ticker := time.NewTicker(lookInterval)
+	defer ticker.Stop()
+	for isRegistered := false; ; {
+		if !isRegistered {
+			isRegistered = n.attempt(ctx, "the snapshots are not registered", n.announce)
+		}
+		n.attempt(ctx, "the log is not trimmed", n.look)
+		select {
+		case one := <-n.copies:
+			if err := n.finish(ctx, one); err != nil {
+				return err
+			}
+			isRegistered = false
+		case <-ticker.C:
+		case <-ctx.Done():
+			return nil
+		}
+	}
+}
+
+// attempt does something that may fail, and tells whether it succeeded.
+func (n *Node) attempt(ctx context.Context, otherwise string, do func(context.Context) error) bool {
+	within, cancel := context.WithTimeout(ctx, lookTimeout)
+	defer cancel()
+	err := do(within)
+	if err != nil && ctx.Err() == nil {
+		n.log.Warn(otherwise, zap.Error(err))
+	}
+	return err == nil
+}
+
+// finish makes a copy of the office a snapshot.
+func (n *Node) finish(ctx context.Context, one copied) error {
+	within, cancel := context.WithTimeout(ctx, checkTimeout)
+	defer cancel()
+	s, err := n.store.Finish(within, one.file, one.snapshot)
+	if err != nil {
+		return err
+	}
+	n.log.Info("snapshot", zap.Int64("revision", s.Revision), zap.Int64("commands", s.Count),
+		zap.String("digest", s.Digest))
+	return nil
+}
+
+// announce writes to etcd which snapshots this node has.
+func (n *Node) announce(ctx context.Context) error {
+	found, err := n.store.List()
+	if err != nil {
+		return err
+	}
+	if len(found) > 0 {
+		n.snapshot.Store(found[0].Revision)
+	}
+	return n.shared.Register(ctx, ledger.Member{Name: n.options.Name, Peer: n.options.Peer, Snapshots: found})
+}
+
+// look judges the snapshots of all nodes, and trims the log.
+func (n *Node) look(ctx context.Context) error {
+	n.shared.UseLeader(ctx)
+	state, err := n.shared.State(ctx)
+	if err != nil {
+		return err
+	}
+	if err := n.judge(state.Members); err != nil {
+		return err
+	}
+	floor, err := n.shared.Trim(ctx, state, needless(state.Members))
+	if floor > 0 {
+		n.log.Info("trimmed the log", zap.Int64("floor", floor))
+	}
+	return err
+}
+
+// judge makes this node refuse to serve while most nodes do not have its snapshots.
+func (n *Node) judge(members []ledger.Member) error {
+	own, err := n.store.List()
+	if err != nil {
+		return err
+	}
+	why := difference(n.options.Name, own, members)
+	if n.differs.Swap(why) != why && why != "" {
+		n.log.Error("refusing to serve", zap.String("why", why))
+	}
+	return nil
+}
+
+// difference reports at which revision a snapshot of a node differs from another node's, if it does and is not that of
+// a majority. A snapshot that was fetched is no second witness, so it does not count.
+func difference(name string, own []office.Snapshot, members []ledger.Member) string {
+	for _, s := range own {
+		agree, differ, other := 0, 0, ""
+		if !s.Copied {
+			agree = 1
+		}
+		for _, member := range members {
+			witness, isThere := snapshotAt(member, s.Revision)
+			switch {
+			case member.Name == name || !isThere:
+			case witness.Digest != s.Digest:
+				other = member.Name
+				if !witness.Copied {
+					differ++
+				}
+			case !witness.Copied:
+				agree++
+			}
+		}
+		if other != "" && agree <= differ {
+			return fmt.Sprintf("at revision %d the snapshot of %s differs from that of %s", s.Revision, name, other)
+		}
+	}
+	return ""
+}
+
+// snapshotAt returns the snapshot of a node at a revision.
+func snapshotAt(member ledger.Member, revision int64) (office.Snapshot, bool) {
+	for _, s := range member.Snapshots {
+		if s.Revision == revision {
+			return s, true
+		}
+	}
+	return office.Snapshot{}, false
+}
+
+// needless returns the revision up to which nobody needs the log, or 0 if somebody needs all of it: each node has kept
+// a snapshot of that revision or a later one, and a newer one as well.
+func needless(members []ledger.Member) (revision int64) {
+	for _, member := range members {
+		if len(member.Snapshots) < 2 {
+			return 0
+		}
+		if last := member.Snapshots[1].Revision; revision == 0 || last < revision {
+			revision = last
+		}
+	}
+	return revision
+}

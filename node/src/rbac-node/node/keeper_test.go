@@ -1,0 +1,153 @@
+package node
+
+import (
+	"context"
+	"errors"
+	"os"
+	"path/filepath"
+	"strings"
+	"testing"
+
+	"rbac-node/ledger"
+	"rbac-node/office"
+)
+
+func TestNeedless(t *testing.T) {
+	for _, one := range []struct {
+		name     string
+		all      []ledger.Member
+		revision int64
+	}{
+		{"nobody", members(), 0},
+		{"a node without a snapshot", members(member("a", at(9), at(5)), member("b")), 0},
+		{"one snapshot", members(member("a", at(5))), 0},
+		{"the last snapshot but one", members(member("a", at(9), at(5)), member("b", at(9), at(5))), 5},
+		{"a node that is behind", members(member("a", at(12), at(9), at(5)), member("b", at(9), at(5))), 5},
+		{"a node that has skipped a place", members(member("a", at(9), at(5)), member("b", at(10), at(7))), 5},
+	} {
+		t.Run(one.name, func(t *testing.T) {
+			if revision := needless(one.all); revision != one.revision {
+				t.Errorf("%d and not %d", revision, one.revision)
+			}
+		})
+	}
+}
+
+// A node serves if most nodes have its digests, and refuses otherwise.
+func TestDifference(t *testing.T) {
+	for _, one := range []struct {
+		name    string
+		own     []office.Snapshot
+		others  []ledger.Member
+		refuses bool
+	}{
+		{"nobody else", []office.Snapshot{at(9)}, members(), false},
+		{"all agree", []office.Snapshot{at(9)}, members(member("b", at(9)), member("c", at(9))), false},
+		{"others have other places", []office.Snapshot{at(9)}, members(member("b", other(at(7)))), false},
+		{"one against one", []office.Snapshot{at(9)}, members(member("b", other(at(9)))), true},
+		{"two against one", []office.Snapshot{at(9)}, members(member("b", at(9)), member("c", other(at(9)))), false},
+		{"one against two", []office.Snapshot{at(9)}, members(member("b", other(at(9))), member("c", other(at(9)))), true},
+		{"outvoted at an older place", []office.Snapshot{at(9), at(5)},
+			members(member("b", at(9), other(at(5))), member("c", at(9), other(at(5)))), true},
+		{"a copy is no witness for it", []office.Snapshot{at(9)}, members(member("b", fetched(at(9))), member("c", other(at(9)))), true},
+		{"a copy is no witness against it", []office.Snapshot{at(9)},
+			members(member("b", other(at(9))), member("c", fetched(other(at(9)))), member("d", at(9))), false},
+		{"its own copy is no witness", []office.Snapshot{fetched(at(9))}, members(member("b", at(9)), member("c", other(at(9)))), true},
+		{"what it registered itself", []office.Snapshot{at(9)}, members(member("a", other(at(9)))), false},
+	} {
+		t.Run(one.name, func(t *testing.T) {
+			if why := difference("a", one.own, one.others); (why != "") != one.refuses {
+				t.Errorf("%q", why)
+			}
+		})
+	}
+}
+
+// officeOf makes a file where the office in use would be.
+func officeOf(t *testing.T, n *Node) {
+	if err := os.MkdirAll(filepath.Dir(n.file()), 0o700); err != nil {
+		t.Fatal(err)
+	}
+	if err := os.WriteFile(n.file(), []byte("rows"), 0o600); err != nil {
+		t.Fatal(err)
+	}
+}
+
+// All nodes take snapshots at the same places, by commands and by bytes, from whichever place they start.
+func TestPlaces(t *testing.T) {
+	line := strings.Repeat("x", 100)
+	var places []int64
+	for _, start := range []int64{0, 4, 10} { // Each of the last two is a place.
+		n, _, _ := newNode(t)
+		officeOf(t, n)
+		n.options.SnapshotCommands, n.options.SnapshotBytes = 10, 750
+		n.revision, n.count = start, 2*start
+		var found []int64
+		for revision := start + 1; revision <= 20; revision++ {
+			n.apply(entry(revision, line, line))
+			if n.err != nil {
+				t.Fatal(n.err)
+			}
+			if len(n.copies) > 0 {
+				found = append(found, (<-n.copies).snapshot.Revision)
+			}
+		}
+		if places == nil {
+			places = found
+		}
+		for len(places) > 0 && places[0] <= start {
+			places = places[1:]
+		}
+		if len(found) < 3 || len(found) != len(places) {
+			t.Fatalf("from %d: %v and not %v", start, found, places)
+		}
+		for i := range found {
+			if found[i] != places[i] {
+				t.Fatalf("from %d: %v and not %v", start, found, places)
+			}
+		}
+	}
+}
+
+// While a snapshot is not finished none is made, and lines go to the replay that was started last.
+func TestTakeSnapshot(t *testing.T) {
+	n, _, first := newNode(t)
+	officeOf(t, n)
+	n.options.SnapshotCommands = 2
+	n.apply(entry(1, "a", "b"))
+	second := n.replay.(*fakeReplay)
+	n.apply(entry(2, "c", "d"))
+	if len(first.sent()) != 2 || second == first || n.replay != second || len(second.sent()) != 2 {
+		t.Errorf("%v, then %v", first.sent(), second.sent())
+	}
+	one := <-n.copies
+	if text, err := os.ReadFile(one.file); err != nil || string(text) != "rows" || one.snapshot.Revision != 1 || one.snapshot.Count != 2 {
+		t.Errorf("%+v has %s, %v", one.snapshot, text, err)
+	}
+}
+
+// If no replay can be started at a snapshot, the node ends with the reason.
+func TestTakeSnapshotWithoutReplay(t *testing.T) {
+	n, _, _ := newNode(t)
+	officeOf(t, n)
+	n.options.SnapshotCommands = 1
+	none := errors.New("too many open files")
+	n.open = func() (replay, error) { return nil, none }
+	n.tasks <- task{0, func() { n.apply(entry(1, "a")) }}
+	if err := n.feed(context.Background()); !errors.Is(err, none) {
+		t.Errorf("%v", err)
+	}
+	if err := n.replay.Close(); err != nil {
+		t.Errorf("the replay that has ended: %v", err)
+	}
+}
+
+// A full etcd refuses registrations: the node goes on, and registers as soon as it can.
+func TestKeepWithFullLog(t *testing.T) {
+	n, log, _ := newNode(t)
+	log.setFull(true)
+	running(t, n.keep)
+	eventually(t, "it is refused", func() bool { return log.refusals.Load() > 0 })
+	log.setFull(false)
+	eventually(t, "it is registered", func() bool { return log.registrations() > 0 })
+}

@@ -1,0 +1,281 @@
+// Package node keeps one copy of an office that follows the log, and answers from it.
+//
+// One goroutine feeds the replay: the commands of the log in their order, and questions between them. So the state in
+// which a question is answered is that after the entries fed before it, and an answer is always the one that the
+// program returns.
+package node
+
+import (
+	"bytes"
+	"context"
+	"errors"
+	"fmt"
+	"net/http"
+	"path/filepath"
+	"sync"
+	"sync/atomic"
+	"time"
+
+	"github.com/prometheus/client_golang/prometheus"
+	"go.uber.org/zap"
+	"golang.org/x/sync/errgroup"
+
+	"rbac-node/api"
+	"rbac-node/ledger"
+	"rbac-node/office"
+)
+
+const (
+	// maxBatchLines is how many requests one batch may have, and maxBatchBytes how many bytes of commands.
+	maxBatchLines, maxBatchBytes = 512, 512 << 10
+	// If no more than fewClients ask, a batch waits as long as batchDelay for those of the one before.
+	fewClients, batchDelay = 8, time.Millisecond
+	// readInterval is the time between two reads of the log if nobody asks.
+	readInterval = 500 * time.Millisecond
+)
+
+// A Log has the commands of an office in the order in which all nodes apply them, and what nodes report about
+// themselves.
+type Log interface {
+	Append(ctx context.Context, id string, lines [][]byte) (revision, before int64, err error)
+	Head(ctx context.Context) (int64, error)
+	Follow(ctx context.Context, after int64, deliver func(ledger.Entry) error) error
+	State(ctx context.Context) (ledger.State, error)
+	Trim(ctx context.Context, state ledger.State, needless int64) (floor int64, err error)
+	Register(ctx context.Context, member ledger.Member) error
+	UseLeader(ctx context.Context)
+}
+
+// A replay answers lines in their order.
+type replay interface {
+	Send(line []byte, answered func(answer []byte))
+	Flush()
+	Ended() <-chan struct{}
+	Close() error
+}
+
+// Options are what the command line sets for a node.
+type Options struct {
+	// Name is the name of this node, which no other has. Peer is the URL at which other nodes fetch its snapshots.
+	Name, Peer string
+	// Data is the folder of the snapshots, and Scratch that of the office in use.
+	Data, Scratch string
+	// Program is the path of the proved program.
+	Program string
+	// After SnapshotCommands commands, or SnapshotBytes bytes of them, all nodes take a snapshot. Both are the same on
+	// all.
+	SnapshotCommands, SnapshotBytes int64
+	// AnswerTimeout is how long a request waits for its answer.
+	AnswerTimeout time.Duration
+	// HangTimeout is how long a replay may leave lines without an answer before it is killed.
+	HangTimeout time.Duration
+	// Fetch is the client with which snapshots of other nodes are fetched.
+	Fetch *http.Client
+	// IsOpen says that everybody who can connect may do everything.
+	IsOpen bool
+}
+
+// A Node is one copy of the office.
+type Node struct {
+	options Options
+	store   *office.Store
+	shared  Log
+	log     *zap.Logger
+	start   time.Time
+	// open starts a replay of the office in use.
+	open func() (replay, error)
+	// asked has the requests that wait to be sent, by their kinds.
+	asked map[api.Kind]chan *request
+	// copies has the copies of the office that are to become snapshots.
+	copies chan copied
+	// pending has the batches of this node that may come from the log, by their names.
+	pending sync.Map
+
+	// tasks has what the goroutine that feeds the replay has to do. The other fields belong to that goroutine: held has
+	// the tasks that wait until entries are fed. revision and count are those of what was fed, bytes counts since the
+	// last place of a snapshot, and err is the reason why the goroutine has to end.
+	tasks           chan task
+	replay          replay
+	held            []task
+	revision, count int64
+	bytes           int64
+	err             error
+
+	// isFed is set when that goroutine runs.
+	isFed atomic.Bool
+	// applied is the place of the log up to which all entries have their answers.
+	applied atomic.Pointer[place]
+	// heard is when the newest read of the log began whose entries all have their answers, in nanoseconds since the
+	// start, or -1.
+	heard atomic.Int64
+	// snapshot is the revision of the newest snapshot.
+	snapshot atomic.Int64
+	// differs is the text that describes where this node differs from most others, or empty.
+	differs atomic.Value
+}
+
+// A task is done by the goroutine that feeds the replay, once all entries up to the revision after are fed.
+type task struct {
+	after int64
+	do    func()
+}
+
+// A place in the log is a revision, and how many commands there are up to it.
+type place struct{ revision, count int64 }
+
+// New returns a node over a log. It does nothing until Run is called.
+func New(options Options, shared Log, logger *zap.Logger, registerer prometheus.Registerer) (*Node, error) {
+	store, err := office.Open(options.Data, options.Program)
+	if err != nil {
+		return nil, err
+	}
+	n := &Node{
+		options: options, store: store, shared: shared, log: logger, start: time.Now(),
+		copies: make(chan copied, 1), tasks: make(chan task, maxBatchLines),
+		asked: map[api.Kind]chan *request{
+			api.Command:  make(chan *request, maxBatchLines),
+			api.Question: make(chan *request, maxBatchLines),
+			api.Local:    make(chan *request, maxBatchLines),
+		},
+	}
+	n.open = func() (replay, error) { return office.Start(options.Program, n.file(), options.HangTimeout) }
+	n.heard.Store(-1)
+	n.applied.Store(&place{})
+	n.differs.Store("")
+	n.register(registerer)
+	return n, nil
+}
+
+// Snapshots serves the newest snapshot.
+func (n *Node) Snapshots() http.Handler { return n.store }
+
+// Run keeps the copy until the context ends or something fails. After a failure the node has to be started anew: it
+// recovers from its newest snapshot then.
+func (n *Node) Run(life context.Context) error {
+	if err := n.resume(life); err != nil {
+		return fmt.Errorf("recovery: %w", err)
+	}
+	group, ctx := errgroup.WithContext(life)
+	for _, part := range []func(context.Context) error{n.feed, n.follow, n.appendCommands, n.confirm, n.confirm, n.keep} {
+		part := part
+		group.Go(func() error { return part(ctx) })
+	}
+	err := group.Wait()
+	if closed := n.replay.Close(); life.Err() != nil {
+		return closed
+	}
+	return err
+}
+
+// follow feeds the entries of the log.
+func (n *Node) follow(ctx context.Context) error {
+	return n.shared.Follow(ctx, n.applied.Load().revision, func(entry ledger.Entry) error {
+		return n.submit(ctx, task{0, func() { n.apply(entry) }})
+	})
+}
+
+// submit makes the goroutine that feeds the replay do a task, unless the context ends before it can begin.
+func (n *Node) submit(ctx context.Context, one task) error {
+	select {
+	case n.tasks <- one:
+		return nil
+	case <-ctx.Done():
+		return ctx.Err()
+	}
+}
+
+// feed passes all work to the replay until the context or the replay ends.
+func (n *Node) feed(ctx context.Context) error {
+	n.isFed.Store(true)
+	for {
+		select {
+		case one := <-n.tasks:
+			n.perform(one)
+		case r := <-n.asked[api.Local]:
+			n.pose(r)
+		case <-n.replay.Ended():
+			// Nobody knows which of the lines were done.
+			if err := n.replay.Close(); err != nil {
+				return err
+			}
+			return errors.New("the replay has ended")
+		case <-ctx.Done():
+			return nil
+		}
+		if n.err != nil {
+			return n.err
+		}
+		if len(n.tasks)+len(n.asked[api.Local]) == 0 {
+			n.replay.Flush()
+		}
+	}
+}
+
+// perform does a task, or holds it until the entries before it are fed.
+func (n *Node) perform(one task) {
+	if one.after > n.revision {
+		n.held = append(n.held, one)
+		return
+	}
+	one.do()
+}
+
+// apply sends the commands of an entry to the replay, unless it already has them.
+func (n *Node) apply(entry ledger.Entry) {
+	if entry.Revision <= n.revision {
+		return
+	}
+	found, _ := n.pending.LoadAndDelete(entry.ID)
+	own, _ := found.(*batch)
+	before := n.count
+	n.revision, n.count = entry.Revision, n.count+int64(len(entry.Lines))
+	reached := &place{n.revision, n.count}
+	for number, line := range entry.Lines {
+		n.bytes += int64(len(line))
+		if len(line) > office.MaxLineBytes || len(bytes.TrimSpace(line)) == 0 {
+			n.log.Error("a line of the log is no command", zap.Int64("revision", entry.Revision), zap.Int("place", number))
+			continue // All nodes skip it. No node has written it.
+		}
+		number := number
+		n.replay.Send(line, func(text []byte) {
+			if own != nil {
+				own.answer(api.Answer{Text: text, Revision: entry.Revision, Place: number})
+			}
+			if number == len(entry.Lines)-1 {
+				n.applied.Store(reached)
+			}
+		})
+	}
+	// All nodes come to the same places: each place is reached from the one before it, and snapshots are only of
+	// places.
+	if before/n.options.SnapshotCommands != n.count/n.options.SnapshotCommands || n.bytes >= n.options.SnapshotBytes {
+		n.bytes = 0
+		n.err = n.takeSnapshot()
+	}
+	waiting := n.held
+	n.held = nil
+	for _, one := range waiting {
+		n.perform(one)
+	}
+}
+
+// pose sends questions to the replay. The age of an answer counts until the client gets it, however long the replay
+// takes.
+func (n *Node) pose(questions ...*request) {
+	revision := n.revision
+	for _, q := range questions {
+		if !q.isWaiting() {
+			continue
+		}
+		reply := q.reply
+		n.replay.Send(q.line, func(text []byte) {
+			reply <- api.Answer{Text: text, Revision: revision, Newest: n.newest()}
+		})
+	}
+}
+
+// newest returns the last moment at which the state after the last answer is known to have been the newest one.
+func (n *Node) newest() time.Time { return n.start.Add(time.Duration(n.heard.Load())) }
+
+// file is the office in use.
+func (n *Node) file() string { return filepath.Join(n.options.Scratch, "office", "office") }

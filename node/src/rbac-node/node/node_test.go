@@ -1,0 +1,144 @@
+package node
+
+import (
+	"context"
+	"errors"
+	"strings"
+	"testing"
+	"time"
+
+	"github.com/prometheus/client_golang/prometheus"
+	"go.uber.org/zap"
+
+	"rbac-node/api"
+	"rbac-node/office"
+)
+
+// The age of an answer counts from the newest state that it may be of to the answer, however long the replay takes.
+func TestAgeOfAnswers(t *testing.T) {
+	const pause = 300 * time.Millisecond
+	for _, kind := range []api.Kind{api.Local, api.Question} {
+		t.Run(string(kind), func(t *testing.T) {
+			n, _, first := newNode(t)
+			running(t, n.feed, n.confirm)
+			eventually(t, "it is ready", func() bool { return n.status().Ready })
+			first.pause(true)
+			time.AfterFunc(pause, func() { first.pause(false) })
+			answer, err := n.Ask(context.Background(), kind, call("q"))
+			if err != nil {
+				t.Fatal(err)
+			}
+			if sent := first.sentAt("q"); sent.IsZero() || answer.Newest.After(sent) {
+				t.Errorf("an answer of a state of %v after the question", answer.Newest.Sub(sent))
+			}
+		})
+	}
+}
+
+// A node whose replay answers nothing is not ready, and says how old its state is.
+func TestHealthOfHungReplay(t *testing.T) {
+	n, _, first := newNode(t)
+	running(t, n.feed, n.confirm, n.confirm)
+	eventually(t, "it is ready", func() bool { return n.status().Ready })
+	first.pause(true)
+	n.tasks <- task{0, func() { n.apply(entry(1, "a", "b")) }}
+	eventually(t, "the lines are sent", func() bool { return strings.Contains(strings.Join(first.sent(), " "), "a b") })
+	if s := n.status(); s.Revision != 0 || s.Count != 0 {
+		t.Errorf("it says that it has applied %d commands", s.Count)
+	}
+	eventually(t, "it is not ready", func() bool { s := n.status(); return !s.Ready && s.Age > maxReadyAge.Seconds() })
+	first.pause(false)
+	eventually(t, "it is ready again", func() bool { s := n.status(); return s.Ready && s.Revision == 1 && s.Count == 2 })
+}
+
+func TestIsAlive(t *testing.T) {
+	n, _, _ := newNode(t)
+	if !n.IsAlive(context.Background()) {
+		t.Error("a node that recovers is not alive")
+	}
+	running(t, n.feed)
+	eventually(t, "it is fed", n.isFed.Load)
+	if !n.IsAlive(context.Background()) {
+		t.Error("a node that is fed is not alive")
+	}
+	stuck := make(chan struct{})
+	n.tasks <- task{0, func() { <-stuck }}
+	within, cancel := context.WithTimeout(context.Background(), 100*time.Millisecond)
+	defer cancel()
+	if n.IsAlive(within) {
+		t.Error("a node that is stuck is alive")
+	}
+	close(stuck)
+}
+
+func TestFeedEndsWithReplay(t *testing.T) {
+	n, _, first := newNode(t)
+	_ = first.Close()
+	if err := n.feed(context.Background()); err == nil {
+		t.Error("it has ended without a reason")
+	}
+}
+
+// An entry is applied once, and what waits for it comes after it, in the order of the log.
+func TestApply(t *testing.T) {
+	n, _, first := newNode(t)
+	n.perform(task{2, func() { n.pose(&request{nil, []byte("q2"), make(chan api.Answer, 1)}) }})
+	n.perform(task{1, func() { n.apply(entry(2, "c")) }})
+	n.perform(task{0, func() { n.apply(entry(1, "a", "", strings.Repeat("x", office.MaxLineBytes+1), "b")) }})
+	n.perform(task{0, func() { n.apply(entry(1, "a")) }})
+	n.perform(task{0, func() { n.apply(entry(2, "c")) }})
+	over, cancel := context.WithCancel(context.Background())
+	cancel()
+	n.pose(&request{over.Done(), []byte("nobody waits"), nil})
+	if sent := strings.Join(first.sent(), " "); sent != "a b c q2" || len(n.held) > 0 {
+		t.Errorf("sent was %s, and %d wait", sent, len(n.held))
+	}
+	if at := n.applied.Load(); at.revision != 2 || at.count != 5 {
+		t.Errorf("applied is %+v", at)
+	}
+}
+
+// Each command gets the answer of its own line, and its place.
+func TestCommands(t *testing.T) {
+	n, log, _ := newNode(t)
+	running(t, n.feed, n.appendCommands)
+	for i := 1; i <= 3; i++ {
+		answer, err := n.Ask(context.Background(), api.Command, call("c"))
+		if err != nil || answer.Revision != int64(i) || answer.Place != 0 {
+			t.Fatalf("%+v, %v", answer, err)
+		}
+	}
+	// A full etcd refuses a command at once.
+	log.setFull(true)
+	start := time.Now()
+	if _, err := n.Ask(context.Background(), api.Command, call("c")); !errors.Is(err, api.Unavailable) {
+		t.Errorf("%v", err)
+	}
+	if time.Since(start) >= n.options.AnswerTimeout {
+		t.Error("it has waited for nothing")
+	}
+}
+
+// A node that differs refuses everything, and one that hasn't heard of the log yet local questions.
+func TestAskRefuses(t *testing.T) {
+	n, _, _ := newNode(t)
+	if _, err := n.Ask(context.Background(), api.Local, call("q")); !errors.Is(err, api.Unavailable) {
+		t.Errorf("%v", err)
+	}
+	n.differs.Store("at revision 9")
+	for _, kind := range []api.Kind{api.Command, api.Question, api.Local} {
+		if _, err := n.Ask(context.Background(), kind, call("q")); !errors.Is(err, api.Diverged) {
+			t.Errorf("%s: %v", kind, err)
+		}
+	}
+}
+
+// Two nodes may be in one process, and one that can't be made is none.
+func TestNew(t *testing.T) {
+	for i := 0; i < 2; i++ {
+		newNode(t)
+	}
+	if n, err := New(Options{Data: "/dev/null"}, newFakeLog(), zap.NewNop(), prometheus.NewRegistry()); n != nil || err == nil {
+		t.Errorf("%v, %v", n, err)
+	}
+}

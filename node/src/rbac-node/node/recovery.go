@@ -1,0 +1,135 @@
+package node
+
+import (
+	"context"
+	"fmt"
+	"os"
+	"path/filepath"
+	"time"
+
+	"go.uber.org/zap"
+
+	"rbac-node/office"
+)
+
+// resume makes the office in use from the newest snapshot. It writes nothing to etcd, which may be full.
+func (n *Node) resume(ctx context.Context) error {
+	base, err := n.base(ctx)
+	if err != nil {
+		return err
+	}
+	if err := n.makeOffice(ctx, base); err != nil {
+		return err
+	}
+	started, err := n.open()
+	if err != nil {
+		return err
+	}
+	n.replay, n.revision, n.count = started, base.Revision, base.Count
+	n.applied.Store(&place{base.Revision, base.Count})
+	n.log.Info("recovered", zap.Int64("revision", base.Revision), zap.Int64("commands", base.Count))
+	state, err := n.shared.State(ctx)
+	if err != nil {
+		return err
+	}
+	return n.judge(state.Members)
+}
+
+// makeOffice makes the office in use from a snapshot, or an empty one.
+func (n *Node) makeOffice(ctx context.Context, base office.Snapshot) error {
+	folder := filepath.Dir(n.file())
+	if err := os.RemoveAll(folder); err != nil {
+		return fmt.Errorf("old office: %w", err)
+	}
+	if err := os.MkdirAll(folder, 0o700); err != nil {
+		return fmt.Errorf("office: %w", err)
+	}
+	within, cancel := context.WithTimeout(ctx, checkTimeout)
+	defer cancel()
+	if base.Digest == "" {
+		return office.Run(within, n.options.Program, "init", n.file())
+	}
+	return n.store.Restore(within, base, n.file())
+}
+
+// base returns the snapshot from which the log is to be followed. Without a digest it is the empty office at the
+// beginning.
+func (n *Node) base(ctx context.Context) (newest office.Snapshot, err error) {
+	state, err := n.shared.State(ctx)
+	if err != nil {
+		return newest, err
+	}
+	found, err := n.store.List()
+	if err != nil {
+		return newest, err
+	}
+	if len(found) > 0 {
+		newest = found[0]
+	}
+	if newest.Revision > state.Revision {
+		return newest, fmt.Errorf("the snapshot is at revision %d and etcd only at %d: etcd was restored to an earlier time, "+
+			"so move the snapshots of all nodes that are newer away", newest.Revision, state.Revision)
+	}
+	if newest.Revision >= state.Floor {
+		return newest, nil
+	}
+	n.log.Info("the log no longer has what this node lacks", zap.Int64("floor", state.Floor))
+	return n.fetch(ctx)
+}
+
+// fetch returns a snapshot that it has fetched from another node. It asks all nodes until one has a snapshot that will
+// do.
+func (n *Node) fetch(ctx context.Context) (office.Snapshot, error) {
+	for {
+		state, err := n.shared.State(ctx)
+		if err != nil {
+			return office.Snapshot{}, err
+		}
+		for _, member := range state.Members {
+			if member.Name == n.options.Name {
+				continue
+			}
+			s, err := n.store.Fetch(ctx, n.options.Fetch, member.Peer, func(offered office.Snapshot) error {
+				return n.accept(ctx, member.Name, offered)
+			})
+			if err == nil {
+				n.log.Info("fetched a snapshot", zap.String("from", member.Name), zap.Int64("revision", s.Revision))
+				return s, nil
+			}
+			n.log.Warn("no snapshot from this node", zap.String("from", member.Name), zap.Error(err))
+		}
+		select {
+		case <-time.After(lookInterval):
+		case <-ctx.Done():
+			return office.Snapshot{}, ctx.Err()
+		}
+	}
+}
+
+// accept refuses a snapshot that another node offers unless the node has registered it, the log continues after it, and
+// no node has registered another digest at its revision: one of two nodes that differ is wrong, and nobody knows here
+// which.
+func (n *Node) accept(ctx context.Context, name string, offered office.Snapshot) error {
+	state, err := n.shared.State(ctx)
+	if err != nil {
+		return err
+	}
+	if offered.Revision < state.Floor {
+		return fmt.Errorf("the snapshot is at revision %d, and the log begins after %d", offered.Revision, state.Floor)
+	}
+	isRegistered := false
+	for _, member := range state.Members {
+		s, isThere := snapshotAt(member, offered.Revision)
+		if !isThere {
+			continue
+		}
+		if s.Digest != offered.Digest {
+			return fmt.Errorf("the snapshot at revision %d differs from that of %s", offered.Revision, member.Name)
+		}
+		isRegistered = isRegistered || member.Name == name && s.Count == offered.Count
+	}
+	if !isRegistered {
+		return fmt.Errorf("the snapshot at revision %d is not registered in etcd", offered.Revision)
+	}
+	return nil
+}

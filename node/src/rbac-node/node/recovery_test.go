@@ -1,0 +1,62 @@
+package node
+
+import (
+	"context"
+	"os"
+	"path/filepath"
+	"testing"
+	"time"
+
+	"rbac-node/ledger"
+	"rbac-node/office"
+)
+
+// A node starts without writing anything to etcd.
+func TestResumeWithFullLog(t *testing.T) {
+	n, log, _ := newNode(t)
+	log.setFull(true)
+	program := filepath.Join(t.TempDir(), "rbac")
+	if err := os.WriteFile(program, []byte("#!/bin/sh\n"), 0o700); err != nil {
+		t.Fatal(err)
+	}
+	n.options.Program = program
+	within, cancel := context.WithTimeout(context.Background(), 20*time.Second)
+	defer cancel()
+	if err := n.resume(within); err != nil {
+		t.Fatal(err)
+	}
+	if log.registrations() > 0 {
+		t.Error("it was registered")
+	}
+}
+
+// A snapshot of another node is accepted only if etcd has it and nobody contests it.
+func TestAccept(t *testing.T) {
+	for _, one := range []struct {
+		name    string
+		floor   int64
+		members []ledger.Member
+		offered office.Snapshot
+		accepts bool
+	}{
+		{"it is registered", 5, members(member("b", at(9), at(7))), at(9), true},
+		{"others agree", 5, members(member("b", at(9)), member("c", at(9))), at(9), true},
+		{"others have other places", 5, members(member("b", at(9)), member("c", at(7))), at(9), true},
+		{"it was fetched", 5, members(member("b", fetched(at(9)))), at(9), true},
+		{"another node contests it", 5, members(member("b", at(9)), member("c", other(at(9)))), at(9), false},
+		{"this node contested it before it lost its folder", 5, members(member("a", other(at(9))), member("b", at(9))), at(9), false},
+		{"another digest is registered", 5, members(member("b", other(at(9)))), at(9), false},
+		{"another number of commands is registered", 5, members(member("b", office.Snapshot{Revision: 9, Digest: "d", Count: 1})), at(9), false},
+		{"only another node has registered it", 5, members(member("b", at(7)), member("c", at(9))), at(9), false},
+		{"nobody has registered it", 5, members(member("b", at(7))), at(9), false},
+		{"the log begins later", 10, members(member("b", at(9))), at(9), false},
+	} {
+		t.Run(one.name, func(t *testing.T) {
+			n, log, _ := newNode(t)
+			log.state = ledger.State{Floor: one.floor, Members: one.members}
+			if err := n.accept(context.Background(), "b", one.offered); (err == nil) != one.accepts {
+				t.Errorf("%v", err)
+			}
+		})
+	}
+}

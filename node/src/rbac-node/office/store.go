@@ -1,0 +1,265 @@
+package office
+
+import (
+	"bytes"
+	"context"
+	"crypto/sha256"
+	"encoding/hex"
+	"fmt"
+	"io"
+	"net/http"
+	"net/url"
+	"os"
+	"os/exec"
+	"path/filepath"
+	"sort"
+	"strings"
+)
+
+const (
+	// maxSnapshots is how many snapshots a store keeps.
+	maxSnapshots = 3
+	// unfinishedPrefix is the prefix of the name of an unfinished snapshot.
+	unfinishedPrefix = "making-"
+	// copiedSuffix ends the name of a snapshot that another node has made.
+	copiedSuffix = "-copied"
+	// nameField is the field in the head of a reply that names the snapshot.
+	nameField = "Snapshot"
+)
+
+// rowsQuery prints all rows of an office of version 2, each table in its order. No name has the character between two
+// values.
+const rowsQuery = `.bail on
+.mode tabs
+SELECT 'meta_row', * FROM meta_row ORDER BY 1, 2, 3;
+SELECT 'name_row', * FROM name_row ORDER BY 1, 2, 3;
+SELECT 'pair_row', * FROM pair_row ORDER BY 1, 2, 3, 4;
+SELECT 'grant_row', * FROM grant_row ORDER BY 1, 2, 3, 4;
+SELECT 'set_row', * FROM set_row ORDER BY 1, 2, 3, 4;
+SELECT 'locked_row', * FROM locked_row ORDER BY 1, 2;
+`
+
+// Run runs a command of the program on the file of an office: init or check.
+func Run(ctx context.Context, program, command, file string) error {
+	if said, err := exec.CommandContext(ctx, program, command, file).CombinedOutput(); err != nil {
+		return fmt.Errorf("%s %s: %w: %s", command, file, err, bytes.TrimSpace(said))
+	}
+	return nil
+}
+
+// Digest returns a digest of the rows of an office, which no program has open. Offices with the same rows have the same
+// digest, however their files came about.
+func Digest(ctx context.Context, file string) (string, error) {
+	hash, said := sha256.New(), bytes.Buffer{}
+	source := url.URL{Scheme: "file", Opaque: (&url.URL{Path: file}).EscapedPath(), RawQuery: "immutable=1"}
+	command := exec.CommandContext(ctx, "sqlite3", "-batch", "-readonly", source.String())
+	command.Stdin, command.Stdout, command.Stderr = strings.NewReader(rowsQuery), hash, &said
+	if err := command.Run(); err != nil {
+		return "", fmt.Errorf("digest by sqlite3: %w: %s", err, bytes.TrimSpace(said.Bytes()))
+	}
+	if said.Len() > 0 {
+		return "", fmt.Errorf("digest by sqlite3: %s", bytes.TrimSpace(said.Bytes()))
+	}
+	return hex.EncodeToString(hash.Sum(nil)), nil
+}
+
+// A Snapshot describes a state: the revision of the last entry in it, how many commands are in it, and a digest of its
+// rows.
+type Snapshot struct {
+	Revision int64  `json:"revision"`
+	Count    int64  `json:"commands"`
+	Digest   string `json:"digest"`
+	// Copied says that another node has made it, so that it is no second witness for its rows.
+	Copied bool `json:"copied,omitempty"`
+}
+
+// A Store is a folder of snapshots. Each is the file of an office, and its name has what is known about it.
+type Store struct {
+	dir     *os.File
+	program string
+}
+
+// Open returns the store of a node, which it makes in the folder of the node. It deletes what a crash left unfinished.
+func Open(data, program string) (*Store, error) {
+	folder := filepath.Join(data, "snapshots")
+	if err := os.MkdirAll(folder, 0o700); err != nil {
+		return nil, fmt.Errorf("snapshots: %w", err)
+	}
+	left, _ := filepath.Glob(filepath.Join(folder, unfinishedPrefix+"*"))
+	for _, file := range left {
+		if err := os.RemoveAll(file); err != nil {
+			return nil, fmt.Errorf("snapshots: %w", err)
+		}
+	}
+	dir, err := os.Open(folder)
+	if err != nil {
+		return nil, fmt.Errorf("snapshots: %w", err)
+	}
+	return &Store{dir, program}, nil
+}
+
+// nameOf and parse write and read the name of a snapshot.
+func nameOf(s Snapshot) string {
+	name := fmt.Sprintf("%d-%d-%s", s.Revision, s.Count, s.Digest)
+	if s.Copied {
+		name += copiedSuffix
+	}
+	return name
+}
+
+func parse(name string) (s Snapshot, err error) {
+	plain := strings.TrimSuffix(name, copiedSuffix)
+	if _, err := fmt.Sscanf(plain, "%d-%d-%s", &s.Revision, &s.Count, &s.Digest); err != nil {
+		return s, fmt.Errorf("%q is not the name of a snapshot: %w", name, err)
+	}
+	s.Copied = plain != name
+	return s, nil
+}
+
+// Path returns the path of a snapshot.
+func (s *Store) Path(snapshot Snapshot) string { return filepath.Join(s.dir.Name(), nameOf(snapshot)) }
+
+// List returns all snapshots, the newest first.
+func (s *Store) List() ([]Snapshot, error) {
+	entries, err := os.ReadDir(s.dir.Name())
+	if err != nil {
+		return nil, fmt.Errorf("snapshots: %w", err)
+	}
+	var found []Snapshot
+	for _, entry := range entries {
+		if snapshot, err := parse(entry.Name()); err == nil {
+			found = append(found, snapshot)
+		}
+	}
+	sort.Slice(found, func(i, j int) bool { return found[i].Revision > found[j].Revision })
+	return found, nil
+}
+
+// Begin copies an office, which no program has open, to a file that is to become a snapshot.
+func (s *Store) Begin(file string) (string, error) {
+	source, err := os.Open(file)
+	if err != nil {
+		return "", fmt.Errorf("snapshot: %w", err)
+	}
+	defer source.Close()
+	return s.save(source)
+}
+
+// save writes a file that is to become a snapshot.
+func (s *Store) save(from io.Reader) (string, error) {
+	file, err := os.CreateTemp(s.dir.Name(), unfinishedPrefix)
+	if err != nil {
+		return "", fmt.Errorf("snapshot: %w", err)
+	}
+	defer file.Close()
+	if _, err := io.Copy(file, from); err != nil {
+		return "", fmt.Errorf("snapshot: %w", err)
+	}
+	if err := file.Sync(); err != nil {
+		return "", fmt.Errorf("snapshot: %w", err)
+	}
+	return file.Name(), nil
+}
+
+// Finish makes a file a snapshot once it is a good office and has the digest, if that is known. The snapshot is then
+// durable, and the oldest ones are deleted. If anything is wrong, the file is deleted.
+func (s *Store) Finish(ctx context.Context, file string, snapshot Snapshot) (Snapshot, error) {
+	defer os.Remove(file)
+	if err := Run(ctx, s.program, "check", file); err != nil {
+		return snapshot, err
+	}
+	digest, err := Digest(ctx, file)
+	if err != nil {
+		return snapshot, err
+	}
+	if snapshot.Digest != "" && snapshot.Digest != digest {
+		return snapshot, fmt.Errorf("snapshot %d has the digest %s and not %s", snapshot.Revision, digest, snapshot.Digest)
+	}
+	snapshot.Digest = digest
+	if err := os.Rename(file, s.Path(snapshot)); err != nil {
+		return snapshot, fmt.Errorf("snapshot: %w", err)
+	}
+	if err := s.dir.Sync(); err != nil {
+		return snapshot, fmt.Errorf("snapshot: %w", err)
+	}
+	return snapshot, s.deleteOld()
+}
+
+// deleteOld deletes the snapshots that are too many.
+func (s *Store) deleteOld() error {
+	found, err := s.List()
+	if err != nil {
+		return err
+	}
+	for i := maxSnapshots; i < len(found); i++ {
+		if err := os.Remove(s.Path(found[i])); err != nil {
+			return fmt.Errorf("old snapshot: %w", err)
+		}
+	}
+	return nil
+}
+
+// Restore copies a snapshot to a file, unless the snapshot has changed.
+func (s *Store) Restore(ctx context.Context, snapshot Snapshot, file string) error {
+	digest, err := Digest(ctx, s.Path(snapshot))
+	if err != nil {
+		return err
+	}
+	if digest != snapshot.Digest {
+		return fmt.Errorf("snapshot %d has the digest %s and not %s: delete it", snapshot.Revision, digest, snapshot.Digest)
+	}
+	text, err := os.ReadFile(s.Path(snapshot))
+	if err != nil {
+		return fmt.Errorf("snapshot: %w", err)
+	}
+	if err := os.WriteFile(file, text, 0o600); err != nil {
+		return fmt.Errorf("office: %w", err)
+	}
+	return nil
+}
+
+// ServeHTTP sends the newest snapshot to another node.
+func (s *Store) ServeHTTP(w http.ResponseWriter, r *http.Request) {
+	found, err := s.List()
+	if err != nil || len(found) == 0 {
+		http.Error(w, "there is no snapshot", http.StatusNotFound)
+		return
+	}
+	file := s.Path(found[0])
+	found[0].Copied = false
+	w.Header().Set(nameField, nameOf(found[0]))
+	w.Header().Set("Content-Type", "application/octet-stream")
+	http.ServeFile(w, r, file)
+}
+
+// Fetch copies the newest snapshot of another node into the store if the caller accepts its name, and its rows match
+// the name. A truncated copy has another digest.
+func (s *Store) Fetch(
+	ctx context.Context, client *http.Client, peer string, accept func(Snapshot) error,
+) (Snapshot, error) {
+	request, err := http.NewRequestWithContext(ctx, http.MethodGet, strings.TrimSuffix(peer, "/")+"/snapshot", nil)
+	if err != nil {
+		return Snapshot{}, fmt.Errorf("snapshot: %w", err)
+	}
+	reply, err := client.Do(request)
+	if err != nil {
+		return Snapshot{}, fmt.Errorf("snapshot: %w", err)
+	}
+	defer reply.Body.Close()
+	if reply.StatusCode != http.StatusOK {
+		return Snapshot{}, fmt.Errorf("get %s: %s", request.URL, reply.Status)
+	}
+	snapshot, err := parse(reply.Header.Get(nameField))
+	if err != nil {
+		return Snapshot{}, err
+	}
+	if err := accept(snapshot); err != nil {
+		return Snapshot{}, err
+	}
+	file, err := s.save(reply.Body)
+	if err != nil {
+		return Snapshot{}, err
+	}
+	snapshot.Copied = true
+	return s.Finish(ctx, file, snapshot)
+}

@@ -1,0 +1,57 @@
+package main
+
+import (
+	"context"
+	"errors"
+	"os"
+
+	"rbac-node/front"
+	"rbac-node/logs"
+	"rbac-node/metrics"
+	"rbac-node/single"
+)
+
+var errNotLocal = errors.New("an address that other machines can reach needs --tls-cert and --callers")
+
+// serveOne serves the office of a file until the context ends or something fails.
+func (s *settings) serveOne(ctx context.Context) error {
+	addresses, err := s.listenOr(socketOf(s.office))
+	if err != nil {
+		return err
+	}
+	for _, address := range addresses {
+		if !address.IsLocal() && (s.tls.Cert == "" || s.callers.Callers == "") {
+			return errNotLocal
+		}
+	}
+	if s.refused == "" {
+		s.refused = s.office + ".refused"
+	}
+	log, registry := logs.New(os.Stderr), &metrics.Registry{}
+	registry.AddProcess()
+	options := s.frontOptions(addresses, log, registry)
+	options.IsHostChecked, options.HasMetrics = true, true
+	f, err := front.New(ctx, options)
+	if err != nil {
+		return err
+	}
+	defer f.Close()
+	office, err := single.Open(ctx, single.Options{
+		File: s.office, Program: s.program, AnswerTimeout: s.answerTimeout, HangTimeout: s.hangTimeout, Reads: single.MostReads,
+		Log: log, Starts: options.Callers.Starts, IsOpen: options.IsOpen(),
+	})
+	if err != nil {
+		return err
+	}
+	registry.Gauge("rbac_node_ready", "1 if the office answers.", func() float64 {
+		if office.IsReady() {
+			return 1
+		}
+		return 0
+	})
+	if err := f.Listen(); err != nil {
+		_ = office.Close() // Nothing has been asked.
+		return err
+	}
+	return answer(ctx, f, office, make(chan error, 1), log, func(context.Context) {})
+}

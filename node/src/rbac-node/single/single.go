@@ -1,0 +1,181 @@
+// Package single keeps one office on one machine, without etcd. It feeds `rbac replay FILE`, so the file is the truth: an answer
+// comes after its command is in the file, and nothing is answered from memory.
+package single
+
+import (
+	"context"
+	"encoding/json"
+	"errors"
+	"fmt"
+	"net/http"
+	"os"
+	"os/exec"
+	"path/filepath"
+	"syscall"
+	"time"
+
+	"rbac-node/api"
+	"rbac-node/feed"
+	"rbac-node/logs"
+	"rbac-node/metrics"
+	"rbac-node/office"
+)
+
+const (
+	// MostReads is after how many reads of its input a replay is started anew at a quiet moment.
+	MostReads = 900_000_000
+	// overlap is how long an earlier program may take to end that has the office open.
+	overlap = 5 * time.Second
+)
+
+// Options are what an office needs.
+type Options struct {
+	File, Program string
+	// AnswerTimeout is how long a request waits for its answer, and HangTimeout how long a replay may answer nothing.
+	AnswerTimeout, HangTimeout time.Duration
+	Reads                      int64
+	Log                        *logs.Logger
+	Starts                     *metrics.Counter
+	// IsOpen says that everybody who can connect may do everything.
+	IsOpen bool
+}
+
+// An Office is the office of a file.
+type Office struct {
+	Options
+	feed *feed.Feed
+	lock *os.File
+}
+
+// Open opens the office of a file, and makes it if there is no file.
+func Open(ctx context.Context, options Options) (*Office, error) {
+	lock, err := lockOf(ctx, options.File+".lock")
+	if err != nil {
+		return nil, err
+	}
+	if err := makeIfMissing(ctx, options.Program, options.File); err != nil {
+		_ = lock.Close()
+		return nil, err
+	}
+	f, err := feed.Open(ctx, feed.Options{
+		Name: "office",
+		// The replay inherits the lock. So whoever gets it knows that no replay of an earlier front writes the file any more.
+		Start: func() (*office.Replay, error) {
+			return office.Start(options.Program, options.File, options.HangTimeout, lock)
+		},
+		First: [][]byte{[]byte(`{"fn":"ssdRoleSets"}`)},
+		Reads: options.Reads, Log: options.Log, Starts: options.Starts,
+	})
+	if err != nil {
+		_ = lock.Close()
+		return nil, fmt.Errorf("the office %s doesn't open: %w", options.File, err)
+	}
+	return &Office{options, f, lock}, nil
+}
+
+// lockOf returns a lock that no other program has. An earlier replay may need a moment to end.
+func lockOf(ctx context.Context, path string) (*os.File, error) {
+	file, err := os.OpenFile(path, os.O_RDWR|os.O_CREATE|syscall.O_NOFOLLOW, 0o600)
+	if err != nil {
+		return nil, fmt.Errorf("lock: %w", err)
+	}
+	within, cancel := context.WithTimeout(ctx, overlap)
+	defer cancel()
+	for {
+		err := syscall.Flock(int(file.Fd()), syscall.LOCK_EX|syscall.LOCK_NB)
+		if err == nil {
+			return file, nil
+		}
+		select {
+		case <-within.Done():
+			_ = file.Close()
+			return nil, fmt.Errorf("lock %s, which another front has: %w", path, err)
+		case <-time.After(10 * time.Millisecond):
+		}
+	}
+}
+
+// makeIfMissing makes an office unless there is something at the path. After a crash there is a whole office or nothing.
+func makeIfMissing(ctx context.Context, program, path string) error {
+	if _, err := os.Lstat(path); !errors.Is(err, os.ErrNotExist) {
+		return err
+	}
+	making := path + ".making"
+	for _, left := range []string{making, making + "-wal"} {
+		if err := os.Remove(left); err != nil && !errors.Is(err, os.ErrNotExist) {
+			return fmt.Errorf("make an office: %w", err)
+		}
+	}
+	if said, err := exec.CommandContext(ctx, program, "init", making).CombinedOutput(); err != nil {
+		return fmt.Errorf("make an office: %s init %s: %w: %s", program, making, err, said)
+	}
+	if err := os.Rename(making, path); err != nil {
+		return fmt.Errorf("make an office: %w", err)
+	}
+	return syncFolder(filepath.Dir(path))
+}
+
+// syncFolder makes the names in a folder durable.
+func syncFolder(path string) error {
+	folder, err := os.Open(path)
+	if err != nil {
+		return err
+	}
+	defer folder.Close()
+	if err := folder.Sync(); err != nil {
+		return fmt.Errorf("sync %s: %w", path, err)
+	}
+	return nil
+}
+
+// Run answers until the context ends, and then those that have asked before.
+func (o *Office) Run(ctx context.Context) error {
+	defer o.lock.Close()
+	return o.feed.Run(ctx)
+}
+
+// Close ends an office that Run was never called for.
+func (o *Office) Close() error {
+	ended, end := context.WithCancel(context.Background())
+	end()
+	return o.Run(ended)
+}
+
+// Ask answers a call. All kinds are answered from the newest state.
+func (o *Office) Ask(ctx context.Context, _ api.Kind, call *api.Call) (api.Answer, error) {
+	within, cancel := context.WithTimeout(ctx, o.AnswerTimeout)
+	defer cancel()
+	answers, err := o.feed.Ask(within, call.Line)
+	if err != nil {
+		return api.Answer{}, err
+	}
+	return api.Answer{Text: answers[0]}, nil
+}
+
+// IsAlive tells whether the goroutine that feeds the replay goes on, before the context ends.
+func (o *Office) IsAlive(ctx context.Context) bool { return o.feed.IsAlive(ctx) }
+
+// A health is the condition of an office.
+type health struct {
+	Ready bool   `json:"ready"`
+	Why   string `json:"why,omitempty"`
+	Open  bool   `json:"open,omitempty"`
+}
+
+func (o *Office) health() health {
+	why := o.feed.Why()
+	return health{why == "", why, o.IsOpen}
+}
+
+// IsReady reports whether the office answers.
+func (o *Office) IsReady() bool { return o.health().Ready }
+
+// ServeHealth reports the condition of the office, with 200 if it answers and 503 if not.
+func (o *Office) ServeHealth(w http.ResponseWriter, _ *http.Request) {
+	w.Header().Set("Content-Type", "application/json")
+	h := o.health()
+	if !h.Ready {
+		w.WriteHeader(http.StatusServiceUnavailable)
+	}
+	_ = json.NewEncoder(w).Encode(h) // If it fails, the client is gone.
+}

@@ -1,0 +1,297 @@
+// Package web has servers of HTTP/1.1 on which no client holds up another one, with and without TLS.
+package web
+
+import (
+	"context"
+	"crypto/tls"
+	"crypto/x509"
+	"errors"
+	"fmt"
+	"log"
+	"net"
+	"net/http"
+	"os"
+	"sync"
+	"sync/atomic"
+	"syscall"
+	"time"
+)
+
+const (
+	// RequestTimeout is how long a client may take to send a request, and headTimeout how long its head.
+	RequestTimeout, headTimeout = 10 * time.Second, 5 * time.Second
+	// idleTimeout is how long a connection may be kept without a request.
+	idleTimeout  = 2 * time.Minute
+	maxHeadBytes = 8192
+	// writeTimeout is how long a client may take to take what is written at once: an answer, or a part of a long one.
+	writeTimeout = 10 * time.Second
+	// spareDescriptors is how many file descriptors a process needs for anything but connections.
+	spareDescriptors = 256
+	// roomInterval is how long a listener without room waits before it looks for an idle connection again.
+	roomInterval = 10 * time.Millisecond
+)
+
+// TLS names the files of one side of connections. Without any of them the side has no TLS.
+type TLS struct {
+	// Cert and Key are those of this node, and CA is the authority of the certificates of the other side.
+	Cert, Key, CA string
+}
+
+// Scheme returns https if there is a file.
+func (t TLS) Scheme() string {
+	if t.Cert+t.Key+t.CA != "" {
+		return "https"
+	}
+	return "http"
+}
+
+// read returns what both sides have in common. The certificate is read again for each connection.
+func (t TLS) read() (config *tls.Config, certificate func() (*tls.Certificate, error), err error) {
+	config = &tls.Config{MinVersion: tls.VersionTLS12}
+	certificate = func() (*tls.Certificate, error) {
+		pair, err := tls.LoadX509KeyPair(t.Cert, t.Key)
+		return &pair, err
+	}
+	if t.Cert+t.Key != "" {
+		if _, err := certificate(); err != nil {
+			return nil, nil, fmt.Errorf("certificate: %w", err)
+		}
+	}
+	if t.CA == "" {
+		return config, certificate, nil
+	}
+	text, err := os.ReadFile(t.CA)
+	if err != nil {
+		return nil, nil, fmt.Errorf("authority: %w", err)
+	}
+	config.RootCAs = x509.NewCertPool()
+	if !config.RootCAs.AppendCertsFromPEM(text) {
+		return nil, nil, fmt.Errorf("authority: %s has no certificate", t.CA)
+	}
+	return config, certificate, nil
+}
+
+// Server returns what a server needs. With an authority it accepts only clients with a certificate of it.
+func (t TLS) Server() (*tls.Config, error) {
+	config, certificate, err := t.read()
+	if err != nil {
+		return nil, err
+	}
+	if t.Cert == "" {
+		return nil, errors.New("certificate: a server needs one")
+	}
+	config.GetCertificate = func(*tls.ClientHelloInfo) (*tls.Certificate, error) { return certificate() }
+	config.ClientCAs, config.RootCAs = config.RootCAs, nil
+	if config.ClientCAs != nil {
+		config.ClientAuth = tls.RequireAndVerifyClientCert
+	}
+	return config, nil
+}
+
+// Client returns what a client needs. Without an authority it trusts those of the system.
+func (t TLS) Client() (*tls.Config, error) {
+	config, certificate, err := t.read()
+	if err != nil {
+		return nil, err
+	}
+	if t.Cert != "" {
+		config.GetClientCertificate = func(*tls.CertificateRequestInfo) (*tls.Certificate, error) { return certificate() }
+	}
+	return config, nil
+}
+
+// MaxConnections returns how many connections the descriptors of the process allow.
+func MaxConnections() int {
+	var limit syscall.Rlimit
+	if err := syscall.Getrlimit(syscall.RLIMIT_NOFILE, &limit); err != nil || limit.Cur > 1<<20 {
+		return 1 << 20
+	}
+	return int(limit.Cur) - spareDescriptors
+}
+
+// Limits are those of the connections of a server.
+type Limits struct {
+	// Connections is how many there may be at once. The one that has been idle for longest makes room for another one.
+	Connections int
+	// AnswerTimeout is how long an answer may take to be made and to be read by the client, from the head of its request.
+	AnswerTimeout time.Duration
+	// Connected returns the context of the requests of a connection. It may be nil.
+	Connected func(ctx context.Context, conn net.Conn) context.Context
+	// Errors gets what goes wrong with connections. Without it that goes to standard error.
+	Errors *log.Logger
+}
+
+// Serve starts a server in a goroutine.
+func Serve(start func(func() error), listener net.Listener, handler http.Handler, limits Limits) *http.Server {
+	return ServeIn(NewRoom(limits.Connections), start, listener, handler, limits)
+}
+
+// ServeIn starts a server in a goroutine. Servers may share a room. HTTP/2 is off: Go 1.19 lacks what was mended in it since.
+func ServeIn(room *Room, start func(func() error), listener net.Listener, handler http.Handler, limits Limits) *http.Server {
+	server := &http.Server{
+		Handler: handler, MaxHeaderBytes: maxHeadBytes, ConnState: room.noteState, ConnContext: limits.Connected,
+		ErrorLog:          limits.Errors,
+		ReadHeaderTimeout: headTimeout, ReadTimeout: RequestTimeout, IdleTimeout: idleTimeout, WriteTimeout: limits.AnswerTimeout,
+		TLSNextProto: map[string]func(*http.Server, *tls.Conn, http.Handler){},
+	}
+	start(func() error {
+		closed := make(chan struct{})
+		if err := server.Serve(&limited{Listener: listener, Room: room, closed: closed}); !errors.Is(err, http.ErrServerClosed) {
+			return fmt.Errorf("server: %w", err)
+		}
+		return nil
+	})
+	return server
+}
+
+// Listen listens on an address of TCP, with TLS if there are files for it.
+func Listen(address string, files TLS) (net.Listener, error) {
+	var config *tls.Config
+	if files.Scheme() == "https" {
+		var err error
+		if config, err = files.Server(); err != nil {
+			return nil, fmt.Errorf("%s: %w", address, err)
+		}
+	}
+	listener, err := net.Listen("tcp", address)
+	if err != nil {
+		return nil, fmt.Errorf("listen: %w", err)
+	}
+	return Secure(listener, config), nil
+}
+
+// Secure returns a listener whose clients have to take in time what is written, over TLS if there is a configuration.
+func Secure(listener net.Listener, config *tls.Config) net.Listener {
+	listener = &prompt{listener}
+	if config != nil {
+		listener = tls.NewListener(listener, config)
+	}
+	return listener
+}
+
+// A prompt listener has connections whose other end has to take in time what is written.
+type prompt struct{ net.Listener }
+
+func (l *prompt) Accept() (net.Conn, error) {
+	conn, err := l.Listener.Accept()
+	if err != nil {
+		return nil, err
+	}
+	return &Conn{Conn: conn}, nil
+}
+
+// A Conn is a connection whose other end has to take in time what is written.
+type Conn struct {
+	net.Conn
+	// until is the deadline that the server has set, in nanoseconds, or 0.
+	until atomic.Int64
+}
+
+// SetWriteDeadline sets a deadline for all that is written.
+func (c *Conn) SetWriteDeadline(deadline time.Time) error {
+	c.until.Store(0)
+	if !deadline.IsZero() {
+		c.until.Store(deadline.UnixNano())
+	}
+	return c.Conn.SetWriteDeadline(deadline)
+}
+
+func (c *Conn) Write(text []byte) (int, error) {
+	deadline := time.Now().Add(writeTimeout)
+	if until := c.until.Load(); until != 0 && until < deadline.UnixNano() {
+		deadline = time.Unix(0, until)
+	}
+	if err := c.Conn.SetWriteDeadline(deadline); err != nil {
+		return 0, err
+	}
+	return c.Conn.Write(text)
+}
+
+// A Room has one element in taken for each connection, and knows which connections are idle.
+type Room struct {
+	taken chan struct{}
+	mutex sync.Mutex
+	idle  map[net.Conn]time.Time
+}
+
+// NewRoom returns a room for some connections.
+func NewRoom(connections int) *Room {
+	return &Room{taken: make(chan struct{}, connections), idle: map[net.Conn]time.Time{}}
+}
+
+// Connections returns how many connections there are.
+func (r *Room) Connections() int { return len(r.taken) }
+
+// A limited listener hands over a connection only when there is room for it. Others wait in the queue of the system.
+type limited struct {
+	net.Listener
+	*Room
+	once   sync.Once
+	closed chan struct{}
+}
+
+func (l *limited) Accept() (net.Conn, error) {
+	conn, err := l.Listener.Accept()
+	if err != nil {
+		return nil, err
+	}
+	for {
+		select {
+		case l.taken <- struct{}{}:
+			return conn, nil
+		default:
+			l.closeIdle()
+		}
+		select {
+		case l.taken <- struct{}{}:
+			return conn, nil
+		case <-l.closed:
+			conn.Close()
+			return nil, net.ErrClosed
+		case <-time.After(roomInterval):
+		}
+	}
+}
+
+func (l *limited) Close() error {
+	l.once.Do(func() { close(l.closed) })
+	return l.Listener.Close()
+}
+
+// closeIdle closes the connection that has been idle for longest, if there is one.
+func (r *Room) closeIdle() {
+	r.mutex.Lock()
+	defer r.mutex.Unlock()
+	var oldest net.Conn
+	for conn, since := range r.idle {
+		if oldest == nil || since.Before(r.idle[oldest]) {
+			oldest = conn
+		}
+	}
+	if oldest != nil {
+		delete(r.idle, oldest)
+		go oldest.Close() // With TLS it says so, and may wait for the client.
+	}
+}
+
+// noteState is told each change of a connection's state.
+func (r *Room) noteState(conn net.Conn, state http.ConnState) {
+	r.mutex.Lock()
+	defer r.mutex.Unlock()
+	delete(r.idle, conn)
+	switch state {
+	case http.StateIdle:
+		r.idle[conn] = time.Now()
+	case http.StateClosed, http.StateHijacked:
+		<-r.taken
+	}
+}
+
+// Shutdown ends servers, which answer the requests that they have until the context ends.
+func Shutdown(ctx context.Context, servers ...*http.Server) {
+	for _, server := range servers {
+		if server.Shutdown(ctx) != nil {
+			server.Close()
+		}
+	}
+}

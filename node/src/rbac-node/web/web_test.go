@@ -1,0 +1,174 @@
+package web
+
+import (
+	"bufio"
+	"context"
+	"io"
+	"net"
+	"net/http"
+	"strings"
+	"testing"
+	"time"
+)
+
+// served returns the address of a server, which ends with the test.
+func served(t *testing.T, limits Limits, handler http.HandlerFunc) string {
+	listener, err := Listen("127.0.0.1:0", TLS{})
+	if err != nil {
+		t.Fatal(err)
+	}
+	ended := make(chan error, 1)
+	server := Serve(func(work func() error) { go func() { ended <- work() }() }, listener, handler, limits)
+	t.Cleanup(func() {
+		over, cancel := context.WithCancel(context.Background())
+		cancel()
+		Shutdown(over, server)
+		if err := <-ended; err != nil {
+			t.Error(err)
+		}
+	})
+	return listener.Addr().String()
+}
+
+func dial(t *testing.T, address string) net.Conn {
+	conn, err := net.Dial("tcp", address)
+	if err != nil {
+		t.Fatal(err)
+	}
+	t.Cleanup(func() { conn.Close() })
+	return conn
+}
+
+const request = "GET / HTTP/1.1\r\nHost: a\r\n\r\n"
+
+// ask sends a request, and returns whether it was answered before the connection was closed.
+func ask(t *testing.T, conn net.Conn) bool {
+	_ = conn.SetDeadline(time.Now().Add(20 * time.Second))
+	if _, err := io.WriteString(conn, request); err != nil {
+		return false
+	}
+	reply, err := http.ReadResponse(bufio.NewReader(conn), nil)
+	if err != nil {
+		return false
+	}
+	_, err = io.Copy(io.Discard, reply.Body)
+	return err == nil
+}
+
+// A client that reads nothing doesn't keep its connection.
+func TestNeverReading(t *testing.T) {
+	answer := strings.Repeat("x", 1<<20)
+	left := make(chan struct{})
+	address := served(t, Limits{Connections: 10, AnswerTimeout: 200 * time.Millisecond}, func(w http.ResponseWriter, _ *http.Request) {
+		for i := 0; i < 64; i++ { // More than any socket holds.
+			if _, err := io.WriteString(w, answer); err != nil {
+				close(left)
+				return
+			}
+		}
+	})
+	if _, err := io.WriteString(dial(t, address), request); err != nil {
+		t.Fatal(err)
+	}
+	select {
+	case <-left:
+	case <-time.After(20 * time.Second):
+		t.Error("the connection is kept")
+	}
+}
+
+// If there are as many connections as may be, an idle one makes room.
+func TestConnections(t *testing.T) {
+	stuck, busy := make(chan struct{}), make(chan struct{}, 10)
+	address := served(t, Limits{Connections: 3, AnswerTimeout: time.Minute}, func(w http.ResponseWriter, r *http.Request) {
+		if r.URL.Path == "/stuck" {
+			busy <- struct{}{}
+			<-stuck
+		}
+	})
+	defer close(stuck)
+	working := dial(t, address)
+	if _, err := io.WriteString(working, strings.Replace(request, "/", "/stuck", 1)); err != nil {
+		t.Fatal(err)
+	}
+	<-busy
+	for i := 0; i < 10; i++ {
+		if !ask(t, dial(t, address)) {
+			t.Fatalf("connection %d is not answered", i)
+		}
+	}
+}
+
+// A fakeConn notes that it is closed.
+type fakeConn struct {
+	net.Conn
+	closed chan struct{}
+}
+
+func (f *fakeConn) Close() error {
+	close(f.closed)
+	return nil
+}
+
+// The connection that has been idle for longest makes room, and none that is not idle.
+func TestCloseIdle(t *testing.T) {
+	r := NewRoom(9)
+	var conns []*fakeConn
+	for i := 0; i < 4; i++ {
+		conns = append(conns, &fakeConn{closed: make(chan struct{})})
+		r.taken <- struct{}{}
+		r.noteState(conns[i], http.StateIdle)
+		time.Sleep(time.Millisecond) // So that the times differ.
+	}
+	r.noteState(conns[0], http.StateActive)
+	r.noteState(conns[1], http.StateClosed)
+	r.closeIdle()
+	<-conns[2].closed
+	if len(r.taken) != 3 || len(r.idle) != 1 || r.idle[conns[3]].IsZero() {
+		t.Errorf("%d connections, %d idle", len(r.taken), len(r.idle))
+	}
+}
+
+// Connections that wait for their answers are not closed: others wait until there is room.
+func TestConnectionsBusy(t *testing.T) {
+	stuck, busy := make(chan struct{}), make(chan struct{}, 10)
+	address := served(t, Limits{Connections: 2, AnswerTimeout: time.Minute}, func(w http.ResponseWriter, _ *http.Request) {
+		busy <- struct{}{}
+		<-stuck
+	})
+	answered := make(chan bool, 3)
+	for i := 0; i < 3; i++ {
+		conn := dial(t, address)
+		go func() { answered <- ask(t, conn) }()
+	}
+	<-busy
+	<-busy
+	select {
+	case <-busy:
+		t.Error("there are three at once")
+	case <-time.After(20 * roomInterval):
+	}
+	close(stuck)
+	for i := 0; i < 3; i++ {
+		if !<-answered {
+			t.Error("a connection got no answer")
+		}
+	}
+}
+
+func TestTLSRefuses(t *testing.T) {
+	for _, one := range []struct {
+		name  string
+		files TLS
+	}{
+		{"no certificate", TLS{CA: "/etc/ssl/certs/ca-certificates.crt"}},
+		{"a file that is missing", TLS{Cert: "/nonexistent", Key: "/nonexistent"}},
+		{"an authority without a certificate", TLS{CA: "/dev/null"}},
+	} {
+		t.Run(one.name, func(t *testing.T) {
+			if _, err := Listen("127.0.0.1:0", one.files); err == nil {
+				t.Error("it listens")
+			}
+		})
+	}
+}

@@ -1,0 +1,16 @@
+#!/usr/bin/env python3
+"""Tests the front of one machine: `rbac-node serve --office FILE` over the program.
+
+    front.py [--times] [--long] [WORD]
+
+With WORD, only the checks with WORD in their names run; `--times` prints how long each took. With `--long` there are 500 kills
+instead of a few dozen. The checks are in the folder front. If Go is not installed, only the sources and the page are checked,
+and a line reports it; `bin/setup node` installs Go. Checks that need a library or a program that is missing are left out.
+"""
+
+import sys
+
+from front import running
+
+if __name__ == "__main__":
+    sys.exit(running.main(sys.argv[1:]))

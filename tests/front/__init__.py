@@ -1,0 +1,14 @@
+"""The front of one machine, as its clients and its operators meet it.
+
+    sources     the sources and the page have the same options, metrics, functions and scopes
+    building    the tools of Go find nothing in the sources, with Go alone and with the libraries that are installed
+    starts      command lines, addresses, sockets, and how the front ends
+    answers     the same answers as those of `rbac serve`, for rows and for random requests
+    kills       the front and its replay are killed under load
+    identities  tokens, certificates, JWTs and users of sockets; files that are read again
+    clients     slow clients, many connections, heads that are meant to be read in two ways
+    table       the table of the calls and their scopes, row by row
+    page        the commands of the page
+    browsers    a page of a foreign site in Chromium
+    program     runs the front, and asks it
+"""

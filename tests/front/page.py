@@ -1,0 +1,79 @@
+"""The commands of docs/FRONT.md print what it shows, from its top to its end."""
+
+import os
+import re
+import shutil
+import subprocess
+
+from pages import markdown
+from pages.shell import Shell
+from program.bench import PROGRAM as RBAC
+from program.bench import SECONDS, TESTS
+
+from .running import PROGRAM
+
+PAGE = markdown.page("FRONT.md")
+
+# The most lines that the page may have.
+MOST_LINES = 390
+
+# How long Go may take on a machine that is busy.
+BUILDING_SECONDS = 600
+
+# The files that the reader saves, by the language of the block that has each.
+FILES = {"callers.jsonl": "json", "ask.py": "python"}
+
+
+def check_commands(bench):
+    """The commands of the page print what is shown below them."""
+    if not (shutil.which("curl") and shutil.which("openssl")):
+        print("left out: the commands of the page, since curl or openssl is not installed")
+        return
+    with Shell(bench) as reader:
+        clone(bench)
+        for name, language in FILES.items():
+            (lines,) = markdown.blocks(PAGE, language)
+            bench.write(name, reader.here("".join(f"{line}\n" for line in lines)).encode())
+            bench.same(f"the page names {name}", f"as `{name}`" in PAGE, True)
+        for block in markdown.blocks(PAGE, "console"):
+            for command, shown in runs(block):
+                # What is started in the background prints nothing here.
+                wanted = reader.here(shown)
+                seconds = BUILDING_SECONDS if command.startswith("bin/node") else SECONDS
+                bench.same(f"what {command} prints", reader.type(command, seconds=seconds), wanted)
+
+
+def clone(bench):
+    """Gives the folder of a check what the commands use of a clone. bin/rbac is there already."""
+    for name in ("deploy", "examples", "bin/node"):
+        (bench.folder / name).symlink_to(TESTS.parent / name)
+    (bench.folder / "release").mkdir()
+    (bench.folder / "release/rbac").symlink_to(RBAC)
+
+
+def runs(lines):
+    """The commands of a block, each with the lines that it prints."""
+    text = "".join(f"{line}\n" for line in lines)
+    return [run.partition("\n")[::2] for run in re.split(r"^\$ ", text, flags=re.M)[1:]]
+
+
+def check_form(bench):
+    """The page is short, its lines are too, and each block is of a language that is run or compared."""
+    bench.same("the page is short", len(PAGE.splitlines()) <= MOST_LINES, True)
+    bench.same("long lines", [line for line in PAGE.splitlines() if len(line) > 130 and not line.startswith("|")], [])
+    bench.same("the languages", set(re.findall(r"^```(\w+)$", PAGE, re.M)), {"console", "sh", *FILES.values()})
+
+
+def check_unit(bench):
+    """systemd-analyze finds no fault in the unit, and calls its exposure low."""
+    if not shutil.which("systemd-analyze"):
+        print("left out: the unit, since systemd-analyze is not installed")
+        return
+    unit = (TESTS.parent / "deploy/rbac-front.service").read_text(encoding="utf-8")
+    bench.same("what the unit starts", "ExecStart=/usr/local/bin/rbac-node serve" in unit, True)
+    path = bench.write("rbac-front.service", unit.replace("/usr/local/bin/rbac-node", os.environ[PROGRAM]).encode())
+    done = subprocess.run(["systemd-analyze", "verify", path], capture_output=True, text=True, check=False)
+    bench.same("what verify prints", (done.stdout + done.stderr, done.returncode), ("", 0))
+    words = ["systemd-analyze", "security", "--offline=true", "--no-pager", "--threshold=20", path]
+    done = subprocess.run(words, capture_output=True, text=True, check=False)
+    bench.judge("its exposure is low", [] if done.returncode == 0 else [(done.stdout + done.stderr)[-300:]])

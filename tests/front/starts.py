@@ -1,0 +1,271 @@
+"""Command lines that are refused with one line, addresses, how the front ends, and what it does if its replay ends or hangs."""
+
+import http.client
+import json
+import os
+import shutil
+import signal
+import socket
+import subprocess
+import threading
+import time
+
+from program.bench import PROGRAM as RBAC
+from program.web import listening
+
+from .identities import CERTIFICATES, openssl, rules, secured, tls_words
+from .program import HOST, Front, Unix, refused_start, until
+from .running import features
+
+OK = '{"ok":true}'
+
+
+def check_refused(bench):
+    """What can't work ends with status 1 and one line, and makes nothing."""
+    openssl(bench, CERTIFICATES)
+    office = bench.path("office")
+    bench.write("callers", rules({"token:a": [("addUser", "office")]}).encode())
+    bench.write("bad", b'{"fn":"fly"}\n')
+    bench.write("empty", b"")
+    serve = ["serve", "--program", RBAC]
+    one = [*serve, "--office", office]
+    tls = tls_words(bench)
+    for what, words, says in [
+        ("nothing", [], "usage"),
+        ("an unknown command", ["fly"], "usage"),
+        ("neither an office nor etcd", serve, "give --office FILE"),
+        ("an office and etcd", [*one, "--etcd", "http://127.0.0.1:1"], "give --office FILE"),
+        ("a word more", [*one, "word"], "usage"),
+        ("an address that others can reach", [*one, "--listen", "0.0.0.0:0"], "needs --tls-cert and --callers"),
+        ("one with TLS alone", [*one, "--listen", "0.0.0.0:0", *tls], "needs --tls-cert and --callers"),
+        (
+            "one with callers alone",
+            [*one, "--listen", ":0", "--callers", bench.path("callers")],
+            "needs --tls-cert and --callers",
+        ),
+        ("one beside a local one", [*one, "--listen", "127.0.0.1:0,0.0.0.0:0"], "needs --tls-cert and --callers"),
+        ("no port", [*one, "--listen", "127.0.0.1"], "listen"),
+        ("tokens without callers", [*one, "--tokens", bench.path("empty")], "need --callers"),
+        ("an authority without a certificate", [*one, "--tls-ca", bench.path("ca.crt")], "needs --tls-cert"),
+        ("a certificate without its key", [*one, *tls[:2]], "certificate"),
+        ("a key of another certificate", [*one, *tls[:2], "--tls-key", bench.path("shop.key")], "certificate"),
+        ("an authority that is none", [*one, *tls[:4], "--tls-ca", bench.path("empty")], "authority"),
+        ("callers with a bad line", [*one, "--callers", bench.path("bad")], "bad:1: UnknownFunction"),
+        ("no file of callers", [*one, "--callers", bench.path("none")], "callers"),
+        ("no program", ["serve", "--office", office, "--program", bench.path("none")], "none"),
+        ("an empty file", ["serve", "--program", RBAC, "--office", bench.path("empty")], "NotAnOffice"),
+        ("another file", ["serve", "--program", RBAC, "--office", bench.path("callers")], '"error":"Store"'),
+        ("a folder that doesn't exist", ["serve", "--program", RBAC, "--office", bench.path("none/office")], "lock"),
+        ("no connections", [*one, "--connections", "0"], "--connections"),
+        ("more than there can be", [*one, "--connections", "100000000"], "--connections"),
+        ("a timeout of nothing", [*one, "--timeout", "0s"], "--timeout"),
+        ("callers without a file", ["callers"], "usage"),
+        ("a check of nothing", ["callers", "--check"], "--callers is missing"),
+    ]:
+        status, out, said = refused_start(*words)
+        bench.same(f"{what}: status and output", (status, out), (1, ""))
+        bench.judge(f"{what}: one line", [] if says in said and said.count("\n") == 1 else [said])
+    bench.same("no office was made", os.path.exists(office), False)
+    status, _, said = refused_start("serve", "--help")
+    bench.same("help", (status, "-office" in said), (0, True))
+
+
+def check_without_libraries(bench):
+    """A program that is built by Go alone says what it can't do, and serves one machine."""
+    root = os.path.dirname(os.path.dirname(os.path.dirname(os.path.abspath(__file__))))
+    path = bench.path("bare")
+    environment = {**os.environ, "GO111MODULE": "off", "GOPATH": f"{root}/node", "CGO_ENABLED": "0", "GOFLAGS": ""}
+    subprocess.run(["go", "build", "-o", path, "rbac-node"], env=environment, check=True)
+    bench.write("callers", b"")
+    for words, says in [
+        (["serve", "--etcd", "http://127.0.0.1:1", "--listen", "127.0.0.1:0"], "built without etcd"),
+        (["adopt", "x"], "built without etcd"),
+        (["callers", "--check", "--program", RBAC, "--callers", bench.path("callers"), "--oidc-keys", "k"], "built without JWTs"),
+    ]:
+        done = subprocess.run([path, *words], capture_output=True, text=True, check=False)
+        bench.same(f"{words[0]} {says}", (done.returncode, says in done.stderr), (1, True))
+    old = os.environ["RBAC_FRONT"]
+    os.environ["RBAC_FRONT"] = path
+    try:
+        with Front(bench) as front:
+            bench.same("a command", front.ask("addUser", {"user": "ann"}), (200, OK))
+    finally:
+        os.environ["RBAC_FRONT"] = old
+    if "etcd" not in features():
+        print("left out: a program for several machines, since the libraries of etcd are not installed")
+
+
+def check_first_start(bench):
+    """Without --listen the front makes the office and a socket for its user and group alone, and says that it is open."""
+    front = Front(bench, listen="unix:" + bench.path("office.run/socket"))
+    words = front.words()
+    at = words.index("--listen")
+    front.words = lambda: words[:at] + words[at + 2 :]
+    with front:
+        bench.same("a command", front.ask("addUser", {"user": "ann"}), (200, OK))
+        bench.same("health", front.exchange("GET", "/healthz"), (200, '{"ready":true,"open":true}\n'))
+        bench.same("the log", "open: everybody who can connect" in front.said(), True)
+        bench.same("the ports", listening(front.process.pid), [])
+        modes = {
+            name: oct(os.lstat(bench.path(name)).st_mode & 0o777)
+            for name in ("office", "office.lock", "office.run", "office.run/socket")
+        }
+        wanted = {"office": "0o600", "office.lock": "0o600", "office.run": "0o750", "office.run/socket": "0o660"}
+        bench.same("the modes", modes, wanted)
+        status, _, said = refused_start(*words)
+        bench.same("a second front", (status, said.count("\n"), "another front" in said), (1, 1, True))
+        bench.same("the first one answers", front.ask("assignedRoles", {"user": "ann"}), (200, '{"ok":true,"value":[]}'))
+        bench.same("the end", front.end(), 0)
+    bench.same("what is left", sorted(os.listdir(bench.folder)), ["office", "office.lock", "office.log", "office.run"])
+    done = subprocess.run([RBAC, "check", front.office], capture_output=True, text=True, check=False)
+    bench.same("rbac check", done.stdout, "good\n")
+
+
+def check_runtime_directory(bench):
+    """In the folder that systemd makes for it the socket is found, and systemd is told that the front is ready."""
+    front = Front(
+        bench, listen="unix:" + bench.path("run/socket"), environment={**os.environ, "RUNTIME_DIRECTORY": bench.path("run")}
+    )
+    words = front.words()
+    at = words.index("--listen")
+    front.words = lambda: words[:at] + words[at + 2 :]
+    with front:
+        bench.same("a command", front.ask("addUser", {"user": "ann"}), (200, OK))
+
+
+def check_hosts(bench):
+    """Without callers only hosts and origins of this machine are answered."""
+    with Front(bench, "--origin", "https://console.example") as front:
+        for what, fields, status in [
+            ("this machine", {"Host": "localhost"}, 200),
+            ("a foreign host", {"Host": "evil.example"}, 421),
+            ("a foreign origin", {"Host": "localhost", "Origin": "https://evil.example"}, 403),
+            ("an own origin", {"Host": "localhost", "Origin": "https://console.example"}, 200),
+        ]:
+            bench.same(what, front.ask("ssdRoleSets", **fields)[0], status)
+        # Nothing of the body is read: the answer comes before it.
+        text = b"POST /v1/addUser HTTP/1.1\r\nHost: localhost\r\nOrigin: https://evil.example\r\nContent-Length: 1000\r\n\r\n"
+        with socket.create_connection((HOST, front.port), 20) as client:
+            client.sendall(text)
+            said = client.recv(65_536)
+        bench.same("before the body", (said[:12], b"Connection: close" in said), (b"HTTP/1.1 403", True))
+
+
+def check_end(bench):
+    """SIGTERM answers the requests at hand, and then the front ends with 0. What was answered is in the office."""
+    for _ in range(3):
+        with Front(bench) as front:
+            answers, done = [], threading.Event()
+            clients = [threading.Thread(target=ask_until_refused, args=(front, number, answers, done)) for number in range(8)]
+            for client in clients:
+                client.start()
+            time.sleep(0.3)
+            bench.same("the end", front.end(), 0)
+            done.set()
+            for client in clients:
+                client.join()
+            lost = [what for what, answer in answers if answer not in (200, "refused", "closed before")]
+            bench.judge("requests at the end", lost)
+            front.start()
+            missing = [what for what, answer in answers if answer == 200 and front.ask("assignedRoles", {"user": what})[0] != 200]
+            bench.judge("what was answered is there", missing)
+            bench.same("the end", front.end(), 0)
+        os.remove(front.office)
+    return {"requests until the end": len(answers)}
+
+
+def ask_until_refused(front, number, answers, done):
+    """Adds users, one after another, until the front has ended. A kept connection may be closed before a request is sent."""
+    connection = front.connection()
+    for turn in range(1_000_000):
+        name = f"{number}.{turn}"
+        try:
+            if connection.sock is None:
+                connection.connect()
+        except OSError:
+            answers.append((name, "refused"))
+            return
+        try:
+            answers.append((name, front.ask("addUser", {"user": name}, connection)[0]))
+        except (http.client.RemoteDisconnected, ConnectionResetError, BrokenPipeError):
+            answers.append((name, "closed before"))
+            connection.close()
+        if done.is_set():
+            return
+
+
+def check_lost_replay(bench):
+    """If the replay ends, the front answers 503 only until a new one has opened the office; one that hangs is killed."""
+    with Front(bench, "--hang-timeout", "1s", "--timeout", "5s") as front:
+        front.ask("addUser", {"user": "ann"})
+        for number in (signal.SIGKILL, signal.SIGSEGV):
+            os.kill(front.replays()[0], number)
+            until(lambda: front.ask("assignedRoles", {"user": "ann"})[0] == 200, "it answers again")
+        os.kill(front.replays()[0], signal.SIGSTOP)
+        bench.same("while the replay hangs", front.ask("assignedRoles", {"user": "ann"})[0], 503)
+        until(lambda: front.ask("assignedRoles", {"user": "ann"})[0] == 200, "it answers again")
+        bench.same("the log", "it answered nothing for too long" in front.said(), True)
+        # While the office doesn't open, there is no answer from memory.
+        os.rename(front.office, bench.path("away"))
+        os.rename(bench.path("office-wal"), bench.path("away-wal"))
+        bench.write("office", b"")
+        os.kill(front.replays()[0], signal.SIGKILL)
+        until(lambda: "doesn't start" in front.said(), "the log says why")
+        bench.same("a question", front.ask("assignedRoles", {"user": "ann"}), (503, '{"code":60,"error":"Unavailable"}'))
+        status, text = front.exchange("GET", "/healthz")
+        health = json.loads(text)
+        bench.same("health", (status, health["ready"], "NotAnOffice" in health["why"]), (503, False, True))
+        time.sleep(2.2)
+        bench.same("one line says why", front.said().count("doesn't start"), 1)
+        os.rename(bench.path("away"), front.office)
+        os.rename(bench.path("away-wal"), bench.path("office-wal"))
+        until(lambda: front.ask("assignedRoles", {"user": "ann"})[0] == 200, "it answers again")
+        bench.same("the end", front.end(), 0)
+
+
+def check_lost_callers(bench):
+    """If the replay of the callers ends, it is started again, and nobody is let in who may not do something."""
+    with secured(bench) as front:
+        ask = lambda: front.ask("assignUser", {"user": "ann", "role": "clerk"}, Authorization="Bearer secret")[0]  # noqa: E731
+        forbidden = lambda: front.ask("addUser", {"user": "ann"}, Authorization="Bearer secret")[0]  # noqa: E731
+        bench.same("before", (ask(), forbidden()), (409, 403))
+        for _ in range(3):
+            for replay in front.replays():
+                os.kill(replay, signal.SIGKILL)
+            while (given := ask()) == 503:
+                bench.same("meanwhile", forbidden() in (403, 503), True)
+            bench.same("after", (given, forbidden()), (409, 403))
+
+
+def check_no_memory_of_old_replay(bench):
+    """A front that starts while an earlier one's replay still runs waits: the two never have the office open together."""
+    with Front(bench) as front:
+        front.ask("addUser", {"user": "ann"})
+        replay = front.replays()[0]
+        os.kill(replay, signal.SIGSTOP)
+        front.process.send_signal(signal.SIGSTOP)
+        words = front.words()
+        second = subprocess.Popen(
+            [os.environ["RBAC_FRONT"], *words], stderr=subprocess.PIPE, stdout=subprocess.DEVNULL, text=True
+        )
+        time.sleep(0.3)
+        bench.same("it waits", second.poll(), None)
+        second.kill()
+        second.communicate()
+        os.kill(replay, signal.SIGCONT)
+        front.process.send_signal(signal.SIGCONT)
+        bench.same("the first one answers", front.ask("assignedRoles", {"user": "ann"})[0], 200)
+
+
+def check_socket_is_asked(bench):
+    """curl can ask over the socket, as the page says."""
+    if not shutil.which("curl"):
+        print("left out: curl, which is not installed")
+        return
+    path = bench.path("run/socket")
+    with Front(bench, listen=f"unix:{path}") as front:
+        words = ["curl", "-s", "--unix-socket", path, "-d", '{"user":"ann"}', "http://localhost/v1/addUser"]
+        bench.same("curl", subprocess.run(words, capture_output=True, text=True, check=False).stdout, OK)
+        connection = Unix(path)
+        bench.same("a kept connection", [front.ask("ssdRoleSets", {}, connection)[0] for _ in range(3)], [200, 200, 200])
+        connection.close()
