@@ -3,7 +3,7 @@
 
 It runs the program that RBAC_PROGRAM names, or release/rbac, and works in a folder of its own in TMPDIR.
 All runs of the program are on one core. Each time is processor time, which other work on the machine changes little, and is the
-best of three.
+best of three. Only the commands with their synced writes are timed by the clock, since they wait for the disk.
 """
 
 import os
@@ -13,6 +13,7 @@ import statistics
 import subprocess
 import sys
 import tempfile
+import time
 from contextlib import closing
 from pathlib import Path
 
@@ -22,6 +23,8 @@ RUNS = 3
 DECISIONS = 200_000
 # How many commands of a kind are done, one after the other, when bytes are counted.
 COMMANDS = 500
+# How many commands are timed by the clock, and how many times.
+TIMED, TIMES = 5_000, 5
 CORE = max(os.sched_getaffinity(0))
 
 
@@ -159,6 +162,21 @@ def bytes_added(folder):
         say(f"bytes of the longest log of {COMMANDS} {name}", f"{longest:,}")
 
 
+def rows_synced(folder):
+    """The microseconds of an addUser with its synced write, over a new office: the least and the most of some runs."""
+    given, took = folder / "users", []
+    given.write_text("".join(f"{command('addUser', user=f'user{number:04}')}\n" for number in range(TIMED)), encoding="ascii")
+    for number in range(TIMES):
+        path = folder / f"timed{number}"
+        seconds(["init", path])
+        before = time.monotonic()
+        seconds(["replay", path], given)
+        took.append((time.monotonic() - before) / TIMED * 1e6)
+    command_line = ["findmnt", "-n", "-o", "FSTYPE", "-T", folder]
+    *_, kind = subprocess.run(command_line, capture_output=True, check=True, text=True).stdout.split()
+    say(f"an addUser with its synced write, on {kind}", f"{min(took):.0f} to {max(took):.0f} microseconds")
+
+
 def main():
     """Measures everything."""
     (processor,) = set(re.findall(r"^model name\s*: (.*)$", Path("/proc/cpuinfo").read_text(encoding="ascii"), re.M))
@@ -168,6 +186,7 @@ def main():
         decisions(folder)
         openings(folder)
         bytes_added(folder)
+        rows_synced(folder)
 
 
 if __name__ == "__main__":

@@ -135,6 +135,27 @@ def names_refused_records(bench):
     same_rows(bench, "refused record", given, wanted)
 
 
+# Names that are tried in a file of assignments.
+NAMES_TRIED = ["bob", "a,b", 'a"b', "\u00e9" * 32, "", "\u00e9" * 32 + "x", "x" * 65, "a\tb", "\x7f", "\x01"]
+
+
+def finds_names(bench):
+    """names.py prints a name of a file exactly if the program refuses the file with 1 BadName, for both ends of lines."""
+    office = Office(bench)
+    for number, name in enumerate(NAMES_TRIED):
+        quoted = '"' + name.replace('"', '""') + '"'
+        for field in {quoted, name} if set(name).isdisjoint(',"') else {quoted}:
+            for end in ("\n", "\r\n"):
+                text = end.join(["user,role", "", "ann,clerk", f"bob,{field}", ""])
+                path = bench.write(f"names{number}.csv", text.encode())
+                told = bench.run(["import", office.path, path])
+                done = subprocess.run([EXAMPLES / "names.py", path], capture_output=True, timeout=SECONDS, check=False)
+                wanted = f"{path}: record 2: {name!r}\n" if b'"code":1,' in told.err else ""
+                what = f"what names.py prints of {field!r} before {end!r}"
+                bench.same(what, (done.stdout.decode(), done.stderr, done.returncode), (wanted, b"", 0))
+    office.told()
+
+
 def runs_commands(bench):
     """Each command of the page prints the lines below it, and ends with status 0."""
     for path in EXAMPLES.iterdir():
@@ -152,7 +173,7 @@ def runs_commands(bench):
 
 def main(words):
     jobs = [(function, name) for name in NAMES for function in (answers_example, names_refusals)]
-    others = (is_of_spreadsheet, imports_assignments, names_refused_records, runs_commands)
+    others = (is_of_spreadsheet, imports_assignments, names_refused_records, finds_names, runs_commands)
     jobs += [(function,) for function in others]
     return run_all(jobs, words)
 

@@ -1,19 +1,25 @@
 #!/usr/bin/env python3
 """Each answer is written before the next line is judged, and in one piece.
 
-The program's streams are pipes, and a line is sent only once the answer to the line before has arrived. The pipe for the
-answers keeps each write apart, so that each read of it has to return one whole answer.
+A line is sent only once the answer to the line before has arrived. The socket for the answers keeps each write apart, however
+long it is, so that each read of it has to return one whole answer.
 """
 
 import os
 import select
+import socket
 import subprocess
 import sys
+
+from machine.replaying import Replay
 
 TESTS = os.path.dirname(os.path.abspath(__file__))
 PROGRAM = os.environ.get("RBAC_PROGRAM", f"{TESTS}/../release/rbac")
 SECONDS = 20
 ROWS = ["first-run", "assign-and-deassign", "bad-requests", "longest-line"]
+
+# Users with names of 64 bytes, so many that the answer that names them all is longer than a page of memory.
+USERS = [b"%064d" % number for number in range(100)]
 
 
 class Wrong(Exception):
@@ -21,11 +27,11 @@ class Wrong(Exception):
 
 
 def read_piece(output):
-    """Returns what one read of the pipe gets, as soon as there is something to read."""
+    """Returns what one read of the socket gets, as soon as there is something to read."""
     ready, _, _ = select.select([output], [], [], SECONDS)
     if not ready:
         raise Wrong(f"no answer within {SECONDS} seconds")
-    return os.read(output, 1 << 20)
+    return output.recv(1 << 20)
 
 
 def converse(process, output, lines, answers):
@@ -54,14 +60,26 @@ def lines_of(name):
         return [line.removesuffix(b"\n") + b"\n" for line in file]
 
 
-def check(row):
+def rows():
+    """Returns the lines and the answers of each row, and of a question with a long answer."""
+    for name in ROWS:
+        yield name, lines_of(f"{name}.jsonl"), lines_of(f"{name}.answers")
+    lines = [b'{"fn":"addRole","role":"clerk"}\n']
+    for user in USERS:
+        lines += [b'{"fn":"addUser","user":"%s"}\n' % user, b'{"fn":"assignUser","role":"clerk","user":"%s"}\n' % user]
+    lines.append(b'{"fn":"assignedUsers","role":"clerk"}\n')
+    model = Replay()
+    yield "an answer with many users", lines, [model.answer(line[:-1]) + b"\n" for line in lines]
+
+
+def check(row, lines, answers):
     """Returns whether the row's lines are answered one at a time."""
-    output, sink = os.pipe2(os.O_DIRECT | os.O_CLOEXEC)
+    output, sink = socket.socketpair(socket.AF_UNIX, socket.SOCK_SEQPACKET)
     words = [PROGRAM, "replay", "--memory"]
     process = subprocess.Popen(words, stdin=subprocess.PIPE, stdout=sink)
-    os.close(sink)
+    sink.close()
     try:
-        converse(process, output, lines_of(f"{row}.jsonl"), lines_of(f"{row}.answers"))
+        converse(process, output, lines, answers)
         return True
     except (Wrong, OSError, StopIteration, subprocess.TimeoutExpired) as error:
         print(f"FAILED: {row}: {error!r}")
@@ -69,17 +87,19 @@ def check(row):
     finally:
         process.kill()
         process.wait()
-        os.close(output)
+        output.close()
 
 
 def main():
     """Checks each row, and prints the count."""
+    passed = failed = 0
     try:
-        passed = sum(check(row) for row in ROWS)
+        for row in rows():
+            is_right = check(*row)
+            passed, failed = passed + is_right, failed + (not is_right)
     except OSError as error:
         print(f"FAILED: {error}")
-        passed = 0
-    failed = len(ROWS) - passed
+        failed += 1
     print(f"{passed} passed, {failed} failed")
     return 1 if failed else 0
 

@@ -228,12 +228,25 @@ def check_sums(bench, packages):
     bench.same("the sums", sorted(listed.splitlines()), sorted(wanted))
 
 
+# The paths that pages name, and those that the package leaves out, as bin/package says.
+FOLDERS = "bench|bin|clients|completions|crates|deploy|docs|examples|library|node|release|tests|tools"
+PATHS = rf"(?<![\w/.-])(?:{FOLDERS}|\.ci)/[\w./-]*"
+LEFT_OUT = ("bench/", "bin/", "crates/", "library/", "node/", "release/librbac_c.a", "tests/", ".ci/")
+
+
 def check_places(bench, packages):
-    """Each link of a page leads somewhere in the package."""
-    pages = [path for path in (packages.root / SHARE).rglob("*.md")]
-    for page in pages:
-        links = re.findall(r"\]\(([^):#]+)\)", page.read_text(encoding="utf-8"))
+    """Each link of a page leads somewhere in the package, and so does each path but those that bin/package says it leaves out."""
+    root = packages.root / SHARE
+    said = (ROOT / "bin/package").read_text(encoding="utf-8").split('"""')[1]
+    bench.same("bin/package names what is left out", [folder for folder in LEFT_OUT if folder not in said], [])
+    bench.same("bin/rbac is not left out", (root / "bin/rbac").exists(), True)
+    for page in root.rglob("*.md"):
+        text = page.read_text(encoding="utf-8")
+        links = re.findall(r"\]\(([^):#]+)\)", text)
         bench.same(f"links of {page.name} to nothing", [link for link in links if not (page.parent / link).exists()], [])
+        paths = {path.rstrip(".-") for path in re.findall(PATHS, text)}
+        missing = sorted(path for path in paths if not (root / path).exists() and not path.startswith(LEFT_OUT))
+        bench.same(f"paths of {page.name} that are missing", missing, [])
 
 
 def check_example(bench, packages):
@@ -441,9 +454,36 @@ def check_made(bench, fault):
     bench.judge("whether the package is made", [fault] if fault else [])
 
 
+def check_library(bench, packages):
+    """A program is built over the packages of the library, and runs; the same files produce the same bytes."""
+    archive = os.environ.get("RBAC_ARCHIVE", ROOT / "release/librbac_c.a")
+    if not os.path.isfile(archive):
+        print("left out: the packages of the library, of which there is no archive")
+        return
+    _, digest, _ = run([ROOT / "bin/release", "library", "--digest"])
+    release = packages.folder / "release-library"
+    run([ROOT / "bin/release", "library", "--record", archive, digest.strip(), release])
+    names = [f"librbac1_{VERSION}_amd64.deb", f"librbac-dev_{VERSION}_amd64.deb"]
+    made = [packages.make(out, "--library", release=release) for out in ("library", "library-again")]
+    wanted = [(0, "".join(f"{out}/{name}\n" for name in names), "") for out in ("library", "library-again")]
+    bench.same("the packages are made", made, wanted)
+    root = packages.folder / "library-root"
+    for name in names:
+        both = [(packages.folder / out / name).read_bytes() for out in ("library", "library-again")]
+        bench.same(f"whether {name} has the same bytes", both[0] == both[1], True)
+        run(["dpkg-deb", "-x", packages.folder / "library" / name, root])
+    source = packages.folder / "use.c"
+    source.write_text("#include <rbac.h>\nint main(void) { rbac_office o = RBAC_OFFICE_NONE; return rbac_open(&o); }\n")
+    libraries = root / "usr/lib/x86_64-linux-gnu"
+    for words in (["-lrbac"], [libraries / "librbac.a"]):
+        command = ["cc", f"-I{root}/usr/include", source, f"-L{libraries}", *words, "-o", packages.folder / "use"]
+        bench.same(f"a program with {words[0]} is built", run(command), (0, "", ""))
+        bench.same(f"a program with {words[0]} runs", run([packages.folder / "use"], LD_LIBRARY_PATH=str(libraries)), (0, "", ""))
+
+
 # The checks of a package, which is made once.
 OF_PACKAGE = [check_fields, check_versions, check_files, check_sums, check_places, check_example, check_man_page]
-OF_PACKAGE += [check_installed, check_by_systemd, check_same_bytes, check_refused, check_lint]
+OF_PACKAGE += [check_installed, check_by_systemd, check_same_bytes, check_refused, check_lint, check_library]
 
 
 def jobs_in(folder):

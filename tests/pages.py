@@ -21,6 +21,7 @@ MODULES = [
     "auditing",
     "model",
     "counts",
+    "times",
     "proofs",
     "specs",
     "paths",

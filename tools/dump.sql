@@ -1,14 +1,21 @@
--- The office as request lines, by which `rbac replay` makes the same office in a new file.
+-- The office as request lines, to compare with another dump, or to make the same office in a new file. To compare:
 --
 --     sqlite3 -readonly 'file:COPY?immutable=1' < tools/dump.sql > DUMP
---     rbac init NEW
---     rbac replay NEW < DUMP
 --
 -- Run it in the folder of the repository, on a copy that `rbac check` calls good. It reads the copy and does not write it.
 --
--- Each line is accepted: what a line uses is made by a line before it, and what has been made so far is a part of a good
--- office, so no limit is exceeded and no set is violated. Equal offices have equal dumps. The closure is not written, since it
--- follows from the inheritances. The version is not written either: the new office has version 2.
+-- Whoever knows the name of a session can use it. So a session's line has the digest of its name (tools/office.sql) at the key
+-- `digest`, and `rbac replay` refuses it with 34 BadRequest: it makes the same office without its sessions. To have them too:
+--
+--     sqlite3 -readonly -cmd '.parameter set @with_sessions 1' 'file:COPY?immutable=1' < tools/dump.sql > DUMP
+--     rbac init NEW
+--     rbac replay NEW < DUMP
+--
+-- Then each line is accepted: what a line uses is made by a line before it, and what has been made so far is a part of a good
+-- office, so no limit is exceeded and no set is violated. Protect such a dump like the office.
+--
+-- Equal offices have equal dumps. The closure is not written, since it follows from the inheritances. The version is not written
+-- either: the new office has version 2.
 
 .bail on
 .read tools/office.sql
@@ -41,8 +48,8 @@ SELECT json_object(
     'fn', 'createSession',
     'user', user,
     'roles', (SELECT json_group_array(role) FROM (SELECT role FROM activation WHERE activation.session = name ORDER BY role)),
-    'session', name
+    iif(@with_sessions, 'session', 'digest'), shown
 )
-FROM session ORDER BY name;
+FROM session JOIN shown_session USING (name) ORDER BY shown;
 
 SELECT json_object('fn', 'lockUserAccount', 'user', user) FROM locked ORDER BY user;

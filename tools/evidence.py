@@ -1,18 +1,23 @@
 #!/usr/bin/env python3
 """Makes all reports of an office in a new folder, with a text that identifies them: evidence.txt.
 
-    evidence.py DATE COPY FOLDER
+    evidence.py [--with-sessions] DATE COPY FOLDER
 
-DATE, such as 2026-11-26, is only written into the text: it is your date, not that of a clock. COPY is a copy of an office. It
-is read and not written: the program checks a further copy of its bytes, which is deleted at the end. FOLDER must not exist.
+DATE, such as 2026-11-26, is only written into the text: it is your date and not that of a clock, so that the same copy gives the
+same bytes on another day. COPY is a copy of an office. It is read and not written: the program checks a further copy of its
+bytes, which is deleted at the end. FOLDER must not exist.
 
 evidence.txt has a line with the SHA-256 of COPY, of the program and of each report. `sha256sum -c evidence.txt` in FOLDER
-compares them again. Its first lines have the date, what `rbac check` printed, and the version of sqlite3.
+compares them again. Its first lines have the date, what `rbac check` printed, the version of sqlite3, and how sessions are shown.
+
+Whoever knows the name of a session can use it, so the reports show the digest of each session's name (tools/office.sql). With
+--with-sessions they show the name: then protect FOLDER like the office.
 
 The program is release/rbac, or the one that the variable RBAC_PROGRAM names. The reports are made by sqlite3 and the SQL
 files beside this one. The status is 0 if all was made, 1 if COPY is refused or something failed, 2 for invalid arguments.
 """
 
+import argparse
 import hashlib
 import os
 import shutil
@@ -26,6 +31,9 @@ from urllib.parse import quote
 TOOLS = Path(__file__).absolute().parent
 PROGRAM = Path(os.environ.get("RBAC_PROGRAM", TOOLS.parent / "release/rbac")).absolute()
 
+# How many bytes of a file are read at once.
+PIECE = 1 << 20
+
 # Each tool with the file of its report.
 REPORTS = {
     "permissions.sql": "permissions.csv",
@@ -37,14 +45,19 @@ REPORTS = {
 }
 
 
+# How sqlite3 is told to show sessions by name, and what evidence.txt says of it.
+NAMED = ["-cmd", ".parameter set @with_sessions 1"]
+SHOWN = {False: "by the digests of their names", True: "by their names"}
+
+
 class Refused(Exception):
     """Why there is no evidence."""
 
 
-def run(command, given=None, **more):
-    """What a command prints. It has to end with status 0."""
+def run(command, given=None, made=subprocess.PIPE, **more):
+    """What a command prints, unless it prints into a file. It has to end with status 0."""
     try:
-        done = subprocess.run(command, stdin=given, capture_output=True, check=False, **more)
+        done = subprocess.run(command, stdin=given, stdout=made, stderr=subprocess.PIPE, check=False, **more)
     except OSError as fault:
         raise Refused(f"{command[0]}: {fault.strerror}") from fault
     if done.returncode != 0:
@@ -60,11 +73,12 @@ def checked(copy):
         return run([str(PROGRAM), "check", str(further)]).decode().strip()
 
 
-def report(copy, tool):
-    """What a tool reports of the copy."""
-    with open(TOOLS / tool, "rb") as statements:
-        place = f"file:{quote(str(copy))}?immutable=1"
-        return run(["sqlite3", "-init", os.devnull, "-readonly", place], statements, cwd=TOOLS.parent)
+def report(copy, tool, place, has_names):
+    """Makes a file with what a tool reports of the copy. It may be too long for memory."""
+    with open(TOOLS / tool, "rb") as statements, open(place, "wb") as made:
+        more = NAMED if has_names else []
+        command = ["sqlite3", "-init", os.devnull, "-readonly", *more, f"file:{quote(str(copy))}?immutable=1"]
+        run(command, statements, made, cwd=TOOLS.parent)
 
 
 def digest(path, folder):
@@ -72,36 +86,49 @@ def digest(path, folder):
     name = os.path.relpath(path, folder)
     if "\\" in name or "\n" in name:
         raise Refused(f"{path}: a backslash or a line feed in a path")
-    return f"{hashlib.sha256(path.read_bytes()).hexdigest()}  {name}"
+    total = hashlib.sha256()
+    with open(path, "rb") as file:
+        while piece := file.read(PIECE):
+            total.update(piece)
+    return f"{total.hexdigest()}  {name}"
 
 
-def make(day, copy, folder):
-    """Makes the folder with its reports and its text."""
-    before = digest(copy, folder.parent)
+def fill(folder, day, copy, has_names):
+    """Makes the reports and the text in a folder."""
+    before = digest(copy, folder)
     said = checked(copy)
-    reports = {name: report(copy, tool) for tool, name in REPORTS.items()}
-    if digest(copy, folder.parent) != before:
+    for tool, name in REPORTS.items():
+        report(copy, tool, folder / name, has_names)
+    if digest(copy, folder) != before:
         raise Refused(f"{copy}: the file changed meanwhile")
-    folder.mkdir()
-    for name, content in reports.items():
-        (folder / name).write_bytes(content)
-    files = [copy, PROGRAM, *(folder / name for name in reports)]
     version = run(["sqlite3", "--version"]).decode().split()[0]
-    head = [f"# Reports of an office, dated {day}", f"# rbac check: {said}", f"# sqlite3: {version}"]
-    lines = head + [digest(path, folder) for path in files]
+    lines = [f"# Reports of an office, dated {day}", f"# rbac check: {said}", f"# sqlite3: {version}"]
+    lines.append(f"# sessions: {SHOWN[has_names]}")
+    lines += [digest(path, folder) for path in (copy, PROGRAM, *(folder / name for name in REPORTS.values()))]
     (folder / "evidence.txt").write_text("".join(f"{line}\n" for line in lines), encoding="utf-8")
 
 
-def main(arguments):
+def make(folder, day, copy, has_names):
+    """Makes the folder with its reports and its text. If that fails, nothing is left of it."""
+    folder.mkdir(0o700)
+    try:
+        fill(folder, day, copy, has_names)
+    except BaseException:
+        shutil.rmtree(folder)
+        raise
+
+
+def main():
     """Makes the evidence, and returns the status."""
+    parser = argparse.ArgumentParser(description=__doc__, formatter_class=argparse.RawDescriptionHelpFormatter)
+    parser.add_argument("--with-sessions", action="store_true")
+    parser.add_argument("day", metavar="DATE", type=date.fromisoformat)
+    parser.add_argument("copy", metavar="COPY")
+    parser.add_argument("folder", metavar="FOLDER")
+    arguments = parser.parse_args()
+    copy, folder = Path(arguments.copy).absolute(), Path(arguments.folder).absolute()
     try:
-        day, copy, folder = arguments
-        day = date.fromisoformat(day)
-    except ValueError:
-        print(__doc__, file=sys.stderr)
-        return 2
-    try:
-        make(day, Path(copy).absolute(), Path(folder).absolute())
+        make(folder, arguments.day, copy, arguments.with_sessions)
     except (Refused, OSError) as fault:
         print(f"evidence.py: {fault}", file=sys.stderr)
         return 1
@@ -109,4 +136,4 @@ def main(arguments):
 
 
 if __name__ == "__main__":
-    sys.exit(main(sys.argv[1:]))
+    sys.exit(main())

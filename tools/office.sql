@@ -40,3 +40,10 @@ INSERT INTO office VALUES (
     (SELECT count(*) FROM main.sqlite_schema WHERE type = 'table' AND lower(name) = 'locked_row'),
     (SELECT count(*) FROM fault)
 );
+
+-- How a report shows each session. Whoever knows the name of a session can use it, so a report has a digest in its place: the
+-- first 32 hexadecimal digits of the SHA3-256 of the name. If the parameter @with_sessions is 1, a report has the name:
+--     sqlite3 -readonly -cmd '.parameter set @with_sessions 1' 'file:COPY?immutable=1' < tools/sessions.sql
+CREATE TEMP TABLE shown_session (name, shown, PRIMARY KEY (name)) WITHOUT ROWID;
+INSERT INTO shown_session
+SELECT name, iif(@with_sessions, name, lower(hex(substr(sha3(name, 256), 1, 16)))) FROM session;

@@ -8,13 +8,25 @@
 -- object, operation     the permission
 -- assigned              the role that the user is assigned
 -- granted               the role to which the permission is granted: the assigned role itself, or a junior of it
--- A user without a permission has no line.
+-- violated              a dynamic set that `granted` violates by itself and its juniors, so that no session can have this role:
+--                       the first such set in byte order; empty if there is none
+-- A user without a permission has no line. If `locked` is no and `violated` is empty, `granted` can be activated alone, and that
+-- session has the permission. If that holds for no line of a user and a permission, no session of the user can have it.
 
 .bail on
 .read tools/office.sql
 .headers off
-.print user,locked,object,operation,assigned,granted
+.print user,locked,object,operation,assigned,granted,violated
 
-SELECT user, iif(user IN locked, 'yes', 'no'), object, operation, assigned, role
-FROM authorized JOIN permission_assignment USING (role)
+-- The roles that no session can have, each with the first dynamic set in the way.
+CREATE TEMP TABLE forbidden (role, violated, PRIMARY KEY (role)) WITHOUT ROWID;
+INSERT INTO forbidden
+SELECT role, min(duty_set) FROM (
+    SELECT given.role, duty_set FROM given JOIN duty_set ON duty_set.kind = given.kind AND name = duty_set
+    WHERE given.kind = 'dynamic' GROUP BY given.role, duty_set HAVING count(*) >= cardinality
+)
+GROUP BY role;
+
+SELECT user, iif(user IN locked, 'yes', 'no'), object, operation, assigned, role, violated
+FROM authorized JOIN permission_assignment USING (role) LEFT JOIN forbidden USING (role)
 ORDER BY user, object, operation, assigned, role;

@@ -15,6 +15,7 @@ DEPLOY = TESTS.parent / "deploy"
 TESTED_BY = {
     "nginx": "deploy/nginx",
     "haproxy": "deploy/haproxy.cfg",
+    "logrotate": "deploy/nginx/logrotate",
     "systemd-analyze": "what systemd-analyze reports about deploy/rbac.service",
     "systemd-nspawn": "deploy/rbac.service under systemd",
     "strace": "the system calls that deploy/rbac.service allows",

@@ -79,6 +79,36 @@ office rbac 600
 enabled
 """
 
+# What the commands of the page leave for nginx, also if they are run again. nginx makes no file that others can read.
+PROXY = """
+openssl req -x509 -newkey ec -pkeyopt ec_paramgen_curve:prime256v1 -nodes -days 2 -subj /CN=a \\
+    -keyout /etc/nginx/rbac.key -out /etc/nginx/rbac.crt 2> /dev/null
+echo 'ann:x' >> /etc/nginx/rbac-auditors.users
+echo '{}' >> /var/log/rbac/administrators.log
+nginx -t -q
+"""
+
+PROXY_FOUND = """
+cat /etc/nginx/rbac-auditors.users /var/log/rbac/administrators.log
+stat -c '%n %U %G %a' /etc/logrotate.d/rbac /etc/nginx/rbac-*.users /var/log/rbac /var/log/rbac/*
+logrotate --debug /etc/logrotate.d/rbac 2>&1 | grep -c '^error' || true
+logrotate --debug /etc/logrotate.d/nginx 2>&1 | grep -c /var/log/rbac || true
+"""
+
+PROXY_MADE = """ann:x
+{}
+/etc/logrotate.d/rbac root root 644
+/etc/nginx/rbac-administrators.users root www-data 640
+/etc/nginx/rbac-applications.users root www-data 640
+/etc/nginx/rbac-auditors.users root www-data 640
+/var/log/rbac root adm 750
+/var/log/rbac/administrators.log www-data adm 640
+/var/log/rbac/applications.log www-data adm 640
+/var/log/rbac/auditors.log www-data adm 640
+0
+0
+"""
+
 # Asks the server that systemd runs.
 ASKING = """
 answers() { for turn in $(seq 100); do rbac-health 2> /dev/null && return; sleep 0.1; done; echo 'no server answers'; }
@@ -198,6 +228,19 @@ def without_systemd(bench):
     bench.same("the office, and how many backups", same_backup(bench, out[len(INSTALLED) :]), "good\n2\n")
 
 
+def behind_nginx(bench):
+    """The commands of the page that put nginx in front leave files that only those may read who should, and a log that is kept."""
+    programs = ("unshare", "mount", "chroot", "nginx", "openssl", "logrotate")
+    if not (is_root() and has(*programs)):
+        return
+    commands = block_with("deploy/nginx/logrotate")
+    done = on_layer(bench, CHANGED_ROOT, "\n".join(["set -e", commands, PROXY, commands, PROXY_FOUND]))
+    if not done:
+        print("left out: a layer above the files of this machine, which can't be mounted", flush=True)
+        return
+    bench.same("what exists for nginx", (done.out.decode(), done.status), (PROXY_MADE, 0))
+
+
 def by_systemd(bench):
     """systemd runs the unit as the commands of the page install it: it sees its own files alone, and is started again."""
     if not (is_root() and has("unshare", "mount", "systemd-nspawn", "useradd", "runuser", "systemctl", "curl")):
@@ -254,4 +297,4 @@ def setting_up(bench):
     bench.same("what is left, and the status for another word", after, "2\n")
 
 
-JOBS = [(by_systemd,), (without_systemd,), (setting_up,)]
+JOBS = [(by_systemd,), (without_systemd,), (behind_nginx,), (setting_up,)]

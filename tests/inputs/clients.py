@@ -27,6 +27,8 @@ WRITES = 4
 
 # How many bytes are sent of a body that was announced as longer.
 SENT = [0, 1, 8_192]
+# The most bytes of a body that are read at once. Room for them is reserved before they are read.
+PIECE = 8_192
 
 # How many users have one role: the reply that names them has 2.5 MB, the longest possible.
 USERS = 20_000
@@ -187,11 +189,11 @@ def allocated(bench, shim, path, function, length, body):
 
 
 def announce(bench, function, most):
-    """A server allocates memory for the bytes that arrive: as many for the longest body as for a short one."""
+    """A server allocates memory for the bytes that arrive and for the next piece: as many for the longest body as for a short one."""
     path, shim = Office(bench).path, Shim(bench, "inputs/allocated.c")
     for sent in SENT:
-        wanted = allocated(bench, shim, path, function, sent + 1, b"x" * sent)
-        for length in (sent + 2, most - 1, most):
+        wanted = allocated(bench, shim, path, function, sent + PIECE, b"x" * sent)
+        for length in (sent + PIECE + 1, most - 1, most):
             found = allocated(bench, shim, path, function, length, b"x" * sent)
             what = f"allocated for {sent:,} bytes of a body of {length:,}"
             bench.same(f"{what}: {found[0]:,} bytes in all, {found[1]:,} at once", found, wanted)

@@ -248,3 +248,17 @@ def check_exits(bench):
     bench.same("the lines", lines - {"rbac: stop CAUSE after K"}, sources.error_lines())
     bench.same("the line of a stop", "rbac: stop CAUSE after K" in lines, True)
     bench.same("the causes", {row[0].strip("`").split()[0] for row in causes}, sources.causes())
+
+
+def check_status_zero(bench):
+    """An import and a replay of which everything is refused end with status 0, and both descriptions of the status say so."""
+    office = bench.path("office")
+    bench.ends(["init", office], makes=["office"])
+    records = bench.write("records.csv", b"user,role\nann,clerk\n")
+    refused = b'{"ok":true,"value":{"already":0,"assigned":0,"refused":[{"code":2,"record":1}]}}\n'
+    bench.ends(["import", office, records], refused)
+    bench.ends(["replay", office], b'{"code":2,"error":"NoUser"}\n', given=b'{"fn":"deleteUser","user":"ann"}\n')
+    (zero,) = [row[2] for row in markdown.tables(EXITS)[0] if row[0] == "0"]
+    manual = (markdown.DOCS / "rbac.1").read_text(encoding="utf-8")
+    bench.same("the page says it", "an import each record, even if it refused all of them" in zero, True)
+    bench.same("the manual says it", "an import each record, even if all were refused" in manual, True)

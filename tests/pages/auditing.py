@@ -10,7 +10,7 @@ PAGE = markdown.page("AUDITING.md")
 TOOLS = sources.ROOT / "tools"
 
 # The most lines that the page may have.
-MOST_LINES = 200
+MOST_LINES = 255
 
 
 def check_commands(bench):
@@ -31,6 +31,17 @@ def check_commands(bench):
 def check_length(bench):
     """The page is short."""
     bench.same("the page is short", len(PAGE.splitlines()) <= MOST_LINES, True)
+
+
+def check_lengths(bench):
+    """The longest reports that the page names follow from the limits: a line for each assignment and each of what it can give."""
+    most = {kind: number for kind, (number, _) in sources.limits().items()}
+    text = markdown.in_one_line(PAGE)
+    given = f"each of {most['assignment']:,} assignments can give {most['grant']:,} grants"
+    permissions = f"up to {most['assignment'] * most['grant'] // 1_000_000} million lines, since {given}"
+    near = most["assignment"] * (most["ssdSet"] + most["dsdSet"]) * most["member"]
+    for words in (permissions, f"near.csv up to {near // 10_000_000 * 10} million"):
+        bench.same(f"the page states: {words}", words in text, True)
 
 
 def check_tools(bench):

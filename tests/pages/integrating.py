@@ -1,12 +1,13 @@
 """The page of integrating: its commands print what it shows, and its tables and numbers are those of the sources."""
 
+import json
 import re
 
 from . import markdown, sources, verdicts
 from .shell import Shell
 
 PAGE = markdown.page("INTEGRATING.md")
-MOST_LINES = 200
+MOST_LINES = 250
 
 # The languages of the blocks that tests/clients.py runs, and that of those that are run here.
 ELSEWHERE, HERE = {"python", "sh", "go", "java"}, {"console"}
@@ -49,6 +50,42 @@ def check_repeated(bench):
     for function, refused in listed:
         can = refused == "nothing" or refused.split()[0] in verdicts.refusals()[function]
         bench.same(f"{function} can be refused by {refused}", can, True)
+
+
+# Commands that remove something, with a name of something else that exists in the bank, or of nothing.
+MISTAKEN = [
+    ("deleteUser", {"user": "an"}),
+    ("deleteRole", {"role": "taler"}),
+    ("deletePermObj", {"object": "volt"}),
+    ("deletePermission", {"object": "vault", "operation": "post"}),
+    ("revokePermission", {"object": "vault", "operation": "open", "role": "cashier"}),
+    ("deassignUser", {"user": "ann", "role": "cashier"}),
+    ("deleteInheritance", {"asc": "branch manager", "desc": "cashier"}),
+    ("deleteSsdSet", {"set": "cash"}),
+    ("deleteDsdSet", {"set": "audit"}),
+    ("deleteSsdRoleMember", {"set": "audit", "role": "cashier"}),
+    ("deleteDsdRoleMember", {"set": "cash", "role": "teller"}),
+    ("deleteSession", {"user": "ann", "session": "ann 2"}),
+    ("dropActiveRole", {"user": "ann", "session": "ann 1", "role": "cashier"}),
+]
+
+
+def check_reasons(bench):
+    """The list below that table has each of its codes once, and a command with a wrong name gets the code of one that was done."""
+    text = markdown.section(PAGE, "## 3. After a timeout")
+    (table,) = markdown.tables(text)
+    cells = [cell for row in table for cell in (row[:2], row[2:])]
+    refused = {function: cell[1].split()[0] for cell in cells for function in cell[0].split(", ")}
+    listed = [code for codes in re.findall(r"^- \*\*([\d, and]+)\*\*:", text, re.M) for code in re.findall(r"\d+", codes)]
+    bench.same("the codes below the table", sorted(listed), sorted(set(refused.values()) - {"nothing"}))
+    removing = [function for function in refused if re.match("delete|revoke|deassign|drop", function)]
+    bench.same("commands with wrong names", sorted(function for function, _ in MISTAKEN), sorted(removing))
+    bank = (sources.ROOT / "examples/bank.jsonl").read_bytes()
+    lines = "".join(json.dumps({"fn": function, **names}) + "\n" for function, names in MISTAKEN)
+    done = bench.run(["replay", "--memory"], bank + lines.encode())
+    answers = [json.loads(line) for line in done.out.splitlines()][-len(MISTAKEN) :]
+    for (function, names), answer in zip(MISTAKEN, answers, strict=True):
+        bench.same(f"{function} of {names}", str(answer.get("code")), refused[function])
 
 
 def check_decisions(bench):

@@ -1,4 +1,7 @@
-"""The description of the HTTP side by OpenAPI: it has what the sources and docs/API.md have, and the program conforms to it."""
+"""The description of the HTTP side by OpenAPI: it has what the sources and the pages have, and the program conforms to it.
+
+tests/front/described.py checks that the front does so too.
+"""
 
 import json
 import re
@@ -39,6 +42,12 @@ WORDS |= {"minLength", "maxLength", "minItems", "maxItems", "uniqueItems", "mini
 # The types of JSON as Python has them.
 PYTHON = {"object": dict, "array": list, "string": str, "boolean": bool, "integer": int}
 
+# What only the front answers: the refusals by the table of docs/FRONT.md and by its sources, and paths of no function.
+OF_FRONT = [row[:2] for table in markdown.tables(markdown.section(markdown.page("FRONT.md"), "## 7. What clients see"))
+            for row in table if re.fullmatch(r"\d{3} [\w ]+", row[0])]  # fmt: skip
+SOURCE = sources.ROOT / "node/src/rbac-node/api/api.go"
+PATHS_OF_FRONT = ["/healthz", "/metrics"]
+
 # The statuses of a conflict, and of a target or a method that no path here has.
 CONFLICT = 409
 OF_NO_PATH = {404, 405}
@@ -46,12 +55,27 @@ OF_NO_PATH = {404, 405}
 
 def operations():
     """Returns the description of each function, by its name."""
-    return {path.removeprefix("/v1/"): methods["post"] for path, methods in SPEC["paths"].items()}
+    paths = {path: methods for path, methods in SPEC["paths"].items() if path not in PATHS_OF_FRONT}
+    return {path.removeprefix("/v1/"): methods["post"] for path, methods in paths.items()}
+
+
+def codes_of_front():
+    """The codes with which the front refuses, by their statuses, as its page has them."""
+    found = {}
+    for status, code in OF_FRONT:
+        found.setdefault(int(status[:3]), set()).add(int(code.split()[0]))
+    return found
+
+
+def refusals_of_front():
+    """The names of the codes with which the front refuses, as its page has them."""
+    return {int(code.split()[0]): code.split()[1] for _, code in OF_FRONT}
 
 
 def name_of(status):
     """The name of the shared answer with a status."""
-    return {**PHRASES, 503: "Service Unavailable"}[status].replace(" ", "")
+    phrases = {**PHRASES, **{int(said[:3]): said[4:] for said, _ in OF_FRONT}}
+    return phrases[status].replace(" ", "")
 
 
 def resolved(value):
@@ -148,7 +172,7 @@ def check_valid(bench):
     bench.same("the version of OpenAPI", SPEC["openapi"], "3.0.3")
     version = (sources.ROOT / "VERSION").read_text(encoding="ascii").strip()
     bench.same("the version of the description", SPEC["info"]["version"], version)
-    bench.same("what secures it", SPEC["security"], [])
+    bench.same("what secures it, if anything does", SPEC["security"], [{}, {"token": []}])
     faults = validators.faults_of_description(SPEC)
     if faults is None:
         print("openapi: no validator of OpenAPI is installed (openapi_spec_validator, or jsonschema with openapi-specification)")
@@ -167,7 +191,8 @@ def parts_of(schema):
 def check_structure(bench):
     """Each part of the description has the keys that such a part has, and no others."""
     bench.same("the parts", set(SPEC), {"openapi", "info", "servers", "security", "tags", "paths", "components"})
-    bench.same("the shared parts", set(COMPONENTS), {"schemas", "responses"})
+    bench.same("the shared parts", set(COMPONENTS), {"schemas", "responses", "securitySchemes"})
+    bench.same("the security schemes", list(COMPONENTS["securitySchemes"]), ["token"])
     accepted, refused, bodies = [], list(COMPONENTS["responses"].values()), []
     for name, told in operations().items():
         keys = {"operationId", "tags", "summary", "description", "requestBody", "responses"}
@@ -195,17 +220,18 @@ def check_references(bench):
     used = set(references(SPEC))
     for reference in sorted(used):
         bench.same(f"{reference} leads to something", bool(resolved({"$ref": reference})), True)
-    parts = {f"#/components/{sort}/{name}" for sort, named in COMPONENTS.items() for name in named}
+    parts = {f"#/components/{sort}/{name}" for sort in ("schemas", "responses") for name in COMPONENTS[sort]}
     unused = {f"#/components/responses/{name_of(status)}" for status in OF_NO_PATH}
     bench.same("what is not used", parts - used, unused)
 
 
 def check_paths(bench):
     """Each function has a path with POST alone, and the description that it has on the page."""
-    bench.same("the paths", list(SPEC["paths"]), [f"/v1/{name}" for name in sources.functions().values()])
+    wanted = [*(f"/v1/{name}" for name in sources.functions().values()), *PATHS_OF_FRONT]
+    bench.same("the paths", list(SPEC["paths"]), wanted)
     commands = sources.command_keys()
     for path, methods in SPEC["paths"].items():
-        bench.same(f"the methods of {path}", list(methods), ["post"])
+        bench.same(f"the methods of {path}", list(methods), ["get" if path in PATHS_OF_FRONT else "post"])
     for name, told in operations().items():
         bench.same(f"the name of {name}", told["operationId"], name)
         bench.same(f"the sort of {name}", told["tags"], ["commands" if name in commands else "questions"])
@@ -213,7 +239,7 @@ def check_paths(bench):
         bench.same(f"the summary of {name} is short", bool(re.fullmatch(r"[A-Z][\w ]{5,60}", told["summary"])), True)
     summaries = [told["summary"] for told in operations().values()]
     bench.same("summaries that occur twice", len(summaries) - len(set(summaries)), 0)
-    bench.same("the sorts", [tag["name"] for tag in SPEC["tags"]], ["commands", "questions"])
+    bench.same("the sorts", [tag["name"] for tag in SPEC["tags"]], ["commands", "questions", "condition"])
 
 
 def check_keys(bench):
@@ -238,7 +264,7 @@ def check_answers(bench):
         words = [word for word in verdicts.refusals()[name] if int(word.split(":")[0]) in conflicts]
         if name == "importAssignments":
             words.remove("32:byte")  # A longer body is refused by 413 with the head.
-        wanted = sources.statuses() - OF_NO_PATH - (set() if words else {CONFLICT})
+        wanted = (sources.statuses() | set(codes_of_front())) - OF_NO_PATH - (set() if words else {CONFLICT})
         bench.same(f"the statuses of {name}", sorted(answers), sorted(map(str, wanted)))
         reference = f"#/components/schemas/{ANSWERS[sources.values()[name]]}"
         bench.same(f"the answer of {name}", schema_of(answers["200"]), {"$ref": reference})
@@ -264,21 +290,33 @@ def check_refusals(bench):
     refusal = COMPONENTS["schemas"]["Refusal"]
     told = refusal["properties"]
     known = sorted(sources.refusals().items())
-    bench.same("the codes", told["code"]["enum"], [code for code, _ in known])
-    bench.same("the names", told["error"]["enum"], [name for _, (name, _) in known])
+    of_front = sorted(refusals_of_front().items())
+    bench.same("the codes", told["code"]["enum"], [code for code, _ in [*known, *of_front]])
+    bench.same("the names", told["error"]["enum"], [*(name for _, (name, _) in known), *(name for _, name in of_front)])
     further = list(dict.fromkeys(key for _, (_, key) in known if key))
     bench.same("the keys of a refusal", list(told), ["code", "error", *further])
     bench.same("the keys that each refusal has", refusal["required"], ["code", "error"])
     bench.same("the kinds", told["kind"]["enum"], list(sources.limits()))
 
 
+def check_refusals_of_front(bench):
+    """The page of the front lists its refusals with the statuses, codes and names that its sources have."""
+    text = SOURCE.read_text(encoding="utf-8")
+    found = re.findall(r'Refusal\{http\.Status(\w+), (\d+), "(\w+)"\}', text)
+    wanted = {(status, f"{code} {name}") for status, code, name in found if int(code) not in sources.refusals()}
+    bench.same("the refusals of the front", {(status[4:].replace(" ", ""), code) for status, code in OF_FRONT}, wanted)
+
+
 def check_statuses(bench):
     """Each status by which a request is not accepted has its shared answer, with the codes that it reports."""
     told = verdicts.codes_by_status()
-    for status in sources.statuses() - {200, CONFLICT}:
+    of_front = codes_of_front()
+    refusing = (sources.statuses() | set(of_front)) - {200, CONFLICT}
+    for status in refusing:
         codes = COMPONENTS["responses"][name_of(status)]["x-codes"]
-        bench.same(f"the codes of {status}", set(codes), told.get(status, {34}))
-    wanted = {name_of(status) for status in sources.statuses() - {200, CONFLICT}}
+        own = told.get(status, {34}) if status in sources.statuses() else set()
+        bench.same(f"the codes of {status}", set(codes), own | of_front.get(status, set()))
+    wanted = {name_of(status) for status in refusing}
     bench.same("the shared answers", set(COMPONENTS["responses"]), wanted)
     bench.same("the schemas of accepted answers", set(ANSWERS.values()) - set(COMPONENTS["schemas"]), set())
 

@@ -27,7 +27,7 @@ DAMAGES = {**damaged.DAMAGES, **damaged.LOCKS}
 OPENING = [40, 41, 50, 51, 32, 52]
 
 # The most lines that the page may have.
-MOST_LINES = 350
+MOST_LINES = 400
 
 # The commands are for files on a disk.
 ON_DISK = True
@@ -98,7 +98,7 @@ def check_blocks(bench):
     bench.same("the languages", set(re.findall(r"^```(\w+)$", PAGE, re.M)), {"console", "sh", "sql", "text"})
     bench.same("blocks without a language", PAGE.count("```"), 2 * len(re.findall(r"^```\w+$", PAGE, re.M)))
     here = ["--limit 1000000", "--limit 1000\n", "rsync "]
-    elsewhere = ["useradd ", "systemctl restart "]
+    elsewhere = ["useradd ", "systemctl restart ", "deploy/nginx/logrotate"]
     bench.same("blocks that are not run", len(commands_for("sh")), len({block_with(words) for words in here + elsewhere}))
 
 
@@ -216,9 +216,21 @@ def check_pairs_made(bench):
     office.told()
 
 
+def check_version_1(bench):
+    """The pages agree on where offices of version 1 come from: the program makes none."""
+    for path, words in (
+        ("CHANGELOG.md", "Only programs before it, which were never released, made offices of version 1."),
+        ("docs/API.md", "unless a program before 1.0.0 made it"),
+        ("docs/MODEL.md", "only programs before 1.0.0 made offices of version 1"),
+        ("docs/OPERATING.md", "Only programs before 1.0.0 made offices of version 1"),
+    ):
+        text = (sources.ROOT / path).read_text(encoding="utf-8")
+        bench.same(f"{path} states: {words}", words in markdown.in_one_line(text), True)
+
+
 def check_groups(bench):
     """The table of groups names functions of the sources, and states how many the others are."""
-    (table,) = markdown.tables(markdown.section(PAGE, "## 8. Behind a proxy"))
+    table, _ = markdown.tables(markdown.section(PAGE, "## 8. Behind a front or a proxy"))
     said, questions, all_of_them = dict(table), sources.question_keys(), sources.functions().values()
     named = re.findall(r"`(\w+)`", said["applications"])
     bench.same("functions that do not exist", sorted(set(named) - set(all_of_them)), [])

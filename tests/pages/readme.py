@@ -14,8 +14,11 @@ CONTRACTS, ARCHITECTURE = markdown.page("CONTRACTS.md"), markdown.page("ARCHITEC
 BENCHMARKS = (ROOT / "bench/README.md").read_text(encoding="utf-8")
 
 # The most lines that the page, and its first text, may have.
-MOST_LINES = 120
+MOST_LINES = 132
 MOST_FIRST = 5
+
+# What the library of the toolchain consists of. A crate names such a part if its proofs do.
+PARTS_OF_STD = {"core", "libc", "std_alloc"}
 
 # The pages of which each path and each link has to lead somewhere.
 LINKED = ["README.md", "CHANGELOG.md", "CONTRIBUTING.md", "SECURITY.md"]
@@ -24,10 +27,12 @@ LINKED += [f"docs/{name}.md" for name in ("API", "AUDITING", "CONTRACTS", "INTEG
 # The folders of the repository that pages name.
 FOLDERS = "bench bin clients completions crates deploy docs examples tests tools".split()
 
-# What decides in the first row of the table of speed, and the commands of one row, as the benchmarks name them.
+# What makes a decision without its request, as the benchmarks name it.
 DECIDING = ["check_access", "plain Rust, the same tests", "SQLite, a stored closure"]
-DECIDING += ["PostgreSQL, pg_has_role", "PostgreSQL, a stored closure", "Casbin, Enforce"]
-ROWS = ("addUser", "assignUser")
+DECIDING += ["PostgreSQL, pg_has_role", "PostgreSQL, a stored closure", "Casbin, Enforce", "Casbin, cached, asked again"]
+
+# The microseconds of an addUser, on tmpfs and on a disk, as the benchmarks state them.
+SYNCED = r"measured (\d+) to (\d+) microseconds for an addUser on tmpfs, and (\d+) to ([\d,]+) on ext4"
 
 # Crates that prove nothing by themselves.
 UNPROVED = {"rbac", "refused_tests"}
@@ -36,7 +41,7 @@ UNPROVED = {"rbac", "refused_tests"}
 def crates():
     """Returns the crates that each crate depends on, by its name."""
     lines = (ROOT / "crates.txt").read_text(encoding="utf-8").splitlines()
-    return {name: words.split() for name, words in (line.split(":") for line in lines if line)}
+    return {name.split()[0]: words.split() for name, words in (line.split(":") for line in lines if line)}
 
 
 def check_length(bench):
@@ -58,6 +63,9 @@ def check_two_commands(bench):
     gate = (ROOT / ".ci/run").read_text(encoding="utf-8").splitlines()[-1]
     bench.same("the gate runs the second command", gate.endswith(f"exec {second} --proofs"), True)
     bench.same("the page names the gate", f"`{second} --proofs`" in PAGE, True)
+    setup = (ROOT / "bin/setup").read_text(encoding="utf-8")
+    said = "as root, or as a user with `sudo` without a password" in markdown.in_one_line(PAGE)
+    bench.same("who can install what is missing", ("neither root nor sudo" in setup, said), (True, True))
 
 
 def check_kit(bench):
@@ -85,8 +93,12 @@ def check_first_minutes(bench):
 def check_limits(bench):
     """The limits that the page begins with are those of the sources."""
     most = {kind: f"{number:,}" for kind, (number, _) in sources.limits().items()}
-    said = f"at most {most['user']} users, {most['role']} roles and {most['session']} sessions"
-    bench.same(f"the page states: {said}", said in markdown.in_one_line(PAGE), True)
+    said = [f"at most {most['user']} users and as many assignments", f"{most['role']} roles", f"{most['object']} objects"]
+    said += [f"{most['permission']} permissions", f"{most['grant']} grants", f"{most['session']} sessions"]
+    (size,) = re.findall(r"^- \*\*Size\.\*\* (.*?)^- ", PAGE, re.M | re.S)
+    for words in said:
+        bench.same(f"the page states: {words}", words in markdown.in_one_line(size), True)
+    bench.same("as many assignments as users", most["assignment"], most["user"])
 
 
 def cell(section, row, column, table=0):
@@ -100,11 +112,12 @@ def figures():
     """The numbers of each row of the table of speed, as the benchmarks have them, in the units of the row."""
     cases = markdown.tables(markdown.section(BENCHMARKS, "## access"))[1]
     slowest = max((float(row[1]), row[0].strip("`")) for row in cases)
-    yield [cell("access", name, 1) / 1000 for name in DECIDING]
+    synced = re.search(SYNCED, markdown.in_one_line(BENCHMARKS)).groups()
     yield [cell("replay", "access", 4), cell("replay", "access", 5)]
     yield [cell("http", "checkAccess, allowed", 2), cell("http", "checkAccess, allowed", 3)]
+    yield [cell("access", name, 1) / 1000 for name in DECIDING]
     yield [slowest[0], cell("access", slowest[1], 3, 1)]
-    yield [*sorted(cell("tables", name, 3) for name in ROWS), *sorted(cell("tables", name, 5) for name in ROWS)]
+    yield [float(number.replace(",", "")) for number in synced]
     yield [cell("tables", "addInheritance, joining them", column) / 1000 for column in (3, 5)]
     yield [cell("tables", *at) / 1000 for at in (("connection", 3), ("open", 3), ("open", 5))]
 
@@ -113,14 +126,11 @@ def check_speed(bench):
     """The numbers of the table of speed are those of bench/README.md, rounded to two digits."""
     (table,) = markdown.tables(markdown.section(PAGE, "## Speed"))
     for row, wanted in zip(table, figures(), strict=True):
-        said = [float(number.replace(",", "")) for number in re.findall(r"\d[\d,]*(?:\.\d+)?", " ".join(row[1:]))]
+        said = [float(number.replace(",", "")) for number in re.findall(r"\d[\d,]*(?:\.\d+)?", " ".join(row[2:]))]
         bench.same(f"the figures of {row[0]}", said, [float(f"{number:.2g}") for number in wanted])
     rate = float(f"{cell('http', 'checkAccess, allowed', 2):.2g}")
-    for name, words in (
-        ("OPERATING.md", f"makes {rate:,.0f} decisions a second"),
-        ("INTEGRATING.md", f"A decision takes {1000 / rate:.1f} ms over HTTP"),
-    ):
-        bench.same(f"{name} states: {words}", words in markdown.in_one_line(markdown.page(name)), True)
+    words = f"makes {rate:,.0f} decisions a second"
+    bench.same(f"OPERATING.md states: {words}", words in markdown.in_one_line(markdown.page("OPERATING.md")), True)
 
 
 def check_crates(bench):
@@ -132,7 +142,7 @@ def check_crates(bench):
         named = re.findall(r"`(?:\w+::)?(\w+)`", contracts)
         paths = [ROOT / "crates" / crate / "src" / f"{name}.rt" for name in files.split(", ") if name]
         text = "".join(path.read_text(encoding="utf-8") for path in paths)
-        missing = [name for name in named if not re.search(rf"^ *pub fn {name}\b", text, re.M)]
+        missing = [name for name in named if not re.search(rf"^ *pub (?:extern \"C\" )?fn {name}\b", text, re.M)]
         bench.same(f"contracts of {crate} that do not exist", missing, [])
         bench.same(f"whether {crate} has contracts", bool(named), crate not in UNPROVED)
 
@@ -156,7 +166,7 @@ def check_trusted(bench):
     libraries = {name.partition("_")[0] if name.startswith("sqlite_") else name for words in own.values() for name in words}
     (here,) = re.findall(r"^\*\*Trusted\*\*: (.*?)\n\n", PAGE, re.M | re.S)
     for name, text in (("README.md", here), ("CONTRACTS.md", markdown.section(CONTRACTS, "## What is trusted"))):
-        bench.same(f"what {name} trusts", sorted(set(re.findall(r"`(\w+)`", text))), sorted(libraries - set(own)))
+        bench.same(f"what {name} trusts", sorted(set(re.findall(r"`(\w+)`", text))), sorted(libraries - set(own) - PARTS_OF_STD))
 
 
 def check_places(bench):

@@ -56,14 +56,14 @@ class Shell:
         """A text of a page with the free port in place of its own."""
         return text.replace(PORT, self.port)
 
-    def type(self, text, lines=0):
+    def type(self, text, lines=0, seconds=SECONDS):
         """Returns what the shell prints until what is typed has ended, and until it has printed this many lines."""
         self.process.stdin.write(f"{self.here(text)}\nprintf '\\0'\n".encode())
         self.process.stdin.flush()
-        said, deadline = b"", time.monotonic() + SECONDS
+        said, deadline = b"", time.monotonic() + seconds
         while END not in said or said.count(b"\n") < lines:
             if not select.select([self.process.stdout], [], [], deadline - time.monotonic())[0]:
-                raise TimeoutError(f"{text} has printed {said} in {SECONDS} seconds")
+                raise TimeoutError(f"{text} has printed {said} in {seconds} seconds")
             piece = os.read(self.process.stdout.fileno(), 65_536)
             if not piece:
                 raise EOFError(f"the shell has ended with {text}")

@@ -22,8 +22,8 @@ REPLYING = [
 
 # The greatest sizes of a request: the file of each, and its name there.
 SIZES = {
-    "bytes of a line, its LF not counted": ("role_json/src/request.rt", "LONGEST_LINE"),
-    "bytes of a body of JSON": ("role_json/src/request.rt", "LONGEST_LINE"),
+    "bytes of a line, its LF not counted": ("role_functions/src/function.rt", "LONGEST_LINE"),
+    "bytes of a body of JSON": ("role_functions/src/function.rt", "LONGEST_LINE"),
     "bytes of the head of a request": ("role_http/src/head.rt", "MOST_BYTES"),
     "fields of a head": ("role_http/src/head.rt", "MOST_FIELDS"),
 }
@@ -51,8 +51,8 @@ def found(pattern, path, flags=re.M):
 
 def functions():
     """The name of each function, by that of its variant."""
-    names = dict(found(r'Function::(\w+) => "(\w+)",', "role_json/src/function.rt"))
-    (count,) = found(r"\[Function; (\d+)\]", "role_json/src/function.rt")
+    names = dict(found(r'Function::(\w+) => "(\w+)",', "role_functions/src/function.rt"))
+    (count,) = found(r"\[Function; (\d+)\]", "role_functions/src/function.rt")
     if len(names) != int(count):
         raise ValueError(f"{len(names)} functions and not {count}")
     return names
@@ -61,7 +61,7 @@ def functions():
 def standard_names():
     """What each function is named in the standard, or an empty text if it has no name there."""
     pattern = r"^    /// (?:(\w+): )?.*\n(?:    /// .*\n)*    (\w+),$"
-    named = {variant: name for name, variant in found(pattern, "role_json/src/function.rt")}
+    named = {variant: name for name, variant in found(pattern, "role_functions/src/function.rt")}
     return {name: named[variant] for variant, name in functions().items()}
 
 
@@ -152,7 +152,7 @@ def sizes():
 
 def patience():
     """How many seconds a connection is waited for."""
-    (seconds,) = found(r"const PATIENCE: u64 = (\d+);", "role_cli/src/serving.rt")
+    (seconds,) = found(r"const PATIENCE: u64 = (\d+);", "role_cli/src/machine.rt")
     return int(seconds)
 
 
@@ -174,7 +174,7 @@ def codes_by_status(met):
 
 def exits():
     """The exit statuses of the program."""
-    return {int(number) for number in found(r"^const [A-Z]+: u8 = (\d+);", "role_cli/src/program.rt")}
+    return {int(number) for number in found(r"^const [A-Z_]+: u8 = (\d+);", "role_cli/src/program.rt")}
 
 
 def error_lines():

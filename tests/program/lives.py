@@ -3,6 +3,8 @@
 import os
 import shutil
 import sqlite3
+import subprocess
+import sys
 from contextlib import closing
 
 from machine.drawing import Draws
@@ -16,6 +18,16 @@ from .offices import STORE, Office, change, changed, read_rows, rows_of, small_o
 LIVES = [1, 120, 40, 0, 90]
 SEEDS = range(1_000, 1_008)
 
+# A process that locks a file as SQLite does, until its standard input ends. Only another process can: the locks of a process
+# end with the first of its own readings of the file.
+LOCKS = """
+import fcntl, sys
+with open(sys.argv[1], "rb+") as file:
+    fcntl.lockf(file, fcntl.LOCK_EX)
+    print("locked", flush=True)
+    sys.stdin.read()
+"""
+
 # What the columns of each table are: name, type, whether NULL is refused, and the place in the key.
 COLUMNS = {
     "meta_row": [("tag", "TEXT", 1, 1), ("version", "INTEGER", 1, 0)],
@@ -25,6 +37,9 @@ COLUMNS = {
     "set_row": [("kind", "INTEGER", 1, 1), ("name", "TEXT", 1, 2), ("n", "INTEGER", 1, 0)],
     "locked_row": [("a", "TEXT", 1, 1)],
 }
+
+# Tables of other programs, which also have users and roles.
+OTHERS = ["own", "users", "roles", "user_role", "sessions", "permissions", "locked", "meta", "version"]
 
 # Rows that the tables refuse by themselves.
 REFUSED_ROWS = [
@@ -91,6 +106,17 @@ def check_where_none_is_made(bench):
     bench.refuses(["init", bench.path("link")], STORE)
 
 
+def check_locked_empty_file(bench):
+    """`init` is refused over an empty file that another process has locked, which stays; later it makes an office there."""
+    path = bench.write("empty", b"")
+    with subprocess.Popen([sys.executable, "-c", LOCKS, path], stdin=subprocess.PIPE, stdout=subprocess.PIPE) as other:
+        bench.same("the other process", other.stdout.readline(), b"locked\n")
+        bench.refuses(["init", path], STORE)
+        other.stdin.close()
+    bench.ends(["init", path])
+    told_of(bench, path, State())
+
+
 def check_beside_tables(bench):
     """`init` over a database with one of an office's tables is refused."""
     for table in COLUMNS:
@@ -106,10 +132,12 @@ def check_over_others(bench):
     told_of(bench, path, State())
     for mode in ("DELETE", "WAL"):
         path = bench.path(f"{mode}.db")
-        change(path, [f"PRAGMA journal_mode = {mode}", "CREATE TABLE own (x)", "INSERT INTO own VALUES (7)"])
+        tables = [text for name in OTHERS for text in (f"CREATE TABLE {name} (x)", f"INSERT INTO {name} VALUES (7)")]
+        change(path, [f"PRAGMA journal_mode = {mode}", *tables])
         bench.ends(["init", path])
         bench.ends(["check", path], b"good\n")
-        bench.same(f"the table of others in {mode}", read_rows(path).get("own"), [(7,)])
+        found = read_rows(path)
+        bench.same(f"the tables of others in {mode}", [found.get(name) for name in OTHERS], [[(7,)]] * len(OTHERS))
 
 
 def check_drawn_lives(bench):

@@ -1,9 +1,19 @@
 """Offices of version 1, and how they become offices of version 2."""
 
 from machine.drawing import Draws
+from machine.texts import rows
 
-from .offices import STORE, Office, changed, read_rows, small_office, version_refused
+from .offices import STORE, Office, changed, read_rows, same_rows, small_office, version_refused
 
+# Tables of other programs: one that counts its rows, one with a foreign key, an index and a view.
+OTHERS = [
+    "CREATE TABLE firm (id INTEGER PRIMARY KEY AUTOINCREMENT, name TEXT NOT NULL UNIQUE)",
+    "CREATE TABLE desk (id INTEGER PRIMARY KEY, firm INTEGER REFERENCES firm (id) ON DELETE CASCADE, a TEXT)",
+    "CREATE INDEX desk_of ON desk (firm)",
+    "CREATE VIEW person AS SELECT a FROM desk",
+    "INSERT INTO firm (name) VALUES ('one'), ('two')",
+    "INSERT INTO desk (firm, a) VALUES (1, 'ann'), (2, 'bob')",
+]
 LOCK = b'{"fn":"lockUserAccount","user":"ann"}\n'
 
 
@@ -50,6 +60,19 @@ def check_table_in_the_way(bench):
             rows = read_rows(path)
             bench.same("the table in the way", rows.pop("locked_row"), [("ann",)])
             bench.same("the other tables", rows, read_rows(office.path))
+
+
+def check_beside_others(bench):
+    """`migrate` in a database that has tables of other programs changes only the office, in either journal mode."""
+    office = small_office(bench)
+    office.become_version_1()
+    wanted = rows(office.model.state.but(version=2))
+    for mode in ("DELETE", "WAL"):
+        with changed(office, [f"PRAGMA journal_mode = {mode}", *OTHERS]) as path:
+            others = {table: found for table, found in read_rows(path).items() if table not in wanted}
+            bench.ends(["migrate", path])
+            bench.ends(["check", path], b"good\n")
+            same_rows(bench, f"the rows after a migration in {mode}", read_rows(path), {**wanted, **others})
 
 
 def check_drawn_lives(bench):

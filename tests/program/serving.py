@@ -224,6 +224,30 @@ def check_refused_early(bench):
     office.told()
 
 
+def check_refused_body(bench):
+    """After the reply to a body that was read whole, the server reads nothing more, and doesn't wait for the client to close."""
+    office = Office(bench)
+    with Server(bench, office.path, 2) as server, connect(server.port) as client:
+        client.sendall(post("addUser", b"user=ann"))
+        bench.same("the reply", read_all(client), reply(400, BAD_REQUEST))
+        bench.same("the connection is closed", is_closed(client), True)
+        bench.same("the next client", server.ask(CURL), reply(200, DONE))
+        server.ends()
+    office.model.answer(ADD_ANN)
+    office.told()
+
+
+def is_closed(client):
+    """Whether the server has closed the connection, and not only its own side of it: then what is sent is refused."""
+    for _ in range(20):
+        try:
+            client.send(b"x")
+        except OSError:
+            return True
+        time.sleep(0.1)
+    return False
+
+
 def check_endless(bench):
     """The connection of a client that keeps sending after a head that is refused is closed after some megabytes."""
     office = Office(bench)

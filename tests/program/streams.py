@@ -90,6 +90,16 @@ def check_no_input(bench):
     office.told()
 
 
+def check_stops_at_long_lines(bench):
+    """A replay that stops at a line that is too long names the line and how many were answered, whatever their digits."""
+    wrong = b'{"code":34,"error":"BadRequest"}\n'
+    for line, blank, answered in [(1, 0, 0), (10_000, 0, 9_999), (20_001, 0, 20_000), (1_000_001, 1_000_000, 0)]:
+        given = b"\n" * blank + b"{}\n" * answered + b" " * 70_000
+        stop = b"rbac: stop Line %d after %d\n" % (line, answered)
+        what = f"a replay whose line {line:,} is too long"
+        bench.ends(["replay", "--memory"], wrong * answered, stop, 1, given=given, what=what)
+
+
 def check_no_streams(bench):
     """Without any stream the status is still right, and the file has what was done and nothing else."""
     office = small_office(bench)

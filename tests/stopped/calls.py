@@ -6,13 +6,16 @@ more, to look at what is left beside the file.
 
 import errno
 import os
+import sqlite3
 from collections import Counter
+from contextlib import closing
 
 from program.bench import Done
+from program.offices import SMALL, Office, change
 
 from .running import beside
 from .shim import ENDED, Stopper
-from .stories import REFUSED, judge_end, judge_office, lay, story_named
+from .stories import REFUSED, judge_end, judge_office, lay, reading_story, story_named
 
 # More calls than any of these runs makes.
 MOST = 5_000
@@ -22,8 +25,12 @@ STORIES = ["init", "replay", "replay of version 1", "import", "migrate", "check"
 # Those whose checkpoints fail: they write answers, so that a call after the last of them is recognized.
 CHECKPOINTS = [("replay", "once"), ("replay", "ever"), ("import", "ever")]
 
-# An `init` has written a page if the file has more bytes than these, or the log has as many as these.
+# An `init` has written a page if the file has more bytes than these, or the log has as many as these: those of a log with one
+# page of 512 bytes.
 BEGUN, SHORTEST_LOG = 4_096, 568
+
+# A third role, and its place in a set.
+THIRD_MEMBER = [b'{"fn":"addRole","role":"guest"}\n', b'{"fn":"addSsdRoleMember","set":"pay","role":"guest"}\n']
 
 # How a change is stopped: by which error, and whether each further one fails as well; or by the end of the process.
 CHANGES = [
@@ -109,6 +116,42 @@ def refuse_making(bench, before, how):
     return {"makings that were undone": undone}
 
 
+def small_log(bench):
+    """An office with the smallest pages, of which one is in the log alone: the files, and the model's state.
+
+    The set `pay` has three members, and the row of its cardinality is the only one in the page that SQLite changed.
+    """
+    office = Office(bench)
+    office.replay([*SMALL, *THIRD_MEMBER])
+    change(office.path, ["PRAGMA journal_mode = DELETE", "PRAGMA page_size = 512", "VACUUM"])
+    with closing(sqlite3.connect(office.path, isolation_level=None)) as base:
+        base.execute("PRAGMA journal_mode = WAL")
+        base.execute("PRAGMA wal_autocheckpoint = 0")
+        base.execute("UPDATE set_row SET n = 3 WHERE name = 'pay'")
+        files = {name: content for name, content in bench.contents().items() if not name.endswith("-shm")}
+    office.model.answer(b'{"fn":"setSsdSetCardinality","set":"pay","cardinality":3}')
+    bench.same("the bytes of a log with one of the smallest pages", len(files["office-wal"]), SHORTEST_LOG)
+    return files, office.model.state
+
+
+def keep_small_log(bench, calls, how):
+    """An opening of which a call fails loses nothing of a log with one small page."""
+    files, state = small_log(bench)
+    stopper, story, refused = Stopper(bench), reading_story("check", state), 0
+    for number in range(1, MOST):
+        path = lay(bench, files["office"])
+        bench.write("office-wal", files["office-wal"])
+        done = stopper.run(story.words(path), **stopper.settings(number, errno.EIO, calls, how == "ever"))
+        if stopper.told is None:
+            break
+        what = f"check beside a small log, call {number} ({stopper.call}) stopped {how}"
+        judge_end(bench, what, story, done)
+        judge_office(bench, what, story, path, [0])
+        refused += done.status == 1
+    bench.same("an undisturbed run", (done.status, refused > 0, number < MOST), (0, True, True))
+    return {"openings beside a small log that failed": refused}
+
+
 def write_short(bench, name, most):
     """Runs a story in which no write accepts more than `most` bytes: it is done as usual."""
     content, story = story_named(bench, name, beside(bench, "records.csv"))
@@ -129,4 +172,5 @@ def jobs(is_long):
     found += [(stop_each, name, "others", errno.EIO, how) for name in STORIES for how in others]
     found += [(fail_checkpoint, name, how) for name, how in CHECKPOINTS]
     found += [(refuse_making, None, "once"), (refuse_making, b"", "ever")]
+    found += [(keep_small_log, calls, how) for calls, how in [("changes", "once"), ("others", "once"), ("others", "ever")]]
     return found + [(write_short, name, most) for name in STORIES for most in (1_000, 7)]

@@ -10,7 +10,7 @@ from contextlib import contextmanager
 from program.bench import PROGRAM, SECONDS, Done
 
 from .running import beside
-from .stories import LINES, REFUSED, judge_office, lay, replay_story, small_office
+from .stories import LINES, RECORDS, REFUSED, judge_office, lay, replay_story, small_office
 
 NOBODY = 65_534
 
@@ -133,6 +133,22 @@ def lack_the_folder(bench):
     return {"read-only folders": 1}
 
 
+def lack_the_records(bench):
+    """A CSV file that may not be read stops an import before it begins, and doesn't count as an empty one."""
+    content, state = small_office(bench)
+    stranger = Stranger(bench)
+    path = stranger.lay(content)
+    if stranger.is_let_in():
+        return {"permissions that do not count": 1}
+    records = bench.write("records.csv", RECORDS)
+    os.chmod(records, 0o000)
+    done = stranger.run(["import", path, records])
+    bench.same("import of a file that may not be read", done, Done(b"", b"rbac: stop Read after 0\n", 1))
+    os.remove(records)
+    judge_office(bench, "an import without its records", replay_story(state, LINES), path, [0])
+    return {"records that could not be read": 1}
+
+
 @contextmanager
 def unchangeable(paths):
     """Makes files unchangeable for everybody as long as this lasts, even through open files, if the system can do that."""
@@ -188,5 +204,5 @@ def lose_open_files(bench, names, done_by_then):
 
 def jobs(_):
     """Files and folders that lose their permissions, and files that lose more."""
-    found = [(lose_the_file,), (lose_the_folder,), (lack_the_folder,), (lose_open_files, ["office"], True)]
+    found = [(lose_the_file,), (lose_the_folder,), (lack_the_folder,), (lack_the_records,), (lose_open_files, ["office"], True)]
     return found + [(lose_open_files, names, False) for names in (["office-wal"], ["office", "office-wal"])]

@@ -33,6 +33,7 @@ MET = [
     "lines of near",
     "lines of sessions",
     "dynamic sets that a user could violate",
+    "lines of permissions that no session can have",
     "locked users",
 ]
 
@@ -100,11 +101,20 @@ def answers(bench, path, lines):
 
 
 def compare_reports(bench, what, path, state):
-    """Each report of an office, as rows, is that of the model for its state. Returns the rows by the names of the reports."""
-    found = {}
-    for name in ("permissions", "near", "sessions", "room"):
+    """Each report of an office, as rows, is that of the model for its state, with digests of sessions and with their names.
+
+    Returns the rows with names, by the names of the reports.
+    """
+    found, headings = {}, {}
+    for name in ("permissions", "room"):
         found[name], _ = records(report(bench, name, path))
         bench.same(f"{name} of {what}", found[name], getattr(wanted, name)(state))
+    for has_names in (False, True):
+        for name in ("near", "sessions"):
+            found[name], headings[name, has_names] = records(report(bench, name, path, has_names))
+            bench.same(f"{name} of {what}", found[name], getattr(wanted, name)(state, has_names))
+    shown = [headings["sessions", has_names][0] for has_names in (False, True)]
+    bench.same(f"how the sessions of {what} are shown", shown, ["digest", "session"])
     return found
 
 
@@ -112,7 +122,7 @@ def ask_permissions(bench, what, path, state, found):
     """What users and sessions may do as reported is what the program answers: by review functions and by checkAccess."""
     told = {("user", user): set() for user in sorted(state.users)}
     told |= {("session", name): set() for name in sorted(state.sessions)}
-    for user, _, ob, op, _, _ in found["permissions"]:
+    for user, _, ob, op, *_ in found["permissions"]:
         told["user", user].add((ob, op))
     for name, _, _, ob, op, _ in found["sessions"]:
         told["session", name] |= {(ob, op)} if ob else set()
@@ -123,6 +133,30 @@ def ask_permissions(bench, what, path, state, found):
     given = answers(bench, path, [line_of("checkAccess", session=name, object=ob, operation=op) for name, ob, op in asked])
     allowed = [(ob, op) in told["session", name] for name, ob, op in asked]
     bench.same(f"accesses in {what}", allowed, [answer["value"] for answer in given])
+
+
+def answer_of(locked, violated):
+    """What the program answers to a user who wants a permission by a role, if a line of the report has these values."""
+    if locked == "yes":
+        return {"code": 37, "error": "UserLocked"}
+    return {"code": 25, "error": "DynamicSeparation", "set": violated} if violated else {"ok": True, "value": True}
+
+
+def try_permissions(bench, what, path, found):
+    """A session with the role that has the permission can be created and has it, unless the line says why there is none.
+
+    This is tried in a copy of the office.
+    """
+    tried = sorted({(user, locked, ob, op, role, violated) for user, locked, ob, op, _, role, violated in found["permissions"]})
+    lines = []
+    for user, _, ob, op, role, _ in tried:
+        lines.append(line_of("createSession", user=user, roles=[role], session="probe"))
+        lines.append(line_of("checkAccess", session="probe", operation=op, object=ob))
+        lines.append(line_of("deleteSession", user=user, session="probe"))
+    given = answers(bench, path, lines)
+    for (user, locked, ob, op, role, violated), made, access in zip(tried, given[::3], given[1::3], strict=True):
+        came = access if made == {"ok": True} else made
+        bench.same(f"a session of {user} in {what} as {role}, for {op} on {ob}", came, answer_of(locked, violated))
 
 
 def try_sets(bench, what, path, state, found):
@@ -148,8 +182,8 @@ def try_sets(bench, what, path, state, found):
 
 
 def dump_of(bench, path):
-    """The dump of an office."""
-    return report(bench, "dump", path)
+    """The dump of an office, with the names of its sessions."""
+    return report(bench, "dump", path, has_names=True)
 
 
 def replay_dump(bench, what, path, state):
@@ -164,11 +198,52 @@ def replay_dump(bench, what, path, state):
     return text, new
 
 
+def replay_digests(bench, what, path, state, text):
+    """The dump without names has the lines of the other, with digests. It makes the office without its sessions."""
+    given = [json.loads(line) for line in lines_in(report(bench, "dump", path))]
+    named = [json.loads(without_names(line)) for line in lines_in(text)]
+    # The lines of the sessions are in the order of what is shown.
+    bench.same(f"the dump of {what} without names", sorted(given, key=json_text), sorted(named, key=json_text))
+    shown = [request["digest"] for request in given if "digest" in request]
+    bench.same(f"the order of the sessions in the dump of {what}", shown, sorted(shown))
+    less = bench.path("less")
+    bench.ends(["init", less], makes=["less"])
+    told = answers(bench, less, [json_text(request).encode() + b"\n" for request in given])
+    refused = [request["fn"] for request, answer in zip(given, told, strict=True) if answer != {"ok": True}]
+    bench.same(f"what the dump of {what} without names does not make", refused, ["createSession"] * len(state.sessions))
+    wanted_rows = rows(state.but(version=2, sessions={}))
+    same_rows(bench, f"the rows of the dump of {what} without names", read_rows(less), wanted_rows)
+
+
 def compare_difference(bench, what, before, after):
+    """The difference of two dumps, each with its state, is that of the states, with the names of sessions and without.
+
+    Without names it is the same if a dump has digests.
+    """
+    for has_names in (False, True):
+        differ(bench, f"{what}, with names: {has_names}", before, after, has_names)
+    digests = "".join(without_names(line) for line in lines_in(before[0]))
+    differ(bench, f"{what}, of digests and names", (digests, before[1]), after, False)
+
+
+def lines_in(text):
+    """The lines of a dump. A name may have a character that splits lines for Python alone."""
+    return text.split("\n")[:-1]
+
+
+def without_names(line):
+    """A line of a dump as it is without the names of sessions."""
+    request = json.loads(line)
+    if request["fn"] == "createSession":
+        request["digest"] = wanted.shown(request.pop("session"), False)
+    return json_text(request) + "\n"
+
+
+def differ(bench, what, before, after, has_names):
     """The difference of two dumps, each with its state, is that of the states."""
     paths = [bench.write(name, text.encode()) for name, (text, _) in (("first", before), ("second", after))]
-    first, second = (wanted.sentences(state) for _, state in (before, after))
-    done = run_script("difference.py", *paths)
+    first, second = (wanted.sentences(state, has_names) for _, state in (before, after))
+    done = run_script("difference.py", *["--with-sessions"] * has_names, *paths)
     *lines, count = done.out.decode().split("\n")[:-1]
     told = [f"- {one}" for one in first - second] + [f"+ {one}" for one in second - first]
     bench.same(f"the difference of {what}", sorted(lines), sorted(told))
@@ -188,6 +263,7 @@ def counts_of(state, found):
         "lines of near": len(found["near"]),
         "lines of sessions": len(found["sessions"]),
         "dynamic sets that a user could violate": len(violating),
+        "lines of permissions that no session can have": sum(bool(row[6]) for row in found["permissions"]),
         "locked users": len(state.locked),
     }
 
@@ -205,6 +281,8 @@ def try_office(bench, seed):
         ask_permissions(bench, what, path, state, found)
         bench.same(f"the dump of the dump of {what}", dump_of(bench, new), text)
         try_sets(bench, what, new, state, found)
+        try_permissions(bench, what, new, found)
+        replay_digests(bench, what, path, state, text)
         office.replay(accepted(draws, FURTHER))
         compare_difference(bench, what, (text, state), (dump_of(bench, path), office.model.state))
         counts.update(counts_of(state, found))
@@ -232,6 +310,8 @@ def try_odd_names(bench):
     ask_permissions(bench, "odd names", path, state, found)
     text, new = replay_dump(bench, "odd names", path, state)
     try_sets(bench, "odd names", new, state, found)
+    try_permissions(bench, "odd names", new, found)
+    replay_digests(bench, "odd names", path, state, text)
     compare_difference(bench, "odd names", ("", Replay().state), (text, state))
 
 

@@ -18,6 +18,9 @@ REPORTS = ["permissions", "near", "sessions", "room", "dump", "picture"]
 # The external programs that the tools need.
 NEEDED = ["sqlite3", "dot"]
 
+# How sqlite3 is told to show sessions by their names, as the header of tools/dump.sql says.
+NAMED = ["-cmd", ".parameter set @with_sessions 1"]
+
 
 def is_there(program):
     """Returns whether an external program can be found."""
@@ -30,10 +33,11 @@ def run(words, given=b"", folder=ROOT):
     return Done(done.stdout, done.stderr, done.returncode)
 
 
-def run_tool(name, path, folder=ROOT):
-    """Runs a tool over a file as its header says."""
+def run_tool(name, path, folder=ROOT, has_names=False):
+    """Runs a tool over a file as its header says, with the names of sessions if they are wanted."""
     statements = (TOOLS / f"{name}.sql").read_bytes()
-    return run(["sqlite3", "-readonly", f"file:{quote(path)}?immutable=1"], statements, folder)
+    more = NAMED if has_names else []
+    return run(["sqlite3", "-readonly", *more, f"file:{quote(path)}?immutable=1"], statements, folder)
 
 
 def lines_of_damage(path):
@@ -63,9 +67,9 @@ def keeping(bench, what, function, *given):
     return done
 
 
-def report(bench, name, path):
+def report(bench, name, path, has_names=False):
     """Returns what a tool reports of an office. It has to succeed, and to change no file."""
-    done = keeping(bench, name, run_tool, name, path)
+    done = keeping(bench, name, run_tool, name, path, ROOT, has_names)
     bench.same(f"the end of {name}", (done.err, done.status), (b"", 0))
     return done.out.decode()
 

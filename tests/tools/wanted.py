@@ -1,5 +1,7 @@
 """What the reports have to contain for a state, according to the plain model."""
 
+import hashlib
+
 from machine.state import assigned_roles, authorized_users, below
 from machine.texts import json_text, rows
 from pages import sources
@@ -14,11 +16,14 @@ SENTENCES = {
     ("pair_row", 3): "inheritance: {} is an immediate ascendant of {}",
     ("pair_row", 5): "member of the static set {}: the role {}",
     ("pair_row", 6): "member of the dynamic set {}: the role {}",
-    ("pair_row", 7): "session {} of the user {}",
-    ("pair_row", 8): "activated role of the session {}: {}",
     ("set_row", 1): "static set {} of cardinality {}",
     ("set_row", 2): "dynamic set {} of cardinality {}",
 }
+
+
+def shown(session, has_names):
+    """How a report shows a session: by its name, or by the first 32 hexadecimal digits of the SHA3-256 of its name."""
+    return session if has_names else hashlib.sha3_256(session.encode()).hexdigest()[:32]
 
 
 def having(state, roles):
@@ -32,20 +37,28 @@ def given_permissions(state, roles):
     return {(role, ob, op, given) for role, given in pairs for ob, op, to in state.grants if to == given}
 
 
+def violated(state, role):
+    """The first dynamic set, in byte order, that a session with this role alone would violate; empty if there is none."""
+    roles = below(state, role)
+    names = [name for name, (members, most) in state.dynamic_sets.items() if len(roles & members) >= most]
+    return min(names, default="")
+
+
 def permissions(state):
     """The rows of the permissions."""
     found = [
-        (user, "yes" if user in state.locked else "no", ob, op, assigned, granted)
+        (user, "yes" if user in state.locked else "no", ob, op, assigned, granted, violated(state, granted))
         for user in state.users
         for assigned, ob, op, granted in given_permissions(state, assigned_roles(state, user))
     ]
     return sorted(found, key=lambda row: (row[0], *row[2:]))
 
 
-def sessions(state):
+def sessions(state, has_names=False):
     """The rows of the sessions."""
     found = []
-    for session, (user, active) in state.sessions.items():
+    for name, (user, active) in state.sessions.items():
+        session = shown(name, has_names)
         if not active:
             found.append((session, user, "", "", "", ""))
         for role in active:
@@ -59,10 +72,10 @@ def held(state, members, roles):
     return {(given, role) for role, given in having(state, roles) if given in members}
 
 
-def near(state):
+def near(state, has_names=False):
     """Returns the rows that report how near users and sessions are to sets."""
     users = [("user", user, assigned_roles(state, user)) for user in state.users]
-    actives = [("session", session, active) for session, (_, active) in state.sessions.items()]
+    actives = [("session", shown(name, has_names), active) for name, (_, active) in state.sessions.items()]
     found = []
     for kind, sets, holders in [("static", state.static_sets, users), ("dynamic", state.dynamic_sets, users + actives)]:
         for name, (members, cardinality) in sets.items():
@@ -97,9 +110,13 @@ def room(state):
     return [tuple(map(str, row)) for row in found]
 
 
-def sentences(state):
-    """All that a difference can name of a state."""
+def sentences(state, has_names=False):
+    """All that a difference can name of a state. A name is in double quotes, and a digest is not."""
     found = {f"lock of the user {json_text(user)}" for user in state.locked}
+    for name, (user, active) in state.sessions.items():
+        session = json_text(name) if has_names else shown(name, False)
+        found.add(f"session {session} of the user {json_text(user)}")
+        found |= {f"activated role of the session {session}: {json_text(role)}" for role in active}
     for ob, op, role in map(lambda grant: map(json_text, grant), state.grants):
         found.add(f"grant: {op} on {ob} to the role {role}")
     for table in ("name_row", "pair_row", "set_row"):
