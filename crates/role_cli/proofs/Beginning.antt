@@ -1,5 +1,5 @@
 -- How the work of a subcommand begins.
-use Rattle.std.proofs.Common.{Global, String, ◌≡◌, ◌⊎◌, ℕ, List, [], refl, inl, inr, sym}
+use Rattle.std.proofs.Common.{Global, String, ◌≡◌, ◌⊎◌, [], refl, inl, inr, sym}
 use Rattle.std.specs.Prelude.{true, false, IsTrue}
 use Rattle.std.proofs.lemmas.Bool.{true≢false}
 use Rattle.sqlite.specs.Held.{Held, state}

@@ -1,5 +1,5 @@
 -- What the bytes that were read of a CSV file say about its text.
-use Rattle.std.proofs.Common.{◌≡◌, ◌≤◌, ◌<◌, ◌+◌, ◌++◌, ◌∙◌, ℕ, List, [], Bool, true, false, Some, None, Option, Err, arith, inl, inr, refl, sym, ap, subst, length, length-append}
+use Rattle.std.proofs.Common.{◌≡◌, ◌≤◌, ◌<◌, ◌+◌, ◌++◌, ◌∙◌, ℕ, List, [], false, Err, arith, inl, inr, sym, ap, subst, length}
 use Rattle.std.specs.Prelude.{take, nat_le, if◌then◌else◌}
 use Rattle.std.proofs.lemmas.Bool.Decides.{leb_tells}
 use Rattle.std.proofs.lemmas.List.{append-nil, length-take-le, take_all}

@@ -1,5 +1,5 @@
 -- What follows for the value of an Ok, and for the error of an Err.
-use Rattle.std.proofs.Common.{Option, Some, None, Result, Ok, Err, inl, inr, refl, sym, subst, ap, ◌≡◌, ◌⊎◌}
+use Rattle.std.proofs.Common.{Option, Some, None, Result, Ok, Err, inl, inr, sym, subst, ap, ◌≡◌, ◌⊎◌}
 use Rattle.std.proofs.lemmas.Bool.{true≢false}
 use Rattle.std.specs.Prelude.{IfErr, IfOk, IfSome, IsErr, IsOk, MatchResult, OnErr}
 use Rattle.std.specs.Result.{OnOk}

@@ -1,9 +1,9 @@
 -- Connections one after another.
 use Rattle.std.proofs.Common.{◌≡◌, ◌+◌, ◌-◌, ◌^◌, ◌<◌, ℕ, arith, inl, inr, Bool, false, true, List, [], ◌∷◌, ◌++◌, Option, Some, None, refl, sym, ap, subst, ◌∙◌}
-use Rattle.std.specs.Prelude.{◌||◌, if◌then◌else◌, map}
+use Rattle.std.specs.Prelude.{◌||◌, if◌then◌else◌, map, min, nat_lt, ◌≤◌}
 use Rattle.std.proofs.lemmas.List.{map-append}
 use Rattle.std.specs.List.{list_any}
-use Rattle.std.proofs.lemmas.Bool.{eqb-true, lt-ltb, true≢false}
+use Rattle.std.proofs.lemmas.Bool.{cases_Bool, eqb-true, lt-ltb, ltb-false, ltb-true, true≢false}
 use Rattle.std.proofs.lemmas.List.Folds.{list_any-append}
 use Rattle.sqlite.specs.Held.{Held}
 use Rattle.sqlite.specs.State.{State}
@@ -20,8 +20,8 @@ use Rattle.role_wire.specs.declared.lines.Cause.{Cause}
 use Rattle.role_wire.specs.declared.lines.Cause.TheVariants as cause
 use Rattle.role_wire.proofs.Performed.{same_run}
 use Rattle.role_wire.proofs.Replayed.{runs_then}
-use Rattle.role_cli.specs.Hosts.{clients_in_memory}
-use Rattle.role_cli.specs.ServedConnections.{AddsReply, AreServed, Clients, IsNextServed, IsServed, IsServedOver, IsServedSomehow, ServedAreAccepted, Serves, TakesNext, is_closing, nothing_of}
+use Rattle.role_cli.specs.Hosts.{clients_in_memory, known_clients}
+use Rattle.role_cli.specs.ServedConnections.{AreServed, Clients, IsNextServed, IsServed, IsServedOver, IsServedSomehow, ServedAreAccepted, Serves, TakesNext, is_closing, nothing_of}
 use Rattle.role_cli.specs.declared.memory_host.MemoryHost.{MemoryHost}
 
 -- a connection that closes the office was answered with status 500
@@ -31,6 +31,13 @@ closing None is = absurd (true≢false (sym is))
 
 one_more_below : (n : ℕ) → n < 2 ^ 64 - 1 → one_more n ≡ n + 1
 one_more_below n small = ap (λ b. if b then n + 1 else n) (lt-ltb n (2 ^ 64 - 1) small)
+
+-- a count of 64 bits that saturates
+pub saturated : (n : ℕ) → n ≤ 2 ^ 64 - 1 → min (n + 1) (2 ^ 64 - 1) ≡ one_more n
+saturated n small = elim (cases_Bool (nat_lt n (2 ^ 64 - 1))) [
+  | inl below ↦ rw below (omega (arith, ltb-true n (2 ^ 64 - 1) below))
+  | inr most ↦ rw most (omega (arith, small, ltb-false n (2 ^ 64 - 1) most))
+]
 
 -- no count rises from 0 to 0
 no_rise : HasRisen 0 0 → ⊥
@@ -45,30 +52,28 @@ module _ {S : Type 0} (shown : Held S → State) where
   -- ---- one more connection
 
   pub served_then : (before between now : Clients) (old mid new : OfficeModel S) (statuses : List (Option ℕ)) (status : Option ℕ)
-      → AreServed shown before between old statuses mid → now.accepted ≡ one_more between.accepted → IsNextServed shown between now mid status new → AreServed shown before now old (statuses ++ status ∷ []) new
-  served_then before between now old mid new [] status (is, same) counts next = (
+      → AreServed shown before between old statuses mid → IsNextServed shown between now mid status new → AreServed shown before now old (statuses ++ status ∷ []) new
+  served_then before between now old mid new [] status (is, same) next = (
     now,
     new,
-    subst (λ (c : Clients). now.accepted ≡ one_more c.accepted) is counts,
     subst (λ c. IsNextServed shown c now old status new) is (subst (λ o. IsNextServed shown between now o status new) same next),
     (refl, refl),
   )
-  served_then before between now old mid new (first ∷ rest) status (after, next_office, counted, served, later) counts next =
-      (after, next_office, counted, served, served_then after between now next_office mid new rest status later counts next)
+  served_then before between now old mid new (first ∷ rest) status (after, next_office, served, later) next =
+      (after, next_office, served, served_then after between now next_office mid new rest status later next)
 
   pub served_are_accepted : ServedAreAccepted shown
   served_are_accepted before now old new [] (is, same) small =
       let none : before.accepted ≡ before.accepted + 0 = omega arith in
       ap (λ (c : Clients). c.accepted) is ∙ none
-  served_are_accepted before now old new (status ∷ rest) (between, next, one, served, later) small =
-      let up : between.accepted ≡ before.accepted + 1 = one ∙ one_more_below before.accepted (omega (arith, small)) in
+  served_are_accepted before now old new (status ∷ rest) (between, next, served, later) small =
+      let up : between.accepted ≡ before.accepted + 1 = served.counted ∙ one_more_below before.accepted (omega (arith, small)) in
       let more = served_are_accepted between now next new rest later (omega (arith, small, up)) in
       omega (arith, more, up)
 
-  pub served_same : (before between now : Clients) (old mid new : OfficeModel S) (statuses : List (Option ℕ))
-      → AreServed shown before between old statuses mid → now ≡ between → new ≡ mid → AreServed shown before now old statuses new
-  served_same before between now old mid new statuses served is same =
-      subst (λ c. AreServed shown before c old statuses new) (sym is) (subst (λ o. AreServed shown before between old statuses o) (sym same) served)
+  pub served_same : (before now : Clients) (old mid new : OfficeModel S) (statuses : List (Option ℕ))
+      → AreServed shown before now old statuses mid → new ≡ mid → AreServed shown before now old statuses new
+  served_same before now old mid new statuses served same = subst (λ o. AreServed shown before now old statuses o) (sym same) served
 
   -- a client of a port, of whom nothing is known
   stopped_somehow : (why : Cause) (old new : OfficeModel S) (bytes : List ℕ) (written now_written : Option (List ℕ)) → StopsAt shown why old bytes new written now_written → StopsAt shown why old bytes new None None
@@ -79,24 +84,33 @@ module _ {S : Type 0} (shown : Held S → State) where
   stopped_somehow cause.Store old new bytes written now_written (untold, _) = (untold, tt)
   stopped_somehow cause.Closed old new bytes written now_written (untold, _) = (untold, tt)
 
-  pub next_of_port : (before now : Clients) (old new : OfficeModel S) (status : Option ℕ) → before.waiting ≡ None → before.replies ≡ None → now.waiting ≡ None → now.replies ≡ None
-      → IsServedSomehow shown old status new → IsNextServed shown before now old status new
-  next_of_port before now old new status no_waiting no_replies none_wait none_reply somehow = of status somehow
+  pub next_of_port : (port : Option ℕ) (accepted now_accepted failed : ℕ) (old new : OfficeModel S) (status : Option ℕ) → now_accepted ≡ one_more accepted
+      → IsServedSomehow shown old status new → IsNextServed shown (known_clients port accepted failed) (known_clients port now_accepted failed) old status new
+  next_of_port port accepted now_accepted failed old new status counts somehow = of status somehow
     where
+      before : Clients
+      before = known_clients port accepted failed
+
+      now : Clients
+      now = known_clients port now_accepted failed
+
       made : (sent left : Option (List ℕ)) (status : Option ℕ) → IsServed shown (before.waiting ≡ None) sent left None old status new → IsNextServed shown before now old status new
       made sent left status served = record {
         sent = sent;
         left = left;
         reply = None;
-        takes = subst (λ o. TakesNext o sent now.waiting) (sym no_waiting) none_wait;
-        adds = subst (λ o. AddsReply o None now.replies) (sym no_replies) none_reply;
+        port = refl;
+        counted = counts;
+        none_failed = refl;
+        takes = refl;
+        adds = refl;
         served = served;
       }
 
       of : (status : Option ℕ) → IsServedSomehow shown old status new → IsNextServed shown before now old status new
       of (Some status) (left, now_left, written, now_written, (taken, consumes, no_further, (body, tells, text))) = made left now_left (Some status) (taken, consumes, no_further, (body, tells, tt))
       of None (why, left, now_left, written, now_written, (taken, consumes, no_further, stops)) =
-          made left now_left None (why, (taken, consumes, no_further, stopped_somehow why old new _ written now_written stops), (λ _. no_waiting))
+          made left now_left None (why, (taken, consumes, no_further, stopped_somehow why old new _ written now_written stops), (λ _. refl))
 
   -- one that did not close the office
   pub open_then : (statuses : List (Option ℕ)) (status : Option ℕ) → list_any is_closing statuses ≡ false → is_closing status ≡ false → list_any is_closing (statuses ++ status ∷ []) ≡ false
@@ -111,13 +125,17 @@ module _ {S : Type 0} (shown : Held S → State) where
 
   -- a client in memory, of whom all is known
   pub next_in_memory : (before now : MemoryHost) (source left : MemorySource) (empty filled : MemorySink) (old new : OfficeModel S) (status : Option ℕ)
+      → now.port ≡ before.port → now.accepted ≡ one_more before.accepted → now.failed ≡ before.failed
       → before.waiting.items ≡ source ∷ now.waiting.items → now.replies.items ≡ before.replies.items ++ filled ∷ [] → written_in_memory empty ≡ []
       → IsServedOver shown (HasRisen 0 0) (Some (left_in_memory source)) (Some (left_in_memory left)) (Some (written_in_memory empty)) (Some (written_in_memory filled)) old status new
       → IsNextServed shown (clients_in_memory before) (clients_in_memory now) old status new
-  next_in_memory before now source left empty filled old new status takes adds none served = record {
+  next_in_memory before now source left empty filled old new status port counted none_failed takes adds none served = record {
     sent = Some (left_in_memory source);
     left = Some (left_in_memory left);
     reply = Some (written_in_memory filled);
+    port = port;
+    counted = counted;
+    none_failed = none_failed;
     takes = subst (λ sources. TakesNext (Some (map left_in_memory sources)) (Some (left_in_memory source)) (Some (map left_in_memory now.waiting.items))) (sym takes) (refl, refl);
     adds = (written_in_memory filled, refl, ap Some (ap (map written_in_memory) adds ∙ map-append written_in_memory before.replies.items (filled ∷ [])));
     served = served_in_memory ((clients_in_memory before).waiting ≡ None) (Some (left_in_memory source)) (Some (left_in_memory left)) (Some []) (Some (written_in_memory filled)) old new status
@@ -166,8 +184,8 @@ module _ {S : Type 0} (shown : Held S → State) where
 
   all_continue : (before now : Clients) (old new : OfficeModel S) (statuses : List (Option ℕ)) → AreServed shown before now old statuses new → Continues shown old new
   all_continue before now old new [] (_, same) = same_continues old new same
-  all_continue before now old new (status ∷ rest) (between, next, _, served, later) =
+  all_continue before now old new (status ∷ rest) (between, next, served, later) =
       continues_then old next new (served_continues (before.waiting ≡ None) served.sent served.left served.reply old next status served.served) (all_continue between now next new rest later)
 
-  pub server_continues : (Ends : List (Option ℕ) → Type 0) (before now : Clients) (old new : OfficeModel S) → Serves shown Ends before now old new → Continues shown old new
-  server_continues Ends before now old new (statuses, served, _) = all_continue before now old new statuses served
+  pub server_continues : (Ends : List (Option ℕ) → Clients → Clients → Type 0) (before now : Clients) (old new : OfficeModel S) → Serves shown Ends before now old new → Continues shown old new
+  server_continues Ends before now old new (statuses, last, served, _) = all_continue before last old new statuses served

@@ -1,7 +1,6 @@
 -- An office after the work of a subcommand.
 use Rattle.std.proofs.Common.{inl, inr, ℕ, List, [], ◌∷◌, ◌++◌, length-append, Option, Result, Ok, Err, refl, arith}
 use Rattle.std.specs.Prelude.{OnOk, IfErr}
-use Rattle.std.specs.Io.KnownBytes.{Appends}
 use Rattle.sqlite.specs.Held.{Held}
 use Rattle.sqlite.specs.State.{State}
 use Rattle.rbac_sets.specs.CommandContent.{Import}
@@ -15,8 +14,8 @@ use Rattle.role_wire.specs.OfficeRequest.{Declines, Performs}
 use Rattle.role_wire.specs.OfficeReplay.{IsHalted, LeavesNext}
 use Rattle.role_wire.specs.declared.lines.Cause.{Cause}
 use Rattle.role_wire.specs.declared.lines.Cause.TheVariants as cause
-use Rattle.role_cli.specs.ServedConnections.{AllServed, Clients, Serves}
-use Rattle.role_cli.specs.Work.{FailsToImport, FailsToServe, Imports, WritesPart, listening_line}
+use Rattle.role_cli.specs.ServedConnections.{AllServed, Clients, EndsBy}
+use Rattle.role_cli.specs.Work.{FailsToImport, FailsToServe, Imports, ServesAll, WritesPart}
 use Rattle.role_cli.specs.declared.failure.Failure.{Failure}
 use Rattle.role_cli.proofs.Served.{breaks_continues, reaches_continues, same_continues, server_continues}
 
@@ -67,10 +66,11 @@ module _ {S : Type 0} (shown : Held S → State) where
   import_continues file old new write_failed csv_failed written now_written (Err failure) done failed = failed_import_continues file old new failure write_failed csv_failed written now_written failed
 
   pub serve_continues : (limit port : ℕ) (clients now_clients : Clients) (old new : OfficeModel S) (fault : Type 0) (written now_written : Option (List ℕ)) (result : Result (Unit {0}) Failure)
-      → OnOk result (Appends written now_written (listening_line port) × Serves shown (AllServed limit) clients now_clients old new)
+      → OnOk result (ServesAll shown port limit clients now_clients old written now_written new)
       → IfErr result (λ failure. FailsToServe shown port limit clients now_clients old failure fault written now_written new)
       → Continues shown old new
-  serve_continues limit port clients now_clients old new fault written now_written (Ok done) (_, serves) failed = server_continues shown _ clients now_clients old new serves
+  serve_continues limit port clients now_clients old new fault written now_written (Ok done) (ready, _, _, serves) failed = server_continues shown (AllServed limit) ready now_clients old new serves
   serve_continues limit port clients now_clients old new fault written now_written (Err failure) done (inl (_, _, same, _)) = same_continues shown old new same
-  serve_continues limit port clients now_clients old new fault written now_written (Err failure) done (inr (inl (_, _, _, same, _))) = same_continues shown old new same
-  serve_continues limit port clients now_clients old new fault written now_written (Err failure) done (inr (inr (_, serves))) = server_continues shown _ clients now_clients old new serves
+  serve_continues limit port clients now_clients old new fault written now_written (Err failure) done (inr (ready, _, inl (_, _, same, _))) = same_continues shown old new same
+  serve_continues limit port clients now_clients old new fault written now_written (Err failure) done (inr (ready, _, inr (inl (_, _, _, same, _)))) = same_continues shown old new same
+  serve_continues limit port clients now_clients old new fault written now_written (Err failure) done (inr (ready, _, inr (inr (_, serves)))) = server_continues shown (EndsBy limit failure) ready now_clients old new serves

@@ -7,9 +7,13 @@ use Rattle.role_cli.specs.ServedConnections.{Clients}
 use Rattle.role_cli.specs.declared.machine.Machine.{Machine}
 use Rattle.role_cli.specs.declared.memory_host.MemoryHost.{MemoryHost}
 
--- how many connections the machine has accepted
-abbrev pub accepted_on_machine : Machine → ℕ
-accepted_on_machine machine = machine.accepted
+-- clients of whom this is known, and not what they send and are sent
+abbrev pub known_clients : Option ℕ → ℕ → ℕ → Clients
+known_clients port accepted failed = record { listening = port; accepted = accepted; failed = failed; waiting = None; replies = None }
+
+-- what is known of the clients of the machine: all but what they send and are sent
+abbrev pub clients_on_machine : Machine → Clients
+clients_on_machine machine = known_clients machine.port machine.accepted machine.failed
 
 -- how often it could not open or read a CSV file
 abbrev pub failed_on_machine : Machine → ℕ
@@ -30,22 +34,21 @@ failed_in_memory host = host.failed_csv
 -- all is known of its clients
 abbrev pub clients_in_memory : MemoryHost → Clients
 clients_in_memory host = record {
+  listening = host.port;
   accepted = host.accepted;
+  failed = host.failed;
   waiting = Some (map left_in_memory host.waiting.items);
   replies = Some (map written_in_memory host.replies.items);
 }
 
--- no text of the machine is known, and of its clients only how many were accepted
+-- no text of the machine is known
 abbrev pub unknown_csv : CsvTexts
 unknown_csv path = None
 
-abbrev pub known_clients : ℕ → Clients
-known_clients accepted = record { accepted = accepted; waiting = None; replies = None }
-
--- This holds of what the program met on its machine, where it had accepted nobody and read nothing before.
+-- This holds of what the program met on its machine, where it had listened on no port and read nothing before.
 abbrev pub OnMachine : (Environment → Environment → Type 0) → (remaining : Option (List ℕ)) (reads failed_reads : ℕ) (written : Option (List ℕ)) (failed_writes idle_writes : ℕ)
     → (now_remaining : Option (List ℕ)) (now_reads now_failed_reads : ℕ) (now_written : Option (List ℕ)) (now_failed_writes now_idle_writes : ℕ) → Type 0
 OnMachine Holds remaining reads failed_reads written failed_writes idle_writes now_remaining now_reads now_failed_reads now_written now_failed_writes now_idle_writes =
-    (accepted failed_csv : ℕ) × Holds
-    (environment remaining reads failed_reads written failed_writes idle_writes unknown_csv 0 (known_clients 0))
-    (environment now_remaining now_reads now_failed_reads now_written now_failed_writes now_idle_writes unknown_csv failed_csv (known_clients accepted))
+    (port : Option ℕ) × (accepted failed failed_csv : ℕ) × Holds
+    (environment remaining reads failed_reads written failed_writes idle_writes unknown_csv 0 (known_clients None 0 0))
+    (environment now_remaining now_reads now_failed_reads now_written now_failed_writes now_idle_writes unknown_csv failed_csv (known_clients port accepted failed))

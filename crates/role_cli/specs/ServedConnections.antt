@@ -1,9 +1,9 @@
 -- What a server leaves of an office, one connection after another.
-use Rattle.std.specs.Prelude.{◌≡◌, ◌⊎◌, ◌<◌, ◌≤◌, ◌+◌, ◌^◌, ◌++◌, ◌==◌, ℕ, Bool, false, List, [], ◌∷◌, Option, Some, None, length, option_map}
+use Rattle.std.specs.Prelude.{◌≡◌, ◌<◌, ◌≤◌, ◌+◌, ◌^◌, ◌++◌, ◌==◌, ℕ, Bool, false, List, [], ◌∷◌, Option, Some, None, length, option_map}
 use Rattle.std.specs.List.{list_any}
 use Rattle.sqlite.specs.Held.{Held}
 use Rattle.sqlite.specs.State.{State}
-use Rattle.rbac_sets.specs.Stream.{one_more}
+use Rattle.rbac_sets.specs.Stream.{HasRisen, one_more}
 use Rattle.rbac_sets.specs.declared.refusal.Refusal.TheVariants.{Memory}
 use Rattle.role_tables.specs.Office.{OfficeModel}
 use Rattle.role_wire.specs.ServedRequest.{ServesRequest, StopsRequest}
@@ -22,29 +22,40 @@ abbrev pub is_closing : Option ℕ → Bool
 is_closing (Some status) = status == 500
 is_closing None = false
 
--- as many connections as the limit were served, and none of them closed the office
-abbrev pub AllServed : ℕ → List (Option ℕ) → Type 0
-AllServed limit statuses = (length statuses ≡ limit) × (list_any is_closing statuses ≡ false)
+-- What is known of the clients of a server: the port on which they are listened for, if that is known; how many connections were
+-- accepted, and how often listening or accepting failed (the counts saturate); the bytes that each client to come sends, in order,
+-- and the bytes that each client was sent so far.
+pub record Clients : Type 0 where
+  pub listening : Option ℕ
+  pub accepted : ℕ
+  pub failed : ℕ
+  pub waiting : Option (List (List ℕ))
+  pub replies : Option (List (List ℕ))
+
+-- clients are listened for on this port, and nothing else changed
+abbrev pub Listens : ℕ → Clients → Clients → Type 0
+Listens port before now = now ≡ record before { listening = Some port }
+
+-- listening or accepting failed, and nothing else changed
+abbrev pub CallFails : Clients → Clients → Type 0
+CallFails before now = (now ≡ record before { failed = now.failed }) × HasRisen before.failed now.failed
+
+-- as many connections as the limit were served, none of them closed the office, and that is all
+abbrev pub AllServed : ℕ → List (Option ℕ) → Clients → Clients → Type 0
+AllServed limit statuses last now = (length statuses ≡ limit) × (list_any is_closing statuses ≡ false) × (now ≡ last)
 
 -- the last connection closed the office, and none before it
 abbrev pub EndsClosed : List (Option ℕ) → Type 0
 EndsClosed statuses = (before : List (Option ℕ)) × (statuses ≡ before ++ Some 500 ∷ []) × (list_any is_closing before ≡ false)
 
--- A server ended by this failure after it had served these connections: the router could not be allocated before the first one, one
--- more could not be accepted, or the last one closed the office.
-abbrev pub EndsBy : ℕ → Failure → List (Option ℕ) → Type 0
-EndsBy limit (Refused refusal) statuses = (refusal ≡ Memory) × (statuses ≡ [])
-EndsBy limit NotAccepting statuses = (length statuses < limit) × (list_any is_closing statuses ≡ false)
-EndsBy limit Closed statuses = (length statuses ≤ limit) × EndsClosed statuses
-EndsBy limit NotListening statuses = ⊥
-EndsBy limit (Stopped stop) statuses = ⊥
-
--- What is known of the clients of a server: how many connections were accepted (the count saturates), the bytes that each client to
--- come sends, in order, and the bytes that each client was sent so far.
-pub record Clients : Type 0 where
-  pub accepted : ℕ
-  pub waiting : Option (List (List ℕ))
-  pub replies : Option (List (List ℕ))
+-- A server ended by this failure after it had served these connections: it could not be allocated before the first one, one more
+-- could not be accepted, or the last one closed the office.
+abbrev pub EndsBy : ℕ → Failure → List (Option ℕ) → Clients → Clients → Type 0
+EndsBy limit (Refused refusal) statuses last now = (refusal ≡ Memory) × (statuses ≡ []) × (now ≡ last)
+EndsBy limit NotAccepting statuses last now = (length statuses < limit) × (list_any is_closing statuses ≡ false) × CallFails last now
+EndsBy limit Closed statuses last now = (length statuses ≤ limit) × EndsClosed statuses × (now ≡ last)
+EndsBy limit NotListening statuses last now = ⊥
+EndsBy limit (Stopped stop) statuses last now = ⊥
 
 -- the next client, and what it sends, if that is known; none is left if all are known and were served
 abbrev pub TakesNext : Option (List (List ℕ)) → Option (List ℕ) → Option (List (List ℕ)) → Type 0
@@ -78,11 +89,14 @@ module _ {S : Type 0} (shown : Held S → State) where
   IsServedSomehow old (Some status) new = (left now_left written now_written : Option (List ℕ)) × ServesRequest shown old new left now_left written now_written status
   IsServedSomehow old None new = (why : Cause) × (left now_left written now_written : Option (List ℕ)) × StopsRequest shown why old new left now_left written now_written
 
-  -- the next client was served. No read fails if it is known what the clients send
+  -- the next client was accepted and served. No read fails if it is known what the clients send
   pub record IsNextServed (before now : Clients) (old : OfficeModel S) (status : Option ℕ) (new : OfficeModel S) : Type 0 where
     pub sent : Option (List ℕ)
     pub left : Option (List ℕ)
     pub reply : Option (List ℕ)
+    pub port : now.listening ≡ before.listening
+    pub counted : now.accepted ≡ one_more before.accepted
+    pub none_failed : now.failed ≡ before.failed
     pub takes : TakesNext before.waiting sent now.waiting
     pub adds : AddsReply before.replies reply now.replies
     pub served : IsServed (before.waiting ≡ None) sent left reply old status new
@@ -91,7 +105,7 @@ module _ {S : Type 0} (shown : Held S → State) where
   -- it left
   abbrev pub AreServed : Clients → Clients → OfficeModel S → List (Option ℕ) → OfficeModel S → Type 0
   AreServed before now old [] new = (now ≡ before) × (new ≡ old)
-  AreServed before now old (status ∷ rest) new = (between : Clients) × (next : OfficeModel S) × (between.accepted ≡ one_more before.accepted) × IsNextServed before between old status next × AreServed between now next rest new
+  AreServed before now old (status ∷ rest) new = (between : Clients) × (next : OfficeModel S) × IsNextServed before between old status next × AreServed between now next rest new
 
   -- each connection that was served was accepted, until the count saturates
   abbrev pub ServedAreAccepted : Type 0
@@ -99,5 +113,5 @@ module _ {S : Type 0} (shown : Held S → State) where
       → before.accepted + length statuses < 2 ^ 64 → now.accepted ≡ before.accepted + length statuses
 
   -- connections were served, one after another, and then the server ended so
-  abbrev pub Serves : (List (Option ℕ) → Type 0) → Clients → Clients → OfficeModel S → OfficeModel S → Type 0
-  Serves Ends before now old new = (statuses : List (Option ℕ)) × AreServed before now old statuses new × Ends statuses
+  abbrev pub Serves : (List (Option ℕ) → Clients → Clients → Type 0) → Clients → Clients → OfficeModel S → OfficeModel S → Type 0
+  Serves Ends before now old new = (statuses : List (Option ℕ)) × (last : Clients) × AreServed before last old statuses new × Ends statuses last now

@@ -31,7 +31,7 @@ use Rattle.role_wire.specs.OfficeReplay.{IsAnswered, IsHalted}
 use Rattle.role_wire.specs.declared.lines.Cause.TheVariants.{Read}
 use Rattle.role_cli.specs.Environment.{CsvFailed, Environment, IsReadOf, ReadFailed, WriteFailed}
 use Rattle.role_cli.specs.FailureCause.{IsCaused, IsOpeningFailure, IsUnwritten}
-use Rattle.role_cli.specs.ServedConnections.{AllServed, Clients, EndsBy, Serves}
+use Rattle.role_cli.specs.ServedConnections.{AllServed, CallFails, Clients, EndsBy, Listens, Serves}
 use Rattle.role_cli.specs.declared.choice.Choice.{Choice}
 use Rattle.role_cli.specs.declared.choice.Choice.TheVariants as choice
 use Rattle.role_cli.specs.declared.failure.Failure.{Failure}
@@ -109,13 +109,20 @@ module _ {C : Type 0} (shown : Held C → State) where
 
   -- ---- a server
 
-  -- It could not listen, or the line that says so could not be allocated or written whole, which changes nothing; or the line was
-  -- written, and this failure ended it before all connections were served.
+  -- The server could not listen, which changes nothing. Or it listens, and the line that says so could not be allocated or written
+  -- whole, which changes nothing else; or the line was written, and this failure ended it before all connections were served.
   abbrev pub FailsToServe : (port limit : ℕ) → Clients → Clients → OfficeModel C → Failure → (write_failed : Type 0) → Option (List ℕ) → Option (List ℕ) → OfficeModel C → Type 0
   FailsToServe port limit clients now_clients old failure write_failed written now_written new =
-      (((failure ≡ NotListening) ⊎ (failure ≡ Refused Memory)) × (now_clients ≡ clients) × (new ≡ old) × (now_written ≡ written))
-      ⊎ (((failure ≡ Refused Store) × write_failed × (now_clients ≡ clients) × (new ≡ old) × WritesPart (listening_line port) written now_written)
-      ⊎ (Appends written now_written (listening_line port) × Serves shown (EndsBy limit failure) clients now_clients old new))
+      ((failure ≡ NotListening) × CallFails clients now_clients × (new ≡ old) × (now_written ≡ written))
+      ⊎ ((ready : Clients) × Listens port clients ready
+      × (((failure ≡ Refused Memory) × (now_clients ≡ ready) × (new ≡ old) × (now_written ≡ written))
+      ⊎ (((failure ≡ Refused Store) × write_failed × (now_clients ≡ ready) × (new ≡ old) × WritesPart (listening_line port) written now_written)
+      ⊎ (Appends written now_written (listening_line port) × Serves shown (EndsBy limit failure) ready now_clients old new))))
+
+  -- It listens on its port, wrote the line that says so, and served all connections.
+  abbrev pub ServesAll : (port limit : ℕ) → Clients → Clients → OfficeModel C → Option (List ℕ) → Option (List ℕ) → OfficeModel C → Type 0
+  ServesAll port limit clients now_clients old written now_written new =
+      (ready : Clients) × Listens port clients ready × Appends written now_written (listening_line port) × Serves shown (AllServed limit) ready now_clients old new
 
   -- ---- any subcommand
 
@@ -124,7 +131,7 @@ module _ {C : Type 0} (shown : Held C → State) where
   Does (choice.Init _) old from to new = (to.written ≡ from.written) × (new ≡ old)
   Does (choice.Migrate _) old from to new = (to.written ≡ from.written) × (new ≡ old)
   Does (choice.Replay _) old from to new = AnswersInput old from.remaining to.remaining from.written to.written new
-  Does (choice.Serve _ port limit) old from to new = Appends from.written to.written (listening_line port) × Serves shown (AllServed limit) from.clients to.clients old new
+  Does (choice.Serve _ port limit) old from to new = ServesAll port limit from.clients to.clients old from.written to.written new
   Does (choice.Import _ path) old from to new = Imports (from.csv_at (string_bytes path)) old from.written to.written new
   Does (choice.Export _) old from to new = Appends from.written to.written (exported old.facts) × (new ≡ old)
   Does (choice.Report _) old from to new = Appends from.written to.written (report old.facts) × (new ≡ old)

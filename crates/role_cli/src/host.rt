@@ -2,9 +2,9 @@
 //! clients of a server.
 ghost use Rattle.std.specs.Prelude.{◌≡◌, ◌==◌, ℕ, IfErr, IfOk, IfSome, OnErr, OnOk};
 ghost use Rattle.sqlite.specs.Held.{state};
-ghost use Rattle.rbac_sets.specs.Stream.{HasRisen, one_more};
+ghost use Rattle.rbac_sets.specs.Stream.{HasRisen};
 ghost use Rattle.role_cli.specs.Environment.{IsReadOf};
-ghost use Rattle.role_cli.specs.ServedConnections.{IsNextServed, status_in};
+ghost use Rattle.role_cli.specs.ServedConnections.{CallFails, IsNextServed, Listens, status_in};
 
 use rbac_sets::Fault;
 use role_http::ReadError;
@@ -39,7 +39,7 @@ pub trait CsvFiles {
 /// Connections, each of which is accepted and served.
 ///
 /// Contracts cover what clients send and are sent if it is known. Of the clients of a socket they state only
-/// how many there were.
+/// how many there were, on which port, and how often listening or accepting failed.
 pub trait Accept {
     ghost use Rattle.role_cli.specs.ServedConnections.{Clients};
 
@@ -52,22 +52,22 @@ pub trait Accept {
     ///
     /// `Fault` if it can't listen there.
     fn listen(&mut self, port: u16) -> Result<(), Fault>
-        ensures { clients self.new ≡ clients self.old };
+        ensures listens { OnOk result (Listens port (clients self.old) (clients self.new)) }
+        ensures refused { OnErr result (CallFails (clients self.old) (clients self.new)) };
 
     /// Accepts the next connection, serves the one request in it by `server`, and returns what was answered.
     /// That is nothing if the request stopped.
     ///
     /// # Errors
     ///
-    /// `Fault` if no connection could be accepted. Then nothing was done.
+    /// `Fault` if no connection could be accepted. Nothing else was done.
     fn serve_next<S: Alter>(
         &mut self,
         alloc: Global,
         server: &Server,
         office: &mut Office<S>,
     ) -> Result<Option<Answered>, Fault>
-        ensures counted { OnOk result ((clients self.new).accepted ≡ one_more (clients self.old).accepted) }
         ensures served { IfOk result (λ answered. IsNextServed (state S.Store) (clients self.old) (clients self.new) office.old (status_in answered) office.new) }
         ensures closes { IfOk result (λ answered. IfSome answered (λ it. it.is_closed ≡ (it.status == 500))) }
-        ensures refused { OnErr result ((clients self.new ≡ clients self.old) × (office.new ≡ office.old)) };
+        ensures refused { OnErr result (CallFails (clients self.old) (clients self.new) × (office.new ≡ office.old)) };
 }

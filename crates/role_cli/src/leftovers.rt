@@ -1,8 +1,8 @@
 //! What is at the path of an office: what has to be there before it is opened, and what is removed if it could not be
 //! opened or created.
-ghost use Rattle.std.specs.Prelude.{◌≡◌, ◌⊎◌, IfErr};
+ghost use Rattle.std.specs.Prelude.{◌≡◌, ◌⊎◌, ◌↔◌, Err, IfErr, IfNone, IfSome, IsOk};
 ghost use Rattle.role_cli.specs.FailureCause.{IsOpeningFailure};
-ghost use Rattle.role_cli.specs.private.Leftovers.{HasNoPage, IsBegun};
+ghost use Rattle.role_cli.specs.private.Leftovers.{IsBegun, IsLogWithoutPage, IsReadAsNew};
 
 use crate::choice::Choice;
 use crate::failure::Failure;
@@ -77,9 +77,18 @@ fn what_is_at(rt: &HostRuntime, path: &str) -> Result<Before, Failure>
 fn require_office(rt: &HostRuntime, path: &str) -> Result<(), Failure>
     ensures { IfErr result (λ failure. (failure ≡ Failure.Refused Refusal.Store) ⊎ (failure ≡ Failure.Refused Refusal.NotAnOffice)) }
 {
-    match length_of(rt, path) {
+    require_content(length_of(rt, path), has_log(rt, path))
+}
+
+// The same, by the length of the file, if it is there, and by whether the log beside it has a byte.
+fn require_content(file: Option<u64>, has_log: bool) -> Result<(), Failure>
+    ensures missing { IfNone file (result ≡ Err (Failure.Refused Refusal.Store)) }
+    ensures new { IfSome file (λ length. IsReadAsNew length has_log → result ≡ Err (Failure.Refused Refusal.NotAnOffice)) }
+    ensures other { IfSome file (λ length. IsReadAsNew length has_log ⊎ IsOk result) }
+{
+    match file {
         None => Err(Failure::Refused(Refusal::Store)),
-        Some(length) if length <= LONGEST_NEW && !has_log(rt, path) => {
+        Some(length) if length <= LONGEST_NEW && !has_log => {
             Err(Failure::Refused(Refusal::NotAnOffice))
         }
         Some(_) => Ok(()),
@@ -133,9 +142,9 @@ pub(crate) fn put_back(rt: &HostRuntime, path: &str, before: Before) {
 // What is removed, by what was at the path before, and by the lengths of the file and of its log, if they are there.
 // Nothing is removed that may hold what was committed.
 fn what_to_remove(before: Before, file: Option<u64>, log: Option<u64>) -> Removal
-    ensures log { result ≡ Removal.Log → HasNoPage log }
-    ensures content { result ≡ Removal.Content → (before ≡ Before.EmptyFile) × IsBegun file log }
-    ensures file { result ≡ Removal.File → (before ≡ Before.Nothing) × IsBegun file log }
+    ensures log { (result ≡ Removal.Log) ↔ ((before ≡ Before.Bytes) × IsLogWithoutPage log) }
+    ensures content { (result ≡ Removal.Content) ↔ ((before ≡ Before.EmptyFile) × IsBegun file log) }
+    ensures file { (result ≡ Removal.File) ↔ ((before ≡ Before.Nothing) × IsBegun file log) }
 {
     let is_short = log.unwrap_or(0) < SHORTEST_LOG;
     let is_begun = is_short && matches!(file, Some(length) if length <= PAGE);

@@ -3,7 +3,7 @@ ghost use Rattle.std.specs.Prelude.{◌≡◌, ◌+◌, ◌==◌, IfErr, IfSome}
 ghost use Rattle.role_csv.specs.Assignments.{most_bytes};
 ghost use Rattle.sqlite.specs.Held.{state};
 ghost use Rattle.rbac_sets.specs.Stream.{HasRisen, one_more};
-ghost use Rattle.role_cli.specs.ServedConnections.{IsServedSomehow, status_in};
+ghost use Rattle.role_cli.specs.ServedConnections.{CallFails, IsServedSomehow, status_in};
 
 use crate::host::{Accept, CsvFiles};
 use crate::serving::answered;
@@ -32,37 +32,52 @@ const MOST_DISCARDS: u32 = 512;
 pub struct Machine<'a> {
     rt: &'a HostRuntime,
     listener: Option<TcpListener>,
+    port: Option<u16>,
     accepted: u64,
+    failed: u64,
     failed_csv: u64,
 }
 
 impl<'a> Machine<'a> {
-    ghost use Rattle.role_cli.specs.Hosts.{accepted_on_machine, failed_on_machine};
+    ghost use Rattle.std.specs.Prelude.{None};
+    ghost use Rattle.role_cli.specs.Hosts.{clients_on_machine, failed_on_machine, known_clients};
 
     /// The machine of this runtime. It listens on no port.
     pub fn new(rt: &'a HostRuntime) -> Machine<'a>
-        ensures accepted { accepted_on_machine result ≡ 0 }
+        ensures clients { clients_on_machine result ≡ known_clients None 0 0 }
         ensures failed { failed_on_machine result ≡ 0 }
     {
         Machine {
             rt,
             listener: None,
+            port: None,
             accepted: 0,
+            failed: 0,
             failed_csv: 0,
         }
     }
 
-    /// The machine of this runtime. It listens already, by this listener.
+    /// The machine of this runtime. It listens already, by this listener, on a port that isn't known.
     pub fn listening(rt: &'a HostRuntime, listener: TcpListener) -> Machine<'a>
-        ensures accepted { accepted_on_machine result ≡ 0 }
+        ensures clients { clients_on_machine result ≡ known_clients None 0 0 }
         ensures failed { failed_on_machine result ≡ 0 }
     {
         Machine {
             rt,
             listener: Some(listener),
+            port: None,
             accepted: 0,
+            failed: 0,
             failed_csv: 0,
         }
+    }
+
+    // One more call failed.
+    fn fail(&mut self) -> Fault
+        ensures { CallFails (clients_on_machine self.old) (clients_on_machine self.new) }
+    {
+        self.failed = self.failed.saturating_add(1);
+        Fault
     }
 }
 
@@ -94,17 +109,18 @@ pub(crate) fn longest_read() -> usize
 }
 
 impl Accept for Machine<'_> {
-    ghost use Rattle.role_cli.specs.Hosts.{accepted_on_machine, known_clients};
+    ghost use Rattle.role_cli.specs.Hosts.{clients_on_machine};
 
-    ghost clients = { λ machine. known_clients (accepted_on_machine machine) };
+    ghost clients = { clients_on_machine };
 
     fn listen(&mut self, port: u16) -> Result<(), Fault> {
         match TcpListener::bind(self.rt, ("127.0.0.1", port)) {
             Ok(listener) => {
                 self.listener = Some(listener);
+                self.port = Some(port);
                 Ok(())
             }
-            Err(_) => Err(Fault),
+            Err(_) => Err(self.fail()),
         }
     }
 
@@ -115,10 +131,10 @@ impl Accept for Machine<'_> {
         office: &mut Office<S>,
     ) -> Result<Option<Answered>, Fault> {
         let Some(listener) = &self.listener else {
-            return Err(Fault);
+            return Err(self.fail());
         };
         let Ok((stream, _)) = listener.accept() else {
-            return Err(Fault);
+            return Err(self.fail());
         };
         self.accepted = self.accepted.saturating_add(1);
         Ok(serve_stream(alloc, server, office, &stream))

@@ -1,5 +1,6 @@
 //! A host in memory, all of which is known: one CSV file, and clients whose bytes are there from the beginning.
 ghost use Rattle.std.specs.Prelude.{◌≡◌};
+ghost use Rattle.role_cli.specs.ServedConnections.{CallFails};
 
 use crate::host::{Accept, CsvFiles};
 use crate::machine::longest_read;
@@ -20,16 +21,18 @@ pub struct MemoryHost<'a> {
     failed_csv: u64,
     waiting: VecDeque<MemorySource<'a>>,
     replies: Vec<MemorySink>,
+    port: Option<u16>,
     accepted: u64,
+    failed: u64,
 }
 
 impl<'a> MemoryHost<'a> {
-    ghost use Rattle.std.specs.Prelude.{[], Some, map};
+    ghost use Rattle.std.specs.Prelude.{[], None, Some, map};
     ghost use Rattle.rbac_sets.specs.Stream.{left_in_memory, written_in_memory};
     ghost use Rattle.role_cli.specs.Hosts.{clients_in_memory, csv_in_memory, text_at};
 
     /// A CSV file at a path, with this text, and clients that send what these sources have, from the first to the
-    /// last, and were sent nothing so far.
+    /// last, and were sent nothing so far. It listens on no port.
     pub fn new(
         alloc: Global,
         path: &'a str,
@@ -37,7 +40,7 @@ impl<'a> MemoryHost<'a> {
         waiting: VecDeque<MemorySource<'a>>,
     ) -> MemoryHost<'a>
         ensures csv { csv_in_memory result ≡ text_at path.now text.now }
-        ensures clients { clients_in_memory result ≡ record { accepted = 0; waiting = Some (map left_in_memory waiting.entry.items); replies = Some [] } }
+        ensures clients { clients_in_memory result ≡ record { listening = None; accepted = 0; failed = 0; waiting = Some (map left_in_memory waiting.entry.items); replies = Some [] } }
     {
         MemoryHost {
             path,
@@ -45,7 +48,9 @@ impl<'a> MemoryHost<'a> {
             failed_csv: 0,
             waiting,
             replies: Vec::new(alloc),
+            port: None,
             accepted: 0,
+            failed: 0,
         }
     }
 
@@ -54,6 +59,14 @@ impl<'a> MemoryHost<'a> {
         ensures { (clients_in_memory self.now).replies ≡ Some (map written_in_memory result.now) }
     {
         &self.replies
+    }
+
+    // One more call failed.
+    fn fail(&mut self) -> Fault
+        ensures { CallFails (clients_in_memory self.old) (clients_in_memory self.new) }
+    {
+        self.failed = self.failed.saturating_add(1);
+        Fault
     }
 }
 
@@ -78,7 +91,8 @@ impl Accept for MemoryHost<'_> {
 
     ghost clients = { clients_in_memory };
 
-    fn listen(&mut self, _port: u16) -> Result<(), Fault> {
+    fn listen(&mut self, port: u16) -> Result<(), Fault> {
+        self.port = Some(port);
         Ok(())
     }
 
@@ -89,10 +103,10 @@ impl Accept for MemoryHost<'_> {
         office: &mut Office<S>,
     ) -> Result<Option<Answered>, Fault> {
         if self.replies.reserve(1).is_err() {
-            return Err(Fault);
+            return Err(self.fail());
         }
         let Some(mut source) = self.waiting.pop_front() else {
-            return Err(Fault);
+            return Err(self.fail());
         };
         let mut sink = MemorySink::new(alloc);
         let reply = answered(alloc, server, office, &mut source, &mut sink);

@@ -6,7 +6,7 @@ ghost use Rattle.rbac_sets.specs.Stream.{HasRisen};
 ghost use Rattle.role_cli.specs.Environment.{HasFailed};
 ghost use Rattle.role_cli.specs.ServedConnections.{AllServed, EndsBy, IsServedOver, IsServedSomehow, Serves, is_closing, status_in};
 ghost use Rattle.role_cli.specs.ErrorOutput.{IsLineOf, SaysSome};
-ghost use Rattle.role_cli.specs.Work.{FailsToServe, WritesPart, listening_line};
+ghost use Rattle.role_cli.specs.Work.{FailsToServe, ServesAll, WritesPart, listening_line};
 ghost use Rattle.role_cli.specs.declared.failure.Failure.{Failure};
 
 use crate::failure::Failure;
@@ -64,7 +64,7 @@ pub(crate) fn serve<S: Alter, A: Accept, W: Sink>(
     host: &mut A,
     out: &mut W,
 ) -> Result<(), Failure>
-    ensures done { OnOk result (Appends (W.written out.old) (W.written out.new) (listening_line port) × Serves (state S.Store) (AllServed limit) (A.clients host.old) (A.clients host.new) office.old office.new) }
+    ensures done { OnOk result (ServesAll (state S.Store) port limit (A.clients host.old) (A.clients host.new) office.old (W.written out.old) (W.written out.new) office.new) }
     ensures failed { IfErr result (λ failure. FailsToServe (state S.Store) port limit (A.clients host.old) (A.clients host.new) office.old failure
         (HasFailed (W.failed out.old) (W.failed out.new) (W.idle out.old) (W.idle out.new)) (W.written out.old) (W.written out.new) office.new) }
 {

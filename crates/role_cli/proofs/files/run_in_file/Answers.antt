@@ -1,4 +1,3 @@
-use Rattle.role_cli.proofs.Beginning.{store_fails}
 use Rattle.role_cli.proofs.FileWork.{closes_over}
 use Rattle.role_wire.proofs.Results.{if_err-then}
 use Rattle.role_cli.proofs.Results.{if_some-then, on_ok-then}

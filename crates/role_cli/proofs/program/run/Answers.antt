@@ -1,5 +1,5 @@
 use Rattle.std.proofs.Common.{inl, inr}
-use Rattle.role_cli.specs.Hosts.{accepted_on_machine, failed_on_machine}
+use Rattle.role_cli.specs.Hosts.{clients_on_machine, failed_on_machine}
 use Rattle.role_cli.specs.ProgramOutcome.{FailsBy, IsDone}
 use Rattle.role_cli.proofs.Beginning.{fails_less}
 use Rattle.role_cli.proofs.Machines.{on_machine}
@@ -14,8 +14,8 @@ returns-clause-done g c zero = elim (c.run_with-status.ensures.done zero) [
     chooses,
     unread,
     on_machine (IsDone _ _ choice) (g.R.Source.remaining c.args.source.now) (g.R.Source.reads c.args.source.now) (g.R.Source.failed c.args.source.now) (g.W.Sink.written c.args.out.now) (g.W.Sink.failed c.args.out.now) (g.W.Sink.idle c.args.out.now)
-        (g.R.Source.remaining c.run_with-status.new.source) (g.R.Source.reads c.run_with-status.new.source) (g.R.Source.failed c.run_with-status.new.source) (g.W.Sink.written c.run_with-status.new.out) (g.W.Sink.failed c.run_with-status.new.out) (g.W.Sink.idle c.run_with-status.new.out) (accepted_on_machine c.new-machine.result) (failed_on_machine c.new-machine.result) (accepted_on_machine c.run_with-status.new.host) (failed_on_machine c.run_with-status.new.host)
-        c.new-machine.ensures.accepted c.new-machine.ensures.failed is,
+        (g.R.Source.remaining c.run_with-status.new.source) (g.R.Source.reads c.run_with-status.new.source) (g.R.Source.failed c.run_with-status.new.source) (g.W.Sink.written c.run_with-status.new.out) (g.W.Sink.failed c.run_with-status.new.out) (g.W.Sink.idle c.run_with-status.new.out) (clients_on_machine c.new-machine.result) (failed_on_machine c.new-machine.result) (c.run_with-status.new.host).port (c.run_with-status.new.host).accepted (c.run_with-status.new.host).failed (failed_on_machine c.run_with-status.new.host)
+        c.new-machine.ensures.clients c.new-machine.ensures.failed is,
   )
 ]
 
@@ -33,8 +33,8 @@ returns-clause-stopped g c one =
           chooses,
           unread,
           on_machine (FailsBy _ _ choice failure _) (g.R.Source.remaining c.args.source.now) (g.R.Source.reads c.args.source.now) (g.R.Source.failed c.args.source.now) (g.W.Sink.written c.args.out.now) (g.W.Sink.failed c.args.out.now) (g.W.Sink.idle c.args.out.now)
-              (g.R.Source.remaining c.run_with-status.new.source) (g.R.Source.reads c.run_with-status.new.source) (g.R.Source.failed c.run_with-status.new.source) (g.W.Sink.written c.run_with-status.new.out) (g.W.Sink.failed c.run_with-status.new.out) (g.W.Sink.idle c.run_with-status.new.out) (accepted_on_machine c.new-machine.result) (failed_on_machine c.new-machine.result) (accepted_on_machine c.run_with-status.new.host) (failed_on_machine c.run_with-status.new.host)
-              c.new-machine.ensures.accepted c.new-machine.ensures.failed (fails_less _ _ choice failure _ _ _ _ (λ kept. (kept.0, kept.1)) fails),
+              (g.R.Source.remaining c.run_with-status.new.source) (g.R.Source.reads c.run_with-status.new.source) (g.R.Source.failed c.run_with-status.new.source) (g.W.Sink.written c.run_with-status.new.out) (g.W.Sink.failed c.run_with-status.new.out) (g.W.Sink.idle c.run_with-status.new.out) (clients_on_machine c.new-machine.result) (failed_on_machine c.new-machine.result) (c.run_with-status.new.host).port (c.run_with-status.new.host).accepted (c.run_with-status.new.host).failed (failed_on_machine c.run_with-status.new.host)
+              c.new-machine.ensures.clients c.new-machine.ensures.failed (fails_less _ _ choice failure _ _ _ _ (λ kept. (kept.0, kept.1)) fails),
         ),
       )
     ]

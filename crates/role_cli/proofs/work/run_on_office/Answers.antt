@@ -4,6 +4,12 @@ use Rattle.role_wire.proofs.Results.{if_err-then}
 use Rattle.role_cli.proofs.Working.{import_continues, serve_continues}
 use Rattle.role_cli.proofs.work.run_on_office.Goals as goal
 
+pub returns-in-Serve-clause-done : goal.returns-in-Serve-clause-done
+returns-in-Serve-clause-done g c = rw c.in-Serve.is c.serve.ensures.done
+
+pub returns-in-Serve-clause-failed : goal.returns-in-Serve-clause-failed
+returns-in-Serve-clause-failed g c = rw c.in-Serve.is c.serve.ensures.failed
+
 pub returns-in-Serve-clause-continues : goal.returns-in-Serve-clause-continues
 returns-in-Serve-clause-continues g c =
     serve_continues (state g.S.Store) c.in-Serve.limit c.in-Serve.port _ _ c.args.office.now c.serve.new.office _ (g.W.Sink.written c.args.out.now) (g.W.Sink.written c.serve.new.out) c.serve.result c.serve.ensures.done c.serve.ensures.failed
