@@ -1,11 +1,15 @@
 """Assignments from CSV files, the export and the role report."""
 
 import json
+import os
+import time
+from threading import Thread
 
 from machine.assignments import MOST_BYTES, MOST_RECORDS, export
 from machine.drawing import ODD_ASSIGNMENTS, Draws
 from machine.texts import report
 
+from .bench import SECONDS
 from .offices import STORE, Office, small_office
 
 # Two users and two roles that nobody may have both, of which ann has one.
@@ -138,6 +142,30 @@ def check_unreadable(bench):
     bench.refuses(["import", office.path, ""], stop)
     bench.refuses(["import", bench.path("away"), away], STORE)
     bench.refuses(["import", office.path, "/dev/null"], b'{"code":36,"error":"BadCsv","record":0}')
+
+
+def check_pipe(bench):
+    """The records that another program writes to a pipe, one after the other, are imported up to the last."""
+    office, pipe = small_office(bench), bench.path("records")
+    os.mkfifo(pipe)
+    pieces = [b"user,role\nann,cl", b"erk\n", b"bob,clerk\n"]
+    writer = Thread(target=write_slowly, args=[pipe, pieces], daemon=True)
+    writer.start()
+    bench.ends(["import", office.path, pipe], b'{"ok":true,"value":{"already":1,"assigned":1,"refused":[]}}\n')
+    writer.join(SECONDS)
+    office.model.answer(b'{"fn":"assignUser","role":"clerk","user":"ann"}')
+    office.told()
+
+
+def write_slowly(path, pieces):
+    """Writes pieces to a pipe, so that each read of it gets one of them; a reader that has left ends it."""
+    try:
+        with open(path, "wb", buffering=0) as pipe:
+            for piece in pieces:
+                pipe.write(piece)
+                time.sleep(0.1)
+    except BrokenPipeError:
+        pass
 
 
 def check_small_export(bench):

@@ -14,7 +14,11 @@ from machine.questions import QUESTIONS
 from .heads import ANN, CURL, LENGTH
 from .importing import RECORDS, SEPARATED
 from .offices import STORE, Office, small_office
-from .web import BAD_REQUEST, HOST, NO_FUNCTION, Server, connect, free_port, head, listening, post, read_all, reply
+from .web import BAD_REQUEST, HOST, NO_FUNCTION, Server
+from .web import connect, free_port, head, listening, low_port, post, read_all, reply
+
+# The greatest limit of connections.
+MOST_CONNECTIONS = 1_000_000
 
 DONE = b'{"ok":true}'
 ADD_ANN = b'{"fn":"addUser","user":"ann"}'
@@ -81,6 +85,15 @@ def check_exact_limits(bench):
         for number in range(limit):
             office.model.answer(b'{"fn":"addUser","user":"u%d"}' % number)
         office.told()
+
+
+def check_greatest_limit(bench):
+    """A server with the greatest limit of connections answers, and then waits for more of them."""
+    office = Office(bench)
+    with Server(bench, office.path, MOST_CONNECTIONS) as server:
+        bench.same("a request", server.ask(CURL), reply(200, DONE))
+        bench.same("another one", server.ask(CURL), reply(409, b'{"code":3,"error":"UserExists"}'))
+        bench.same("nobody has ended it", server.process.poll(), None)
 
 
 def check_address(bench):
@@ -303,6 +316,22 @@ def check_port_in_use(bench):
         words = ["--port", str(port), "--limit", "1"]
         bench.refuses(["serve", office.path, *words], b"cannot listen", what="serve on a port in use")
         bench.refuses(["serve", bench.path("away"), *words], STORE, what="serve of no file on a port in use")
+    office.told()
+
+
+def check_low_port(bench):
+    """At a port below 1024 a server listens exactly if the system lets it: mostly only root may."""
+    office = Office(bench)
+    port, is_allowed = low_port()
+    if not is_allowed:
+        words = ["serve", office.path, "--port", str(port), "--limit", "1"]
+        bench.refuses(words, b"cannot listen", what=f"serve on port {port}")
+        return
+    with Server(bench, office.path, 1, port=port) as server:
+        bench.same(f"where it listens, of port {port}", listening(server.process.pid), [(HOST, port)])
+        bench.same(f"a request on port {port}", server.ask(CURL), reply(200, DONE))
+        server.ends()
+    office.model.answer(ADD_ANN)
     office.told()
 
 

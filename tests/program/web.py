@@ -1,5 +1,6 @@
 """A server of an office, and clients of it."""
 
+import errno
 import os
 import random
 import socket
@@ -13,6 +14,9 @@ HOST = "127.0.0.1"
 
 # Ports that the system assigns to no client by itself.
 PORTS = (20_000, 32_000)
+
+# Ports that many systems reserve for root.
+LOW_PORTS = (1, 1_024)
 
 # The number of a listening socket in the system's tables.
 LISTENS = "0A"
@@ -46,6 +50,21 @@ def free_port():
             except OSError:
                 continue
             return port
+
+
+def low_port():
+    """A port below 1024 on which nobody listens, and whether the system lets this user listen there."""
+    draws = random.Random(os.urandom(8))
+    while True:
+        port = draws.randrange(*LOW_PORTS)
+        with socket.socket() as probe:
+            try:
+                probe.bind((HOST, port))
+            except OSError as error:
+                if error.errno == errno.EADDRINUSE:
+                    continue
+                return port, False
+            return port, True
 
 
 def reply(status, body):
@@ -109,9 +128,9 @@ def listening(pid):
 class Server:
     """The program as it serves an office. It is killed at the end if it has not ended by itself."""
 
-    def __init__(self, bench, path, limit, environment=None):
+    def __init__(self, bench, path, limit, environment=None, port=None):
         self.bench = bench
-        self.port = free_port()
+        self.port = port or free_port()
         self.process = subprocess.Popen(
             [PROGRAM, "serve", path, "--port", str(self.port), "--limit", str(limit)],
             stdin=subprocess.DEVNULL,

@@ -19,6 +19,9 @@ INTERRUPTIONS = [1, 1_000]
 # Calls without which a server can't listen, each with an error that the system knows.
 LISTENING = {"socket": errno.EMFILE, "bind": errno.EADDRINUSE, "listen": errno.EADDRINUSE}
 
+# Ports at which it is seen that the system is asked for them: the first and the last below 1024, and those that follow.
+PORTS = [1, 1_023, 1_024, 65_535]
+
 # Errors with which a connection can't be accepted, and those with which one that was accepted is lost.
 NOT_ACCEPTED = [errno.EMFILE, errno.ECONNABORTED, errno.ENOMEM]
 LOST = {"recv": [errno.ECONNRESET, errno.EIO], "send": [errno.EPIPE, errno.EIO]}
@@ -102,14 +105,19 @@ def pause_server(bench):
 
 
 def fail_to_listen(bench, call):
-    """A server that can't listen reports it in one line, and the office stays as it is."""
+    """A server that can't listen reports it in one line, but only if a call has failed, and the office stays as it is."""
     content, state = small_office(bench)
     path, failing = lay(bench, content), Failing(bench)
-    words = ["serve", path, "--port", str(free_port()), "--limit", "1"]
-    done = failing.run(words, **failing.settings(call, LISTENING[call]))
-    bench.same(f"a server whose {call} fails", done, Done(b"", b"rbac: cannot listen\n", 1))
-    bench.same(f"what is left after {call} fails", bench.contents(), {"office": content})
-    return {"servers that could not listen": 1}
+    # The system itself may refuse a port to those who bind it.
+    ports = [free_port()] if call == "listen" else [free_port(), *PORTS]
+    for port in ports:
+        words = ["serve", path, "--port", str(port), "--limit", "1"]
+        done = failing.run(words, **failing.settings(call, LISTENING[call]))
+        what = f"a server whose {call} fails for port {port}"
+        bench.same(what, done, Done(b"", b"rbac: cannot listen\n", 1))
+        bench.same(f"{what}: it failed", failing.count(), 1)
+        bench.same(f"{what}: what is left", bench.contents(), {"office": content})
+    return {"servers that could not listen": len(ports)}
 
 
 def fail_to_accept(bench, like):
