@@ -111,6 +111,11 @@ class Faults:
         self.cluster.network.join(i)
         self.did("machines cut off")
 
+    def reload_callers(self, i):
+        """The node reads its callers again. One that is just starting may end by the signal instead."""
+        self.cluster.nodes[i].send(signal.SIGHUP)
+        self.did("nodes told to read their callers again")
+
     def lose_node(self, i):
         self.cluster.lose_node(i)
         self.did("folders of nodes lost")
@@ -132,4 +137,4 @@ def is_replay(process):
 
 KILLS = [Faults.kill_node, Faults.kill_member, Faults.kill_machine, Faults.kill_two_members, Faults.kill_replay]
 PAUSES = [Faults.pause_node, Faults.pause_member, Faults.pause_replay]
-OFTEN = KILLS + KILLS[:2] + PAUSES + [Faults.kill_busy_replay, Faults.end_node]
+OFTEN = KILLS + KILLS[:2] + PAUSES + [Faults.kill_busy_replay, Faults.end_node, Faults.reload_callers]

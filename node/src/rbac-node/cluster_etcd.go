@@ -26,6 +26,7 @@ import (
 	"rbac-node/metrics"
 	"rbac-node/node"
 	"rbac-node/office"
+	"rbac-node/single"
 	"rbac-node/web"
 )
 
@@ -101,6 +102,7 @@ func (s *clusterSettings) adoptInto(ctx context.Context, log *ledger.Ledger, fro
 // open checks the settings, and opens the log in etcd.
 func (s *clusterSettings) open(common *settings) (*ledger.Ledger, *zap.Logger, func(), error) {
 	s.common, s.Program, s.AnswerTimeout, s.HangTimeout = common, common.program, common.answerTimeout, common.hangTimeout
+	s.Reads = single.MostReads
 	if err := s.check(); err != nil {
 		return nil, nil, nil, err
 	}

@@ -27,8 +27,6 @@ const (
 	pause = time.Second
 	// leaving is how long a replay may take to answer the last lines.
 	leaving = 10 * time.Second
-	// chunk is the fewest bytes that one read of a full pipe returns.
-	chunk = 4096
 )
 
 // Options are what a feed needs.
@@ -213,7 +211,7 @@ func (f *Feed) send(u *unit) {
 	}
 	for i, line := range u.lines {
 		i := i
-		f.count(line)
+		f.reads += office.ReadsOf(line)
 		f.replay.Send(line, func(answer []byte) {
 			if u.answers[i] = answer; i == len(u.lines)-1 {
 				<-f.sent // It is this unit, since answers come in order.
@@ -222,9 +220,6 @@ func (f *Feed) send(u *unit) {
 		})
 	}
 }
-
-// count counts the reads that a line can cost the replay.
-func (f *Feed) count(line []byte) { f.reads += 2 + int64(len(line)/chunk) }
 
 // lose tells those that wait for a replay that has ended that they get no answer.
 func (f *Feed) lose() {
@@ -292,7 +287,7 @@ func (f *Feed) start(ctx context.Context) error {
 	first := f.first()
 	for i, line := range first {
 		i := i
-		f.count(line)
+		f.reads += office.ReadsOf(line)
 		replay.Send(line, func(answer []byte) {
 			if refused == nil && !IsAccepted(answer) {
 				refused = &RefusedError{i, string(answer)}

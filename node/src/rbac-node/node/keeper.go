@@ -38,12 +38,9 @@ func (n *Node) takeSnapshot() error {
 	if err != nil {
 		return err
 	}
-	// The replay that has ended stays in place if no other one can be started.
-	started, err := n.open()
-	if err != nil {
+	if err := n.reopen(); err != nil {
 		return err
 	}
-	n.replay = started
 	n.copies <- copied{file, office.Snapshot{Revision: n.revision, Count: n.count}}
 	return nil
 }

@@ -2,6 +2,7 @@ package node
 
 import (
 	"context"
+	"errors"
 	"fmt"
 	"os"
 	"path/filepath"
@@ -21,11 +22,10 @@ func (n *Node) resume(ctx context.Context) error {
 	if err := n.makeOffice(ctx, base); err != nil {
 		return err
 	}
-	started, err := n.open()
-	if err != nil {
+	if err := n.reopen(); err != nil {
 		return err
 	}
-	n.replay, n.revision, n.count = started, base.Revision, base.Count
+	n.revision, n.count = base.Revision, base.Count
 	n.applied.Store(&place{base.Revision, base.Count})
 	n.log.Info("recovered", zap.Int64("revision", base.Revision), zap.Int64("commands", base.Count))
 	state, err := n.shared.State(ctx)
@@ -108,7 +108,8 @@ func (n *Node) fetch(ctx context.Context) (office.Snapshot, error) {
 
 // accept refuses a snapshot that another node offers unless the node has registered it, the log continues after it, and
 // no node has registered another digest at its revision: one of two nodes that differ is wrong, and nobody knows here
-// which.
+// which. The other nodes may not have come to that revision yet, so it also refuses all snapshots of a node that most
+// others contest.
 func (n *Node) accept(ctx context.Context, name string, offered office.Snapshot) error {
 	state, err := n.shared.State(ctx)
 	if err != nil {
@@ -126,7 +127,13 @@ func (n *Node) accept(ctx context.Context, name string, offered office.Snapshot)
 		if s.Digest != offered.Digest {
 			return fmt.Errorf("the snapshot at revision %d differs from that of %s", offered.Revision, member.Name)
 		}
-		isRegistered = isRegistered || member.Name == name && s.Count == offered.Count
+		if member.Name != name {
+			continue
+		}
+		if why := difference(name, member.Snapshots, state.Members); why != "" {
+			return errors.New(why)
+		}
+		isRegistered = s.Count == offered.Count
 	}
 	if !isRegistered {
 		return fmt.Errorf("the snapshot at revision %d is not registered in etcd", offered.Revision)

@@ -50,8 +50,12 @@ func (n *Node) Ask(ctx context.Context, kind api.Kind, call *api.Call) (api.Answ
 	}
 	select {
 	case answer := <-r.reply:
-		if answer.Text == nil {
+		switch {
+		case answer.Text == nil:
 			return answer, api.Unavailable
+		case n.differs.Load() != "":
+			// It may have been found out while the request waited, such as that of a node that had just started.
+			return api.Answer{}, api.Diverged
 		}
 		return answer, nil
 	case <-within.Done():
@@ -162,7 +166,7 @@ func (n *Node) confirm(ctx context.Context) error {
 		within, cancel := context.WithTimeout(ctx, n.options.AnswerTimeout)
 		if head, err := n.shared.Head(within); err == nil { // Otherwise the askers have waited long enough.
 			_ = n.submit(within, task{head, func() {
-				n.replay.Send([]byte(probe), func([]byte) { n.hear(read) })
+				n.send([]byte(probe), func([]byte) { n.hear(read) })
 				n.pose(questions...)
 			}})
 		}

@@ -20,6 +20,8 @@ const (
 	MaxLineBytes = 65_536
 	// maxWaitingLines is how many lines may wait for their answers.
 	maxWaitingLines = 8192
+	// chunk is the fewest bytes that one read of a full pipe returns.
+	chunk = 4096
 	// hangChecks is how often a replay is looked at before it is said to hang. A process that was paused itself notices
 	// nothing of the time, so it counts.
 	hangChecks = 5
@@ -121,6 +123,9 @@ func (r *Replay) watch(hangTimeout time.Duration) {
 	r.hangs.Store(true)
 	_ = r.command.Process.Kill()
 }
+
+// ReadsOf returns the most reads of its input that a line can cost a replay.
+func ReadsOf(line []byte) int64 { return 2 + int64(len(line)/chunk) }
 
 // Send writes a line, which has no LF. Its answer goes to the function, which must not wait for anything. If the replay
 // has ended, nobody gets an answer: see Ended.
