@@ -129,10 +129,11 @@ func TestAppendToFullLog(t *testing.T) {
 	}
 }
 
-// A slowKV lets no answer come that has too many bytes. It counts those, and answers that did not come in time.
+// A slowKV lets no answer come that has too many bytes. It counts those, and answers that did not come in time. mostKeys is
+// the most that one read has found.
 type slowKV struct {
 	clientv3.KV
-	maxBytes, slow, tooLarge int
+	maxBytes, slow, tooLarge, mostKeys int
 }
 
 type slowTxn struct {
@@ -155,8 +156,12 @@ func (s *slowTxn) Commit() (*clientv3.TxnResponse, error) {
 	}
 	size := 0
 	for op := range reply.Responses {
-		for _, kv := range read(reply, op) {
+		kvs := read(reply, op)
+		for _, kv := range kvs {
 			size += len(kv.Value)
+		}
+		if len(kvs) > s.kv.mostKeys {
+			s.kv.mostKeys = len(kvs)
 		}
 	}
 	if size > s.kv.maxBytes {
@@ -205,6 +210,10 @@ func TestPages(t *testing.T) {
 			// After small entries it is a page that is too large, or one that comes late on a busy machine.
 			if one.isPaged && slow.tooLarge > 0 || !one.isPaged && slow.tooLarge+slow.slow == 0 {
 				t.Errorf("%d pages were too large, and %d late", slow.tooLarge, slow.slow)
+			}
+			// etcd reads the values of all keys of one read.
+			if slow.mostKeys == 0 || slow.mostKeys > maxPageKeys {
+				t.Errorf("%d keys were read at once", slow.mostKeys)
 			}
 			for i := 1; i < len(found); i++ {
 				if found[i].Revision <= found[i-1].Revision {
