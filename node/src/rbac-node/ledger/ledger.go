@@ -27,8 +27,8 @@ import (
 	"go.etcd.io/etcd/etcdserver/api/v3rpc/rpctypes"
 	"go.etcd.io/etcd/etcdserver/etcdserverpb"
 	"go.etcd.io/etcd/mvcc/mvccpb"
-	"go.uber.org/zap"
 
+	"rbac-node/logs"
 	"rbac-node/office"
 )
 
@@ -59,7 +59,7 @@ type Ledger struct {
 	prefix  string
 	// kv is the client below the prefix.
 	kv  clientv3.KV
-	log *zap.Logger
+	log *logs.Logger
 	// pageTimeout is how long a page of the log may take before a smaller one is asked for.
 	pageTimeout time.Duration
 	// generation is the newest one that is known, and head the newest revision of an entry.
@@ -67,7 +67,7 @@ type Ledger struct {
 }
 
 // New returns the ledger below a prefix of etcd's keys.
-func New(client *clientv3.Client, prefix string, log *zap.Logger) *Ledger {
+func New(client *clientv3.Client, prefix string, log *logs.Logger) *Ledger {
 	prefix += "/"
 	return &Ledger{
 		client: client, members: client.Endpoints(), prefix: prefix, kv: namespace.NewKV(client, prefix), log: log,
@@ -108,7 +108,7 @@ func (l *Ledger) commit(
 		if isFinal(err) || wait(ctx, pause) != nil {
 			return nil, fmt.Errorf("%s: %w", what, err)
 		}
-		l.log.Warn("asking etcd again", zap.String("what", what), zap.Error(err))
+		l.log.Warn("asking etcd again", "what", what, "error", err)
 		timeout, pause = twice(timeout, maxAttemptTimeout), twice(pause, maxPause)
 	}
 }
@@ -362,7 +362,7 @@ func (l *Ledger) Follow(ctx context.Context, after int64, deliver func(Entry) er
 		if err := f.watch(ctx, revision+1); err != nil {
 			return err
 		}
-		l.log.Info("following the log anew", zap.Int64("revision", f.after))
+		l.log.Info("following the log anew", "revision", f.after)
 		if err := wait(ctx, firstPause); err != nil {
 			return err
 		}

@@ -5,6 +5,7 @@ import (
 	"context"
 	"errors"
 	"fmt"
+	"io"
 	"sync"
 	"testing"
 	"time"
@@ -13,7 +14,8 @@ import (
 	"go.etcd.io/etcd/etcdserver/api/v3rpc/rpctypes"
 	"go.etcd.io/etcd/etcdserver/etcdserverpb"
 	"go.etcd.io/etcd/mvcc/mvccpb"
-	"go.uber.org/zap"
+
+	"rbac-node/logs"
 )
 
 // A fakeKV answers a transaction with the revision of one key, or with an error.
@@ -50,7 +52,7 @@ func newFake(t *testing.T, answer func(context.Context) (int64, error)) *Ledger 
 		t.Fatal(err)
 	}
 	t.Cleanup(func() { client.Close() })
-	l := New(client, "test", zap.NewNop())
+	l := New(client, "test", logs.New(io.Discard))
 	l.kv = &fakeKV{answer: answer}
 	return l
 }
@@ -201,7 +203,7 @@ func TestPages(t *testing.T) {
 	} {
 		t.Run(one.name, func(t *testing.T) {
 			slow := &slowKV{KV: l.kv, maxBytes: one.maxBytes}
-			paged := New(l.client, "test", zap.NewNop())
+			paged := New(l.client, "test", logs.New(io.Discard))
 			paged.kv, paged.pageTimeout = slow, 200*time.Millisecond
 			found, err := all(t, paged, one.after)
 			if err != nil || len(found) != one.entries {

@@ -4,16 +4,16 @@ import (
 	"context"
 	"errors"
 	"fmt"
+	"io"
 	"sync"
 	"sync/atomic"
 	"testing"
 	"time"
 
-	"github.com/prometheus/client_golang/prometheus"
-	"go.uber.org/zap"
-
 	"rbac-node/api"
 	"rbac-node/ledger"
+	"rbac-node/logs"
+	"rbac-node/metrics"
 	"rbac-node/office"
 )
 
@@ -169,7 +169,7 @@ func newNode(t *testing.T) (*Node, *fakeLog, *fakeReplay) {
 		Name: "a", Data: t.TempDir(), Scratch: t.TempDir(), Program: "/nonexistent",
 		SnapshotCommands: 1000, SnapshotBytes: 1 << 20, AnswerTimeout: 5 * time.Second, HangTimeout: time.Minute,
 		Reads: 1 << 40,
-	}, log, zap.NewNop(), prometheus.NewRegistry())
+	}, log, logs.New(io.Discard), &metrics.Registry{})
 	if err != nil {
 		t.Fatal(err)
 	}

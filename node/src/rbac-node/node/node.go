@@ -16,12 +16,12 @@ import (
 	"sync/atomic"
 	"time"
 
-	"github.com/prometheus/client_golang/prometheus"
-	"go.uber.org/zap"
 	"golang.org/x/sync/errgroup"
 
 	"rbac-node/api"
 	"rbac-node/ledger"
+	"rbac-node/logs"
+	"rbac-node/metrics"
 	"rbac-node/office"
 )
 
@@ -83,7 +83,7 @@ type Node struct {
 	options Options
 	store   *office.Store
 	shared  Log
-	log     *zap.Logger
+	log     *logs.Logger
 	start   time.Time
 	// open starts a replay of the office in use.
 	open func() (replay, error)
@@ -128,13 +128,13 @@ type task struct {
 type place struct{ revision, count int64 }
 
 // New returns a node over a log. It does nothing until Run is called.
-func New(options Options, shared Log, logger *zap.Logger, registerer prometheus.Registerer) (*Node, error) {
+func New(options Options, shared Log, log *logs.Logger, registry *metrics.Registry) (*Node, error) {
 	store, err := office.Open(options.Data, options.Program)
 	if err != nil {
 		return nil, err
 	}
 	n := &Node{
-		options: options, store: store, shared: shared, log: logger, start: time.Now(),
+		options: options, store: store, shared: shared, log: log, start: time.Now(),
 		copies: make(chan copied, 1), tasks: make(chan task, maxBatchLines),
 		asked: map[api.Kind]chan *request{
 			api.Command:  make(chan *request, maxBatchLines),
@@ -146,7 +146,7 @@ func New(options Options, shared Log, logger *zap.Logger, registerer prometheus.
 	n.heard.Store(-1)
 	n.applied.Store(&place{})
 	n.differs.Store("")
-	n.register(registerer)
+	n.addMetrics(registry)
 	return n, nil
 }
 
@@ -229,7 +229,7 @@ func (n *Node) send(line []byte, answered func(answer []byte)) {
 
 // renew starts another replay when the one there is has answered everything.
 func (n *Node) renew() error {
-	n.log.Info("starting the replay anew", zap.Int64("reads", n.reads))
+	n.log.Info("starting the replay anew", "reads", n.reads)
 	if err := n.replay.Close(); err != nil {
 		return err
 	}
@@ -269,7 +269,7 @@ func (n *Node) apply(entry ledger.Entry) {
 	for number, line := range entry.Lines {
 		n.bytes += int64(len(line))
 		if len(line) > office.MaxLineBytes || len(bytes.TrimSpace(line)) == 0 {
-			n.log.Error("a line of the log is no command", zap.Int64("revision", entry.Revision), zap.Int("place", number))
+			n.log.Error("a line of the log is no command", "revision", entry.Revision, "place", number)
 			continue // All nodes skip it. No node has written it.
 		}
 		number := number

@@ -4,15 +4,15 @@ import (
 	"context"
 	"errors"
 	"fmt"
+	"io"
 	"strings"
 	"sync"
 	"testing"
 	"time"
 
-	"github.com/prometheus/client_golang/prometheus"
-	"go.uber.org/zap"
-
 	"rbac-node/api"
+	"rbac-node/logs"
+	"rbac-node/metrics"
 	"rbac-node/office"
 )
 
@@ -190,7 +190,7 @@ func TestNew(t *testing.T) {
 	for i := 0; i < 2; i++ {
 		newNode(t)
 	}
-	if n, err := New(Options{Data: "/dev/null"}, newFakeLog(), zap.NewNop(), prometheus.NewRegistry()); n != nil || err == nil {
+	if n, err := New(Options{Data: "/dev/null"}, newFakeLog(), logs.New(io.Discard), &metrics.Registry{}); n != nil || err == nil {
 		t.Errorf("%v, %v", n, err)
 	}
 }

@@ -8,8 +8,6 @@ import (
 	"path/filepath"
 	"time"
 
-	"go.uber.org/zap"
-
 	"rbac-node/office"
 )
 
@@ -27,7 +25,7 @@ func (n *Node) resume(ctx context.Context) error {
 	}
 	n.revision, n.count = base.Revision, base.Count
 	n.applied.Store(&place{base.Revision, base.Count})
-	n.log.Info("recovered", zap.Int64("revision", base.Revision), zap.Int64("commands", base.Count))
+	n.log.Info("recovered", "revision", base.Revision, "commands", base.Count)
 	state, err := n.shared.State(ctx)
 	if err != nil {
 		return err
@@ -73,7 +71,7 @@ func (n *Node) base(ctx context.Context) (newest office.Snapshot, err error) {
 	if newest.Revision >= state.Floor {
 		return newest, nil
 	}
-	n.log.Info("the log no longer has what this node lacks", zap.Int64("floor", state.Floor))
+	n.log.Info("the log no longer has what this node lacks", "floor", state.Floor)
 	return n.fetch(ctx)
 }
 
@@ -93,10 +91,10 @@ func (n *Node) fetch(ctx context.Context) (office.Snapshot, error) {
 				return n.accept(ctx, member.Name, offered)
 			})
 			if err == nil {
-				n.log.Info("fetched a snapshot", zap.String("from", member.Name), zap.Int64("revision", s.Revision))
+				n.log.Info("fetched a snapshot", "from", member.Name, "revision", s.Revision)
 				return s, nil
 			}
-			n.log.Warn("no snapshot from this node", zap.String("from", member.Name), zap.Error(err))
+			n.log.Warn("no snapshot from this node", "from", member.Name, "error", err)
 		}
 		select {
 		case <-time.After(lookInterval):

@@ -5,8 +5,6 @@ import (
 	"fmt"
 	"time"
 
-	"go.uber.org/zap"
-
 	"rbac-node/api"
 	"rbac-node/ledger"
 )
@@ -116,7 +114,7 @@ func (n *Node) appendCommands(ctx context.Context) error {
 		within, cancel := context.WithTimeout(ctx, n.options.AnswerTimeout)
 		err := n.appendBatch(within, fmt.Sprintf("%s-%x-%d", n.options.Name, n.start.UnixNano(), number), b)
 		if err != nil && ctx.Err() == nil {
-			n.log.Warn("commands that may be in the log or not", zap.Int("commands", len(b.requests)), zap.Error(err))
+			n.log.Warn("commands that may be in the log or not", "commands", len(b.requests), "error", err)
 		}
 		least, late = 1, nil
 		if asked := len(b.requests) + len(n.asked[api.Command]); err == nil && asked <= fewClients {

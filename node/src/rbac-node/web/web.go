@@ -57,18 +57,24 @@ func (t TLS) read() (config *tls.Config, certificate func() (*tls.Certificate, e
 			return nil, nil, fmt.Errorf("certificate: %w", err)
 		}
 	}
-	if t.CA == "" {
-		return config, certificate, nil
+	config.RootCAs, err = ReadAuthority(t.CA)
+	return config, certificate, err
+}
+
+// ReadAuthority returns the authority in a file, or none if there is no file.
+func ReadAuthority(path string) (*x509.CertPool, error) {
+	if path == "" {
+		return nil, nil
 	}
-	text, err := os.ReadFile(t.CA)
+	text, err := os.ReadFile(path)
 	if err != nil {
-		return nil, nil, fmt.Errorf("authority: %w", err)
+		return nil, fmt.Errorf("authority: %w", err)
 	}
-	config.RootCAs = x509.NewCertPool()
-	if !config.RootCAs.AppendCertsFromPEM(text) {
-		return nil, nil, fmt.Errorf("authority: %s has no certificate", t.CA)
+	pool := x509.NewCertPool()
+	if !pool.AppendCertsFromPEM(text) {
+		return nil, fmt.Errorf("authority: %s has no certificate", path)
 	}
-	return config, certificate, nil
+	return pool, nil
 }
 
 // Server returns what a server needs. With an authority it accepts only clients with a certificate of it.
