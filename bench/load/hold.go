@@ -29,6 +29,11 @@ var ways = map[string]func(net.Conn){
 		_, _ = io.WriteString(conn, beginning)
 		_, _ = io.Copy(io.Discard, conn)
 	},
+	// One without a body sends a head, and no token.
+	"body": func(conn net.Conn) {
+		_, _ = io.WriteString(conn, beginning+"gth: 9\r\n\r\n")
+		_, _ = io.Copy(io.Discard, conn)
+	},
 	// A slow one sends its head byte by byte.
 	"slow": func(conn net.Conn) {
 		for _, err := io.WriteString(conn, beginning); err == nil; _, err = io.WriteString(conn, "x") {

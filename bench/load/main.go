@@ -2,7 +2,7 @@
 //
 //	load puts --targets http://HOST:PORT,.. --clients N --seconds S
 //	load http --targets HOST:PORT,.. --clients N --seconds S --ask command|question|local [--close] [--tokens TOKEN,..]
-//	load hold --targets HOST:PORT,.. --clients N --seconds S --ways idle,half,slow
+//	load hold --targets HOST:PORT,.. --clients N --seconds S --ways idle,half,body,slow
 //
 // The first puts new keys into etcd. The second sends addUser and deleteUser in turn, each client with a user
 // of its own, or checkAccess for the session s1. The third has connections that ask nothing or never finish asking.
@@ -48,7 +48,7 @@ func main() {
 	flags.StringVar(&o.ask, "ask", "command", "command, question or local")
 	flags.BoolVar(&o.close, "close", false, "make a connection for each request")
 	tokens := flags.String("tokens", "", "bearer tokens of the clients, separated by commas")
-	held := flags.String("ways", "idle", "how connections are held: idle, half and slow, separated by commas")
+	held := flags.String("ways", "idle", "how connections are held: idle, half, body and slow, separated by commas")
 	_ = flags.Parse(os.Args[2:])
 	o.targets, o.tokens = strings.Split(*targets, ","), strings.Split(*tokens, ",")
 

@@ -120,9 +120,9 @@ n.asked[kind] <- r
 return api.Answer{Text: []byte(`{"ok":true}`), Revision: n.applied.Load().revision + 1}, nil
 }"""),
     # It takes an answer to be as new as its question was.
-    "aged": ([Faults.pause_replay], "node/node.go", """		n.replay.Send(q.line, func(text []byte) {
+    "aged": ([Faults.pause_replay], "node/node.go", """		n.send(q.line, func(text []byte) {
 			reply <- api.Answer{Text: text, Revision: revision, Newest: n.newest()}""", """		newest, posed := n.newest(), time.Now()
-		n.replay.Send(q.line, func(text []byte) {
+		n.send(q.line, func(text []byte) {
 			reply <- api.Answer{Text: text, Revision: revision, Newest: newest.Add(time.Since(posed))}"""),
     # It keeps running after its replay has ended.
     "endless": ([Faults.kill_busy_replay], "node/node.go", """if err := n.replay.Close(); err != nil {

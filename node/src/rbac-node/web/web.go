@@ -138,8 +138,14 @@ func Serve(start func(func() error), listener net.Listener, handler http.Handler
 // ServeIn starts a server in a goroutine. Servers may share a room. HTTP/2 is off: Go 1.19 lacks what was mended in it since.
 func ServeIn(room *Room, start func(func() error), listener net.Listener, handler http.Handler, limits Limits) *http.Server {
 	server := &http.Server{
-		Handler: handler, MaxHeaderBytes: maxHeadBytes, ConnState: room.noteState, ConnContext: limits.Connected,
-		ErrorLog:          limits.Errors,
+		Handler: handler, MaxHeaderBytes: maxHeadBytes, ConnState: room.noteState, ErrorLog: limits.Errors,
+		ConnContext: func(ctx context.Context, conn net.Conn) context.Context {
+			ctx = context.WithValue(ctx, placeKey{}, place{room, conn})
+			if limits.Connected != nil {
+				ctx = limits.Connected(ctx, conn)
+			}
+			return ctx
+		},
 		ReadHeaderTimeout: headTimeout, ReadTimeout: RequestTimeout, IdleTimeout: idleTimeout, WriteTimeout: limits.AnswerTimeout,
 		TLSNextProto: map[string]func(*http.Server, *tls.Conn, http.Handler){},
 	}
@@ -286,6 +292,24 @@ func (r *Room) closeOne() {
 	}
 }
 
+// A place is that of a connection in a room.
+type place struct {
+	room *Room
+	conn net.Conn
+}
+
+type placeKey struct{}
+
+// Refused says that the request with this context has shown no right to be here. Until it is done its connection makes room as one does
+// that has not sent any: the client may take long to send the rest.
+func Refused(ctx context.Context) {
+	if at, has := ctx.Value(placeKey{}).(place); has {
+		at.room.mutex.Lock()
+		defer at.room.mutex.Unlock()
+		at.room.fresh.add(at.conn)
+	}
+}
+
 // noteState is told each change of a connection's state.
 func (r *Room) noteState(conn net.Conn, state http.ConnState) {
 	r.mutex.Lock()
@@ -314,7 +338,10 @@ type waiting struct {
 	since time.Time
 }
 
-func (q *queue) add(conn net.Conn) { q.places[conn] = q.order.PushBack(waiting{conn, time.Now()}) }
+func (q *queue) add(conn net.Conn) {
+	q.remove(conn)
+	q.places[conn] = q.order.PushBack(waiting{conn, time.Now()})
+}
 
 func (q *queue) remove(conn net.Conn) {
 	if place, has := q.places[conn]; has {

@@ -163,6 +163,48 @@ func TestCloseOne(t *testing.T) {
 	}
 }
 
+// A connection whose request is refused before it has come makes room, until its request is done.
+func TestRefused(t *testing.T) {
+	for _, test := range []struct {
+		name     string
+		refused  bool
+		isDone   bool
+		isClosed bool
+	}{
+		{"a request that is answered", false, false, false},
+		{"one that is refused", true, false, true},
+		{"one that was refused before another one came", true, true, false},
+	} {
+		t.Run(test.name, func(t *testing.T) {
+			r, conn := NewRoom(9), &fakeConn{closed: make(chan struct{})}
+			ctx := context.WithValue(context.Background(), placeKey{}, place{r, conn})
+			r.noteState(conn, http.StateNew)
+			r.noteState(conn, http.StateActive)
+			if test.refused {
+				Refused(ctx)
+			}
+			if test.isDone {
+				r.noteState(conn, http.StateIdle)
+				r.noteState(conn, http.StateActive)
+			}
+			for at := r.fresh.order.Front(); at != nil; at = at.Next() {
+				at.Value = waiting{conn, time.Now().Add(-time.Hour)}
+			}
+			r.closeOne()
+			if test.isClosed {
+				<-conn.closed
+				return
+			}
+			select {
+			case <-conn.closed:
+				t.Error("it is closed")
+			case <-time.After(50 * time.Millisecond):
+			}
+		})
+	}
+	Refused(context.Background()) // Without a server it means nothing.
+}
+
 // Connections that wait for their answers are not closed: others wait until there is room.
 func TestConnectionsBusy(t *testing.T) {
 	stuck, busy := make(chan struct{}), make(chan struct{}, 10)
