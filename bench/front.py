@@ -234,11 +234,11 @@ class Bench:
             with_none, with_them = [], []
             for _ in range(self.rounds):
                 with_none.append(self.load(port, 16, *tokens))
-                time_held = 3 * self.seconds + 12
+                time_held = self.seconds + 9
                 holding = subprocess.Popen(
                     [self.load_program, "hold", "--targets", f"127.0.0.1:{port}", "--clients", str(HELD), "--seconds", str(time_held),
                      "--ways", ways], stdout=subprocess.PIPE, text=True)  # fmt: skip
-                time.sleep(8)
+                time.sleep(7)
                 with_them.append(self.load(port, 16, *tokens))
                 memory = memory_of(process.pid)
                 said, _ = holding.communicate()
