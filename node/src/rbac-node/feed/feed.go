@@ -25,6 +25,8 @@ const (
 	most = 8192
 	// pause is the time before a replay that doesn't start is started again.
 	pause = time.Second
+	// patience is how long a replay may answer nothing, although lines wait, before it counts as one that doesn't answer.
+	patience = 5 * time.Second
 	// leaving is how long a replay may take to answer the last lines.
 	leaving = 10 * time.Second
 )
@@ -53,6 +55,8 @@ type Feed struct {
 	// sent has the units that the replay has got and not answered, in their order.
 	sent   chan *unit
 	replay *office.Replay
+	// newest is the replay that was started last, for other goroutines.
+	newest atomic.Pointer[office.Replay]
 	// reads is the most times that the replay can have read its input. Only the goroutine of Run uses it.
 	reads int64
 	mutex sync.Mutex // for First
@@ -98,6 +102,9 @@ func IsAccepted(answer []byte) bool { return bytes.HasPrefix(answer, []byte(`{"o
 // Why returns why no line is answered now, or an empty text.
 func (f *Feed) Why() string {
 	why, _ := f.why.Load().(string)
+	if replay := f.newest.Load(); why == "" && replay != nil && replay.Silence() > patience {
+		return "the replay has answered nothing for some time"
+	}
 	return why
 }
 
@@ -283,6 +290,7 @@ func (f *Feed) start(ctx context.Context) error {
 	}
 	f.Starts.Add(f.Name)
 	f.replay, f.reads = replay, 0
+	f.newest.Store(replay)
 	done, refused := make(chan struct{}), (*RefusedError)(nil)
 	first := f.first()
 	for i, line := range first {
