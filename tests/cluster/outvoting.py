@@ -1,29 +1,20 @@
 """A node with other rows than the two others, while clients ask and machines fail: it is outvoted, and nobody takes its snapshot."""
 
-import base64
 import json
 import shutil
 import time
 
 from .answers import exchange, post
 from .faults import OFTEN
-from .keeping import log_of, revisions, tamper
-from .machines import PREFIX, encoded
+from .keeping import log_of, make_wrong
+from .machines import PREFIX
 from .networks import MACHINES
 from .rights import token
-from .rows import digest_of, snapshots_of
 
 DIVERGED = (503, b'{"code":61,"error":"Diverged"}')
 
 # The client whose questions are asked here; no rights of it are limited.
 ASKER = 1
-
-
-def registered(cluster):
-    """The revisions of the snapshots that each node has registered in etcd."""
-    reply = cluster.etcd_call("/v3/kv/range", {"key": encoded(f"{PREFIX}/nodes/"), "range_end": encoded(f"{PREFIX}/nodes0")})
-    members = [json.loads(base64.b64decode(kv["value"])) for kv in (reply or {}).get("kvs", [])]
-    return {int(one["name"][1:]): {s["revision"] for s in one["snapshots"]} for one in members}
 
 
 def others_of(i):
@@ -51,23 +42,6 @@ def outvote(bench, cluster, faults):
     cluster.nodes[wrong].start()
     cluster.until(cluster.ready, "all are ready again")
     faults.did("nodes with wrong rows")
-
-
-def make_wrong(cluster, i):
-    """Changes the newest snapshot of a node behind its back, as a disk does that fails, once the others have registered theirs."""
-    cluster.nodes[i].stop()
-    wanted = lambda: set(revisions(cluster, i)).intersection(
-        *(registered(cluster).get(j, ()) for j in range(MACHINES))
-    )  # noqa: E731
-    cluster.until(wanted, "all have registered a snapshot of one place")
-    for revision in revisions(cluster, i):
-        if revision > max(wanted()):
-            snapshots_of(cluster, i)[revision][1].unlink()
-    revision = max(wanted())
-    says, path = snapshots_of(cluster, i)[revision]
-    tamper(path)
-    path.rename(path.with_name(f"{revision}-{says['commands']}-{digest_of(path)}"))
-    cluster.nodes[i].start()
 
 
 def judge_lost(bench, cluster, wrong, right, lost):
