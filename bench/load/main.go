@@ -1,10 +1,11 @@
 // Command load measures a service with clients that send one request after another on connections that they keep.
 //
 //	load puts --targets http://HOST:PORT,.. --clients N --seconds S
-//	load http --targets HOST:PORT,.. --clients N --seconds S --ask command|question|local [--close]
+//	load http --targets HOST:PORT,.. --clients N --seconds S --ask command|question|local [--close] [--tokens TOKEN,..]
+//	load hold --targets HOST:PORT,.. --clients N --seconds S --ways idle,half,body,slow
 //
 // The first puts new keys into etcd. The second sends addUser and deleteUser in turn, each client with a user
-// of its own, or checkAccess for the session s1.
+// of its own, or checkAccess for the session s1. The third has connections that ask nothing or never finish asking.
 package main
 
 import (
@@ -37,7 +38,7 @@ type options struct {
 func main() {
 	log.SetFlags(0)
 	if len(os.Args) < 2 {
-		log.Fatal("usage: load puts|http [flags]")
+		log.Fatal("usage: load puts|http|hold [flags]")
 	}
 	var o options
 	flags := flag.NewFlagSet(os.Args[1], flag.ExitOnError)
@@ -47,6 +48,7 @@ func main() {
 	flags.StringVar(&o.ask, "ask", "command", "command, question or local")
 	flags.BoolVar(&o.close, "close", false, "make a connection for each request")
 	tokens := flags.String("tokens", "", "bearer tokens of the clients, separated by commas")
+	held := flags.String("ways", "idle", "how connections are held: idle, half, body and slow, separated by commas")
 	_ = flags.Parse(os.Args[2:])
 	o.targets, o.tokens = strings.Split(*targets, ","), strings.Split(*tokens, ",")
 
@@ -60,6 +62,11 @@ func main() {
 		make = func(int) (asker, error) { return puts(client), nil }
 	case "http":
 		make = func(client int) (asker, error) { return requests(o, client) }
+	case "hold":
+		if err := hold(o, strings.Split(*held, ",")); err != nil {
+			log.Fatal(err)
+		}
+		return
 	default:
 		log.Fatalf("unknown mode %s", os.Args[1])
 	}

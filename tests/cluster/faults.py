@@ -71,6 +71,13 @@ class Faults:
     def kill_busy_replay(self, i):
         self.kill_replay(i, True)
 
+    def kill_callers(self, i):
+        """Ends the office of the callers, which the node starts again."""
+        for child in self.cluster.nodes[i].children():
+            if arguments_of(child) == [b"replay", b"--memory"]:
+                send(child, signal.SIGKILL)
+                self.did("offices of callers killed")
+
     def end_node(self, i):
         """The node is asked to end, and has to end in order, unless it was about to start or had just failed."""
         status = self.cluster.nodes[i].stop(signal.SIGTERM)
@@ -111,6 +118,11 @@ class Faults:
         self.cluster.network.join(i)
         self.did("machines cut off")
 
+    def reload_callers(self, i):
+        """The node reads its callers again. One that is just starting may end by the signal instead."""
+        self.cluster.nodes[i].send(signal.SIGHUP)
+        self.did("nodes told to read their callers again")
+
     def lose_node(self, i):
         self.cluster.lose_node(i)
         self.did("folders of nodes lost")
@@ -121,15 +133,21 @@ class Faults:
         self.did("folders of members lost")
 
 
-def is_replay(process):
-    """Whether a process is a replay, and no other run of the program."""
+def arguments_of(process):
+    """The arguments of a process that runs."""
     try:
         with open(f"/proc/{process}/cmdline", "rb") as words:
-            return words.read().split(b"\0")[1:2] == [b"replay"]
+            return words.read().split(b"\0")[1:-1]
     except OSError:
-        return False
+        return []
+
+
+def is_replay(process):
+    """Whether a process is the replay of the office, and no other run of the program."""
+    words = arguments_of(process)
+    return words[:1] == [b"replay"] and words[1:] != [b"--memory"]
 
 
 KILLS = [Faults.kill_node, Faults.kill_member, Faults.kill_machine, Faults.kill_two_members, Faults.kill_replay]
 PAUSES = [Faults.pause_node, Faults.pause_member, Faults.pause_replay]
-OFTEN = KILLS + KILLS[:2] + PAUSES + [Faults.kill_busy_replay, Faults.end_node]
+OFTEN = KILLS + KILLS[:2] + PAUSES + [Faults.kill_busy_replay, Faults.end_node, Faults.reload_callers, Faults.kill_callers]

@@ -17,6 +17,9 @@ PATIENCE = 6
 
 DEFINITE = {200, 400, 404, 409}
 
+# The caller may not do it: it is never done.
+REFUSED = {401, 403, 429}
+
 
 @dataclass
 class Asked:
@@ -38,13 +41,19 @@ class Asked:
         """Whether the office has answered. If not, a command may be done or not."""
         return self.status in DEFINITE
 
+    @property
+    def may_be_done(self):
+        """Whether a command may be in the log although the office has not answered."""
+        return not self.is_answered and self.status not in REFUSED
+
 
 class Client(threading.Thread):
-    """Asks nodes, one request after another, until it is stopped."""
+    """Asks nodes, one request after another, until it is stopped. It shows a token, for nodes that have callers."""
 
-    def __init__(self, cluster, number, seed, done):
+    def __init__(self, cluster, number, seed, done, token=""):
         super().__init__(daemon=True)
         self.cluster, self.number, self.done = cluster, number, done
+        self.fields = {"Authorization": f"Bearer {token}"} if token else {}
         self.random = random.Random(seed * 1000 + number)
         self.connections, self.history, self.faults, self.tags = {}, [], [], 0
 
@@ -66,8 +75,8 @@ class Client(threading.Thread):
         asked = Asked(kind, node, line, time.monotonic())
         try:
             connection = self.connection(node)
-            headers = {"Consistency": "local"} if kind == LOCAL else {}
-            connection.request("POST", f"/v1/{line['fn']}", body, headers)
+            local = {"Consistency": "local"} if kind == LOCAL else {}
+            connection.request("POST", f"/v1/{line['fn']}", body, {**self.fields, **local})
             reply = connection.getresponse()
             asked.answer, asked.status = reply.read(), reply.status
             asked.revision = int(reply.headers.get("Office-Revision", 0))
@@ -78,7 +87,7 @@ class Client(threading.Thread):
             self.connections.pop(node).close()
         asked.end = time.monotonic()
         self.history.append(asked)
-        if not asked.is_answered:
+        if not asked.is_answered and asked.status not in REFUSED:
             self.done.wait(0.05)
         return asked
 

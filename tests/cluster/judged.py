@@ -11,6 +11,9 @@ from .histories import Client
 from .judging import Judge, Recorder, counts_of
 from .machines import SECONDS, Cluster
 from .networks import MACHINES
+from .outvoting import outvote
+from .rights import faults_of as refused_wrongly
+from .rights import options, token
 from .rows import offices, rows_of, snapshots_of, sorted_rows
 from .running import build, build_wrong
 
@@ -30,7 +33,7 @@ class Trial:
     def __init__(self, cluster, seed, clients=CLIENTS):
         self.cluster, self.done = cluster, threading.Event()
         self.recorder = Recorder(cluster)
-        self.clients = [Client(cluster, number, seed, self.done) for number in range(clients)]
+        self.clients = [Client(cluster, number, seed, self.done, token(number)) for number in range(clients)]
         for thread in (self.recorder, *self.clients):
             thread.start()
 
@@ -40,6 +43,8 @@ class Trial:
         for client in self.clients:
             client.join()
         faults = [fault for client in self.clients for fault in client.faults]
+        if self.cluster.more:
+            faults += [fault for client in self.clients for fault in refused_wrongly(client.history, client.number)]
         try:
             self.cluster.heal(seconds)
         except TimeoutError as fault:
@@ -80,17 +85,18 @@ def check_faults(bench):
 def judge_faults(bench, folder, node, count, between):
     seed = random.randrange(10**6)
     print(f"seed {seed}")
-    with Cluster(folder, node, every=EVERY) as cluster:
+    with Cluster(folder, node, every=EVERY, more=options(folder, CLIENTS)) as cluster:
         trial, faults = Trial(cluster, seed), Faults(cluster, seed)
         time.sleep(2)
         for rare in (Faults.cut, Faults.lose_node, Faults.lose_member, Faults.cut):
             faults.run(OFTEN, count // 4, between)
             faults.run([rare], 1, between)
-        for what, times in sorted(faults.counts.items()):
-            print(f"{times:9,}  {what}")
         # Whatever failed has recovered: all is answered again, and the log is trimmed.
         cluster.heal()
         cluster.until(lambda: trial.recorder.floor, "the log is trimmed", 2 * SECONDS)
+        outvote(bench, cluster, faults)
+        for what, times in sorted(faults.counts.items()):
+            print(f"{times:9,}  {what}")
         bench.judge(f"nothing answered wrongly (seed {seed})", (faults.faults + trial.judge())[:20])
         kills = sum(times for what, times in faults.counts.items() if "killed" in what or "paused" in what)
         bench.judge("as many kills and pauses as wanted", [] if kills >= 0.75 * count else [f"only {kills}"])
@@ -113,6 +119,11 @@ if kind == api.Command {
 n.asked[kind] <- r
 return api.Answer{Text: []byte(`{"ok":true}`), Revision: n.applied.Load().revision + 1}, nil
 }"""),
+    # It takes an answer to be as new as its question was.
+    "aged": ([Faults.pause_replay], "node/node.go", """		n.send(q.line, func(text []byte) {
+			reply <- api.Answer{Text: text, Revision: revision, Newest: n.newest()}""", """		newest, posed := n.newest(), time.Now()
+		n.send(q.line, func(text []byte) {
+			reply <- api.Answer{Text: text, Revision: revision, Newest: newest.Add(time.Since(posed))}"""),
     # It keeps running after its replay has ended.
     "endless": ([Faults.kill_busy_replay], "node/node.go", """if err := n.replay.Close(); err != nil {
 				return err

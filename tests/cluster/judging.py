@@ -16,6 +16,9 @@ from .histories import COMMAND, LINEARIZABLE, LOCAL
 # The clock of an age is that of the node.
 SLACK = 0.05
 
+# How long an answer may need to reach a client, with all clients in one process of a busy machine.
+LATE = 1.0
+
 
 class Recorder(threading.Thread):
     """Reads the log from etcd while it grows, before it is trimmed."""
@@ -80,8 +83,10 @@ class Judge:
             if asked.kind != COMMAND:
                 continue
             request, place = (asked.node, text_of(asked.line)), (asked.revision, asked.place)
-            if not asked.is_answered:
+            if asked.may_be_done:
                 waiting.setdefault(request, []).append(asked)
+            elif not asked.is_answered:
+                continue
             elif place in self.asked_at:
                 self.fault(f"another command was answered at the same place: {self.asked_at[place]}", asked)
             elif lines.get(place) != request:
@@ -131,8 +136,7 @@ class Judge:
             seen = max(seen, *(begun.get((revision, place), 0.0) for place in range(len(lines))))
             latest.append((revision, seen))
         for one in answered:
-            # What was answered before the request began; for a local one, before its age.
-            since = one.start - (one.age + SLACK if one.kind == LOCAL else 0)
+            since = fresh_at(one)
             index = bisect.bisect_left(times, since)
             before = newest[index - 1] if index else (0, 0)
             if one.kind == COMMAND and not place_of(one) > before:
@@ -142,6 +146,14 @@ class Judge:
             index = bisect.bisect_right(latest, (one.revision, float("inf")))
             if index and latest[index - 1][1] > one.end:
                 self.fault("it sees what was requested later", one)
+
+
+def fresh_at(asked):
+    """An answer has what was answered before this time. A local one is as old as it says, however long it has waited."""
+    if asked.kind == COMMAND:
+        return asked.start
+    came = asked.end - asked.age - LATE
+    return max(came, asked.start - (asked.age + SLACK if asked.kind == LOCAL else 0))
 
 
 def text_of(line):
@@ -161,4 +173,5 @@ def counts_of(histories):
     for kind in (COMMAND, LINEARIZABLE, LOCAL):
         counts[f"{kind} requests"] = sum(one.kind == kind for one in asked)
         counts[f"{kind} answers"] = sum(one.kind == kind and one.is_answered for one in asked)
+    counts["requests that the caller may not send"] = sum(one.status == 403 for one in asked)
     return counts

@@ -1,5 +1,6 @@
 """Snapshots, the trimming of the log, nodes that come and go, and nodes that differ."""
 
+import base64
 import json
 import re
 import shutil
@@ -11,7 +12,7 @@ import time
 from program.bench import PROGRAM
 
 from .answers import exchange, post
-from .machines import PREFIX, Cluster
+from .machines import PREFIX, Cluster, encoded
 from .rows import digest_of, rows_of, snapshots_of
 from .running import build
 
@@ -52,10 +53,12 @@ def check_keeping(bench):
 
 def judge_snapshots(bench, cluster):
     """All nodes have snapshots at the same places with the same rows, and the log is trimmed."""
-    add_users(cluster, "a", 4 * EVERY)
-    cluster.until(lambda: all(cluster.status(i)["commands"] == 4 * EVERY for i in range(3)), "all have all commands")
-    head = cluster.status(0)["revision"]
-    cluster.until(lambda: all(revisions(cluster, i)[2:] == [head] for i in range(3)), "three snapshots on each node")
+    for number in range(4):
+        # A node that is still busy with a snapshot takes no other one.
+        add_users(cluster, f"a{number}-", EVERY)
+        head = cluster.status(0)["revision"]
+        cluster.until(lambda head=head: all(head in revisions(cluster, i) for i in range(3)), "all have the snapshot")
+    cluster.until(lambda: all(len(revisions(cluster, i)) == 3 for i in range(3)), "three snapshots on each node")
     found = [snapshots_of(cluster, i) for i in range(3)]
     bench.same("the places of node 1", sorted(found[1]), sorted(found[0]))
     bench.same("the places of node 2", sorted(found[2]), sorted(found[0]))
@@ -140,14 +143,51 @@ def judge_damaged(bench, cluster):
     cluster.until(cluster.ready, "the node is ready")
 
 
+def registered(cluster):
+    """The revisions of the snapshots that each node has registered in etcd."""
+    reply = cluster.etcd_call("/v3/kv/range", {"key": encoded(f"{PREFIX}/nodes/"), "range_end": encoded(f"{PREFIX}/nodes0")})
+    members = [json.loads(base64.b64decode(kv["value"])) for kv in (reply or {}).get("kvs", [])]
+    return {int(one["name"][1:]): {s["revision"] for s in one["snapshots"]} for one in members}
+
+
+def shared(cluster, i):
+    """The revisions of a node's snapshots that all nodes have registered."""
+    found = registered(cluster)
+    return set(revisions(cluster, i)).intersection(*(found.get(j, ()) for j in range(3)))
+
+
+def evens(cluster):
+    """Adds commands, and returns whether the newest snapshots of all nodes then are of one place, and registered."""
+    add_users(cluster, f"w{time.monotonic_ns()}-", EVERY)
+    deadline = time.monotonic() + 10
+    while time.monotonic() < deadline:
+        newest = {max(revisions(cluster, i), default=0) for i in range(3)}
+        if len(newest) == 1 and newest <= shared(cluster, 2):
+            return True
+        time.sleep(0.1)
+    return False
+
+
+def make_wrong(cluster, i):
+    """Changes a snapshot of a node behind its back, as a disk does that fails, once all have registered theirs of that place, and
+    returns its revision. The node has no newer one."""
+    cluster.nodes[i].stop()
+    cluster.until(lambda: shared(cluster, i), "all have registered a snapshot of one place")
+    wrong = max(shared(cluster, i))
+    for revision, (says, path) in snapshots_of(cluster, i).items():
+        if revision > wrong:
+            path.unlink()
+        if revision == wrong:
+            tamper(path)
+            path.rename(path.with_name(f"{revision}-{says['commands']}-{digest_of(path)}"))
+    cluster.nodes[i].start()
+    return wrong
+
+
 def judge_diverged(bench, cluster):
     """A node with other rows than the two others refuses to serve, and reports at which revision. The others go on."""
-    cluster.nodes[2].stop()
-    newest = max(revisions(cluster, 2))
-    says, path = snapshots_of(cluster, 2)[newest]
-    tamper(path)
-    path.rename(path.with_name(f"{newest}-{says['commands']}-{digest_of(path)}"))
-    cluster.nodes[2].start()
+    cluster.until(lambda: evens(cluster), "all have registered a snapshot of one place, and no newer one")
+    newest = make_wrong(cluster, 2)
     cluster.until(lambda: "differs" in cluster.status(2).get("why", ""), "node 2 refuses")
     why = cluster.status(2)["why"]
     bench.same("why", re.sub("n[01]$", "n", why), f"at revision {newest} the snapshot of n2 differs from that of n")

@@ -256,13 +256,17 @@ class Cluster:
         shutil.rmtree(self.data(f"node{i}"))
         self.nodes[i].start()
 
-    def heal(self, seconds=SECONDS):
-        """Lets everything run, and waits until all nodes have applied the whole log."""
+    def resume(self):
+        """Lets everything run."""
         for process in (*self.members, *self.nodes):
             process.start()
             process.send(signal.SIGCONT)
             for child in process.children():
                 send(child, signal.SIGCONT)
+
+    def heal(self, seconds=SECONDS):
+        """Lets everything run, and waits until all nodes have applied the whole log."""
+        self.resume()
         self.until(self.ready, "all nodes are ready again", seconds)
         same = lambda: len({self.status(i).get("revision") for i in range(MACHINES)}) == 1  # noqa: E731
         self.until(same, "all nodes have the same", seconds)

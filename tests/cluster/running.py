@@ -16,7 +16,7 @@ from program.bench import PROGRAM, TESTS, Bench
 OF_SOURCES = ["sources"]
 OF_CLUSTERS = ["program", "page", "booted", "answers", "secured", "callers", "hung", "full", "keeping", "judged"]
 
-NEEDED = ["go.etcd.io/etcd/clientv3", "github.com/prometheus/client_golang/prometheus"]
+NEEDED = ["go.etcd.io/etcd/clientv3", "go.uber.org/zap", "golang.org/x/sync/errgroup"]
 
 # A member of etcd syncs each entry: files in memory let the test do more.
 IN_MEMORY = "/dev/shm"

@@ -83,5 +83,6 @@ def check_limits(bench):
         ('"timeout", 10*time.Second', "(default: 10s)"),
         ('"hang-timeout", time.Minute', "(default: 1m)"),
         ("nobody = 65534", "65534, which is nobody"),
+        ("patience = 5 * time.Second", "the replay has answered none for 5 seconds"),
     ]:
         bench.same(f"{source} and {text}", (source in sources, text in page), (True, True))

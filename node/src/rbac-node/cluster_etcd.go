@@ -6,7 +6,6 @@ import (
 	"context"
 	"errors"
 	"fmt"
-	"io"
 	"net/http"
 	"os"
 	"path/filepath"
@@ -14,8 +13,6 @@ import (
 	"syscall"
 	"time"
 
-	"github.com/prometheus/client_golang/prometheus"
-	"github.com/prometheus/client_golang/prometheus/promhttp"
 	"go.etcd.io/etcd/clientv3"
 	"go.uber.org/zap"
 	"google.golang.org/grpc"
@@ -26,6 +23,7 @@ import (
 	"rbac-node/metrics"
 	"rbac-node/node"
 	"rbac-node/office"
+	"rbac-node/single"
 	"rbac-node/web"
 )
 
@@ -99,20 +97,18 @@ func (s *clusterSettings) adoptInto(ctx context.Context, log *ledger.Ledger, fro
 }
 
 // open checks the settings, and opens the log in etcd.
-func (s *clusterSettings) open(common *settings) (*ledger.Ledger, *zap.Logger, func(), error) {
+func (s *clusterSettings) open(common *settings) (*ledger.Ledger, *logs.Logger, func(), error) {
 	s.common, s.Program, s.AnswerTimeout, s.HangTimeout = common, common.program, common.answerTimeout, common.hangTimeout
+	s.Reads = single.MostReads
 	if err := s.check(); err != nil {
-		return nil, nil, nil, err
-	}
-	logger, err := newLogger(s.Name)
-	if err != nil {
 		return nil, nil, nil, err
 	}
 	client, err := s.connect()
 	if err != nil {
 		return nil, nil, nil, fmt.Errorf("etcd: %w", err)
 	}
-	return ledger.New(client, s.prefix, logger), logger, func() { _ = client.Close() }, nil
+	events := logs.New(os.Stderr, "node", s.Name)
+	return ledger.New(client, s.prefix, events), events, func() { _ = client.Close() }, nil
 }
 
 // lockFolder makes a folder, and locks it until the file is closed.
@@ -133,17 +129,17 @@ func lockFolder(folder string) (*os.File, error) {
 
 // serve runs a node until a signal comes or something fails.
 func (s *clusterSettings) serve(common *settings) error {
-	log, logger, closeAll, err := s.open(common)
+	log, events, closeAll, err := s.open(common)
 	if err != nil {
 		return err
 	}
 	defer closeAll()
 	// Until here a signal ends the process at once, even while etcd does not answer.
-	return untilSignal(func(ctx context.Context) error { return s.serveNode(ctx, log, logger) })
+	return untilSignal(func(ctx context.Context) error { return s.serveNode(ctx, log, events) })
 }
 
 // serveNode serves clients and other nodes.
-func (s *clusterSettings) serveNode(ctx context.Context, log *ledger.Ledger, logger *zap.Logger) error {
+func (s *clusterSettings) serveNode(ctx context.Context, log *ledger.Ledger, events *logs.Logger) error {
 	lock, err := lockFolder(s.Data)
 	if err != nil {
 		return err
@@ -161,21 +157,22 @@ func (s *clusterSettings) serveNode(ctx context.Context, log *ledger.Ledger, log
 	if s.common.refused == "" {
 		s.common.refused = filepath.Join(s.Data, "refused")
 	}
-	events, registry := logs.New(os.Stderr, "node", s.Name), &metrics.Registry{}
+	registry := &metrics.Registry{}
+	registry.AddProcess()
 	f, err := front.New(ctx, s.common.frontOptions(addresses, events, registry))
 	if err != nil {
 		return err
 	}
 	defer f.Close()
 	s.IsOpen = s.common.callers.Callers == ""
-	n, err := node.New(s.Options, log, logger, prometheus.DefaultRegisterer)
+	n, err := node.New(s.Options, log, events, registry)
 	if err != nil {
 		return err
 	}
 	if err := f.Listen(); err != nil {
 		return err
 	}
-	logger.Info("started", zap.String("peer", s.peer))
+	events.Info("started", "peer", s.peer)
 	return s.answer(ctx, f, n, events, registry)
 }
 
@@ -197,15 +194,9 @@ func (s *clusterSettings) answer(ctx context.Context, f *front.Front, n *node.No
 
 // peerHandler serves other nodes and monitoring.
 func peerHandler(n *node.Node, registry *metrics.Registry) http.Handler {
-	mux, library := http.NewServeMux(), promhttp.Handler()
+	mux := http.NewServeMux()
 	mux.Handle("/snapshot", n.Snapshots())
 	mux.HandleFunc("/healthz", n.ServeHealth)
-	mux.HandleFunc("/metrics", func(w http.ResponseWriter, r *http.Request) {
-		// The library's metrics come first, in the same format.
-		r.Header.Del("Accept")
-		r.Header.Del("Accept-Encoding")
-		library.ServeHTTP(w, r)
-		_, _ = io.WriteString(w, registry.Text()) // If it fails, the client is gone.
-	})
+	mux.Handle("/metrics", registry)
 	return mux
 }

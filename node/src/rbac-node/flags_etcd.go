@@ -5,12 +5,8 @@ package main
 import (
 	"errors"
 	"flag"
-	"fmt"
 	"os"
 	"strings"
-
-	"go.uber.org/zap"
-	"go.uber.org/zap/zapcore"
 
 	"rbac-node/node"
 	"rbac-node/web"
@@ -72,16 +68,4 @@ func (s *clusterSettings) check() error {
 		s.Peer = s.peerTLS.Scheme() + "://" + s.peer
 	}
 	return nil
-}
-
-// newLogger returns a logger that writes each event as a line of JSON to standard error.
-func newLogger(name string) (*zap.Logger, error) {
-	config := zap.NewProductionConfig()
-	config.EncoderConfig.EncodeTime = zapcore.ISO8601TimeEncoder
-	config.DisableCaller, config.DisableStacktrace = true, true
-	logger, err := config.Build(zap.Fields(zap.String("node", name)))
-	if err != nil {
-		return nil, fmt.Errorf("logger: %w", err)
-	}
-	return logger, nil
 }

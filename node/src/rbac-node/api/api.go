@@ -96,15 +96,6 @@ func NewHandler(ctx context.Context, office Office, registry *metrics.Registry) 
 	}
 }
 
-// ServeHTTP answers any request.
-func (h *Handler) ServeHTTP(w http.ResponseWriter, r *http.Request) {
-	if r.URL.Path == "/healthz" {
-		h.office.ServeHealth(w, r)
-		return
-	}
-	h.Serve(w, r, nil, func() {})
-}
-
 // A Judge decides whether a call may be done. An error refuses it.
 type Judge func(ctx context.Context, call *Call) error
 

@@ -12,7 +12,6 @@ import (
 	"time"
 
 	"rbac-node/metrics"
-
 	"rbac-node/office"
 )
 
@@ -31,7 +30,10 @@ func (f *fakeOffice) ServeHealth(http.ResponseWriter, *http.Request) {}
 
 // said returns all that a server answers to some bytes until it closes the connection.
 func said(t *testing.T, office Office, text string) string {
-	server := httptest.NewServer(NewHandler(context.Background(), office, &metrics.Registry{}))
+	handler := NewHandler(context.Background(), office, &metrics.Registry{})
+	server := httptest.NewServer(http.HandlerFunc(func(w http.ResponseWriter, r *http.Request) {
+		handler.Serve(w, r, nil, func() {})
+	}))
 	defer server.Close()
 	conn, err := net.Dial("tcp", server.Listener.Addr().String())
 	if err != nil {

@@ -6,7 +6,6 @@ import (
 	"fmt"
 	"net/http"
 	"sync"
-	"time"
 
 	"rbac-node/api"
 )
@@ -145,12 +144,4 @@ func (g *Guard) Close() {
 	g.mutex.Lock()
 	defer g.mutex.Unlock()
 	g.set.Close()
-}
-
-// settling is how long it may take until all requests are done that an earlier set has judged.
-const settling = 2 * time.Minute
-
-// Settling returns a context in which a set replaces another one.
-func Settling(ctx context.Context) (context.Context, context.CancelFunc) {
-	return context.WithTimeout(ctx, settling)
 }

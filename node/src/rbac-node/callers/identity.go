@@ -59,22 +59,6 @@ func readTokens(path string) (map[[sha256.Size]byte]string, error) {
 	return tokens, nil
 }
 
-// readAuthority reads the authority of the certificates of clients, if there is a file.
-func readAuthority(path string) (*x509.CertPool, error) {
-	if path == "" {
-		return nil, nil
-	}
-	text, err := os.ReadFile(path)
-	if err != nil {
-		return nil, fmt.Errorf("authority: %w", err)
-	}
-	pool := x509.NewCertPool()
-	if !pool.AppendCertsFromPEM(text) {
-		return nil, fmt.Errorf("authority: %s has no certificate", path)
-	}
-	return pool, nil
-}
-
 // identify returns who asks. An Authorization field decides alone.
 func (s *Set) identify(r *http.Request) (string, error) {
 	if fields, has := r.Header["Authorization"]; has {

@@ -18,6 +18,7 @@ import (
 	"rbac-node/logs"
 	"rbac-node/metrics"
 	replays "rbac-node/office"
+	"rbac-node/web"
 )
 
 const (
@@ -82,7 +83,7 @@ func Load(ctx context.Context, options Options) (*Set, error) {
 	if s.tokens, err = readTokens(options.Tokens); err != nil {
 		return nil, err
 	}
-	if s.authority, err = readAuthority(options.Authority); err != nil {
+	if s.authority, err = web.ReadAuthority(options.Authority); err != nil {
 		return nil, err
 	}
 	if s.verifier, err = newVerifier(options.Files); err != nil {

@@ -25,10 +25,10 @@ const (
 	most = 8192
 	// pause is the time before a replay that doesn't start is started again.
 	pause = time.Second
+	// patience is how long a replay may answer nothing, although lines wait, before it counts as one that doesn't answer.
+	patience = 5 * time.Second
 	// leaving is how long a replay may take to answer the last lines.
 	leaving = 10 * time.Second
-	// chunk is the fewest bytes that one read of a full pipe returns.
-	chunk = 4096
 )
 
 // Options are what a feed needs.
@@ -55,6 +55,8 @@ type Feed struct {
 	// sent has the units that the replay has got and not answered, in their order.
 	sent   chan *unit
 	replay *office.Replay
+	// newest is the replay that was started last, for other goroutines.
+	newest atomic.Pointer[office.Replay]
 	// reads is the most times that the replay can have read its input. Only the goroutine of Run uses it.
 	reads int64
 	mutex sync.Mutex // for First
@@ -100,6 +102,9 @@ func IsAccepted(answer []byte) bool { return bytes.HasPrefix(answer, []byte(`{"o
 // Why returns why no line is answered now, or an empty text.
 func (f *Feed) Why() string {
 	why, _ := f.why.Load().(string)
+	if replay := f.newest.Load(); why == "" && replay != nil && replay.Silence() > patience {
+		return "the replay has answered nothing for some time"
+	}
 	return why
 }
 
@@ -213,7 +218,7 @@ func (f *Feed) send(u *unit) {
 	}
 	for i, line := range u.lines {
 		i := i
-		f.count(line)
+		f.reads += office.ReadsOf(line)
 		f.replay.Send(line, func(answer []byte) {
 			if u.answers[i] = answer; i == len(u.lines)-1 {
 				<-f.sent // It is this unit, since answers come in order.
@@ -222,9 +227,6 @@ func (f *Feed) send(u *unit) {
 		})
 	}
 }
-
-// count counts the reads that a line can cost the replay.
-func (f *Feed) count(line []byte) { f.reads += 2 + int64(len(line)/chunk) }
 
 // lose tells those that wait for a replay that has ended that they get no answer.
 func (f *Feed) lose() {
@@ -288,11 +290,12 @@ func (f *Feed) start(ctx context.Context) error {
 	}
 	f.Starts.Add(f.Name)
 	f.replay, f.reads = replay, 0
+	f.newest.Store(replay)
 	done, refused := make(chan struct{}), (*RefusedError)(nil)
 	first := f.first()
 	for i, line := range first {
 		i := i
-		f.count(line)
+		f.reads += office.ReadsOf(line)
 		replay.Send(line, func(answer []byte) {
 			if refused == nil && !IsAccepted(answer) {
 				refused = &RefusedError{i, string(answer)}

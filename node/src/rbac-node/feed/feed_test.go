@@ -256,6 +256,17 @@ func TestFirstLines(t *testing.T) {
 	}
 }
 
+// A feed whose replay hangs says so before it is killed, and not afterwards.
+func TestHungReplay(t *testing.T) {
+	b := open(t, many, 2*patience)
+	if why := b.Why(); why != "" {
+		t.Errorf("why: %q", why)
+	}
+	go func() { _, _ = b.Ask(within(t, time.Minute), []byte("hang")) }()
+	until(t, "the feed says why", func() bool { return strings.Contains(b.Why(), "answered nothing") })
+	until(t, "it answers again", func() bool { return b.starts() == 2 && b.Why() == "" })
+}
+
 func TestTimeout(t *testing.T) {
 	b := open(t, many, time.Minute)
 	go func() { _, _ = b.Ask(within(t, 20*time.Second), []byte("hang")) }()

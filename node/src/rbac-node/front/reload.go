@@ -8,6 +8,9 @@ import (
 	"rbac-node/callers"
 )
 
+// settling is how long it may take until all requests are done that earlier callers have sent.
+const settling = 2 * time.Minute
+
 // ReloadOnSignal reads the files of the callers again whenever SIGHUP comes, until the context ends. The certificate of the front
 // is read for each connection.
 func (f *Front) ReloadOnSignal(ctx context.Context) {
@@ -36,7 +39,7 @@ func (f *Front) reload(ctx context.Context) {
 		return
 	}
 	f.refusedAt.store(0)
-	within, cancel := callers.Settling(ctx)
+	within, cancel := context.WithTimeout(ctx, settling)
 	defer cancel()
 	if err := f.guard.Replace(within, set, f.ask); err != nil {
 		f.Log.Warn("the callers are in force, but requests of the earlier ones may still be done", "why", err)

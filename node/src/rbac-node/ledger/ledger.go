@@ -17,6 +17,7 @@ import (
 	"errors"
 	"fmt"
 	"path"
+	"sort"
 	"strconv"
 	"sync/atomic"
 	"time"
@@ -26,8 +27,8 @@ import (
 	"go.etcd.io/etcd/etcdserver/api/v3rpc/rpctypes"
 	"go.etcd.io/etcd/etcdserver/etcdserverpb"
 	"go.etcd.io/etcd/mvcc/mvccpb"
-	"go.uber.org/zap"
 
+	"rbac-node/logs"
 	"rbac-node/office"
 )
 
@@ -39,6 +40,8 @@ const (
 	firstPause, maxPause = 20 * time.Millisecond, 160 * time.Millisecond
 	// maxPageEntries is how many entries are read at once if they have fewer bytes than pageBytes.
 	maxPageEntries, pageBytes = 64, 512 << 10
+	// maxPageKeys is how many keys are read at once.
+	maxPageKeys = 64
 	// stallInterval is how long the log may be known to have more before it is followed anew.
 	stallInterval = time.Second
 )
@@ -56,7 +59,7 @@ type Ledger struct {
 	prefix  string
 	// kv is the client below the prefix.
 	kv  clientv3.KV
-	log *zap.Logger
+	log *logs.Logger
 	// pageTimeout is how long a page of the log may take before a smaller one is asked for.
 	pageTimeout time.Duration
 	// generation is the newest one that is known, and head the newest revision of an entry.
@@ -64,7 +67,7 @@ type Ledger struct {
 }
 
 // New returns the ledger below a prefix of etcd's keys.
-func New(client *clientv3.Client, prefix string, log *zap.Logger) *Ledger {
+func New(client *clientv3.Client, prefix string, log *logs.Logger) *Ledger {
 	prefix += "/"
 	return &Ledger{
 		client: client, members: client.Endpoints(), prefix: prefix, kv: namespace.NewKV(client, prefix), log: log,
@@ -105,7 +108,7 @@ func (l *Ledger) commit(
 		if isFinal(err) || wait(ctx, pause) != nil {
 			return nil, fmt.Errorf("%s: %w", what, err)
 		}
-		l.log.Warn("asking etcd again", zap.String("what", what), zap.Error(err))
+		l.log.Warn("asking etcd again", "what", what, "error", err)
 		timeout, pause = twice(timeout, maxAttemptTimeout), twice(pause, maxPause)
 	}
 }
@@ -359,7 +362,7 @@ func (l *Ledger) Follow(ctx context.Context, after int64, deliver func(Entry) er
 		if err := f.watch(ctx, revision+1); err != nil {
 			return err
 		}
-		l.log.Info("following the log anew", zap.Int64("revision", f.after))
+		l.log.Info("following the log anew", "revision", f.after)
 		if err := wait(ctx, firstPause); err != nil {
 			return err
 		}
@@ -373,20 +376,13 @@ type follower struct {
 	deliver func(Entry) error
 }
 
-// catchUp delivers the entries that the log has, and returns the revision up to which it has read. etcd reads all
-// entries for the keys in their order, so that is done once. Pages of entries are small enough for a slow link: after a
-// page that was too large, or did not come in time, the next one has half as many.
+// catchUp delivers the entries that the log has, and returns the revision up to which it has read. Pages of entries are
+// small enough for a slow link: after a page that was too large, or did not come in time, the next one has half as many.
 func (f *follower) catchUp(ctx context.Context) (revision int64, err error) {
-	reply, err := f.do(ctx, "read of the log", clientv3.OpGet("floor"), clientv3.OpGet("log/", clientv3.WithPrefix(),
-		clientv3.WithMinCreateRev(f.after+1), clientv3.WithSort(clientv3.SortByCreateRevision, clientv3.SortAscend),
-		clientv3.WithKeysOnly()))
+	keys, revision, err := f.keys(ctx)
 	if err != nil {
 		return 0, err
 	}
-	if err := checkFloor(reply, f.after); err != nil {
-		return 0, err
-	}
-	keys := read(reply, 1)
 	for entries := 1; len(keys) > 0; {
 		if entries > len(keys) {
 			entries = len(keys)
@@ -405,7 +401,37 @@ func (f *follower) catchUp(ctx context.Context) (revision int64, err error) {
 			entries *= 2
 		}
 	}
-	return reply.Header.Revision, nil
+	return revision, nil
+}
+
+// keys returns the keys of the entries that were not delivered yet, in the order of the log, and the revision up to which
+// it has all of them. etcd reads whole entries for their keys, and all that there are if it has to sort or to select
+// them: so it is asked for a few at once.
+func (f *follower) keys(ctx context.Context) (found []*mvccpb.KeyValue, revision int64, err error) {
+	end := clientv3.WithRange(clientv3.GetPrefixRangeEnd("log/"))
+	for from, more := "log/", true; more; {
+		reply, err := f.do(ctx, "read of the log", clientv3.OpGet("floor"),
+			clientv3.OpGet(from, end, clientv3.WithKeysOnly(), clientv3.WithLimit(maxPageKeys)))
+		if err != nil {
+			return nil, 0, err
+		}
+		// What was deleted meanwhile was delivered before.
+		if err := checkFloor(reply, f.after); err != nil {
+			return nil, 0, err
+		}
+		if revision == 0 {
+			revision = reply.Header.Revision
+		}
+		for _, key := range read(reply, 1) {
+			if key.CreateRevision > f.after && key.CreateRevision <= revision {
+				found = append(found, key)
+			}
+			from = string(key.Key) + "\x00"
+		}
+		more = reply.Responses[1].GetResponseRange().More
+	}
+	sort.Slice(found, func(i, j int) bool { return found[i].CreateRevision < found[j].CreateRevision })
+	return found, revision, nil
 }
 
 // page reads and delivers the entries with these keys, and returns how many bytes they have.

@@ -4,13 +4,15 @@ import (
 	"context"
 	"errors"
 	"fmt"
+	"io"
 	"net"
 	"os/exec"
 	"testing"
 	"time"
 
 	"go.etcd.io/etcd/clientv3"
-	"go.uber.org/zap"
+
+	"rbac-node/logs"
 )
 
 // newLedger returns the ledger of an etcd of its own.
@@ -39,7 +41,7 @@ func newLedger(t *testing.T, words ...string) *Ledger {
 		t.Fatal(err)
 	}
 	t.Cleanup(func() { client.Close() })
-	return New(client, "test", zap.NewNop())
+	return New(client, "test", logs.New(io.Discard))
 }
 
 func lines(text string) [][]byte { return [][]byte{[]byte(text), []byte(text + "2")} }
@@ -124,7 +126,7 @@ func mustTrim(t *testing.T, l *Ledger, needless int64, begins bool) {
 // An attempt that is delivered after its entry was trimmed doesn't append again.
 func TestAppendAfterTrim(t *testing.T) {
 	l, ctx := newLedger(t), context.Background()
-	late := New(l.client, "test", zap.NewNop())
+	late := New(l.client, "test", logs.New(io.Discard))
 	mustAppend(t, l, "a")
 	mustTrim(t, l, 0, false)
 	old := mustState(t, l)
@@ -136,7 +138,7 @@ func TestAppendAfterTrim(t *testing.T) {
 	if again, _, err := late.Append(ctx, "a", lines("a")); again != 0 || err != nil {
 		t.Errorf("a late attempt: %d, %v", again, err)
 	}
-	mustAppend(t, New(l.client, "test", zap.NewNop()), "b")
+	mustAppend(t, New(l.client, "test", logs.New(io.Discard)), "b")
 	late.generation.Store(0)
 	mustTrim(t, l, head(t, l), true)
 	if _, _, err := late.Append(ctx, "a", lines("a")); !errors.Is(err, ErrTrimmed) {

@@ -5,6 +5,7 @@ import (
 	"context"
 	"errors"
 	"fmt"
+	"io"
 	"sync"
 	"testing"
 	"time"
@@ -13,7 +14,8 @@ import (
 	"go.etcd.io/etcd/etcdserver/api/v3rpc/rpctypes"
 	"go.etcd.io/etcd/etcdserver/etcdserverpb"
 	"go.etcd.io/etcd/mvcc/mvccpb"
-	"go.uber.org/zap"
+
+	"rbac-node/logs"
 )
 
 // A fakeKV answers a transaction with the revision of one key, or with an error.
@@ -50,7 +52,7 @@ func newFake(t *testing.T, answer func(context.Context) (int64, error)) *Ledger 
 		t.Fatal(err)
 	}
 	t.Cleanup(func() { client.Close() })
-	l := New(client, "test", zap.NewNop())
+	l := New(client, "test", logs.New(io.Discard))
 	l.kv = &fakeKV{answer: answer}
 	return l
 }
@@ -129,10 +131,11 @@ func TestAppendToFullLog(t *testing.T) {
 	}
 }
 
-// A slowKV lets no answer come that has too many bytes. It counts those, and answers that did not come in time.
+// A slowKV lets no answer come that has too many bytes. It counts those, and answers that did not come in time. mostKeys is
+// the most that one read has found.
 type slowKV struct {
 	clientv3.KV
-	maxBytes, slow, tooLarge int
+	maxBytes, slow, tooLarge, mostKeys int
 }
 
 type slowTxn struct {
@@ -155,8 +158,12 @@ func (s *slowTxn) Commit() (*clientv3.TxnResponse, error) {
 	}
 	size := 0
 	for op := range reply.Responses {
-		for _, kv := range read(reply, op) {
+		kvs := read(reply, op)
+		for _, kv := range kvs {
 			size += len(kv.Value)
+		}
+		if len(kvs) > s.kv.mostKeys {
+			s.kv.mostKeys = len(kvs)
 		}
 	}
 	if size > s.kv.maxBytes {
@@ -196,7 +203,7 @@ func TestPages(t *testing.T) {
 	} {
 		t.Run(one.name, func(t *testing.T) {
 			slow := &slowKV{KV: l.kv, maxBytes: one.maxBytes}
-			paged := New(l.client, "test", zap.NewNop())
+			paged := New(l.client, "test", logs.New(io.Discard))
 			paged.kv, paged.pageTimeout = slow, 200*time.Millisecond
 			found, err := all(t, paged, one.after)
 			if err != nil || len(found) != one.entries {
@@ -205,6 +212,10 @@ func TestPages(t *testing.T) {
 			// After small entries it is a page that is too large, or one that comes late on a busy machine.
 			if one.isPaged && slow.tooLarge > 0 || !one.isPaged && slow.tooLarge+slow.slow == 0 {
 				t.Errorf("%d pages were too large, and %d late", slow.tooLarge, slow.slow)
+			}
+			// etcd reads the values of all keys of one read.
+			if slow.mostKeys == 0 || slow.mostKeys > maxPageKeys {
+				t.Errorf("%d keys were read at once", slow.mostKeys)
 			}
 			for i := 1; i < len(found); i++ {
 				if found[i].Revision <= found[i-1].Revision {

@@ -160,14 +160,14 @@ func labelsOf(names, values []string) string {
 
 // ServeHTTP reports all metrics.
 func (r *Registry) ServeHTTP(w http.ResponseWriter, _ *http.Request) {
-	text := []byte(r.Text())
+	text := []byte(r.text())
 	w.Header().Set("Content-Type", "text/plain; version=0.0.4; charset=utf-8")
 	w.Header().Set("Content-Length", strconv.Itoa(len(text)))
 	_, _ = w.Write(text) // If it fails, the client is gone.
 }
 
-// Text returns all metrics in the text format.
-func (r *Registry) Text() string {
+// text returns all metrics in the text format.
+func (r *Registry) text() string {
 	r.mutex.Lock()
 	all := append([]series(nil), r.series...)
 	r.mutex.Unlock()

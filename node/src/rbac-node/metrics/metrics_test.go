@@ -34,7 +34,7 @@ func TestText(t *testing.T) {
 		t.Run(test.name, func(t *testing.T) {
 			r := &Registry{}
 			test.add(r)
-			if given := r.Text(); given != test.want {
+			if given := r.text(); given != test.want {
 				t.Errorf("%q and not %q", given, test.want)
 			}
 		})

@@ -4,16 +4,16 @@ import (
 	"context"
 	"errors"
 	"fmt"
+	"io"
 	"sync"
 	"sync/atomic"
 	"testing"
 	"time"
 
-	"github.com/prometheus/client_golang/prometheus"
-	"go.uber.org/zap"
-
 	"rbac-node/api"
 	"rbac-node/ledger"
+	"rbac-node/logs"
+	"rbac-node/metrics"
 	"rbac-node/office"
 )
 
@@ -95,15 +95,16 @@ func (l *fakeLog) registrations() int {
 	return len(l.registered)
 }
 
-// A fakeReplay answers each line with its number, as soon as it is not paused.
+// A fakeReplay answers each line with its number, as soon as it is not paused. It ends after the most reads, if that is not 0.
 type fakeReplay struct {
-	mutex    sync.Mutex
-	lines    []string
-	times    []time.Time
-	waiting  []func([]byte)
-	isPaused bool
-	ended    chan struct{}
-	once     sync.Once
+	most, reads int64
+	mutex       sync.Mutex
+	lines       []string
+	times       []time.Time
+	waiting     []func([]byte)
+	isPaused    bool
+	ended       chan struct{}
+	once        sync.Once
 }
 
 func newFakeReplay() *fakeReplay { return &fakeReplay{ended: make(chan struct{})} }
@@ -113,6 +114,10 @@ func (r *fakeReplay) Send(line []byte, answered func([]byte)) {
 	defer r.mutex.Unlock()
 	r.lines, r.times = append(r.lines, string(line)), append(r.times, time.Now())
 	r.waiting = append(r.waiting, answered)
+	if r.reads += office.ReadsOf(line); r.most > 0 && r.reads > r.most {
+		r.once.Do(func() { close(r.ended) })
+		return
+	}
 	r.answer()
 }
 
@@ -163,7 +168,8 @@ func newNode(t *testing.T) (*Node, *fakeLog, *fakeReplay) {
 	n, err := New(Options{
 		Name: "a", Data: t.TempDir(), Scratch: t.TempDir(), Program: "/nonexistent",
 		SnapshotCommands: 1000, SnapshotBytes: 1 << 20, AnswerTimeout: 5 * time.Second, HangTimeout: time.Minute,
-	}, log, zap.NewNop(), prometheus.NewRegistry())
+		Reads: 1 << 40,
+	}, log, logs.New(io.Discard), &metrics.Registry{})
 	if err != nil {
 		t.Fatal(err)
 	}

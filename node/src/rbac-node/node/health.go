@@ -7,8 +7,7 @@ import (
 	"net/http"
 	"time"
 
-	"github.com/prometheus/client_golang/prometheus"
-	"github.com/prometheus/client_golang/prometheus/promauto"
+	"rbac-node/metrics"
 )
 
 // maxReadyAge is how old the state of a ready node may be.
@@ -68,12 +67,10 @@ func (n *Node) IsAlive(ctx context.Context) bool {
 	}
 }
 
-// register makes the metrics of the node.
-func (n *Node) register(registerer prometheus.Registerer) {
-	factory := promauto.With(registerer)
+// addMetrics adds the metrics of the node.
+func (n *Node) addMetrics(registry *metrics.Registry) {
 	gauge := func(name, help string, value func(status) float64) {
-		factory.NewGaugeFunc(prometheus.GaugeOpts{Name: "rbac_node_" + name, Help: help},
-			func() float64 { return value(n.status()) })
+		registry.Gauge("rbac_node_"+name, help, func() float64 { return value(n.status()) })
 	}
 	gauge("ready", "1 if the node has applied what the log had a short time ago.", func(s status) float64 {
 		if s.Ready {

@@ -5,8 +5,6 @@ import (
 	"fmt"
 	"time"
 
-	"go.uber.org/zap"
-
 	"rbac-node/ledger"
 	"rbac-node/office"
 )
@@ -28,7 +26,7 @@ type copied struct {
 // earlier snapshot isn't finished yet, none is made at this place.
 func (n *Node) takeSnapshot() error {
 	if len(n.copies) == cap(n.copies) {
-		n.log.Warn("no snapshot: the last one is not finished yet", zap.Int64("revision", n.revision))
+		n.log.Warn("no snapshot: the last one is not finished yet", "revision", n.revision)
 		return nil
 	}
 	if err := n.replay.Close(); err != nil {
@@ -38,12 +36,9 @@ func (n *Node) takeSnapshot() error {
 	if err != nil {
 		return err
 	}
-	// The replay that has ended stays in place if no other one can be started.
-	started, err := n.open()
-	if err != nil {
+	if err := n.reopen(); err != nil {
 		return err
 	}
-	n.replay = started
 	n.copies <- copied{file, office.Snapshot{Revision: n.revision, Count: n.count}}
 	return nil
 }
@@ -77,7 +72,7 @@ func (n *Node) attempt(ctx context.Context, otherwise string, do func(context.Co
 	defer cancel()
 	err := do(within)
 	if err != nil && ctx.Err() == nil {
-		n.log.Warn(otherwise, zap.Error(err))
+		n.log.Warn(otherwise, "error", err)
 	}
 	return err == nil
 }
@@ -90,8 +85,8 @@ func (n *Node) finish(ctx context.Context, one copied) error {
 	if err != nil {
 		return err
 	}
-	n.log.Info("snapshot", zap.Int64("revision", s.Revision), zap.Int64("commands", s.Count),
-		zap.String("digest", s.Digest))
+	n.log.Info("snapshot", "revision", s.Revision, "commands", s.Count,
+		"digest", s.Digest)
 	return nil
 }
 
@@ -119,7 +114,7 @@ func (n *Node) look(ctx context.Context) error {
 	}
 	floor, err := n.shared.Trim(ctx, state, needless(state.Members))
 	if floor > 0 {
-		n.log.Info("trimmed the log", zap.Int64("floor", floor))
+		n.log.Info("trimmed the log", "floor", floor)
 	}
 	return err
 }
@@ -132,7 +127,7 @@ func (n *Node) judge(members []ledger.Member) error {
 	}
 	why := difference(n.options.Name, own, members)
 	if n.differs.Swap(why) != why && why != "" {
-		n.log.Error("refusing to serve", zap.String("why", why))
+		n.log.Error("refusing to serve", "why", why)
 	}
 	return nil
 }

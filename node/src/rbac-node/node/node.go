@@ -16,12 +16,12 @@ import (
 	"sync/atomic"
 	"time"
 
-	"github.com/prometheus/client_golang/prometheus"
-	"go.uber.org/zap"
 	"golang.org/x/sync/errgroup"
 
 	"rbac-node/api"
 	"rbac-node/ledger"
+	"rbac-node/logs"
+	"rbac-node/metrics"
 	"rbac-node/office"
 )
 
@@ -69,6 +69,9 @@ type Options struct {
 	AnswerTimeout time.Duration
 	// HangTimeout is how long a replay may leave lines without an answer before it is killed.
 	HangTimeout time.Duration
+	// Reads is after how many reads of its input a replay is started anew at a quiet moment. It ends by itself after
+	// 1,000,000,000 reads.
+	Reads int64
 	// Fetch is the client with which snapshots of other nodes are fetched.
 	Fetch *http.Client
 	// IsOpen says that everybody who can connect may do everything.
@@ -80,7 +83,7 @@ type Node struct {
 	options Options
 	store   *office.Store
 	shared  Log
-	log     *zap.Logger
+	log     *logs.Logger
 	start   time.Time
 	// open starts a replay of the office in use.
 	open func() (replay, error)
@@ -93,12 +96,13 @@ type Node struct {
 
 	// tasks has what the goroutine that feeds the replay has to do. The other fields belong to that goroutine: held has
 	// the tasks that wait until entries are fed. revision and count are those of what was fed, bytes counts since the
-	// last place of a snapshot, and err is the reason why the goroutine has to end.
+	// last place of a snapshot, reads are the most times that the replay can have read its input, and err is the reason
+	// why the goroutine has to end.
 	tasks           chan task
 	replay          replay
 	held            []task
 	revision, count int64
-	bytes           int64
+	bytes, reads    int64
 	err             error
 
 	// isFed is set when that goroutine runs.
@@ -124,13 +128,13 @@ type task struct {
 type place struct{ revision, count int64 }
 
 // New returns a node over a log. It does nothing until Run is called.
-func New(options Options, shared Log, logger *zap.Logger, registerer prometheus.Registerer) (*Node, error) {
+func New(options Options, shared Log, log *logs.Logger, registry *metrics.Registry) (*Node, error) {
 	store, err := office.Open(options.Data, options.Program)
 	if err != nil {
 		return nil, err
 	}
 	n := &Node{
-		options: options, store: store, shared: shared, log: logger, start: time.Now(),
+		options: options, store: store, shared: shared, log: log, start: time.Now(),
 		copies: make(chan copied, 1), tasks: make(chan task, maxBatchLines),
 		asked: map[api.Kind]chan *request{
 			api.Command:  make(chan *request, maxBatchLines),
@@ -142,7 +146,7 @@ func New(options Options, shared Log, logger *zap.Logger, registerer prometheus.
 	n.heard.Store(-1)
 	n.applied.Store(&place{})
 	n.differs.Store("")
-	n.register(registerer)
+	n.addMetrics(registry)
 	return n, nil
 }
 
@@ -205,10 +209,42 @@ func (n *Node) feed(ctx context.Context) error {
 		if n.err != nil {
 			return n.err
 		}
-		if len(n.tasks)+len(n.asked[api.Local]) == 0 {
+		isQuiet := len(n.tasks)+len(n.asked[api.Local]) == 0
+		if isQuiet {
 			n.replay.Flush()
 		}
+		if n.reads >= n.options.Reads && (isQuiet || n.reads >= n.options.Reads+n.options.Reads/10) {
+			if err := n.renew(); err != nil {
+				return err
+			}
+		}
 	}
+}
+
+// send passes a line to the replay.
+func (n *Node) send(line []byte, answered func(answer []byte)) {
+	n.reads += office.ReadsOf(line)
+	n.replay.Send(line, answered)
+}
+
+// renew starts another replay when the one there is has answered everything.
+func (n *Node) renew() error {
+	n.log.Info("starting the replay anew", "reads", n.reads)
+	if err := n.replay.Close(); err != nil {
+		return err
+	}
+	return n.reopen()
+}
+
+// reopen starts a replay of the office in use, which no other one has open. One that has ended stays in place if that
+// fails.
+func (n *Node) reopen() error {
+	started, err := n.open()
+	if err != nil {
+		return err
+	}
+	n.replay, n.reads = started, 0
+	return nil
 }
 
 // perform does a task, or holds it until the entries before it are fed.
@@ -233,11 +269,11 @@ func (n *Node) apply(entry ledger.Entry) {
 	for number, line := range entry.Lines {
 		n.bytes += int64(len(line))
 		if len(line) > office.MaxLineBytes || len(bytes.TrimSpace(line)) == 0 {
-			n.log.Error("a line of the log is no command", zap.Int64("revision", entry.Revision), zap.Int("place", number))
+			n.log.Error("a line of the log is no command", "revision", entry.Revision, "place", number)
 			continue // All nodes skip it. No node has written it.
 		}
 		number := number
-		n.replay.Send(line, func(text []byte) {
+		n.send(line, func(text []byte) {
 			if own != nil {
 				own.answer(api.Answer{Text: text, Revision: entry.Revision, Place: number})
 			}
@@ -268,7 +304,7 @@ func (n *Node) pose(questions ...*request) {
 			continue
 		}
 		reply := q.reply
-		n.replay.Send(q.line, func(text []byte) {
+		n.send(q.line, func(text []byte) {
 			reply <- api.Answer{Text: text, Revision: revision, Newest: n.newest()}
 		})
 	}

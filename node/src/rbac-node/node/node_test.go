@@ -3,14 +3,16 @@ package node
 import (
 	"context"
 	"errors"
+	"fmt"
+	"io"
 	"strings"
+	"sync"
 	"testing"
 	"time"
 
-	"github.com/prometheus/client_golang/prometheus"
-	"go.uber.org/zap"
-
 	"rbac-node/api"
+	"rbac-node/logs"
+	"rbac-node/metrics"
 	"rbac-node/office"
 )
 
@@ -133,12 +135,62 @@ func TestAskRefuses(t *testing.T) {
 	}
 }
 
+// A node that turns out to differ while a request waits refuses it too, such as one that comes while the node recovers.
+func TestAskRefusesWhatWaited(t *testing.T) {
+	n, _, _ := newNode(t)
+	for _, kind := range []api.Kind{api.Command, api.Question} {
+		failed := make(chan error)
+		go func() {
+			_, err := n.Ask(context.Background(), kind, call("q"))
+			failed <- err
+		}()
+		waiting := <-n.asked[kind]
+		n.differs.Store("at revision 9")
+		waiting.reply <- api.Answer{Text: []byte("wrong")}
+		if err := <-failed; !errors.Is(err, api.Diverged) {
+			t.Errorf("%s: %v", kind, err)
+		}
+		n.differs.Store("")
+	}
+}
+
+// A replay is started anew before it has read as often as it may, whether requests come one by one or all at once.
+func TestRenewed(t *testing.T) {
+	const reads, room, questions = 1000, 300, 2000
+	for _, clients := range []int{1, 50} {
+		t.Run(fmt.Sprint(clients, " clients"), func(t *testing.T) {
+			n, _, first := newNode(t)
+			n.options.Reads, first.most = reads, reads+room
+			n.open = func() (replay, error) {
+				another := newFakeReplay()
+				another.most = reads + room
+				return another, nil
+			}
+			running(t, n.feed, n.confirm)
+			var group sync.WaitGroup
+			for client := 0; client < clients; client++ {
+				group.Add(1)
+				go func() {
+					defer group.Done()
+					for i := 0; i < questions/clients; i++ {
+						if _, err := n.Ask(context.Background(), api.Question, call("q")); err != nil {
+							t.Error(err)
+							return
+						}
+					}
+				}()
+			}
+			group.Wait()
+		})
+	}
+}
+
 // Two nodes may be in one process, and one that can't be made is none.
 func TestNew(t *testing.T) {
 	for i := 0; i < 2; i++ {
 		newNode(t)
 	}
-	if n, err := New(Options{Data: "/dev/null"}, newFakeLog(), zap.NewNop(), prometheus.NewRegistry()); n != nil || err == nil {
+	if n, err := New(Options{Data: "/dev/null"}, newFakeLog(), logs.New(io.Discard), &metrics.Registry{}); n != nil || err == nil {
 		t.Errorf("%v, %v", n, err)
 	}
 }

@@ -2,12 +2,11 @@ package node
 
 import (
 	"context"
+	"errors"
 	"fmt"
 	"os"
 	"path/filepath"
 	"time"
-
-	"go.uber.org/zap"
 
 	"rbac-node/office"
 )
@@ -21,13 +20,12 @@ func (n *Node) resume(ctx context.Context) error {
 	if err := n.makeOffice(ctx, base); err != nil {
 		return err
 	}
-	started, err := n.open()
-	if err != nil {
+	if err := n.reopen(); err != nil {
 		return err
 	}
-	n.replay, n.revision, n.count = started, base.Revision, base.Count
+	n.revision, n.count = base.Revision, base.Count
 	n.applied.Store(&place{base.Revision, base.Count})
-	n.log.Info("recovered", zap.Int64("revision", base.Revision), zap.Int64("commands", base.Count))
+	n.log.Info("recovered", "revision", base.Revision, "commands", base.Count)
 	state, err := n.shared.State(ctx)
 	if err != nil {
 		return err
@@ -73,7 +71,7 @@ func (n *Node) base(ctx context.Context) (newest office.Snapshot, err error) {
 	if newest.Revision >= state.Floor {
 		return newest, nil
 	}
-	n.log.Info("the log no longer has what this node lacks", zap.Int64("floor", state.Floor))
+	n.log.Info("the log no longer has what this node lacks", "floor", state.Floor)
 	return n.fetch(ctx)
 }
 
@@ -93,10 +91,10 @@ func (n *Node) fetch(ctx context.Context) (office.Snapshot, error) {
 				return n.accept(ctx, member.Name, offered)
 			})
 			if err == nil {
-				n.log.Info("fetched a snapshot", zap.String("from", member.Name), zap.Int64("revision", s.Revision))
+				n.log.Info("fetched a snapshot", "from", member.Name, "revision", s.Revision)
 				return s, nil
 			}
-			n.log.Warn("no snapshot from this node", zap.String("from", member.Name), zap.Error(err))
+			n.log.Warn("no snapshot from this node", "from", member.Name, "error", err)
 		}
 		select {
 		case <-time.After(lookInterval):
@@ -108,7 +106,8 @@ func (n *Node) fetch(ctx context.Context) (office.Snapshot, error) {
 
 // accept refuses a snapshot that another node offers unless the node has registered it, the log continues after it, and
 // no node has registered another digest at its revision: one of two nodes that differ is wrong, and nobody knows here
-// which.
+// which. The other nodes may not have come to that revision yet, so it also refuses all snapshots of a node that most
+// others contest.
 func (n *Node) accept(ctx context.Context, name string, offered office.Snapshot) error {
 	state, err := n.shared.State(ctx)
 	if err != nil {
@@ -126,7 +125,13 @@ func (n *Node) accept(ctx context.Context, name string, offered office.Snapshot)
 		if s.Digest != offered.Digest {
 			return fmt.Errorf("the snapshot at revision %d differs from that of %s", offered.Revision, member.Name)
 		}
-		isRegistered = isRegistered || member.Name == name && s.Count == offered.Count
+		if member.Name != name {
+			continue
+		}
+		if why := difference(name, member.Snapshots, state.Members); why != "" {
+			return errors.New(why)
+		}
+		isRegistered = s.Count == offered.Count
 	}
 	if !isRegistered {
 		return fmt.Errorf("the snapshot at revision %d is not registered in etcd", offered.Revision)

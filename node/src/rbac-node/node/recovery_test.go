@@ -49,6 +49,8 @@ func TestAccept(t *testing.T) {
 		{"another number of commands is registered", 5, members(member("b", office.Snapshot{Revision: 9, Digest: "d", Count: 1})), at(9), false},
 		{"only another node has registered it", 5, members(member("b", at(7)), member("c", at(9))), at(9), false},
 		{"nobody has registered it", 5, members(member("b", at(7))), at(9), false},
+		{"others contest an earlier one of it", 5, members(member("a", at(7)), member("b", at(9), other(at(7))), member("c", at(7))), at(9), false},
+		{"one node contests an earlier one of it", 5, members(member("a", at(7)), member("b", at(9), at(7)), member("c", other(at(7)))), at(9), true},
 		{"the log begins later", 10, members(member("b", at(9))), at(9), false},
 	} {
 		t.Run(one.name, func(t *testing.T) {

@@ -5,8 +5,6 @@ import (
 	"fmt"
 	"time"
 
-	"go.uber.org/zap"
-
 	"rbac-node/api"
 	"rbac-node/ledger"
 )
@@ -50,8 +48,12 @@ func (n *Node) Ask(ctx context.Context, kind api.Kind, call *api.Call) (api.Answ
 	}
 	select {
 	case answer := <-r.reply:
-		if answer.Text == nil {
+		switch {
+		case answer.Text == nil:
 			return answer, api.Unavailable
+		case n.differs.Load() != "":
+			// It may have been found out while the request waited, such as that of a node that had just started.
+			return api.Answer{}, api.Diverged
 		}
 		return answer, nil
 	case <-within.Done():
@@ -112,7 +114,7 @@ func (n *Node) appendCommands(ctx context.Context) error {
 		within, cancel := context.WithTimeout(ctx, n.options.AnswerTimeout)
 		err := n.appendBatch(within, fmt.Sprintf("%s-%x-%d", n.options.Name, n.start.UnixNano(), number), b)
 		if err != nil && ctx.Err() == nil {
-			n.log.Warn("commands that may be in the log or not", zap.Int("commands", len(b.requests)), zap.Error(err))
+			n.log.Warn("commands that may be in the log or not", "commands", len(b.requests), "error", err)
 		}
 		least, late = 1, nil
 		if asked := len(b.requests) + len(n.asked[api.Command]); err == nil && asked <= fewClients {
@@ -162,7 +164,7 @@ func (n *Node) confirm(ctx context.Context) error {
 		within, cancel := context.WithTimeout(ctx, n.options.AnswerTimeout)
 		if head, err := n.shared.Head(within); err == nil { // Otherwise the askers have waited long enough.
 			_ = n.submit(within, task{head, func() {
-				n.replay.Send([]byte(probe), func([]byte) { n.hear(read) })
+				n.send([]byte(probe), func([]byte) { n.hear(read) })
 				n.pose(questions...)
 			}})
 		}

@@ -20,6 +20,8 @@ const (
 	MaxLineBytes = 65_536
 	// maxWaitingLines is how many lines may wait for their answers.
 	maxWaitingLines = 8192
+	// chunk is the fewest bytes that one read of a full pipe returns.
+	chunk = 4096
 	// hangChecks is how often a replay is looked at before it is said to hang. A process that was paused itself notices
 	// nothing of the time, so it counts.
 	hangChecks = 5
@@ -35,6 +37,9 @@ type Replay struct {
 	stderr  bytes.Buffer
 	err     error
 	ended   chan struct{}
+	// heard is when the replay has last answered a line, or got one while none waited, in nanoseconds since it began.
+	began time.Time
+	heard atomic.Int64
 	// answered counts the lines that have an answer. closing is set when no more lines will come.
 	answered atomic.Int64
 	closing  atomic.Bool
@@ -46,7 +51,7 @@ type Replay struct {
 // to last as long as the replay.
 func Start(program, file string, hangTimeout time.Duration, inherited ...*os.File) (*Replay, error) {
 	r := &Replay{
-		command: exec.Command(program, "replay", file),
+		command: exec.Command(program, "replay", file), began: time.Now(),
 		waiting: make(chan func([]byte), maxWaitingLines), ended: make(chan struct{}),
 	}
 	r.command.SysProcAttr = &syscall.SysProcAttr{Setpgid: true, Pdeathsig: syscall.SIGKILL}
@@ -91,6 +96,7 @@ func (r *Replay) read(output *bufio.Reader) {
 	for ; err == nil; answer, err = output.ReadBytes('\n') {
 		(<-r.waiting)(answer[:len(answer)-1])
 		r.answered.Add(1)
+		r.heard.Store(int64(time.Since(r.began)))
 	}
 	err = r.command.Wait()
 	if err == nil && len(r.waiting) > 0 {
@@ -122,10 +128,16 @@ func (r *Replay) watch(hangTimeout time.Duration) {
 	_ = r.command.Process.Kill()
 }
 
+// ReadsOf returns the most reads of its input that a line can cost a replay.
+func ReadsOf(line []byte) int64 { return 2 + int64(len(line)/chunk) }
+
 // Send writes a line, which has no LF. Its answer goes to the function, which must not wait for anything. If the replay
 // has ended, nobody gets an answer: see Ended.
 func (r *Replay) Send(line []byte, answered func(answer []byte)) {
-	if len(r.waiting) == maxWaitingLines {
+	switch len(r.waiting) {
+	case 0:
+		r.heard.Store(int64(time.Since(r.began)))
+	case maxWaitingLines:
 		r.Flush() // What is buffered has to be written, or nothing would make room.
 	}
 	select {
@@ -140,6 +152,14 @@ func (r *Replay) Send(line []byte, answered func(answer []byte)) {
 
 // Flush makes the lines that were sent visible to the replay.
 func (r *Replay) Flush() { _ = r.lines.Flush() }
+
+// Silence returns how long the replay has answered nothing although lines wait. Any goroutine may call it.
+func (r *Replay) Silence() time.Duration {
+	if len(r.waiting) == 0 {
+		return 0
+	}
+	return time.Since(r.began) - time.Duration(r.heard.Load())
+}
 
 // Ended is closed when the replay has ended.
 func (r *Replay) Ended() <-chan struct{} { return r.ended }

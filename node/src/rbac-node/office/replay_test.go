@@ -56,6 +56,38 @@ func TestReplayAnswersInOrder(t *testing.T) {
 	}
 }
 
+// A replay is silent while it answers nothing although lines wait, and only then.
+func TestSilence(t *testing.T) {
+	r, _ := start(t)
+	answered := make(chan struct{})
+	ask := func() {
+		r.Send([]byte(`{"fn":"ssdRoleSets"}`), func([]byte) { answered <- struct{}{} })
+		r.Flush()
+	}
+	ask()
+	<-answered
+	time.Sleep(20 * time.Millisecond)
+	if silence := r.Silence(); silence != 0 {
+		t.Errorf("nothing waits, and it is silent for %v", silence)
+	}
+	if err := syscall.Kill(r.command.Process.Pid, syscall.SIGSTOP); err != nil {
+		t.Fatal(err)
+	}
+	before := time.Now()
+	ask()
+	time.Sleep(20 * time.Millisecond)
+	if silence := r.Silence(); silence < 20*time.Millisecond || silence > time.Since(before) {
+		t.Errorf("it is silent for %v", silence)
+	}
+	if err := syscall.Kill(r.command.Process.Pid, syscall.SIGCONT); err != nil {
+		t.Fatal(err)
+	}
+	<-answered
+	if err := r.Close(); err != nil || r.Silence() != 0 {
+		t.Errorf("at the end: %v, %v", r.Silence(), err)
+	}
+}
+
 func TestReplayThatIsKilled(t *testing.T) {
 	r, _ := start(t)
 	if err := r.command.Process.Signal(syscall.SIGKILL); err != nil {

@@ -2,6 +2,7 @@
 package web
 
 import (
+	"container/list"
 	"context"
 	"crypto/tls"
 	"crypto/x509"
@@ -27,8 +28,10 @@ const (
 	writeTimeout = 10 * time.Second
 	// spareDescriptors is how many file descriptors a process needs for anything but connections.
 	spareDescriptors = 256
-	// roomInterval is how long a listener without room waits before it looks for an idle connection again.
+	// roomInterval is how long a listener without room waits before it looks for a connection that can be closed again.
 	roomInterval = 10 * time.Millisecond
+	// freshTime is how long a connection without a request is not closed in favour of another one.
+	freshTime = 100 * time.Millisecond
 )
 
 // TLS names the files of one side of connections. Without any of them the side has no TLS.
@@ -57,18 +60,24 @@ func (t TLS) read() (config *tls.Config, certificate func() (*tls.Certificate, e
 			return nil, nil, fmt.Errorf("certificate: %w", err)
 		}
 	}
-	if t.CA == "" {
-		return config, certificate, nil
+	config.RootCAs, err = ReadAuthority(t.CA)
+	return config, certificate, err
+}
+
+// ReadAuthority returns the authority in a file, or none if there is no file.
+func ReadAuthority(path string) (*x509.CertPool, error) {
+	if path == "" {
+		return nil, nil
 	}
-	text, err := os.ReadFile(t.CA)
+	text, err := os.ReadFile(path)
 	if err != nil {
-		return nil, nil, fmt.Errorf("authority: %w", err)
+		return nil, fmt.Errorf("authority: %w", err)
 	}
-	config.RootCAs = x509.NewCertPool()
-	if !config.RootCAs.AppendCertsFromPEM(text) {
-		return nil, nil, fmt.Errorf("authority: %s has no certificate", t.CA)
+	pool := x509.NewCertPool()
+	if !pool.AppendCertsFromPEM(text) {
+		return nil, fmt.Errorf("authority: %s has no certificate", path)
 	}
-	return config, certificate, nil
+	return pool, nil
 }
 
 // Server returns what a server needs. With an authority it accepts only clients with a certificate of it.
@@ -129,8 +138,14 @@ func Serve(start func(func() error), listener net.Listener, handler http.Handler
 // ServeIn starts a server in a goroutine. Servers may share a room. HTTP/2 is off: Go 1.19 lacks what was mended in it since.
 func ServeIn(room *Room, start func(func() error), listener net.Listener, handler http.Handler, limits Limits) *http.Server {
 	server := &http.Server{
-		Handler: handler, MaxHeaderBytes: maxHeadBytes, ConnState: room.noteState, ConnContext: limits.Connected,
-		ErrorLog:          limits.Errors,
+		Handler: handler, MaxHeaderBytes: maxHeadBytes, ConnState: room.noteState, ErrorLog: limits.Errors,
+		ConnContext: func(ctx context.Context, conn net.Conn) context.Context {
+			ctx = context.WithValue(ctx, placeKey{}, place{room, conn})
+			if limits.Connected != nil {
+				ctx = limits.Connected(ctx, conn)
+			}
+			return ctx
+		},
 		ReadHeaderTimeout: headTimeout, ReadTimeout: RequestTimeout, IdleTimeout: idleTimeout, WriteTimeout: limits.AnswerTimeout,
 		TLSNextProto: map[string]func(*http.Server, *tls.Conn, http.Handler){},
 	}
@@ -207,16 +222,20 @@ func (c *Conn) Write(text []byte) (int, error) {
 	return c.Conn.Write(text)
 }
 
-// A Room has one element in taken for each connection, and knows which connections are idle.
+// A Room has one element in taken for each connection. It knows which connections have not sent a request yet, and which are idle
+// after one.
 type Room struct {
-	taken chan struct{}
-	mutex sync.Mutex
-	idle  map[net.Conn]time.Time
+	taken       chan struct{}
+	mutex       sync.Mutex
+	fresh, idle queue
 }
 
 // NewRoom returns a room for some connections.
 func NewRoom(connections int) *Room {
-	return &Room{taken: make(chan struct{}, connections), idle: map[net.Conn]time.Time{}}
+	return &Room{
+		taken: make(chan struct{}, connections),
+		fresh: queue{places: map[net.Conn]*list.Element{}}, idle: queue{places: map[net.Conn]*list.Element{}},
+	}
 }
 
 // Connections returns how many connections there are.
@@ -240,7 +259,7 @@ func (l *limited) Accept() (net.Conn, error) {
 		case l.taken <- struct{}{}:
 			return conn, nil
 		default:
-			l.closeIdle()
+			l.closeOne()
 		}
 		select {
 		case l.taken <- struct{}{}:
@@ -258,19 +277,36 @@ func (l *limited) Close() error {
 	return l.Listener.Close()
 }
 
-// closeIdle closes the connection that has been idle for longest, if there is one.
-func (r *Room) closeIdle() {
+// closeOne closes the connection that has been without a request for longest, unless it has only just come. If all have asked, it
+// closes the one that has been idle for longest, if there is one. So those that never ask don't push out those that have asked.
+func (r *Room) closeOne() {
 	r.mutex.Lock()
 	defer r.mutex.Unlock()
-	var oldest net.Conn
-	for conn, since := range r.idle {
-		if oldest == nil || since.Before(r.idle[oldest]) {
-			oldest = conn
-		}
+	from, atLeast := &r.fresh, freshTime
+	if from.order.Len() == 0 {
+		from, atLeast = &r.idle, 0
 	}
-	if oldest != nil {
-		delete(r.idle, oldest)
+	if oldest := from.oldest(atLeast); oldest != nil {
+		from.remove(oldest)
 		go oldest.Close() // With TLS it says so, and may wait for the client.
+	}
+}
+
+// A place is that of a connection in a room.
+type place struct {
+	room *Room
+	conn net.Conn
+}
+
+type placeKey struct{}
+
+// Refused says that the request with this context has shown no right to be here. Until it is done its connection makes room as one does
+// that has not sent any: the client may take long to send the rest.
+func Refused(ctx context.Context) {
+	if at, has := ctx.Value(placeKey{}).(place); has {
+		at.room.mutex.Lock()
+		defer at.room.mutex.Unlock()
+		at.room.fresh.add(at.conn)
 	}
 }
 
@@ -278,13 +314,53 @@ func (r *Room) closeIdle() {
 func (r *Room) noteState(conn net.Conn, state http.ConnState) {
 	r.mutex.Lock()
 	defer r.mutex.Unlock()
-	delete(r.idle, conn)
+	r.fresh.remove(conn)
+	r.idle.remove(conn)
 	switch state {
+	case http.StateNew:
+		r.fresh.add(conn)
 	case http.StateIdle:
-		r.idle[conn] = time.Now()
+		r.idle.add(conn)
 	case http.StateClosed, http.StateHijacked:
 		<-r.taken
 	}
+}
+
+// A queue has connections in the order in which they were added, each with the time.
+type queue struct {
+	order  list.List
+	places map[net.Conn]*list.Element
+}
+
+// A waiting connection is an element of a queue.
+type waiting struct {
+	conn  net.Conn
+	since time.Time
+}
+
+func (q *queue) add(conn net.Conn) {
+	q.remove(conn)
+	q.places[conn] = q.order.PushBack(waiting{conn, time.Now()})
+}
+
+func (q *queue) remove(conn net.Conn) {
+	if place, has := q.places[conn]; has {
+		q.order.Remove(place)
+		delete(q.places, conn)
+	}
+}
+
+// oldest returns the connection that was added first if that was long enough ago, or nil.
+func (q *queue) oldest(atLeast time.Duration) net.Conn {
+	first := q.order.Front()
+	if first == nil {
+		return nil
+	}
+	one, _ := first.Value.(waiting)
+	if time.Since(one.since) < atLeast {
+		return nil
+	}
+	return one.conn
 }
 
 // Shutdown ends servers, which answer the requests that they have until the context ends.

@@ -110,23 +110,99 @@ func (f *fakeConn) Close() error {
 	return nil
 }
 
-// The connection that has been idle for longest makes room, and none that is not idle.
-func TestCloseIdle(t *testing.T) {
-	r := NewRoom(9)
-	var conns []*fakeConn
-	for i := 0; i < 4; i++ {
-		conns = append(conns, &fakeConn{closed: make(chan struct{})})
-		r.taken <- struct{}{}
-		r.noteState(conns[i], http.StateIdle)
-		time.Sleep(time.Millisecond) // So that the times differ.
+// The connection makes room that has been without a request for longest, or else the one that has been idle for longest, and none
+// that has only just come or waits for an answer.
+func TestCloseOne(t *testing.T) {
+	for _, test := range []struct {
+		name   string
+		states []http.ConnState
+		// isOld says that the new ones came some time ago.
+		isOld bool
+		// closed is the connection that is closed, or -1.
+		closed int
+	}{
+		{"the first idle one", []http.ConnState{http.StateActive, http.StateIdle, http.StateIdle}, true, 1},
+		{"a new one that came some time ago", []http.ConnState{http.StateIdle, http.StateActive, http.StateNew, http.StateNew}, true, 2},
+		{"none while one has just come", []http.ConnState{http.StateNew, http.StateIdle}, false, -1},
+		{"none that has ended", []http.ConnState{http.StateClosed, http.StateIdle}, true, 1},
+		{"none", nil, true, -1},
+	} {
+		t.Run(test.name, func(t *testing.T) {
+			r := NewRoom(9)
+			var conns []*fakeConn
+			for i, state := range test.states {
+				conns = append(conns, &fakeConn{closed: make(chan struct{})})
+				r.taken <- struct{}{}
+				r.noteState(conns[i], http.StateNew)
+				r.noteState(conns[i], state)
+			}
+			for place := r.fresh.order.Front(); place != nil && test.isOld; place = place.Next() {
+				place.Value = waiting{place.Value.(waiting).conn, time.Now().Add(-time.Hour)}
+			}
+			r.closeOne()
+			if test.closed >= 0 {
+				<-conns[test.closed].closed
+				r.noteState(conns[test.closed], http.StateClosed)
+			}
+			for i, conn := range conns {
+				select {
+				case <-conn.closed:
+					if i != test.closed {
+						t.Errorf("connection %d is closed", i)
+					}
+				default:
+				}
+				if state := test.states[i]; state != http.StateClosed && i != test.closed {
+					r.noteState(conn, http.StateClosed)
+				}
+			}
+			if left := r.Connections() + r.fresh.order.Len() + r.idle.order.Len() + len(r.fresh.places) + len(r.idle.places); left > 0 {
+				t.Errorf("%d are left", left)
+			}
+		})
 	}
-	r.noteState(conns[0], http.StateActive)
-	r.noteState(conns[1], http.StateClosed)
-	r.closeIdle()
-	<-conns[2].closed
-	if len(r.taken) != 3 || len(r.idle) != 1 || r.idle[conns[3]].IsZero() {
-		t.Errorf("%d connections, %d idle", len(r.taken), len(r.idle))
+}
+
+// A connection whose request is refused before it has come makes room, until its request is done.
+func TestRefused(t *testing.T) {
+	for _, test := range []struct {
+		name     string
+		refused  bool
+		isDone   bool
+		isClosed bool
+	}{
+		{"a request that is answered", false, false, false},
+		{"one that is refused", true, false, true},
+		{"one that was refused before another one came", true, true, false},
+	} {
+		t.Run(test.name, func(t *testing.T) {
+			r, conn := NewRoom(9), &fakeConn{closed: make(chan struct{})}
+			ctx := context.WithValue(context.Background(), placeKey{}, place{r, conn})
+			r.noteState(conn, http.StateNew)
+			r.noteState(conn, http.StateActive)
+			if test.refused {
+				Refused(ctx)
+			}
+			if test.isDone {
+				r.noteState(conn, http.StateIdle)
+				r.noteState(conn, http.StateActive)
+			}
+			for at := r.fresh.order.Front(); at != nil; at = at.Next() {
+				at.Value = waiting{conn, time.Now().Add(-time.Hour)}
+			}
+			r.closeOne()
+			if test.isClosed {
+				<-conn.closed
+				return
+			}
+			select {
+			case <-conn.closed:
+				t.Error("it is closed")
+			case <-time.After(50 * time.Millisecond):
+			}
+		})
 	}
+	Refused(context.Background()) // Without a server it means nothing.
 }
 
 // Connections that wait for their answers are not closed: others wait until there is room.
