@@ -9,6 +9,9 @@
     clients     slow clients, many connections, heads that are meant to be read in two ways
     table       the table of the calls and their scopes, row by row
     page        the commands of the page
+    batches     batches of lines
+    gateways    decisions by status alone, also through nginx, and AuthZEN
+    requests    the commands of docs/REQUESTS.md
     browsers    a page of a foreign site in Chromium
     program     runs the front, and asks it
 """

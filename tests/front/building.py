@@ -8,7 +8,7 @@ from program.bench import PROGRAM, TESTS
 from .running import features
 
 ROOT = TESTS.parent / "node"
-PACKAGES = [f"rbac-node/{name}" for name in ("api", "callers", "feed", "front", "logs", "metrics", "single", "web")]
+PACKAGES = [f"rbac-node/{name}" for name in ("api", "callers", "endpoints", "feed", "front", "logs", "metrics", "single", "state", "web")]
 
 
 def go(*words, tags=""):

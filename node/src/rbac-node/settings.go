@@ -24,6 +24,7 @@ const defaultConnections = 20_000
 // settings are what the command line chooses for an office, on one machine or on several.
 type settings struct {
 	office, program, listen, origins, refused string
+	publicURL                                 string
 	answerTimeout, hangTimeout                time.Duration
 	connections                               int
 	tls                                       web.TLS
@@ -75,6 +76,7 @@ func (s *settings) define(flags *flag.FlagSet) {
 	flags.StringVar(&s.callers.Issuer, "oidc-issuer", "", "who has to have issued JWTs")
 	flags.StringVar(&s.callers.Audience, "oidc-audience", "", "for whom JWTs have to be")
 	flags.StringVar(&s.callers.Subject, "oidc-claim", "sub", "claim of a JWT that names its caller")
+	flags.StringVar(&s.publicURL, "public-url", "", "where clients find the front: https://HOST:PORT, for AuthZEN's metadata")
 	flags.StringVar(&s.origins, "origin", "", "origins of pages whose requests are answered, separated by commas")
 	flags.StringVar(&s.refused, "refused", "", "file for requests that are refused with 401, 403 or 421 (default: OFFICE.refused)")
 	flags.BoolVar(&s.isCheck, "check", false, "with callers: only check the files of the callers")
@@ -116,7 +118,8 @@ func (s *settings) listenOr(other string) ([]front.Address, error) {
 func (s *settings) frontOptions(addresses []front.Address, log *logs.Logger, registry *metrics.Registry) front.Options {
 	options := front.Options{
 		Addresses: addresses, TLS: s.tls, Connections: s.connections, AnswerTimeout: s.answerTimeout, Refused: s.refused,
-		Log: log, Metrics: registry,
+		PublicURL: strings.TrimSuffix(s.publicURL, "/"),
+		Log:       log, Metrics: registry,
 		Callers: callers.Options{
 			Files: s.callers, Program: s.program, AnswerTimeout: s.answerTimeout, HangTimeout: s.hangTimeout, Reads: single.MostReads,
 			Log: log, Starts: registry.Counter("rbac_node_replay_starts_total", "Starts of a replay.", "replay"),

@@ -122,6 +122,7 @@ func (f *Feed) Do(ctx context.Context, u *Unit) ([][]byte, error) {
 	select {
 	case queue <- u:
 	case <-ctx.Done():
+		u.lose()
 		return nil, api.Unavailable
 	}
 	select {
@@ -219,6 +220,7 @@ func (f *Feed) pass(ctx context.Context) error {
 // send passes the lines of a unit to the replay, unless nobody waits for them any more.
 func (f *Feed) send(u *Unit) {
 	if !u.isKept && u.ctx.Err() != nil {
+		u.lose()
 		return
 	}
 	select {
@@ -246,6 +248,9 @@ func (f *Feed) count(line []byte) { f.reads += 2 + int64(len(line)/chunk) }
 func (f *Feed) answered(u *Unit) {
 	if f.Observer != nil && len(u.Calls) > 0 {
 		f.Observer.Answered(u)
+	}
+	if u.Observed != nil {
+		u.Observed()
 	}
 	if u.isKept {
 		f.keeping.answer(u)

@@ -15,7 +15,10 @@ type Unit struct {
 	Calls []*api.Call
 	// Answers has an answer to each line once the replay has answered all.
 	Answers [][]byte
-	ctx     context.Context
+	// Observed is called with the unit once the replay has answered all, before the observer is told of the next one, as the observer
+	// is. Finally is called when the replay has answered all, or when it never will: also if nobody waits any more. Both may be nil.
+	Observed, Finally func()
+	ctx               context.Context
 	// holds is how many have to let the unit go before whoever asks gets the answers. The first of them is its way to the replay and
 	// back.
 	holds atomic.Int32
@@ -47,8 +50,12 @@ func (u *Unit) Hold() (release func()) {
 }
 
 func (u *Unit) release() {
-	if u.holds.Add(-1) == 0 {
-		close(u.done)
+	if u.holds.Add(-1) > 0 {
+		return
+	}
+	close(u.done)
+	if u.Finally != nil {
+		u.Finally()
 	}
 }
 

@@ -30,6 +30,9 @@ func (f *Front) ServeHTTP(w http.ResponseWriter, r *http.Request) {
 		f.serveHealth(w, r)
 		return
 	}
+	if f.endpoints != nil && f.endpoints.ServeConfiguration(w, r) {
+		return
+	}
 	if f.guard == nil {
 		f.answer(w, r, nil)
 		return
@@ -59,6 +62,10 @@ func (f *Front) serveHealth(w http.ResponseWriter, r *http.Request) {
 func (f *Front) answer(w http.ResponseWriter, r *http.Request, visit *callers.Visit) {
 	if f.HasMetrics && r.RequestURI == "/metrics" && r.Method == http.MethodGet {
 		f.answerMetrics(w, r, visit)
+		return
+	}
+	if f.endpoints != nil && f.endpoints.Has(r) {
+		f.answerEndpoint(w, r, visit)
 		return
 	}
 	if visit == nil {

@@ -43,6 +43,7 @@ type Options struct {
 // An Office is the office of a file.
 type Office struct {
 	Options
+	order
 	feed *feed.Feed
 	lock *os.File
 }
@@ -57,8 +58,13 @@ func Open(ctx context.Context, options Options) (*Office, error) {
 		_ = lock.Close()
 		return nil, err
 	}
-	f, err := feed.Open(ctx, feed.Options{
-		Name: "office",
+	o := &Office{Options: options, lock: lock}
+	if err := o.count(); err != nil {
+		_ = lock.Close()
+		return nil, err
+	}
+	o.feed, err = feed.Open(ctx, feed.Options{
+		Name: "office", Before: o.before, Observer: o,
 		// The replay inherits the lock. So whoever gets it knows that no replay of an earlier front writes the file any more.
 		Start: func() (*office.Replay, error) {
 			return office.Start(options.Program, options.File, options.HangTimeout, lock)
@@ -70,7 +76,7 @@ func Open(ctx context.Context, options Options) (*Office, error) {
 		_ = lock.Close()
 		return nil, fmt.Errorf("the office %s doesn't open: %w", options.File, err)
 	}
-	return &Office{options, f, lock}, nil
+	return o, nil
 }
 
 // lockOf returns a lock that no other program has. An earlier replay may need a moment to end.
@@ -143,9 +149,7 @@ func (o *Office) Close() error {
 
 // Ask answers a call. All kinds are answered from the newest state.
 func (o *Office) Ask(ctx context.Context, _ api.Kind, call *api.Call) (api.Answer, error) {
-	within, cancel := context.WithTimeout(ctx, o.AnswerTimeout)
-	defer cancel()
-	answers, err := o.feed.Ask(within, call.Line)
+	answers, err := o.AskAll(ctx, call)
 	if err != nil {
 		return api.Answer{}, err
 	}

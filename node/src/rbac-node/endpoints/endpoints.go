@@ -1,0 +1,148 @@
+// Package endpoints answers what no function of an office does: batches, decisions by status alone, and the interfaces that others
+// speak.
+package endpoints
+
+import (
+	"context"
+	"errors"
+	"net/http"
+	"strings"
+	"time"
+
+	"rbac-node/api"
+	"rbac-node/state"
+)
+
+// A Turn is a part of the order of an office in which no command of other clients is done.
+type Turn interface {
+	// Ask returns the answers to some calls, with nothing of other clients between them.
+	Ask(calls ...*api.Call) ([][]byte, error)
+}
+
+// An Office is what the endpoints ask.
+type Office interface {
+	// AskAll returns the answers to some calls, with nothing of other clients between them.
+	AskAll(ctx context.Context, calls ...*api.Call) ([][]byte, error)
+	// Observe is AskAll for questions. The function is called at their place in the order. It must not wait.
+	Observe(ctx context.Context, observed func(), questions ...*api.Call) ([][]byte, error)
+	// Turn calls a function when all commands before are done. Those of others wait until it returns.
+	Turn(ctx context.Context, do func(Turn) error) error
+	// State returns what is known of the office, or nil.
+	State() *state.State
+}
+
+// A Visitor is who asks, if there are callers.
+type Visitor interface {
+	// May reports whether the caller may do all of some calls. An error is a refusal.
+	May(ctx context.Context, calls ...*api.Call) error
+	// Done says that the office has nothing more to do for the request.
+	Done()
+}
+
+// Options are what the command line sets.
+type Options struct {
+	// PublicURL is where clients find the front, or empty.
+	PublicURL string
+	// Note is told how a request was answered.
+	Note func(kind api.Kind, status int, start time.Time)
+	// Denied is told that a caller may not do something.
+	Denied func(r *http.Request, visitor Visitor, err error)
+}
+
+// Endpoints answer requests from an office.
+type Endpoints struct {
+	Options
+	// life is the context of requests: they are done also if the client has ended its side of the connection.
+	life   context.Context
+	office Office
+}
+
+// New returns endpoints that answer until the context ends.
+func New(life context.Context, office Office, options Options) *Endpoints {
+	return &Endpoints{options, life, office}
+}
+
+// A request is one that is being answered.
+type request struct {
+	*http.Request
+	w       http.ResponseWriter
+	ctx     context.Context
+	visitor Visitor
+}
+
+// A handler answers a request, and returns the status, or an error that is answered.
+type handler func(*request) (int, error)
+
+// find returns how a request is answered, as which kind, or nothing if no endpoint is at its path.
+func (e *Endpoints) find(path string) (api.Kind, handler) {
+	path, _, _ = strings.Cut(path, "?")
+	switch path {
+	case "/v1/batch":
+		return "batch", e.batch
+	case "/decide":
+		return "decision", e.decide
+	case "/access/v1/evaluation":
+		return "decision", e.evaluation
+	case "/access/v1/evaluations":
+		return "batch", e.evaluations
+	}
+	return "", nil
+}
+
+// Has reports whether an endpoint is at the path of a request.
+func (e *Endpoints) Has(r *http.Request) bool {
+	_, found := e.find(r.RequestURI)
+	return found != nil
+}
+
+// Serve answers a request of a visitor, or of anybody if that is nil.
+func (e *Endpoints) Serve(w http.ResponseWriter, r *http.Request, visitor Visitor) {
+	start := time.Now()
+	kind, handle := e.find(r.RequestURI)
+	asked := &request{r, w, e.life, visitor}
+	if id := r.Header.Get("X-Request-ID"); id != "" && strings.HasPrefix(r.URL.Path, "/access/") {
+		w.Header().Set("X-Request-ID", id)
+	}
+	status, err := handle(asked)
+	asked.done()
+	if err != nil {
+		refused := api.Unavailable
+		_ = errors.As(err, &refused)
+		if visitor != nil && (refused == api.Forbidden || refused == api.Unavailable) {
+			e.Denied(r, visitor, refused)
+		}
+		status = api.Refuse(w, refused)
+	}
+	e.Note(kind, status, start)
+}
+
+// may refuses calls unless the visitor may do all of them.
+func (r *request) may(calls ...*api.Call) error {
+	if r.visitor == nil {
+		return nil
+	}
+	return r.visitor.May(r.ctx, calls...)
+}
+
+// done says that the office has nothing more to do for the request. Afterwards it may be answered.
+func (r *request) done() {
+	if r.visitor != nil {
+		r.visitor.Done()
+	}
+}
+
+// reply answers the request with a text of JSON.
+func (r *request) reply(status int, text []byte) int {
+	r.done()
+	return api.Write(r.w, status, text)
+}
+
+// status answers the request by a status alone.
+func (r *request) status(status int) int {
+	r.done()
+	if status != http.StatusNoContent {
+		r.w.Header().Set("Content-Length", "0")
+	}
+	r.w.WriteHeader(status)
+	return status
+}

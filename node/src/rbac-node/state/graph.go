@@ -1,0 +1,118 @@
+package state
+
+import "sort"
+
+// A Set is a separation of duty set.
+type Set struct {
+	Roles       map[string]bool
+	Cardinality int64
+}
+
+// members returns the roles of the set in their order.
+func (s Set) members() []string {
+	roles := make([]string, 0, len(s.Roles))
+	for role := range s.Roles {
+		roles = append(roles, role)
+	}
+	sort.Strings(roles)
+	return roles
+}
+
+// A Graph has the inheritances and the separation of duty sets of an office at one place in the order. It never changes.
+type Graph struct {
+	// juniors has the roles of which a role is an immediate ascendant.
+	juniors map[string][]string
+	static  map[string]Set
+	dynamic map[string]Set
+}
+
+func newGraph() *Graph {
+	return &Graph{juniors: map[string][]string{}, static: map[string]Set{}, dynamic: map[string]Set{}}
+}
+
+// clone returns a copy that may be changed.
+func (g *Graph) clone() *Graph {
+	c := &Graph{juniors: make(map[string][]string, len(g.juniors)), static: copyOf(g.static), dynamic: copyOf(g.dynamic)}
+	for role, juniors := range g.juniors {
+		c.juniors[role] = append([]string(nil), juniors...)
+	}
+	return c
+}
+
+func copyOf(sets map[string]Set) map[string]Set {
+	copied := make(map[string]Set, len(sets))
+	for name, set := range sets {
+		roles := make(map[string]bool, len(set.Roles))
+		for role := range set.Roles {
+			roles[role] = true
+		}
+		copied[name] = Set{roles, set.Cardinality}
+	}
+	return copied
+}
+
+// Below returns a role and its juniors.
+func (g *Graph) Below(role string) map[string]bool {
+	found := map[string]bool{role: true}
+	for todo := []string{role}; len(todo) > 0; {
+		next := todo[len(todo)-1]
+		todo = todo[:len(todo)-1]
+		for _, junior := range g.juniors[next] {
+			if !found[junior] {
+				found[junior] = true
+				todo = append(todo, junior)
+			}
+		}
+	}
+	return found
+}
+
+// Violated returns the first dynamic set, in the order of their names, of which these roles are too many, and the members that they
+// are.
+func (g *Graph) Violated(roles map[string]bool) (name string, members []string) {
+	names := make([]string, 0, len(g.dynamic))
+	for name := range g.dynamic {
+		names = append(names, name)
+	}
+	sort.Strings(names)
+	for _, name := range names {
+		set := g.dynamic[name]
+		var held []string
+		for _, role := range set.members() {
+			if roles[role] {
+				held = append(held, role)
+			}
+		}
+		if int64(len(held)) >= set.Cardinality {
+			return name, held
+		}
+	}
+	return "", nil
+}
+
+// edges returns the immediate inheritances in their order.
+func (g *Graph) edges() []Row {
+	t := &table{}
+	for asc, juniors := range g.juniors {
+		for _, desc := range juniors {
+			t.rows = append(t.rows, Row{asc, desc})
+		}
+	}
+	t.sort()
+	return t.rows
+}
+
+// addEdge and removeEdge change a clone.
+func (g *Graph) addEdge(asc, desc string) { g.juniors[asc] = append(g.juniors[asc], desc) }
+
+func (g *Graph) removeEdge(asc, desc string) {
+	left := g.juniors[asc][:0]
+	for _, junior := range g.juniors[asc] {
+		if junior != desc {
+			left = append(left, junior)
+		}
+	}
+	if g.juniors[asc] = left; len(left) == 0 {
+		delete(g.juniors, asc)
+	}
+}
