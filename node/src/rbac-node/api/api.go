@@ -35,6 +35,8 @@ type Answer struct {
 	Place    int
 	// Newest is a moment at which the state that answered a question was the newest one.
 	Newest time.Time
+	// Policy is the revision of the policy after a command, or that of the state that answered a question, or 0 if it isn't known.
+	Policy int64
 }
 
 // A Refusal is what is answered without the office: an HTTP status, a code and its name.
@@ -59,7 +61,9 @@ var (
 	// ForeignOrigin means that a page of a foreign site has made a browser send the request.
 	ForeignOrigin = Refusal{http.StatusForbidden, 65, "ForeignOrigin"}
 	// ForeignHost means that the request was sent to a name that isn't one of this machine.
-	ForeignHost     = Refusal{http.StatusMisdirectedRequest, 66, "ForeignHost"}
+	ForeignHost = Refusal{http.StatusMisdirectedRequest, 66, "ForeignHost"}
+	// Outdated means that the policy has changed since the revision that the request names.
+	Outdated        = Refusal{http.StatusPreconditionFailed, 67, "Outdated"}
 	unknownFunction = Refusal{http.StatusNotFound, 35, "UnknownFunction"}
 )
 
@@ -117,8 +121,12 @@ func (h *Handler) Serve(w http.ResponseWriter, r *http.Request, judge Judge, don
 		err = judge(h.ctx, call)
 	}
 	var answer Answer
+	ctx := h.ctx
 	if err == nil {
-		answer, err = h.office.Ask(h.ctx, kind, call)
+		ctx, err = withCondition(ctx, r, h.office)
+	}
+	if err == nil {
+		answer, err = h.office.Ask(ctx, kind, call)
 	}
 	done()
 	status := respond(w, kind, answer, err)
@@ -134,6 +142,7 @@ func respond(w http.ResponseWriter, kind Kind, answer Answer, err error) int {
 		return Refuse(w, refused)
 	}
 	head := w.Header()
+	SetPolicy(head, answer.Policy)
 	switch {
 	case answer.Revision == 0 && answer.Newest.IsZero():
 		// The office is that of one machine.

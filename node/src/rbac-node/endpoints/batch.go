@@ -2,12 +2,14 @@ package endpoints
 
 import (
 	"bytes"
+	"context"
 	"errors"
 	"net/http"
 	"net/url"
 	"strconv"
 
 	"rbac-node/api"
+	"rbac-node/state"
 )
 
 // batch does the lines of a body in their order, with nothing between them. If a line can't be read or may not be done, none is.
@@ -31,28 +33,35 @@ func (e *Endpoints) batch(r *request) (int, error) {
 	if err != nil {
 		return 0, err
 	}
-	answers, err := e.do(r, calls, isStopped)
+	ctx, err := api.WithCondition(r.ctx, r.Request, e.office)
+	if err != nil {
+		return 0, err
+	}
+	answers, numbers, err := e.do(ctx, calls, isStopped)
 	if err != nil {
 		return 0, err
 	}
 	r.done()
+	api.SetPolicy(r.w.Header(), numbers.Policy)
 	return writeLines(r.w, answers), nil
 }
 
-// do returns the answers to calls, up to the first that is refused if that ends them.
-func (e *Endpoints) do(r *request, calls []*api.Call, isStopped bool) (answers [][]byte, err error) {
+// do returns the answers to calls, up to the first that is refused if that ends them, and the numbers after them.
+func (e *Endpoints) do(ctx context.Context, calls []*api.Call, isStopped bool) ([][]byte, state.Numbers, error) {
 	if !isStopped {
-		return e.office.AskAll(r.ctx, calls...)
+		return e.office.AskAll(ctx, calls...)
 	}
-	var found [][]byte // The function may outlive the request.
-	err = e.office.Turn(r.ctx, func(turn Turn) (err error) {
-		found, err = untilRefused(turn, calls)
+	var answers [][]byte // The function may outlive the request.
+	var numbers state.Numbers
+	err := e.office.Turn(ctx, func(turn Turn) (err error) {
+		answers, err = untilRefused(turn, calls)
+		numbers = turn.Numbers()
 		return err
 	})
 	if err != nil {
-		return nil, err
+		return nil, state.Numbers{}, err
 	}
-	return found, nil
+	return answers, numbers, nil
 }
 
 // readStop reads from the target of a request whether a batch ends after the first line that is refused.

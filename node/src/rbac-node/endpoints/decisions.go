@@ -34,7 +34,7 @@ func (e *Endpoints) decideAll(r *request, queries []query) ([]decision, error) {
 	if err := r.may(calls...); err != nil {
 		return nil, err
 	}
-	answers, err := e.office.AskAll(r.ctx, calls...)
+	answers, _, err := e.office.AskAll(r.ctx, calls...)
 	if err != nil {
 		return nil, err
 	}

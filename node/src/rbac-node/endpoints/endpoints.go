@@ -10,6 +10,7 @@ import (
 	"time"
 
 	"rbac-node/api"
+	"rbac-node/callers"
 	"rbac-node/state"
 )
 
@@ -17,12 +18,14 @@ import (
 type Turn interface {
 	// Ask returns the answers to some calls, with nothing of other clients between them.
 	Ask(calls ...*api.Call) ([][]byte, error)
+	// Numbers returns the numbers of this moment.
+	Numbers() state.Numbers
 }
 
 // An Office is what the endpoints ask.
 type Office interface {
-	// AskAll returns the answers to some calls, with nothing of other clients between them.
-	AskAll(ctx context.Context, calls ...*api.Call) ([][]byte, error)
+	// AskAll returns the answers to some calls, with nothing of other clients between them, and the numbers after them.
+	AskAll(ctx context.Context, calls ...*api.Call) ([][]byte, state.Numbers, error)
 	// Observe is AskAll for questions. The function is called at their place in the order. It must not wait.
 	Observe(ctx context.Context, observed func(), questions ...*api.Call) ([][]byte, error)
 	// Turn calls a function when all commands before are done. Those of others wait until it returns.
@@ -37,6 +40,9 @@ type Visitor interface {
 	May(ctx context.Context, calls ...*api.Call) error
 	// Done says that the office has nothing more to do for the request.
 	Done()
+	// Name returns the name of the caller, and Rights what it may do.
+	Name() string
+	Rights(ctx context.Context) ([]callers.Grant, error)
 }
 
 // Options are what the command line sets.
@@ -79,6 +85,8 @@ func (e *Endpoints) find(path string) (api.Kind, handler) {
 	switch path {
 	case "/v1/batch":
 		return "batch", e.batch
+	case "/caller":
+		return "question", e.caller
 	case "/decide":
 		return "decision", e.decide
 	case "/access/v1/evaluation":

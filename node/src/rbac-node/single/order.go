@@ -92,32 +92,53 @@ func (o *Office) Answered(u *feed.Unit) {
 // State returns what is known of the office, or nil if this program can't read its rows.
 func (o *Office) State() *state.State { return o.state }
 
-// AskAll returns the answers to some calls, with nothing of others between them.
-func (o *Office) AskAll(ctx context.Context, calls ...*api.Call) ([][]byte, error) {
-	if o.state != nil && state.NeedsReview(calls) {
-		var answers [][]byte // The function may outlive the request.
-		err := o.Turn(ctx, func(t endpoints.Turn) (err error) {
-			answers, err = t.Ask(calls...)
-			return err
-		})
-		if err != nil {
-			return nil, err
-		}
-		return answers, nil
+// JudgesConditions reports whether the office knows the revision of its policy.
+func (o *Office) JudgesConditions() bool { return o.state != nil }
+
+// AskAll returns the answers to some calls, with nothing of others between them, and the numbers after them.
+func (o *Office) AskAll(ctx context.Context, calls ...*api.Call) (answers [][]byte, numbers state.Numbers, err error) {
+	_, isConditional := api.Condition(ctx)
+	if isConditional || o.state != nil && state.NeedsReview(calls) {
+		return o.askInTurn(ctx, calls)
 	}
 	within, cancel := context.WithTimeout(ctx, o.AnswerTimeout)
 	defer cancel()
 	o.touch(calls)
-	if !haveCommand(calls) {
-		return o.feed.Ask(within, linesOf(calls)...)
+	u := &feed.Unit{Lines: linesOf(calls), Observed: o.counting(&numbers)}
+	if haveCommand(calls) {
+		if err := o.enter(within); err != nil {
+			return nil, numbers, err
+		}
+		o.isStale.Store(true)
+		u.Calls, u.Finally = calls, o.gate.RUnlock
 	}
-	if err := o.enter(within); err != nil {
-		return nil, err
+	if answers, err = o.feed.Do(within, u); err != nil {
+		return nil, state.Numbers{}, err
 	}
-	o.isStale.Store(true)
-	u := feed.NewUnit(calls...)
-	u.Finally = o.gate.RUnlock
-	return o.feed.Do(within, u)
+	return answers, numbers, nil
+}
+
+// counting returns what notes the numbers when a unit is observed.
+func (o *Office) counting(numbers *state.Numbers) func() {
+	if o.state == nil {
+		return nil
+	}
+	return func() { *numbers = o.state.Numbers() }
+}
+
+// askInTurn is AskAll while no command of others is done.
+func (o *Office) askInTurn(ctx context.Context, calls []*api.Call) ([][]byte, state.Numbers, error) {
+	var answers [][]byte // The function may outlive the request.
+	var numbers state.Numbers
+	err := o.Turn(ctx, func(t endpoints.Turn) (err error) {
+		answers, err = t.Ask(calls...)
+		numbers = t.Numbers()
+		return err
+	})
+	if err != nil {
+		return nil, state.Numbers{}, err
+	}
+	return answers, numbers, nil
 }
 
 // enter waits until nobody has or awaits a turn.
@@ -190,7 +211,7 @@ type turn struct {
 }
 
 // Turn calls a function when all commands before are done. Those of others wait until it returns, so it must wait for little but
-// its answers. It isn't called if the context has ended before.
+// its answers. It isn't called if the context has ended before, or names a revision that the policy no longer has.
 func (o *Office) Turn(ctx context.Context, do func(endpoints.Turn) error) error {
 	within, cancel := context.WithTimeout(ctx, o.AnswerTimeout)
 	done := make(chan error, 1)
@@ -200,7 +221,9 @@ func (o *Office) Turn(ctx context.Context, do func(endpoints.Turn) error) error 
 		defer o.gate.Unlock()
 		t := &turn{office: o, ctx: within}
 		err := error(api.Unavailable)
-		if within.Err() == nil {
+		if revision, has := api.Condition(ctx); has && revision != t.Numbers().Policy {
+			err = api.Outdated
+		} else if within.Err() == nil {
 			err = do(t)
 		}
 		done <- err
@@ -212,6 +235,14 @@ func (o *Office) Turn(ctx context.Context, do func(endpoints.Turn) error) error 
 	case <-within.Done():
 		return api.Unavailable
 	}
+}
+
+// Numbers returns the numbers of this moment.
+func (t *turn) Numbers() (numbers state.Numbers) {
+	if t.office.state != nil {
+		numbers = t.office.state.Numbers()
+	}
+	return numbers
 }
 
 // Ask returns the answers to some calls, with nothing of others between them.

@@ -149,11 +149,11 @@ func (o *Office) Close() error {
 
 // Ask answers a call. All kinds are answered from the newest state.
 func (o *Office) Ask(ctx context.Context, _ api.Kind, call *api.Call) (api.Answer, error) {
-	answers, err := o.AskAll(ctx, call)
+	answers, numbers, err := o.AskAll(ctx, call)
 	if err != nil {
 		return api.Answer{}, err
 	}
-	return api.Answer{Text: answers[0]}, nil
+	return api.Answer{Text: answers[0], Policy: numbers.Policy}, nil
 }
 
 // IsAlive tells whether the goroutine that feeds the replay goes on, before the context ends.
