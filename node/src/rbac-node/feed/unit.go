@@ -13,6 +13,8 @@ type Unit struct {
 	// Calls has what the lines ask for if they are commands, and nothing for questions. Keepers and observers get only units of
 	// commands.
 	Calls []*api.Call
+	// Recorded has the lines as the keeper writes them down. Whoever makes the unit sets it, if there is a keeper.
+	Recorded [][]byte
 	// Answers has an answer to each line once the replay has answered all.
 	Answers [][]byte
 	ctx     context.Context
