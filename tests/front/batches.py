@@ -20,10 +20,10 @@ def line(function, **values):
     return {"fn": function, **values}
 
 
-def batch(front, lines, query="", **fields):
+def batch(front, lines, query="", connection=None, **fields):
     """The status of the answer to a batch, and its lines."""
     body = lines if isinstance(lines, (bytes, str)) else text_of(lines)
-    status, said = front.exchange("POST", f"/v1/batch{query}", body, **fields)
+    status, said = front.exchange("POST", f"/v1/batch{query}", body, connection, **fields)
     return status, said.splitlines()
 
 

@@ -30,6 +30,7 @@ type settings struct {
 	tls                                       web.TLS
 	callers                                   callers.Files
 	isCheck                                   bool
+	record                                    recordSettings
 }
 
 // clusterMode is what a program for several machines does.
@@ -79,6 +80,8 @@ func (s *settings) define(flags *flag.FlagSet) {
 	flags.StringVar(&s.publicURL, "public-url", "", "where clients find the front: https://HOST:PORT, for AuthZEN's metadata")
 	flags.StringVar(&s.origins, "origin", "", "origins of pages whose requests are answered, separated by commas")
 	flags.StringVar(&s.refused, "refused", "", "file for requests that are refused with 401, 403 or 421 (default: OFFICE.refused)")
+	flags.BoolVar(&s.record.isOff, "no-record", false, "don't record commands, for one machine")
+	flags.Int64Var(&s.record.every, "record-base", 10_000, "commands between two copies of the office, from which a start does them again")
 	flags.BoolVar(&s.isCheck, "check", false, "with callers: only check the files of the callers")
 }
 
@@ -96,6 +99,8 @@ func (s *settings) check() error {
 	switch {
 	case s.answerTimeout <= 0 || s.hangTimeout < time.Second:
 		return errors.New("--timeout must be above zero, and --hang-timeout at least 1s")
+	case s.record.every < 1:
+		return errors.New("--record-base must be at least 1")
 	case s.connections < 1 || s.connections > web.MaxConnections():
 		return fmt.Errorf("--connections must be from 1 to %d, as the limit of file descriptors allows", web.MaxConnections())
 	case files.Callers == "" && files.Tokens+files.Keys != "":

@@ -6,7 +6,6 @@ import (
 	"context"
 	"encoding/json"
 	"errors"
-	"fmt"
 	"io"
 	"net/http"
 	"strconv"
@@ -156,19 +155,22 @@ func respond(w http.ResponseWriter, kind Kind, answer Answer, err error) int {
 	return write(w, StatusOf(answer.Text), answer.Text)
 }
 
-// Refuse answers a request without the office, and returns the status.
-func Refuse(w http.ResponseWriter, refused Refusal) int {
+// Refuse answers a request without the office, and returns the status. If nothing else is said, only POST is allowed.
+func Refuse(w http.ResponseWriter, refused Refusal, methods ...string) int {
 	head := w.Header()
 	switch refused.Status {
 	case http.StatusUnauthorized:
 		head.Set("WWW-Authenticate", "Bearer")
 	case http.StatusMethodNotAllowed:
-		head.Set("Allow", http.MethodPost)
+		if len(methods) == 0 {
+			methods = []string{http.MethodPost}
+		}
+		head.Set("Allow", strings.Join(methods, ", "))
 	case http.StatusNotImplemented:
 		// Nobody may take what follows for the next request.
 		head.Set("Connection", "close")
 	}
-	return write(w, refused.Status, []byte(fmt.Sprintf(`{"code":%d,"error":"%s"}`, refused.Code, refused.Name)))
+	return write(w, refused.Status, RefusalText(refused.Code, refused.Name))
 }
 
 func write(w http.ResponseWriter, status int, text []byte) int {

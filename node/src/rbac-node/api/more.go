@@ -3,6 +3,7 @@ package api
 import (
 	"bytes"
 	"encoding/json"
+	"fmt"
 	"io"
 	"net/http"
 	"strconv"
@@ -45,6 +46,11 @@ func Text(value json.RawMessage) (string, error) { return textOf(value) }
 
 // Texts returns the texts of a list that is written as JSON.
 func Texts(value json.RawMessage) ([]string, error) { return textsOf(value) }
+
+// RefusalText returns a refusal as the office writes it.
+func RefusalText(code int, name string) []byte {
+	return []byte(fmt.Sprintf(`{"code":%d,"error":"%s"}`, code, name))
+}
 
 // IsAccepted reports whether the office accepted what it answers.
 func IsAccepted(answer []byte) bool { return bytes.HasPrefix(answer, []byte(`{"ok":true`)) }

@@ -222,6 +222,8 @@ func (asked evaluation) query() (q query, err error) {
 	switch asked.subject.kind {
 	case "session":
 		q.session = asked.subject.id
+	case "user":
+		q.user = asked.subject.id
 	default:
 		return q, errNotRead
 	}

@@ -1,10 +1,9 @@
 package endpoints
 
 import (
+	"bytes"
 	"encoding/json"
 	"net/http"
-
-	"rbac-node/api"
 )
 
 // A right is a scope with what a caller may do in it.
@@ -15,9 +14,6 @@ type right struct {
 
 // caller answers who asks, and what that caller may do.
 func (e *Endpoints) caller(r *request) (int, error) {
-	if r.Method != http.MethodGet {
-		return 0, errOnlyGet
-	}
 	value := struct {
 		Caller string  `json:"caller"`
 		Open   bool    `json:"open,omitempty"`
@@ -35,20 +31,20 @@ func (e *Endpoints) caller(r *request) (int, error) {
 			}
 		}
 	}
-	return r.replyValue(value), nil
+	return r.replyValue(value)
 }
 
-// replyValue answers the request with a value that can be written as JSON.
-func (r *request) replyValue(value any) int {
-	text, err := json.Marshal(struct {
+// replyValue answers the request with a value.
+func (r *request) replyValue(value any) (int, error) {
+	var text bytes.Buffer
+	encoder := json.NewEncoder(&text)
+	encoder.SetEscapeHTML(false)
+	err := encoder.Encode(struct {
 		OK    bool `json:"ok"`
 		Value any  `json:"value"`
 	}{true, value})
 	if err != nil {
-		return r.reply(http.StatusServiceUnavailable, []byte(`{"code":60,"error":"Unavailable"}`))
+		return 0, err
 	}
-	return r.reply(http.StatusOK, text)
+	return r.reply(http.StatusOK, bytes.TrimSuffix(text.Bytes(), []byte("\n"))), nil
 }
-
-// errOnlyGet is the refusal of another method than GET.
-var errOnlyGet = api.BadRequest(http.StatusMethodNotAllowed)

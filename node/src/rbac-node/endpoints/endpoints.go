@@ -51,6 +51,8 @@ type Options struct {
 	PublicURL string
 	// Note is told how a request was answered.
 	Note func(kind api.Kind, status int, start time.Time)
+	// Sign writes on a command who asks for it and why, or refuses it.
+	Sign func(r *http.Request, visitor Visitor, call *api.Call) error
 	// Denied is told that a caller may not do something.
 	Denied func(r *http.Request, visitor Visitor, err error)
 }
@@ -61,57 +63,74 @@ type Endpoints struct {
 	// life is the context of requests: they are done also if the client has ended its side of the connection.
 	life   context.Context
 	office Office
+	at     map[string]endpoint
 }
 
 // New returns endpoints that answer until the context ends.
 func New(life context.Context, office Office, options Options) *Endpoints {
-	return &Endpoints{options, life, office}
+	e := &Endpoints{Options: options, life: life, office: office}
+	e.add()
+	return e
 }
 
 // A request is one that is being answered.
 type request struct {
 	*http.Request
+	sign    func(call *api.Call) error
 	w       http.ResponseWriter
 	ctx     context.Context
 	visitor Visitor
 }
 
-// A handler answers a request, and returns the status, or an error that is answered.
-type handler func(*request) (int, error)
-
-// find returns how a request is answered, as which kind, or nothing if no endpoint is at its path.
-func (e *Endpoints) find(path string) (api.Kind, handler) {
-	path, _, _ = strings.Cut(path, "?")
-	switch path {
-	case "/v1/batch":
-		return "batch", e.batch
-	case "/caller":
-		return "question", e.caller
-	case "/decide":
-		return "decision", e.decide
-	case "/access/v1/evaluation":
-		return "decision", e.evaluation
-	case "/access/v1/evaluations":
-		return "batch", e.evaluations
-	}
-	return "", nil
+// An endpoint is what is at a path: how a request is counted, its methods, and what answers it and returns the status, or an error
+// that is answered.
+type endpoint struct {
+	kind    api.Kind
+	methods []string
+	answer  func(*request) (int, error)
 }
+
+// add adds what the endpoints are.
+func (e *Endpoints) add() {
+	e.at = map[string]endpoint{
+		"/v1/batch":              {"batch", post, e.batch},
+		"/v1/decideByUser":       {"decision", post, e.decideByUser},
+		"/decide":                {"decision", getOrPost, e.decide},
+		"/access/v1/evaluation":  {"decision", post, e.evaluation},
+		"/access/v1/evaluations": {"batch", post, e.evaluations},
+		"/explain":               {"question", post, e.explain},
+		"/caller":                {"question", get, e.caller},
+	}
+}
+
+// find returns the endpoint at a target.
+func (e *Endpoints) find(target string) (found endpoint, has bool) {
+	path, _, _ := strings.Cut(target, "?")
+	found, has = e.at[path]
+	return found, has
+}
+
+var get, post, getOrPost = []string{http.MethodGet}, []string{http.MethodPost}, []string{http.MethodGet, http.MethodPost}
 
 // Has reports whether an endpoint is at the path of a request.
 func (e *Endpoints) Has(r *http.Request) bool {
-	_, found := e.find(r.RequestURI)
-	return found != nil
+	_, has := e.find(r.RequestURI)
+	return has
 }
 
 // Serve answers a request of a visitor, or of anybody if that is nil.
 func (e *Endpoints) Serve(w http.ResponseWriter, r *http.Request, visitor Visitor) {
 	start := time.Now()
-	kind, handle := e.find(r.RequestURI)
-	asked := &request{r, w, e.life, visitor}
+	at, _ := e.find(r.RequestURI)
+	sign := func(call *api.Call) error { return e.Sign(r, visitor, call) }
+	asked := &request{r, sign, w, e.life, visitor}
 	if id := r.Header.Get("X-Request-ID"); id != "" && strings.HasPrefix(r.URL.Path, "/access/") {
 		w.Header().Set("X-Request-ID", id)
 	}
-	status, err := handle(asked)
+	status, err := 0, error(api.BadRequest(http.StatusMethodNotAllowed))
+	if has(at.methods, r.Method) {
+		status, err = at.answer(asked)
+	}
 	asked.done()
 	if err != nil {
 		refused := api.Unavailable
@@ -119,13 +138,27 @@ func (e *Endpoints) Serve(w http.ResponseWriter, r *http.Request, visitor Visito
 		if visitor != nil && (refused == api.Forbidden || refused == api.Unavailable) {
 			e.Denied(r, visitor, refused)
 		}
-		status = api.Refuse(w, refused)
+		status = api.Refuse(w, refused, at.methods...)
 	}
-	e.Note(kind, status, start)
+	e.Note(at.kind, status, start)
+}
+
+func has(methods []string, method string) bool {
+	for _, one := range methods {
+		if one == method {
+			return true
+		}
+	}
+	return false
 }
 
 // may refuses calls unless the visitor may do all of them.
 func (r *request) may(calls ...*api.Call) error {
+	for _, call := range calls {
+		if err := r.sign(call); err != nil {
+			return err
+		}
+	}
 	if r.visitor == nil {
 		return nil
 	}

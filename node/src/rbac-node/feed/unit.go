@@ -10,9 +10,11 @@ import (
 // A Unit is some lines that are asked at once: nothing comes between them.
 type Unit struct {
 	Lines [][]byte
-	// Calls has what the lines ask for if they are commands, and nothing for questions. Keepers and observers get only units of
-	// commands.
+	// Calls has what the lines ask for if there is a command among them, and is empty otherwise. Keepers and observers get only units
+	// with commands.
 	Calls []*api.Call
+	// Recorded has the lines as the keeper writes them down. Whoever makes the unit sets it, if there is a keeper.
+	Recorded [][]byte
 	// Answers has an answer to each line once the replay has answered all.
 	Answers [][]byte
 	// Observed is called with the unit once the replay has answered all, before the observer is told of the next one, as the observer
@@ -35,6 +37,16 @@ func NewUnit(calls ...*api.Call) *Unit {
 		u.Lines[i] = call.Line
 	}
 	return u
+}
+
+// Commands returns the places of the lines that are commands.
+func (u *Unit) Commands() (places []int) {
+	for i, call := range u.Calls {
+		if call.Kind == api.Command {
+			places = append(places, i)
+		}
+	}
+	return places
 }
 
 // begin says who waits for the answers.

@@ -4,6 +4,7 @@ import (
 	"context"
 	"net/http"
 
+	"rbac-node/api"
 	"rbac-node/callers"
 	"rbac-node/endpoints"
 )
@@ -16,6 +17,10 @@ func (f *Front) serveEndpoints(life context.Context) {
 	}
 	f.endpoints = endpoints.New(life, office, endpoints.Options{
 		PublicURL: f.PublicURL, Note: f.handler.Note,
+		Sign: func(r *http.Request, visitor endpoints.Visitor, call *api.Call) error {
+			visit, _ := visitor.(*callers.Visit)
+			return sign(r, visit, call)
+		},
 		Denied: func(r *http.Request, visitor endpoints.Visitor, err error) {
 			if visit, is := visitor.(*callers.Visit); is {
 				f.note(r, visit.Caller, errDenied, refusalOf(err))

@@ -69,10 +69,13 @@ func (f *Front) answer(w http.ResponseWriter, r *http.Request, visit *callers.Vi
 		return
 	}
 	if visit == nil {
-		f.handler.Serve(w, r, nil, func() {})
+		f.handler.Serve(w, r, func(_ context.Context, call *api.Call) error { return sign(r, nil, call) }, func() {})
 		return
 	}
 	f.handler.Serve(w, r, func(ctx context.Context, call *api.Call) error {
+		if err := sign(r, visit, call); err != nil {
+			return err
+		}
 		err := visit.May(ctx, call)
 		if err != nil {
 			f.note(r, visit.Caller, errDenied, refusalOf(err))

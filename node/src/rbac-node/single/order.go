@@ -22,6 +22,8 @@ type order struct {
 	state *state.State
 	// gate is read by each command until it has been done, and locked by a turn.
 	gate sync.RWMutex
+	// unread says why the state couldn't be read at the first start.
+	unread error
 	// isStale says that commands may have been done whose answers nobody has read.
 	isStale atomic.Bool
 }
@@ -39,7 +41,7 @@ func (o *Office) count() error {
 	if err != nil && !errors.Is(err, os.ErrNotExist) {
 		return fmt.Errorf("numbers: %w", err)
 	}
-	first := int64(0)
+	first := int64(1)
 	if err == nil {
 		if first, err = strconv.ParseInt(strings.TrimSpace(string(text)), 10, 64); err != nil || first < 0 {
 			return fmt.Errorf("numbers: %s has no number", path)
@@ -71,15 +73,25 @@ func writeDurably(path, text string) error {
 	return syncFolder(filepath.Dir(path))
 }
 
-// before reads the state from the file, which no replay has open.
+// before finds out what the file has, which no replay has open.
 func (o *Office) before(ctx context.Context) error {
+	if o.record != nil {
+		if err := o.record.Before(ctx); err != nil {
+			return err
+		}
+	}
 	if o.state == nil {
 		return nil
 	}
 	if o.isStale.Swap(false) {
 		o.state.Skip()
 	}
-	return o.state.Load(ctx, o.File)
+	err := o.state.Load(ctx, o.File)
+	if o.feed == nil {
+		o.unread = err // If the office doesn't open either, that says more.
+		return nil
+	}
+	return err
 }
 
 // Answered follows the commands of a unit. The feed calls it in the one order.
@@ -97,6 +109,9 @@ func (o *Office) JudgesConditions() bool { return o.state != nil }
 
 // AskAll returns the answers to some calls, with nothing of others between them, and the numbers after them.
 func (o *Office) AskAll(ctx context.Context, calls ...*api.Call) (answers [][]byte, numbers state.Numbers, err error) {
+	if len(calls) == 0 {
+		return nil, numbers, nil
+	}
 	_, isConditional := api.Condition(ctx)
 	if isConditional || o.state != nil && state.NeedsReview(calls) {
 		return o.askInTurn(ctx, calls)
@@ -106,16 +121,28 @@ func (o *Office) AskAll(ctx context.Context, calls ...*api.Call) (answers [][]by
 	o.touch(calls)
 	u := &feed.Unit{Lines: linesOf(calls), Observed: o.counting(&numbers)}
 	if haveCommand(calls) {
+		if err := o.admit(u, calls); err != nil {
+			return nil, numbers, err
+		}
 		if err := o.enter(within); err != nil {
 			return nil, numbers, err
 		}
-		o.isStale.Store(true)
-		u.Calls, u.Finally = calls, o.gate.RUnlock
+		u.Finally = o.gate.RUnlock
 	}
 	if answers, err = o.feed.Do(within, u); err != nil {
 		return nil, state.Numbers{}, err
 	}
 	return answers, numbers, nil
+}
+
+// admit makes a unit one of commands.
+func (o *Office) admit(u *feed.Unit, calls []*api.Call) error {
+	u.Calls = calls
+	o.isStale.Store(true)
+	if o.record == nil {
+		return nil
+	}
+	return o.record.Admit(u)
 }
 
 // counting returns what notes the numbers when a unit is observed.
@@ -256,9 +283,11 @@ func (t *turn) Ask(calls ...*api.Call) ([][]byte, error) {
 	if o.state != nil && state.NeedsReview(calls) {
 		all = append(append([]*api.Call(nil), calls...), o.state.Review(calls)...)
 	}
+	u := &feed.Unit{Lines: linesOf(all)}
+	if err := o.admit(u, all); err != nil {
+		return nil, err
+	}
 	t.asked.Add(1)
-	o.isStale.Store(true)
-	u := feed.NewUnit(all...)
 	u.Finally = t.asked.Done
 	answers, err := o.feed.Do(t.ctx, u)
 	if err != nil {

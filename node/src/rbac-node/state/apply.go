@@ -34,8 +34,10 @@ func (s *State) apply(call *api.Call) {
 		s.objects.remove(object)
 	case "addPermission":
 		s.permissions.add(object, operation)
+		s.operations[operation]++
 	case "deletePermission":
 		s.permissions.remove(object, operation)
+		s.operations[operation]--
 		s.revokeAll(object, operation)
 	case "grantPermission":
 		s.grants.add(object, operation, role)

@@ -1,6 +1,9 @@
 package state
 
-import "sort"
+import (
+	"sort"
+	"sync"
+)
 
 // A Set is a separation of duty set.
 type Set struct {
@@ -24,6 +27,15 @@ type Graph struct {
 	juniors map[string][]string
 	static  map[string]Set
 	dynamic map[string]Set
+	// blocked keeps what Blocked has found.
+	mutex   sync.Mutex
+	blocked map[string]violation
+}
+
+// A violation is a dynamic set with too many of its members, or empty.
+type violation struct {
+	set     string
+	members []string
 }
 
 func newGraph() *Graph {
@@ -65,6 +77,22 @@ func (g *Graph) Below(role string) map[string]bool {
 		}
 	}
 	return found
+}
+
+// Blocked returns the first dynamic set of which a role with its juniors has too many members, and these, or nothing. Such a role can
+// never be activated.
+func (g *Graph) Blocked(role string) (set string, members []string) {
+	g.mutex.Lock()
+	defer g.mutex.Unlock()
+	found, isKnown := g.blocked[role]
+	if !isKnown {
+		found.set, found.members = g.Violated(g.Below(role))
+		if g.blocked == nil {
+			g.blocked = map[string]violation{}
+		}
+		g.blocked[role] = found
+	}
+	return found.set, found.members
 }
 
 // Violated returns the first dynamic set, in the order of their names, of which these roles are too many, and the members that they

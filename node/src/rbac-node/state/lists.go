@@ -44,7 +44,7 @@ func (s *State) rowsOf(list string) []Row {
 	case "objects":
 		return s.objects.rows
 	case "operations":
-		return s.operations()
+		return s.allOperations()
 	case "permissions":
 		return s.permissions.rows
 	case "grants":
@@ -57,14 +57,12 @@ func (s *State) rowsOf(list string) []Row {
 	return nil
 }
 
-// operations returns the operations of all permissions.
-func (s *State) operations() []Row {
-	known := map[string]bool{}
+// allOperations returns the operations of all permissions.
+func (s *State) allOperations() []Row {
 	t := &table{}
-	for _, row := range s.permissions.rows {
-		if !known[row[1]] {
-			known[row[1]] = true
-			t.rows = append(t.rows, Row{row[1]})
+	for operation, count := range s.operations {
+		if count > 0 {
+			t.rows = append(t.rows, Row{operation})
 		}
 	}
 	t.sort()

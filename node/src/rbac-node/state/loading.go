@@ -50,6 +50,7 @@ func (l *loading) add(table string, kind int, row Row) {
 		l.sets = append(l.sets, member{kind, row})
 	case kind == permissionPair:
 		s.permissions.rows = append(s.permissions.rows, row)
+		s.operations[row[1]]++
 	case kind == assignPair:
 		s.assign.rows = append(s.assign.rows, row)
 	case kind == edgePair:
@@ -106,6 +107,7 @@ func (s *State) replace(next *State) {
 	}
 	s.users, s.roles, s.objects, s.locked = next.users, next.roles, next.objects, next.locked
 	s.permissions, s.grants, s.assign = next.permissions, next.grants, next.assign
+	s.operations = next.operations
 	s.graph, s.sessions, s.names = next.graph, next.sessions, next.names
 	s.forget()
 }

@@ -20,6 +20,8 @@ type State struct {
 	locked                      table
 	permissions, grants, assign table
 	graph                       *Graph
+	// operations counts the permissions of each operation.
+	operations map[string]int
 	// sessions has the sessions by their names, and names those names by their digests.
 	sessions map[string]*session
 	names    map[string]string
@@ -58,6 +60,7 @@ func New(first Numbers) *State {
 func (s *State) clear() {
 	s.users, s.roles, s.objects, s.locked = table{}, table{}, table{}, table{}
 	s.permissions, s.grants, s.assign = table{}, table{}, table{}
+	s.operations = map[string]int{}
 	s.graph, s.sessions, s.names = newGraph(), map[string]*session{}, map[string]string{}
 }
 
@@ -86,12 +89,18 @@ func (s *State) IsLocked(user string) bool {
 func (s *State) HasOperation(operation string) bool {
 	s.mutex.RLock()
 	defer s.mutex.RUnlock()
-	for _, row := range s.permissions.rows {
-		if row[1] == operation {
-			return true
-		}
+	return s.operations[operation] > 0
+}
+
+// AssignedRoles returns the roles that a user is assigned to, in their order.
+func (s *State) AssignedRoles(user string) (roles []string) {
+	s.mutex.RLock()
+	defer s.mutex.RUnlock()
+	i, _ := s.assign.find(Row{user})
+	for ; i < len(s.assign.rows) && s.assign.rows[i][0] == user; i++ {
+		roles = append(roles, s.assign.rows[i][1])
 	}
-	return false
+	return roles
 }
 
 // isAboutSession reports whether a command is about one session.
