@@ -39,6 +39,7 @@ func (s *settings) serveOne(ctx context.Context) error {
 	one := single.Options{
 		File: s.office, Program: s.program, AnswerTimeout: s.answerTimeout, HangTimeout: s.hangTimeout, Reads: single.MostReads,
 		Log: log, Starts: options.Callers.Starts, IsOpen: options.IsOpen(),
+		SessionAge: s.sessionAge, SessionIdle: s.sessionIdle,
 	}
 	if err := s.addRecord(&one, registry); err != nil {
 		return err

@@ -15,6 +15,7 @@ import (
 	"rbac-node/logs"
 	"rbac-node/metrics"
 	"rbac-node/single"
+	"rbac-node/state"
 	"rbac-node/web"
 )
 
@@ -25,6 +26,7 @@ const defaultConnections = 20_000
 type settings struct {
 	office, program, listen, origins, refused string
 	publicURL                                 string
+	sessionAge, sessionIdle                   time.Duration
 	answerTimeout, hangTimeout                time.Duration
 	connections                               int
 	tls                                       web.TLS
@@ -77,6 +79,8 @@ func (s *settings) define(flags *flag.FlagSet) {
 	flags.StringVar(&s.callers.Issuer, "oidc-issuer", "", "who has to have issued JWTs")
 	flags.StringVar(&s.callers.Audience, "oidc-audience", "", "for whom JWTs have to be")
 	flags.StringVar(&s.callers.Subject, "oidc-claim", "sub", "claim of a JWT that names its caller")
+	flags.DurationVar(&s.sessionAge, "session-age", 0, "after how much time a session ends (default: never), for one machine")
+	flags.DurationVar(&s.sessionIdle, "session-idle", 0, "after how much time without a use a session ends (default: never), for one machine")
 	flags.StringVar(&s.publicURL, "public-url", "", "where clients find the front: https://HOST:PORT, for AuthZEN's metadata")
 	flags.StringVar(&s.origins, "origin", "", "origins of pages whose requests are answered, separated by commas")
 	flags.StringVar(&s.refused, "refused", "", "file for requests that are refused with 401, 403 or 421 (default: OFFICE.refused)")
@@ -99,6 +103,12 @@ func (s *settings) check() error {
 	switch {
 	case s.answerTimeout <= 0 || s.hangTimeout < time.Second:
 		return errors.New("--timeout must be above zero, and --hang-timeout at least 1s")
+	case s.sessionAge < 0 || s.sessionIdle < 0:
+		return errors.New("--session-age and --session-idle must not be below zero")
+	case s.sessionAge+s.sessionIdle > 0 && cluster.isChosen():
+		return errors.New("--session-age and --session-idle are for one machine")
+	case s.sessionAge+s.sessionIdle > 0 && !state.IsAvailable:
+		return fmt.Errorf("--session-age and --session-idle: %w", state.ErrUnavailable)
 	case s.record.every < 1:
 		return errors.New("--record-base must be at least 1")
 	case s.connections < 1 || s.connections > web.MaxConnections():

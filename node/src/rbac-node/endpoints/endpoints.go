@@ -99,6 +99,7 @@ func (e *Endpoints) add() {
 		"/access/v1/evaluation":  {"decision", post, e.evaluation},
 		"/access/v1/evaluations": {"batch", post, e.evaluations},
 		"/explain":               {"question", post, e.explain},
+		"/sessions":              {"command", post, e.makeSession},
 		"/caller":                {"question", get, e.caller},
 	}
 }
@@ -106,6 +107,9 @@ func (e *Endpoints) add() {
 // find returns the endpoint at a target.
 func (e *Endpoints) find(target string) (found endpoint, has bool) {
 	path, _, _ := strings.Cut(target, "?")
+	if strings.HasPrefix(path, sessionsPath) {
+		return endpoint{"command", []string{http.MethodDelete}, e.deleteSession}, true
+	}
 	found, has = e.at[path]
 	return found, has
 }

@@ -38,6 +38,8 @@ type Options struct {
 	Starts                     *metrics.Counter
 	// IsOpen says that everybody who can connect may do everything.
 	IsOpen bool
+	// SessionAge is after how much time a session ends, and SessionIdle after how much in which it isn't named. Zero is never.
+	SessionAge, SessionIdle time.Duration
 	// CheckRecord refuses what the record can't be that of, before the office is made, and OpenRecord opens the record. Without them
 	// nothing is recorded.
 	CheckRecord func() error
@@ -181,6 +183,7 @@ func syncFolder(path string) error {
 // Run answers until the context ends, and then those that have asked before.
 func (o *Office) Run(ctx context.Context) error {
 	defer o.lock.Close()
+	go o.expire(ctx)
 	err := o.feed.Run(ctx)
 	if o.record == nil {
 		return err

@@ -128,7 +128,7 @@ func (s *State) applyToSession(call *api.Call) {
 	case "addActiveRole", "dropActiveRole":
 		if one := s.sessions[name]; one != nil {
 			one.active = changed(one.active, role, call.Function == "addActiveRole")
-			one.touch(s.now())
+			one.used.Store(int64(s.clock.Elapsed()))
 		}
 	}
 }
@@ -149,7 +149,8 @@ func changed(names map[string]bool, name string, isIn bool) map[string]bool {
 
 // begin adds a session.
 func (s *State) begin(name, user string, active []string) {
-	one := &session{user: user, digest: digest(name), active: map[string]bool{}, since: s.now()}
+	one := &session{user: user, digest: digest(name), active: map[string]bool{}, since: s.clock.Now(), began: s.clock.Elapsed()}
+	one.used.Store(int64(one.began))
 	for _, role := range active {
 		one.active[role] = true
 	}

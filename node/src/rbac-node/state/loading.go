@@ -19,7 +19,7 @@ type member struct {
 }
 
 func newLoading(s *State) *loading {
-	next := &State{now: s.now}
+	next := &State{clock: s.clock}
 	next.clear()
 	return &loading{state: s, next: next}
 }
@@ -101,7 +101,7 @@ func (s *State) replace(next *State) {
 	defer s.mutex.Unlock()
 	for name, one := range next.sessions {
 		if before := s.sessions[name]; before != nil && before.user == one.user {
-			one.since = before.since
+			one.since, one.began = before.since, before.began
 			one.used.Store(before.used.Load())
 		}
 	}

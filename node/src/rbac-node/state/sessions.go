@@ -5,15 +5,12 @@ import (
 	"time"
 )
 
-// touch says that a session is used now.
-func (s *session) touch(now time.Time) { s.used.Store(int64(now.Sub(s.since))) }
-
 // Touch says that a session is used now.
 func (s *State) Touch(name string) {
 	s.mutex.RLock()
 	defer s.mutex.RUnlock()
 	if one := s.sessions[name]; one != nil {
-		one.touch(s.now())
+		one.used.Store(int64(s.clock.Elapsed()))
 	}
 }
 
@@ -27,7 +24,8 @@ type Session struct {
 }
 
 func (s *State) sessionOf(name string, one *session) Session {
-	return Session{name, one.digest, one.user, Set{Roles: one.active}.members(), one.since, one.since.Add(time.Duration(one.used.Load()))}
+	used := one.since.Add(time.Duration(one.used.Load()) - one.began)
+	return Session{name, one.digest, one.user, Set{Roles: one.active}.members(), one.since, used}
 }
 
 // Session returns a session by its name.
@@ -73,11 +71,9 @@ func (s *State) allSessions() []Session {
 func (s *State) Expired(age, idle time.Duration) (found []Session) {
 	s.mutex.RLock()
 	defer s.mutex.RUnlock()
-	now := s.now()
+	elapsed := s.clock.Elapsed()
 	for name, one := range s.sessions {
-		since := now.Sub(one.since)
-		unused := since - time.Duration(one.used.Load())
-		if age > 0 && since > age || idle > 0 && unused > idle {
+		if age > 0 && elapsed-one.began > age || idle > 0 && elapsed-time.Duration(one.used.Load()) > idle {
 			found = append(found, s.sessionOf(name, one))
 		}
 	}

@@ -29,14 +29,21 @@ type State struct {
 	// oldest is the number of the first command that is kept, and events has those from it on, in their order.
 	events  []Event
 	changed chan struct{}
-	now     func() time.Time
+	clock   Clock
 }
 
-// A session is one of the office. used is when it was last named, in nanoseconds since its beginning.
+// A Clock has the time of the machine, which somebody may change, and how long the state has been there, which only grows.
+type Clock struct {
+	Now     func() time.Time
+	Elapsed func() time.Duration
+}
+
+// A session is one of the office. began and used are how long the state had been there when it was made and when it was last named.
 type session struct {
 	user, digest string
 	active       map[string]bool
 	since        time.Time
+	began        time.Duration
 	used         atomic.Int64
 }
 
@@ -51,7 +58,9 @@ var ErrUnavailable = errors.New("this rbac-node was built without SQLite")
 
 // New returns a state of nothing, whose numbers begin with these.
 func New(first Numbers) *State {
-	s := &State{numbers: first, changed: make(chan struct{}), now: time.Now}
+	start := time.Now()
+	clock := Clock{time.Now, func() time.Duration { return time.Since(start) }}
+	s := &State{numbers: first, changed: make(chan struct{}), clock: clock}
 	s.clear()
 	return s
 }
