@@ -110,6 +110,9 @@ func (e *Endpoints) find(target string) (found endpoint, has bool) {
 	if strings.HasPrefix(path, sessionsPath) {
 		return endpoint{"command", []string{http.MethodDelete}, e.deleteSession}, true
 	}
+	if strings.HasPrefix(path, listsPath) {
+		return endpoint{"list", get, e.list}, true
+	}
 	found, has = e.at[path]
 	return found, has
 }

@@ -25,11 +25,12 @@ var columns = map[string][]string{
 	"inheritances": {"asc", "desc"},
 }
 
-// Rows returns rows of a list of names, in the order of their bytes, and whether there are more.
-func (s *State) Rows(list string, query Query) (found []Row, hasMore bool) {
+// Rows returns rows of a list of names, in the order of their bytes, whether there are more, and the numbers of this moment.
+func (s *State) Rows(list string, query Query) (found []Row, hasMore bool, numbers Numbers) {
 	s.mutex.RLock()
 	defer s.mutex.RUnlock()
-	return query.of(columns[list], s.rowsOf(list))
+	found, hasMore = query.of(columns[list], s.rowsOf(list))
+	return found, hasMore, s.numbers
 }
 
 // rowsOf returns all rows of a list.
@@ -100,6 +101,11 @@ func (q Query) of(columns []string, rows []Row) (found []Row, hasMore bool) {
 	return found, false
 }
 
+// IsWanted reports whether a row of a list with these columns is one of the wanted ones.
+func (q Query) IsWanted(columns []string, row Row) bool {
+	return strings.HasPrefix(row[0], q.Prefix) && (len(q.After) == 0 || row[0] > q.After[0]) && q.wants(columns, row)
+}
+
 // wants reports whether a row has the names and the text that are wanted.
 func (q Query) wants(columns []string, row Row) bool {
 	contains := q.Contains == ""
@@ -119,9 +125,11 @@ type NamedSet struct {
 	Cardinality int64
 }
 
-// Sets returns the static or the dynamic sets in the order of their names.
-func (s *State) Sets(isStatic bool) (found []NamedSet) {
-	graph := s.Graph()
+// Sets returns the static or the dynamic sets in the order of their names, and the numbers of this moment.
+func (s *State) Sets(isStatic bool) (found []NamedSet, numbers Numbers) {
+	s.mutex.RLock()
+	graph, numbers := s.graph, s.numbers
+	s.mutex.RUnlock()
 	sets := graph.dynamic
 	if isStatic {
 		sets = graph.static
@@ -129,5 +137,5 @@ func (s *State) Sets(isStatic bool) (found []NamedSet) {
 	for _, name := range namesOf(sets) {
 		found = append(found, NamedSet{name, sets[name].members(), sets[name].Cardinality})
 	}
-	return found
+	return found, numbers
 }

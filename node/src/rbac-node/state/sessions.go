@@ -50,11 +50,11 @@ func (s *State) ByDigest(digest string) (found Session, has bool) {
 	return s.Session(name)
 }
 
-// Sessions returns all sessions in the order of their digests.
-func (s *State) Sessions() []Session {
+// Sessions returns all sessions in the order of their digests, and the numbers of this moment.
+func (s *State) Sessions() ([]Session, Numbers) {
 	s.mutex.RLock()
 	defer s.mutex.RUnlock()
-	return s.allSessions()
+	return s.allSessions(), s.numbers
 }
 
 func (s *State) allSessions() []Session {
