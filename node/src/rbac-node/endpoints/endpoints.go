@@ -43,6 +43,8 @@ type Visitor interface {
 	// Name returns the name of the caller, and Rights what it may do.
 	Name() string
 	Rights(ctx context.Context) ([]callers.Grant, error)
+	// Again does something while the caller may do an operation by the callers that are in force now.
+	Again(ctx context.Context, r *http.Request, operation string, do func()) error
 }
 
 // Options are what the command line sets.
@@ -100,6 +102,8 @@ func (e *Endpoints) add() {
 		"/access/v1/evaluations": {"batch", post, e.evaluations},
 		"/explain":               {"question", post, e.explain},
 		"/sessions":              {"command", post, e.makeSession},
+		"/snapshot":              {"list", get, e.snapshot},
+		"/watch":                 {"watch", get, e.watch},
 		"/caller":                {"question", get, e.caller},
 	}
 }
