@@ -11,6 +11,11 @@
     page        the commands of the page
     batches     batches of lines
     gateways    decisions by status alone, also through nginx, and AuthZEN
+    revisions   the revision of the policy, conditions on it, and what a caller may do
+    explained   users in some session, and explanations, beside the plain model
+    sessions    sessions with random names, their end and their expiry
+    lists       lists beside SQL
+    watching    snapshots, and followers that watch
     requests    the commands of docs/REQUESTS.md
     browsers    a page of a foreign site in Chromium
     program     runs the front, and asks it
