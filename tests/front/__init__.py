@@ -16,6 +16,8 @@
     sessions    sessions with random names, their end and their expiry
     lists       lists beside SQL
     watching    snapshots, and followers that watch
+    separated   which separation of duty sets refuse a command, beside the plain model
+    conforming  the answers of what the front has besides the functions, beside docs/openapi.json
     requests    the commands of docs/REQUESTS.md
     browsers    a page of a foreign site in Chromium
     program     runs the front, and asks it

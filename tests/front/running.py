@@ -13,7 +13,7 @@ from stopped.running import checks_of, is_long, run_all
 # What needs nothing but the sources, and what needs a built front.
 OF_SOURCES = ["sources"]
 OF_FRONTS = ["kills", "building", "clients", "identities", "answers", "starts", "booted", "table", "page", "described", "browsers",
-             "batches", "gateways", "requests", "revisions", "explained", "sessions", "lists", "watching"]  # fmt: skip
+             "batches", "gateways", "requests", "revisions", "explained", "sessions", "lists", "watching", "separated", "conforming"]  # fmt: skip
 
 WORKERS = 4
 

@@ -40,12 +40,15 @@ func (e *Endpoints) explain(r *request) (int, error) {
 	if err != nil {
 		return 0, err
 	}
+	if e.office.State() == nil {
+		return 0, errNoState
+	}
+	if command, isThere := fields["command"]; isThere {
+		return e.explainCommand(r, command)
+	}
 	q, err := readQuery(fields, "session", "user")
 	if err != nil {
 		return 0, err
-	}
-	if e.office.State() == nil {
-		return 0, errNoState
 	}
 	base, err := q.call()
 	if err == nil {
