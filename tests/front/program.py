@@ -47,12 +47,16 @@ class Front:
         """The arguments of the front."""
         return ["serve", "--office", self.office, "--program", RBAC, "--listen", self.listen, *self.more]
 
-    def start(self):
-        """Starts the front, and waits until it answers."""
+    def start_without_waiting(self):
+        """Starts the front, and returns its process."""
         with open(self.log, "ab") as log:
-            self.process = subprocess.Popen(
+            return subprocess.Popen(
                 [os.environ[PROGRAM], *self.words()], stdin=subprocess.DEVNULL, stdout=log, stderr=log, env=self.environment
             )
+
+    def start(self):
+        """Starts the front, and waits until it answers."""
+        self.process = self.start_without_waiting()
         until(self.is_listening, "the front listens", lambda: self.said()[-2000:])
 
     def is_listening(self):

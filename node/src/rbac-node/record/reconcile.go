@@ -9,6 +9,8 @@ import (
 	"fmt"
 	"os"
 	"path/filepath"
+
+	"rbac-node/office"
 )
 
 // Before finds out how far the office got, while no replay has it open. After it each entry has an answer, and the entries give
@@ -30,7 +32,7 @@ func (r *Record) Before(ctx context.Context) error {
 func (r *Record) reconcile(ctx context.Context, scratch string) error {
 	ctx, cancel := context.WithCancel(ctx)
 	defer cancel() // It closes what is still being read.
-	want, err := sumsOf(ctx, r.Office, filepath.Join(scratch, "office"))
+	want, err := sumsOf(ctx, r.Program, r.Office, filepath.Join(scratch, "office"))
 	if err != nil {
 		return err
 	}
@@ -92,17 +94,23 @@ func (r *Record) settle(open []entry, done int) error {
 	return err
 }
 
-// sumsOf describes the rows of an office by a copy of it, which nobody writes meanwhile.
-func sumsOf(ctx context.Context, office, copied string) (sums, error) {
-	if err := copyOffice(office, copied); err != nil {
-		return sums{}, err
+// sumsOf describes the rows of an office by a copy of it, which nobody writes meanwhile. If they can't be read, the program says why
+// it refuses the copy.
+func sumsOf(ctx context.Context, program, file, copied string) (s sums, err error) {
+	if err := copyOffice(file, copied); err != nil {
+		return s, err
 	}
 	c, err := openCopy(copied, false)
-	if err != nil {
-		return sums{}, err
+	if err == nil {
+		defer c.Close()
+		s, err = c.sums(ctx)
 	}
-	defer c.Close()
-	return c.sums(ctx)
+	if err != nil && !errors.Is(err, errTwoNames) {
+		if refused := office.Run(ctx, program, "check", copied); refused != nil {
+			err = refused
+		}
+	}
+	return s, err
 }
 
 var errNoStart = errors.New("no copy of the office is what the record says that it is: restore the record from a backup")
