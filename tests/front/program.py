@@ -41,7 +41,11 @@ class Front:
         self.listen = listen or f"{HOST}:{self.port}"
         self.log = bench.path(f"{name}.log")
         self.environment = environment
+        # The words before those of the front, which run it in some way.
+        self.prefix = []
         self.process = None
+        # How many bytes the log had before the last start.
+        self.logged = 0
 
     def words(self):
         """The arguments of the front."""
@@ -50,8 +54,13 @@ class Front:
     def start_without_waiting(self):
         """Starts the front, and returns its process."""
         with open(self.log, "ab") as log:
+            self.logged = log.tell()
             return subprocess.Popen(
-                [os.environ[PROGRAM], *self.words()], stdin=subprocess.DEVNULL, stdout=log, stderr=log, env=self.environment
+                [*self.prefix, os.environ[PROGRAM], *self.words()],
+                stdin=subprocess.DEVNULL,
+                stdout=log,
+                stderr=log,
+                env=self.environment,
             )
 
     def start(self):
@@ -63,6 +72,9 @@ class Front:
         """Whether somebody listens for the front, which still runs."""
         if self.process.poll() is not None:
             raise RuntimeError(f"the front has ended: {self.said()[-2000:]}")
+        # What a front that was killed has just begun to run has its sockets for some moments.
+        if '"msg":"listening"' not in self.said(self.logged):
+            return False
         try:
             connection = self.connection()
             connection.connect()
@@ -80,10 +92,11 @@ class Front:
             self.process.kill()
         self.process.wait()
 
-    def said(self):
-        """What the front has logged."""
-        with open(self.log, encoding="utf-8", errors="replace") as file:
-            return file.read()
+    def said(self, after=0):
+        """What the front has logged after some bytes."""
+        with open(self.log, "rb") as file:
+            file.seek(after)
+            return file.read().decode(errors="replace")
 
     def end(self):
         """Ends the front in order, and returns its status."""

@@ -118,22 +118,25 @@ var errNoStart = errors.New("no copy of the office is what the record says that 
 // startOf copies to a file the newest copy of the office that is at most as new as an entry, and returns after which entry it was
 // made. A copy that has other rows than it should have is passed over.
 func startOf(ctx context.Context, db *sql.DB, dir, to string, newest int64) (int64, error) {
+	var n int64
+	var rows string
+	if err := db.QueryRowContext(ctx, "SELECT first, rows FROM part ORDER BY first DESC LIMIT 1").Scan(&n, &rows); err != nil {
+		return 0, err
+	}
 	bases, err := basesIn(dir)
 	if err != nil {
 		return 0, err
 	}
 	for _, b := range bases {
-		if b.n > newest || copyFile(filepath.Join(dir, b.name()), to) != nil {
+		if b.n < n || b.n > newest || copyFile(filepath.Join(dir, b.name()), to) != nil {
 			continue
 		}
 		if rows, err := rowsOf(ctx, to); err == nil && rows == b.rows {
 			return b.n, nil
 		}
 	}
-	var n int64
-	var rows string
 	var text []byte
-	err = db.QueryRowContext(ctx, "SELECT first, rows, office FROM part ORDER BY first DESC LIMIT 1").Scan(&n, &rows, &text)
+	err = db.QueryRowContext(ctx, "SELECT office FROM part WHERE first = ?", n).Scan(&text)
 	if err == nil {
 		err = os.WriteFile(to, text, 0o600)
 	}
