@@ -9,6 +9,7 @@ import subprocess
 from contextlib import closing
 
 from program.bench import PROGRAM as RBAC
+from program.bench import TESTS
 
 from .identities import CERTIFICATES, openssl, secured
 from .program import Front, Unix, refused_start
@@ -228,8 +229,14 @@ def check_backup_under_load(bench):
         )  # fmt: skip
         try:
             pairs = []
-            for turn in range(6):
-                status, out, said = tool("backup", "--office", front.office, bench.path("backups"))
+            for turn in range(8):
+                if turn % 2:
+                    words = [TESTS.parent / "deploy/backup", front.office, bench.path("backups")]
+                    environment = {**os.environ, "RBAC_PROGRAM": RBAC}
+                    done = subprocess.run(words, env=environment, capture_output=True, text=True, check=False)
+                    status, out, said = done.returncode, done.stdout, done.stderr
+                else:
+                    status, out, said = tool("backup", "--office", front.office, bench.path("backups"))
                 bench.same(f"backup {turn}", (status, said), (0, ""))
                 pairs.append(out.strip())
         finally:
@@ -238,6 +245,11 @@ def check_backup_under_load(bench):
         bench.same("the front goes on", front.ask("addUser", {"user": "last"})[1], OK)
     counts = []
     for turn, pair in enumerate(pairs):
+        if turn % 2:
+            done = subprocess.run(["sha256sum", "--quiet", "-c", "SHA256SUMS"], cwd=pair, capture_output=True, text=True, check=False)
+            bench.same(f"the digests of backup {turn}", (done.returncode, done.stdout + done.stderr), (0, ""))
+            names = {os.path.relpath(os.path.join(folder, name), pair) for folder, _, files in os.walk(pair) for name in files}
+            bench.same(f"what is in backup {turn}", {"office", "SHA256SUMS", "office.record/record.db"} <= names, True)
         verified(bench, f"backup {turn}", f"{pair}/office")
         counts.append(len(entries(f"{pair}/office")))
         model = Model()
