@@ -259,7 +259,10 @@ func (t *Tool) Cut(ctx context.Context) error {
 		if err := os.Link(filepath.Join(r.dir, fileName), path); err != nil {
 			return err
 		}
-		return makeFile(r.dir, r.head.n+1, r.head.ch, continued, rows, copied)
+		if err := makeFile(r.dir, r.head.n+1, r.head.ch, continued, rows, copied); err != nil {
+			return err
+		}
+		return addBase(r.dir, copied, base{r.head.n + 1, rows})
 	})
 	if err != nil {
 		return fmt.Errorf("record: %w", err)
