@@ -18,6 +18,7 @@ from .identities import bearer, secured
 from .program import Front, children, refused_start, until
 from .running import LONG
 from .sessions import digest_of
+from .watching import Watch, request_of, snapshot
 
 # How many random offices there are, how many with --long, and how many random lines each gets before its lists are compared.
 OFFICES, MORE_OFFICES, LINES = 20, 200, 150
@@ -150,12 +151,6 @@ def work(draws, front, kept, ended):
         front.ask(path, body, kept)
 
 
-def request_of(line):
-    """The function and the body by which an accepted line is asked over HTTP."""
-    value = json.loads(line)
-    return (value["fn"], value["csv"].encode()) if value["fn"] == "importAssignments" else (value["fn"], line)
-
-
 def check_ending(bench):
     """A session that a command has ended isn't listed any more when the command is answered."""
     with Front(bench) as front:
@@ -218,11 +213,35 @@ def check_load(bench):
         same_lists(bench, front, "after the load")
         for process in children(front.process.pid):
             os.kill(process, 9)
-        until(lambda: front.exchange("GET", "/healthz")[0] == 200, "the front answers again")
+        until(lambda: "the replay answers again" in front.said(), "the replay answers again")
         same_lists(bench, front, "after a kill of the replay")
         front.kill()
         front.start()
         same_lists(bench, front, "after a kill of the front")
+        bench.same("the end", front.end(), 0)
+
+
+def check_closed(bench):
+    """While the office doesn't answer, nothing is said about what is in it. A watch ends, and the numbers go on behind a gap."""
+    with Front(bench, "--no-record") as front:
+        bench.same("addUser", front.ask("addUser", {"user": "ann"})[0], 200)
+        status, number, _ = snapshot(front)
+        watch = Watch(front, number)
+        os.rename(front.office, bench.path("away"))
+        bench.write("office", b"no office")
+        for process in children(front.process.pid):
+            os.kill(process, 9)
+        until(lambda: front.exchange("GET", "/healthz")[0] == 503, "the office doesn't answer")
+        for path in ("/lists/users", "/snapshot", f"/watch?after={number}"):
+            bench.same(path, front.exchange("GET", path)[0], 503)
+        asked = {"user": "ann", "operation": "open", "object": "safe"}
+        for path in ("/explain", "/v1/decideByUser", "/sessions"):
+            bench.same(path, front.exchange("POST", path, json.dumps(asked))[0], 503)
+        os.replace(bench.path("away"), front.office)
+        until(lambda: front.exchange("GET", "/healthz")[0] == 200, "the office answers again")
+        bench.same("the watch has ended", [line for _, line in watch.events() if line], [])
+        same_lists(bench, front, "after that")
+        bench.same("later numbers are greater", (status, snapshot(front)[1] > number), (200, True))
         bench.same("the end", front.end(), 0)
 
 

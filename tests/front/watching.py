@@ -17,9 +17,14 @@ from program.bench import SECONDS
 
 from .batches import batch
 from .identities import bearer, reload, rules, secured
-from .lists import request_of
 from .program import Front, children, until
 from .sessions import digest_of
+
+
+def request_of(line):
+    """The function and the body by which an accepted line is asked over HTTP."""
+    value = json.loads(line)
+    return (value["fn"], value["csv"].encode()) if value["fn"] == "importAssignments" else (value["fn"], line)
 
 
 def snapshot(front, **fields):

@@ -40,8 +40,8 @@ func (e *Endpoints) explain(r *request) (int, error) {
 	if err != nil {
 		return 0, err
 	}
-	if e.office.State() == nil {
-		return 0, errNoState
+	if _, err := e.known(); err != nil {
+		return 0, err
 	}
 	if command, isThere := fields["command"]; isThere {
 		return e.explainCommand(r, command)

@@ -79,19 +79,18 @@ func (s *State) applyToGraph(call *api.Call) {
 
 // after returns the graph after a command that has been done.
 func (g *Graph) after(call *api.Call) *Graph {
-	graph := g.clone()
 	asc, desc := call.Texts["asc"], call.Texts["desc"]
 	switch name := call.Function; {
 	case name == "addInheritance", name == "addAscendant", name == "addDescendant":
-		graph.addEdge(asc, desc)
+		return g.withJuniors(asc, func(juniors []string) []string { return append(juniors, desc) })
 	case name == "deleteInheritance":
-		graph.removeEdge(asc, desc)
-	case strings.Contains(name, "SsdSet"), strings.Contains(name, "SsdRole"):
-		applyToSets(graph.static, call)
-	case strings.Contains(name, "DsdSet"), strings.Contains(name, "DsdRole"):
-		applyToSets(graph.dynamic, call)
+		return g.withJuniors(asc, func(juniors []string) []string { return without(juniors, desc) })
+	case strings.Contains(name, "Ssd"):
+		return &Graph{juniors: g.juniors, static: withSet(g.static, call), dynamic: g.dynamic}
+	case strings.Contains(name, "Dsd"):
+		return &Graph{juniors: g.juniors, static: g.static, dynamic: withSet(g.dynamic, call)}
 	}
-	return graph
+	return g
 }
 
 // applyToSets follows a command about the sets of one kind.
