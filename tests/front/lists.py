@@ -15,6 +15,7 @@ from program.bench import PROGRAM as RBAC
 from .batches import batch
 from .explained import forget
 from .identities import bearer, secured
+from .kills import ROLES, Client, kill_at_random
 from .program import Front, children, refused_start, until
 from .running import LONG
 from .sessions import digest_of
@@ -301,3 +302,31 @@ def check_rights(bench):
     path = bench.write("bad.jsonl", bad.encode())
     status, _, said = refused_start("callers", "--program", RBAC, path)
     bench.same("no other scope covers lists", (status, "no scope of this kind covers lists" in said), (1, True))
+
+
+# How many kills there are.
+KILLS = 12
+
+
+def check_kills(bench):
+    """After kills of the front and of its replay under load the lists are what SQL reads."""
+    draws, counts = random.Random(os.urandom(8)), {}
+    with Front(bench) as front:
+        for role in ROLES:
+            bench.same(f"addRole {role}", front.ask("addRole", {"role": role})[0], 200)
+        for number in range(KILLS):
+            stop = threading.Event()
+            clients = [Client(front, f"{number}.{client}", stop) for client in range(4)]
+            for client in clients:
+                client.start()
+            kill_at_random(front, draws, counts)
+            until(lambda: front.exchange("GET", "/lists/users")[0] == 200, "the front answers again")
+            stop.set()
+            for client in clients:
+                client.join()
+                bench.judge("the answers of a client", client.faults)
+            # What was kept and not answered may still be done.
+            until(lambda: front.ask("addRole", {"role": "clerk"})[0] == 409, "commands are done")
+            same_lists(bench, front, f"after kill {number}")
+        bench.same("the end", front.end(), 0)
+    return {f"lists: {name}": count for name, count in counts.items()}
