@@ -9,8 +9,7 @@ from .running import features
 
 ROOT = TESTS.parent / "node"
 PACKAGES = [
-    f"rbac-node/{name}"
-    for name in ("api", "callers", "endpoints", "feed", "front", "logs", "metrics", "single", "state", "web")
+    f"rbac-node/{name}" for name in ("api", "callers", "endpoints", "feed", "front", "logs", "metrics", "single", "state", "web")
 ]
 # It needs the library of SQLite.
 RECORD = "rbac-node/record"
@@ -63,4 +62,8 @@ def check_dependencies(bench):
             for name in shown.split()
             if "." in name.split("/")[0] and not name.startswith("vendor/")
         }
-        bench.same("packages that the record needs", foreign - {"golang.org/x/sys"}, {"github.com/mattn/go-sqlite3", "golang.org/x/crypto"})
+        bench.same(
+            "packages that the record needs",
+            foreign - {"golang.org/x/sys"},
+            {"github.com/mattn/go-sqlite3", "golang.org/x/crypto"},
+        )

@@ -12,13 +12,19 @@ OFFICE = [
     {"fn": "addUser", "user": "ann"}, {"fn": "addRole", "role": "clerk"}, {"fn": "addRole", "role": "boss"},
     {"fn": "addInheritance", "asc": "boss", "desc": "clerk"}, {"fn": "addPermObj", "object": "safe"},
     {"fn": "addPermission", "object": "safe", "operation": "open"},
-    {"fn": "grantPermission", "object": "safe", "operation": "open", "role": "clerk"}, {"fn": "assignUser", "user": "ann", "role": "boss"},
+    {"fn": "grantPermission", "object": "safe", "operation": "open", "role": "clerk"}, {"fn": "assignUser", "user": "ann",
+    "role": "boss"},
     {"fn": "addRole", "role": "cook"},
-    {"fn": "createDsdSet", "set": "till", "roles": ["clerk", "cook"], "cardinality": 2}, {"fn": "assignUser", "user": "ann", "role": "cook"},
+    {"fn": "createDsdSet", "set": "till", "roles": ["clerk", "cook"], "cardinality": 2}, {"fn": "assignUser", "user": "ann",
+    "role": "cook"},
     {"fn": "createSession", "user": "ann", "roles": ["boss"], "session": "s1"},
 ]  # fmt: skip
 
-EVALUATION = {"subject": {"type": "session", "id": "s1"}, "action": {"name": "open"}, "resource": {"type": "object", "id": "safe"}}
+EVALUATION = {
+    "subject": {"type": "session", "id": "s1"},
+    "action": {"name": "open"},
+    "resource": {"type": "object", "id": "safe"},
+}
 ASKED = {"user": "ann", "operation": "open", "object": "safe"}
 FIELDS = {"Office-Session": "s1", "Office-Operation": "open", "Office-Object": "safe"}
 
@@ -28,7 +34,8 @@ REQUESTS = [
     ("post", "/v1/batch", "/v1/batch?stop=last", "", {}, 400), ("post", "/v1/batch", "/v1/batch", '{"fn":"fly"}', {}, 404),
     ("post", "/v1/batch", "/v1/batch", " " * 2_097_153, {}, 413),
     ("post", "/v1/batch", "/v1/batch", '{"fn":"ssdRoleSets"}', {"If-Policy-Revision": "1"}, 412),
-    ("post", "/v1/decideByUser", "/v1/decideByUser", ASKED, {}, 200), ("post", "/v1/decideByUser", "/v1/decideByUser", {}, {}, 400),
+    ("post", "/v1/decideByUser", "/v1/decideByUser", ASKED, {}, 200), ("post", "/v1/decideByUser", "/v1/decideByUser", {},
+    {}, 400),
     ("post", "/v1/decideByUser", "/v1/decideByUser", {**ASKED, "user": "bob"}, {}, 409),
     ("get", "/decide", "/decide", None, FIELDS, 204), ("post", "/decide", "/decide", None, FIELDS, 204),
     ("post", "/decide", "/decide", None, {**FIELDS, "Office-Session": "s2"}, 403), ("get", "/decide", "/decide", None, {}, 400),
@@ -39,7 +46,8 @@ REQUESTS = [
     ("get", "/.well-known/authzen-configuration", "/.well-known/authzen-configuration", None, {}, 200),
     ("post", "/explain", "/explain", ASKED, {}, 200), ("post", "/explain", "/explain", {**ASKED, "object": "x"}, {}, 409),
     ("post", "/explain", "/explain", {"session": "s1", "operation": "open", "object": "safe"}, {}, 200),
-    ("post", "/explain", "/explain", {"command": {"fn": "createSession", "user": "ann", "roles": ["cook", "boss"], "session": "s"}}, {}, 200),
+    ("post", "/explain", "/explain", {"command": {"fn": "createSession", "user": "ann", "roles": ["cook", "boss"],
+    "session": "s"}}, {}, 200),
     ("get", "/caller", "/caller", None, {}, 200), ("post", "/sessions", "/sessions", {"user": "ann"}, {}, 200),
     ("post", "/sessions", "/sessions", {"user": "bob"}, {}, 409), ("post", "/sessions", "/sessions", {}, {}, 400),
     ("post", "/sessions", "/sessions", {"user": "ann"}, {"If-Policy-Revision": "1"}, 412),

@@ -161,10 +161,12 @@ def check_ending(bench):
         front_ask = lambda: len(whole(front, "sessions", 1_000, kept))  # noqa: E731
         bench.same("the office", {*batch(front, lines, connection=kept)[1]}, {'{"ok":true}'})
         for function, values in [
-            ("deleteUser", {"user": "ann"}), ("lockUserAccount", {"user": "ann"}), ("deassignUser", {"user": "ann", "role": "chief"}),
+            ("deleteUser", {"user": "ann"}), ("lockUserAccount", {"user": "ann"}),
+            ("deassignUser", {"user": "ann", "role": "chief"}),
             ("deleteInheritance", {"asc": "chief", "desc": "boss"}), ("deleteRole", {"role": "clerk"}),
         ]:  # fmt: skip
-            start = [{"fn": "addInheritance", "asc": "chief", "desc": "boss"}, {"fn": "addUser", "user": "ann"}, {"fn": "assignUser", "user": "ann", "role": "chief"},
+            start = [{"fn": "addInheritance", "asc": "chief", "desc": "boss"}, {"fn": "addUser", "user": "ann"},
+                     {"fn": "assignUser", "user": "ann", "role": "chief"},
                      {"fn": "assignUser", "user": "ann", "role": "clerk"}]  # fmt: skip
             start += [{"fn": "createSession", "user": "ann", "roles": ["boss"], "session": f"s{i}"} for i in range(20)]
             start += [{"fn": "createSession", "user": "ann", "roles": ["clerk"], "session": f"t{i}"} for i in range(20)]
@@ -190,7 +192,10 @@ def check_load(bench):
             try:
                 for i in range(60):
                     user = f"u{number}.{i}"
-                    ok = [front.ask("addUser", {"user": user}, kept)[0] == 200, user in whole(front, "users", 1_000, kept, contains=user)]
+                    ok = [
+                        front.ask("addUser", {"user": user}, kept)[0] == 200,
+                        user in whole(front, "users", 1_000, kept, contains=user),
+                    ]
                     front.ask("assignUser", {"user": user, "role": "clerk"}, kept)
                     front.ask("createSession", {"user": user, "roles": ["clerk"], "session": f"s {user}"}, kept)
                     ok.append([row["user"] for row in whole(front, "sessions", 1_000, kept, user=user)] == [user])
@@ -250,7 +255,11 @@ def check_queries(bench):
     """Each key of a query chooses rows, and what isn't one is refused."""
     with Front(bench) as front:
         lines = [{"fn": "addUser", "user": name} for name in ("ann", "annika", "bob", "joanna", "<&>", "zoe\u00e9")]
-        lines += [{"fn": "addRole", "role": "clerk"}, {"fn": "addPermObj", "object": "shop:till"}, {"fn": "addPermObj", "object": "wh:1"}]
+        lines += [
+            {"fn": "addRole", "role": "clerk"},
+            {"fn": "addPermObj", "object": "shop:till"},
+            {"fn": "addPermObj", "object": "wh:1"},
+        ]
         for ob, op in (("shop:till", "open"), ("shop:till", "close"), ("wh:1", "open")):
             lines.append({"fn": "addPermission", "object": ob, "operation": op})
         lines += [{"fn": "grantPermission", "object": "shop:till", "operation": "open", "role": "clerk"},
@@ -259,14 +268,18 @@ def check_queries(bench):
         till, close = {"object": "shop:till", "operation": "open"}, {"object": "shop:till", "operation": "close"}
         house = {"object": "wh:1", "operation": "open"}
         for name, query, wanted in [
-            ("users", {}, ["<&>", "ann", "annika", "bob", "joanna", "zoe\u00e9"]), ("users", {"contains": "an"}, ["ann", "annika", "joanna"]),
-            ("users", {"prefix": "ann"}, ["ann", "annika"]), ("users", {"user": "ann"}, ["ann"]), ("users", {"after": "bob"}, ["joanna", "zoe\u00e9"]),
+            ("users", {}, ["<&>", "ann", "annika", "bob", "joanna", "zoe\u00e9"]), ("users", {"contains": "an"}, ["ann",
+            "annika", "joanna"]),
+            ("users", {"prefix": "ann"}, ["ann", "annika"]), ("users", {"user": "ann"}, ["ann"]), ("users", {"after": "bob"},
+            ["joanna", "zoe\u00e9"]),
             ("users", {"contains": "an", "after": "ann", "limit": 1}, ["annika"]), ("users", {"prefix": "x"}, []),
             ("users", {"prefix": "ann", "after": "a"}, ["ann", "annika"]), ("users", {"prefix": "b", "after": "z"}, []),
             ("permissions", {}, [close, till, house]), ("permissions", {"operation": "open"}, [till, house]),
-            ("permissions", {"prefix": "shop:"}, [close, till]), ("permissions", {"user": "ann"}, [till]), ("permissions", {"role": "clerk"}, [till]),
+            ("permissions", {"prefix": "shop:"}, [close, till]), ("permissions", {"user": "ann"}, [till]), ("permissions",
+            {"role": "clerk"}, [till]),
             ("permissions", {"user": "ann", "operation": "close"}, []), ("permissions", {"user": "bob"}, []),
-            ("permissions", {"after": "shop:till\tclose"}, [till, house]), ("permissions", {"after": "shop:till"}, [close, till, house]),
+            ("permissions", {"after": "shop:till\tclose"}, [till, house]), ("permissions", {"after": "shop:till"},
+            [close, till, house]),
             ("permissions", {"contains": "till"}, [close, till]), ("grants", {"role": "clerk"}, [{**till, "role": "clerk"}]),
             ("assignments", {"role": "clerk"}, [{"role": "clerk", "user": "ann"}]), ("assignments", {"user": "bob"}, []),
         ]:  # fmt: skip
@@ -277,8 +290,10 @@ def check_queries(bench):
         bench.same("of permissions", listed(front, "permissions", limit=1)[1]["next"], "shop:till\tclose")
         bench.same("nobody's", listed(front, "permissions", user="nobody"), (409, {"code": 2, "error": "NoUser"}))
         for name, query, status in [
-            ("users", {"limit": 0}, 400), ("users", {"limit": 1_001}, 400), ("users", {"limit": "x"}, 400), ("users", {"role": "clerk"}, 400),
-            ("users", {"x": "y"}, 400), ("permissions", {"user": "ann", "role": "clerk"}, 400), ("planets", {}, 404), ("", {}, 404),
+            ("users", {"limit": 0}, 400), ("users", {"limit": 1_001}, 400), ("users", {"limit": "x"}, 400), ("users",
+            {"role": "clerk"}, 400),
+            ("users", {"x": "y"}, 400), ("permissions", {"user": "ann", "role": "clerk"}, 400), ("planets", {}, 404), ("",
+            {}, 404),
         ]:  # fmt: skip
             bench.same(f"{name} {query}", listed(front, name, **query)[0], status)
         bench.same("a key twice", front.exchange("GET", "/lists/users?limit=1&limit=2")[0], 400)
@@ -288,7 +303,9 @@ def check_queries(bench):
 
 def check_rights(bench):
     """Every list needs the right to `lists` on the office; who may ask each function is told nothing."""
-    questions = [(function, "office") for function in ("assignedRoles", "userPermissions", "checkAccess", "sessionRoles", "ssdRoleSets")]
+    questions = [
+        (function, "office") for function in ("assignedRoles", "userPermissions", "checkAccess", "sessionRoles", "ssdRoleSets")
+    ]
     rights = {"token:desk": questions, "token:admin": [("lists", "office"), ("addUser", "office")]}
     with secured(bench, rights=rights) as front:
         bench.same("addUser", front.ask("addUser", {"user": "ann"}, **bearer("another"))[0], 200)
@@ -297,7 +314,9 @@ def check_rights(bench):
                 given = front.exchange("GET", f"/lists/{name}{query}", **bearer("secret"))
                 bench.same(f"{name}{query}", given, (403, '{"code":63,"error":"Forbidden"}'))
             bench.same(f"{name} of nobody", front.exchange("GET", f"/lists/{name}")[0], 401)
-        bench.same("with the right", front.exchange("GET", "/lists/users", **bearer("another")), (200, '{"ok":true,"value":["ann"]}'))
+        bench.same(
+            "with the right", front.exchange("GET", "/lists/users", **bearer("another")), (200, '{"ok":true,"value":["ann"]}')
+        )
     bad = '{"fn":"addPermObj","object":"role clerk"}\n{"fn":"addPermission","object":"role clerk","operation":"lists"}\n'
     path = bench.write("bad.jsonl", bad.encode())
     status, _, said = refused_start("callers", "--program", RBAC, path)

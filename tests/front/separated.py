@@ -20,7 +20,7 @@ SETS = {"Ssd": ("static", "static_sets"), "Dsd": ("dynamic", "dynamic_sets")}
 
 
 def after(state, function, arguments):
-    """The state that a command would lead to if nothing refused it, the kinds of sets that are judged, and the set that it changes."""
+    """The state to which a command would lead if nothing refused it, the kinds of sets that are judged, and the changed set."""
     if function == "assignUser":
         return state.but(assignments=state.assignments | {tuple(arguments)}), ["static"], None
     if function == "addInheritance":
@@ -69,12 +69,14 @@ def conflicts(state, function, arguments):
                 ]
                 holders.sort(key=lambda one: one["session"])
             if holders := [one for one in holders if len(one["members"]) >= cardinality]:
-                found.append({"cardinality": cardinality, "holders": holders, "kind": kind, "roles": sorted(members), "set": name})
+                found.append(
+                    {"cardinality": cardinality, "holders": holders, "kind": kind, "roles": sorted(members), "set": name}
+                )
     return {"conflicts": found, "refused": True} if found else {"refused": False}
 
 
 def check_random(bench):
-    """Each refusal of a random command by separation of duty is explained as the model says, and by the set that the office names."""
+    """Refusals of random commands by separation of duty are explained as the model says, with the set that the office names."""
     seed = random.randrange(1_000_000_000)
     print(f"the seed of the commands that are explained is {seed}")
     counts = {"separation: explained": 0, "separation: refused": 0}
@@ -97,7 +99,10 @@ def check_random(bench):
                     given, wanted = json.loads(said).get("value", said), conflicts(before, function, arguments)
                     if (status, given) != (200, wanted):
                         faults.append(f"{line}: {status} {said} and not {wanted}")
-                    elif given["refused"] != ("code" in told) or told.get("set") not in (None, given.get("conflicts", [{}])[0].get("set")):
+                    elif given["refused"] != ("code" in told) or told.get("set") not in (
+                        None,
+                        given.get("conflicts", [{}])[0].get("set"),
+                    ):
                         faults.append(f"{line}: {said} for {answer}")
                     counts["separation: explained"] += 1
                     counts["separation: refused"] += "code" in told
@@ -112,7 +117,9 @@ def check_random(bench):
 
 
 SEPARATING = ["assignUser", "addInheritance", "createSession", "addActiveRole"]
-SEPARATING += [f"{verb}{kind}{what}" for kind in SETS for verb, what in (("create", "Set"), ("add", "RoleMember"), ("set", "SetCardinality"))]
+SEPARATING += [
+    f"{verb}{kind}{what}" for kind in SETS for verb, what in (("create", "Set"), ("add", "RoleMember"), ("set", "SetCardinality"))
+]
 
 
 def check_rights(bench):
@@ -137,7 +144,13 @@ def check_rights(bench):
             status, said = front.exchange("POST", "/explain", json.dumps({"command": command}), **bearer(token))
             given = json.loads(said).get("value") if status == 200 else None
             bench.same(f"{token} asks about {command}", (status, given), (200 if wanted else 403, wanted))
-        for command in ({"fn": "addUser", "user": "x"}, {"fn": "checkAccess", "session": "s", "operation": "o", "object": "p"}, {}, "x", {"fn": "fly"}):
+        for command in (
+            {"fn": "addUser", "user": "x"},
+            {"fn": "checkAccess", "session": "s", "operation": "o", "object": "p"},
+            {},
+            "x",
+            {"fn": "fly"},
+        ):
             status, _ = front.exchange("POST", "/explain", json.dumps({"command": command}), **bearer("another"))
             bench.same(f"the command {command}", status in (400, 404), True)
         bench.same("it isn't done", front.ask("createSession", {**session, "roles": ["cashier"]}, **bearer("another"))[0], 200)

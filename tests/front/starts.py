@@ -20,7 +20,7 @@ from .running import features
 OK = '{"ok":true}'
 
 # What a front leaves in the folder of its office, with the log of the test.
-LEFT = ["office", "office.lock", "office.log", "office.record", "office.run"]
+LEFT = ["office", "office.lock", "office.log", "office.numbers", "office.record", "office.run"]
 
 
 def check_refused(bench):

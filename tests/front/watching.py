@@ -213,7 +213,15 @@ def check_watch(bench):
             pass
         bench.same("a later command", event, (last + 1, b'{"fn":"addUser","user":"late"}'))
         watch.close()
-        for after, status in [("0", 410), (str(last + 2), 410), ("x", 400), ("-1", 400), ("", 400), ("1&after=2", 400), ("1&x=1", 400)]:
+        for after, status in [
+            ("0", 410),
+            (str(last + 2), 410),
+            ("x", 400),
+            ("-1", 400),
+            ("", 400),
+            ("1&after=2", 400),
+            ("1&x=1", 400),
+        ]:
             bench.same(f"after {after}", front.exchange("GET", f"/watch?after={after}")[0], status)
         bench.same("nothing", front.exchange("GET", "/watch")[0], 400)
         bench.same("POST", front.exchange("POST", "/watch?after=1", "{}")[0], 405)
@@ -254,6 +262,8 @@ def check_rights(bench):
             while not next(other.events())[1]:
                 pass
             other.close()
-            bench.same(f"a new watch after {how} is lost", Watch(front, number, **desk).status, 403 if how == "the right" else 401)
+            bench.same(
+                f"a new watch after {how} is lost", Watch(front, number, **desk).status, 403 if how == "the right" else 401
+            )
             bench.write("callers.jsonl", rules(rights).encode())
             reload(front, "the callers are in force")
