@@ -60,4 +60,8 @@ def check_dependencies(bench):
             for name in shown.split()
             if "." in name.split("/")[0] and not name.startswith("vendor/")
         }
-        bench.same("packages that the record needs", foreign - {"golang.org/x/sys"}, {"github.com/mattn/go-sqlite3", "golang.org/x/crypto"})
+        bench.same(
+            "packages that the record needs",
+            foreign - {"golang.org/x/sys"},
+            {"github.com/mattn/go-sqlite3", "golang.org/x/crypto"},
+        )

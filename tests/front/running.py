@@ -12,7 +12,7 @@ from stopped.running import checks_of, is_long, run_all
 
 # What needs nothing but the sources, and what needs a built front.
 OF_SOURCES = ["sources"]
-OF_FRONTS = ["recordkills", "kills", "recordfaults", "records", "building", "clients", "identities", "answers", "starts", "booted", "table", "page", "auditing", "described", "browsers"]
+OF_FRONTS = ["recordkills", "kills", "recordfaults", "records", "recordorder", "wrongfronts", "building", "clients", "identities", "answers", "starts", "booted", "table", "page", "auditing", "described", "browsers"]
 
 WORKERS = 4
 
