@@ -20,5 +20,12 @@
     conforming  the answers of what the front has besides the functions, beside docs/openapi.json
     requests    the commands of docs/REQUESTS.md
     browsers    a page of a foreign site in Chromium
+    records     what the record has, which starts it refuses, and what is found in one that was changed
+    recordkills     the front and its replay are killed under load: record, office and clients agree
+    recordfaults    disks under the record that fail or are full
+    recordorder     the order of writes and syncs, by strace
+    wrongfronts     wrong fronts are found: with --long they are built and run
+    auditing    the commands of docs/AUDITING.md about the record
+    recorded    reads a record
     program     runs the front, and asks it
 """

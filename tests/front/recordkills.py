@@ -1,7 +1,7 @@
-"""The front and its replay are killed under load, and while they start: no acknowledged command is missing from office or record.
+"""The front and its replay are killed under load, and while they start: nothing acknowledged is missing in office or record.
 
-After each kill `record verify` finds nothing. After the next start each answer that a client got is in the record, the plain model
-gives the answers of the record, and the office has the rows of the model. No file but the office has the name of a session.
+After each kill `record verify` finds nothing. After the next start each answer that a client got is in the record, the plain
+model gives the answers of the record, and the office has the rows of the model. Only the office has the names of sessions.
 """
 
 import http.client
@@ -183,7 +183,9 @@ class Rounds:
         self.counts["entries whose answer was found"] += sum(entry.found for entry in found)
         self.bench.judge(f"round {number}: the model's answers", self.model.go_on(found)[:3])
         kept = {entry.reason: (entry.request, entry.answer) for entry in found}
-        lost = [f"{reason} {what} and not {kept.get(reason)}" for reason, what in acknowledged.items() if kept.get(reason) != what]
+        lost = [
+            f"{reason} {what} and not {kept.get(reason)}" for reason, what in acknowledged.items() if kept.get(reason) != what
+        ]
         self.bench.judge(f"round {number}: {len(acknowledged)} acknowledged commands are in the record", lost[:3])
         given = rows_of(self.front.office, self.bench.path("copy"))
         self.bench.same(f"round {number}: the rows are the model's", given == self.model.rows(), True)
@@ -226,4 +228,3 @@ def check_kills(bench):
     bench.same("files with names of sessions", shown - {rounds.front.office, bench.path("copy/office")}, set())
     until(lambda: not left_in_memory(rounds.front.office), "no copy is left in memory")
     return {f"record: {name}": count for name, count in rounds.counts.items()}
-

@@ -13,6 +13,7 @@ from program.bench import TESTS
 
 from .identities import CERTIFICATES, openssl, secured
 from .program import Front, Unix, refused_start
+
 from .recorded import (
     Model, chain_again, change, digest, entries, files_with, left_in_memory, link, path_of, refuted, rows_of, tool, verified
 )  # fmt: skip
@@ -72,8 +73,12 @@ def check_entries(bench):
         bench.same("head", tool("record", "head", "--office", front.office), (0, f"{head}\n", ""))
         metrics = front.exchange("GET", "/metrics")[1]
         bench.same("the metrics", "rbac_node_record_entry 1\n" in metrics and "rbac_node_record_failing 0" in metrics, True)
-        modes = {name: oct(os.stat(path_of(front.office, name)).st_mode & 0o777) for name in os.listdir(f"{front.office}.record")}
-        bench.same("the modes", (set(modes.values()), oct(os.stat(f"{front.office}.record").st_mode & 0o777)), ({"0o600"}, "0o700"))
+        modes = {
+            name: oct(os.stat(path_of(front.office, name)).st_mode & 0o777) for name in os.listdir(f"{front.office}.record")
+        }
+        bench.same(
+            "the modes", (set(modes.values()), oct(os.stat(f"{front.office}.record").st_mode & 0o777)), ({"0o600"}, "0o700")
+        )
         live = tool("record", "verify", "--office", front.office)
         bench.same("verify beside the front", (live[0], "its rows are not compared" in live[1]), (0, True))
         bench.same("the end", front.end(), 0)
@@ -157,14 +162,20 @@ def check_written_behind(bench):
         same_refusal(bench, what, front, "`rbac-node record adopt`")
         refuted(bench, what, front.office, "the office is not what the record gives")
         status, out, said = tool("record", "adopt", "--office", front.office)
-        bench.same(f"{what}: adopt", (status, out, said), (0, f"the record begins anew over the office as it is, at entry {len(old) + 1}\n", ""))
+        bench.same(
+            f"{what}: adopt",
+            (status, out, said),
+            (0, f"the record begins anew over the office as it is, at entry {len(old) + 1}\n", ""),
+        )
         bench.same(f"{what}: the record says so", json.loads(entries(front.office)[-1].request)["record"], "adopts")
         bench.same(f"{what}: adopt again", tool("record", "adopt", "--office", front.office)[0], 1)
         with front:
             bench.same(f"{what}: a command", front.ask("addUser", {"user": "zoe"})[1], OK)
             front.kill()
         out = tool("record", "verify", "--office", front.office)[1]
-        bench.same(f"{what}: verify says so", f"entry {len(old) + 1} begins anew over an office that somebody has written" in out, True)
+        bench.same(
+            f"{what}: verify says so", f"entry {len(old) + 1} begins anew over an office that somebody has written" in out, True
+        )
         with front:
             bench.same(f"{what}: after a kill", front.ask("addUser", {"user": "zoe"})[1], '{"code":3,"error":"UserExists"}')
             bench.same(f"{what}: the end", front.end(), 0)
@@ -246,7 +257,9 @@ def check_backup_under_load(bench):
     counts = []
     for turn, pair in enumerate(pairs):
         if turn % 2:
-            done = subprocess.run(["sha256sum", "--quiet", "-c", "SHA256SUMS"], cwd=pair, capture_output=True, text=True, check=False)
+            done = subprocess.run(
+                ["sha256sum", "--quiet", "-c", "SHA256SUMS"], cwd=pair, capture_output=True, text=True, check=False
+            )
             bench.same(f"the digests of backup {turn}", (done.returncode, done.stdout + done.stderr), (0, ""))
             names = {os.path.relpath(os.path.join(folder, name), pair) for folder, _, files in os.walk(pair) for name in files}
             bench.same(f"what is in backup {turn}", {"office", "SHA256SUMS", "office.record/record.db"} <= names, True)
@@ -330,7 +343,9 @@ def check_changed(bench):
 def check_other_program(bench):
     """A program that gives another answer than the record has is found, by verify and by a start."""
     front = made(bench)
-    path = bench.write("program", f'#!/bin/sh\n[ "$1" = replay ] || exec {RBAC} "$@"\n{RBAC} "$@" | sed -u s/UserExists/NoUser/\n'.encode())
+    path = bench.write(
+        "program", f'#!/bin/sh\n[ "$1" = replay ] || exec {RBAC} "$@"\n{RBAC} "$@" | sed -u s/UserExists/NoUser/\n'.encode()
+    )
     os.chmod(path, 0o700)
     status, _, said = tool("record", "verify", "--office", front.office, "--program", path)
     wanted = 'entry 3 has the answer {"code":3,"error":"UserExists"}, and the program gives {"code":3,"error":"NoUser"}\n'

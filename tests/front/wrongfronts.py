@@ -1,19 +1,19 @@
-"""Wrong fronts, each an edit of the sources: what finds them. With `--long` they are built and run; without it each edit has its place.
+"""Wrong fronts, each an edit of the sources, and what finds them. Without `--long` only the places of the edits are looked at.
 
-Two are found by kills under load. The order of answers is found without a kill, a beginning that is too short by the tests of the
-package, and a missing lock by a replay that outlives its front.
+With `--long` they are built and run. Kills under load find those that send before they record, release out of order, or forget
+answers. A beginning that is too short does no harm under kills: the tests of the package find it. A missing lock is found by a
+replay that outlives its front.
 """
 
 import os
 import shutil
 import subprocess
-import time
 
 from program.bench import PROGRAM as RBAC
 from program.bench import TESTS, Bench
 
 from .building import RECORD
-from .program import Front, children
+from .program import Front, children, refused_start
 from .recordkills import Rounds
 from .running import LONG, PROGRAM, build
 
@@ -94,10 +94,10 @@ def is_found_by_kills(folder):
 
 
 def is_found_by_late_replay(bench, name):
-    """Whether a front starts although the replay of the one before still has the office."""
+    """Whether a front looks at the office although the replay of the one before still has it. A right one waits for the lock."""
     program = bench.write(f"{name}-program", f'#!/bin/sh\nexec 9<&0\n{RBAC} "$@" <&9 9<&- &\nwait $!\n'.encode())
     os.chmod(program, 0o700)
-    front = Front(bench, "--no-record", name=name)
+    front = Front(bench, name=name)
     words = front.words()
     words[words.index("--program") + 1] = program
     front.words = lambda: words
@@ -107,18 +107,15 @@ def is_found_by_late_replay(bench, name):
         (replay,) = [process for shell in front.replays() for process in children(shell)]
         held = os.open(f"/proc/{replay}/fd/0", os.O_WRONLY)
         front.kill()
-        second = front.start_without_waiting()
-        time.sleep(1)
-        starts = second.poll() is None and '"msg":"listening"' in front.said(front.logged)
-        second.kill()
-        second.wait()
+        status, _, said = refused_start(*words)
         os.close(held)
-    return starts
+    bench.same("a second front doesn't start", status, 1)
+    return "which another front has" not in said
 
 
 def check_late_replay(bench):
     """A front waits as long as the replay of an earlier one has the office."""
-    bench.same("it starts", is_found_by_late_replay(bench, "late"), False)
+    bench.same("it looks at the office", is_found_by_late_replay(bench, "late"), False)
 
 
 def check_wrong_fronts(bench):

@@ -24,7 +24,9 @@ def check_commands(bench):
         # The page names the program by its place in the repository.
         (bench.folder / "release").symlink_to(bench.folder / "bin")
         reader.type("unset RBAC_PROGRAM")
-        for command, shown in runs([line for block in markdown.blocks(PAGE.partition(OF_A_FRONT)[0], "console") for line in block]):
+        for command, shown in runs(
+            [line for block in markdown.blocks(PAGE.partition(OF_A_FRONT)[0], "console") for line in block]
+        ):
             if "| dot " in command and not shutil.which("dot"):
                 print(f"left out, since dot can't be found: {command}")
             else:
