@@ -117,3 +117,39 @@ def check_order(bench):
             thread.join()
         bench.judge("batches of eight clients", faults[:5])
         bench.same("the end", front.end(), 0)
+
+
+def check_others(bench):
+    """No command of other clients comes between the lines of a batch with `stop=first`, which are asked one after the other."""
+    with Front(bench, "--no-record") as front:
+        lines = [line("addRole", role="clerk"), *(line("addUser", user=f"u{number}") for number in range(80))]
+        bench.same("the office", {*batch(front, lines)[1]}, {'{"ok":true}'})
+        stop, faults, changed = threading.Event(), [], []
+
+        def change(number):
+            kept = front.connection()
+            while not stop.is_set():
+                for function in ("assignUser", "deassignUser"):
+                    for user in range(number, 80, 4):
+                        changed.append(front.ask(function, {"user": f"u{user}", "role": "clerk"}, kept)[0] == 200)
+            kept.close()
+
+        threads = [threading.Thread(target=change, args=(number,)) for number in range(4)]
+        for thread in threads:
+            thread.start()
+        asked = line("assignedUsers", role="clerk")
+        seen = set()
+        for number in range(40):
+            lines = [asked]
+            for step in range(6):
+                lines += [line("addRole", role=f"{number}.{step}"), asked]
+            status, said = batch(front, lines, "?stop=first")
+            if status != 200 or len(said) != len(lines) or len({*said[::2]}) != 1:
+                faults.append(f"{status} {said}")
+            seen |= {*said[::2]}
+        stop.set()
+        for thread in threads:
+            thread.join()
+        bench.judge("batches while others change the office", [fault[:300] for fault in faults[:3]])
+        bench.same("the office has changed meanwhile", (len(seen) > 1, any(changed)), (True, True))
+        bench.same("the end", front.end(), 0)
