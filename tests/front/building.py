@@ -4,6 +4,7 @@ import os
 import subprocess
 
 from program.bench import PROGRAM, TESTS
+from stopped.running import IN_MEMORY
 
 from .running import features
 
@@ -19,6 +20,8 @@ def go(*words, tags=""):
     """Returns what a command prints, and its status."""
     environment = {**os.environ, "GO111MODULE": "off", "GOPATH": f"{ROOT}:/usr/share/gocode", "RBAC_PROGRAM": PROGRAM,
                    "GOFLAGS": f"-tags={tags}"}  # fmt: skip
+    if os.access(IN_MEMORY, os.W_OK):
+        environment["TMPDIR"] = IN_MEMORY
     done = subprocess.run(words, cwd=ROOT, env=environment, capture_output=True, text=True, timeout=600, check=False)
     return done.stdout + done.stderr, done.returncode
 
