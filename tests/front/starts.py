@@ -19,6 +19,9 @@ from .running import features
 
 OK = '{"ok":true}'
 
+# What a front leaves in the folder of its office, with the log of the test.
+LEFT = ["office", "office.lock", "office.log", "office.numbers", "office.record", "office.run"]
+
 
 def check_refused(bench):
     """What can't work ends with status 1 and one line, and makes nothing."""
@@ -79,6 +82,9 @@ def check_without_libraries(bench):
     bench.write("callers", b"")
     for words, says in [
         (["serve", "--etcd", "http://127.0.0.1:1", "--listen", "127.0.0.1:0"], "built without etcd"),
+        (["serve", "--office", bench.path("office"), "--program", RBAC], "built without SQLite"),
+        (["record", "head", "--office", bench.path("office")], "built without SQLite"),
+        (["serve", "--office", bench.path("office"), "--no-record", "--session-age", "1h"], "built without SQLite"),
         (["adopt", "x"], "built without etcd"),
         (["callers", "--check", "--program", RBAC, "--callers", bench.path("callers"), "--oidc-keys", "k"], "built without JWTs"),
     ]:
@@ -87,8 +93,16 @@ def check_without_libraries(bench):
     old = os.environ["RBAC_FRONT"]
     os.environ["RBAC_FRONT"] = path
     try:
-        with Front(bench) as front:
+        with Front(bench, "--no-record") as front:
             bench.same("a command", front.ask("addUser", {"user": "ann"}), (200, OK))
+            bench.same("a batch", front.ask("batch", '{"fn":"assignedRoles","user":"ann"}'), (200, '{"ok":true,"value":[]}\n'))
+            for path in ("/lists/users", "/snapshot", "/watch?after=1"):
+                bench.same(path, front.exchange("GET", path)[0], 404)
+            asked = '{"user":"ann","operation":"open","object":"safe"}'
+            for path in ("/v1/decideByUser", "/explain"):
+                bench.same(path, front.exchange("POST", path, asked)[0], 404)
+            bench.same("a condition", front.ask("addUser", {"user": "bob"}, If_Policy_Revision="1")[0], 400)
+        bench.same("no record was made", os.path.exists(bench.path("office.record")), False)
     finally:
         os.environ["RBAC_FRONT"] = old
     if "etcd" not in features():
@@ -116,7 +130,7 @@ def check_first_start(bench):
         bench.same("a second front", (status, said.count("\n"), "another front" in said), (1, 1, True))
         bench.same("the first one answers", front.ask("assignedRoles", {"user": "ann"}), (200, '{"ok":true,"value":[]}'))
         bench.same("the end", front.end(), 0)
-    bench.same("what is left", sorted(os.listdir(bench.folder)), ["office", "office.lock", "office.log", "office.run"])
+    bench.same("what is left", sorted(os.listdir(bench.folder)), LEFT)
     done = subprocess.run([RBAC, "check", front.office], capture_output=True, text=True, check=False)
     bench.same("rbac check", done.stdout, "good\n")
 
@@ -171,6 +185,7 @@ def check_end(bench):
             bench.judge("what was answered is there", missing)
             bench.same("the end", front.end(), 0)
         os.remove(front.office)
+        shutil.rmtree(f"{front.office}.record")
     return {"requests until the end": len(answers)}
 
 

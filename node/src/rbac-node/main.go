@@ -5,6 +5,8 @@
 //	rbac-node adopt --etcd URL,.. --data FOLDER OFFICE
 //	rbac-node callers FILE
 //	rbac-node callers --check OPTION..
+//	rbac-node record verify|show|head|cut|adopt --office FILE
+//	rbac-node backup --office FILE FOLDER
 //
 // See docs/FRONT.md, and docs/CLUSTER.md for several machines.
 package main
@@ -23,7 +25,7 @@ import (
 // mostMemory is from how much memory on garbage is collected more often.
 const mostMemory = 1 << 30
 
-var errUsage = errors.New("usage: rbac-node serve|adopt|callers [options]; see rbac-node serve --help")
+var errUsage = errors.New("usage: rbac-node serve|adopt|callers|record|backup [options]; see rbac-node serve --help")
 
 func main() {
 	if os.Getenv("GOGC") == "" {
@@ -45,6 +47,10 @@ func main() {
 func run(words []string) error {
 	if len(words) == 0 {
 		return errUsage
+	}
+	if words[0] == "record" || words[0] == "backup" {
+		syscall.Umask(0o077)
+		return records.run(words)
 	}
 	s, flags := &settings{}, flag.NewFlagSet("rbac-node "+words[0], flag.ContinueOnError)
 	s.define(flags)

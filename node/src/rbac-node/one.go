@@ -36,10 +36,15 @@ func (s *settings) serveOne(ctx context.Context) error {
 		return err
 	}
 	defer f.Close()
-	office, err := single.Open(ctx, single.Options{
+	one := single.Options{
 		File: s.office, Program: s.program, AnswerTimeout: s.answerTimeout, HangTimeout: s.hangTimeout, Reads: single.MostReads,
 		Log: log, Starts: options.Callers.Starts, IsOpen: options.IsOpen(),
-	})
+		SessionAge: s.sessionAge, SessionIdle: s.sessionIdle,
+	}
+	if err := s.addRecord(&one, registry); err != nil {
+		return err
+	}
+	office, err := single.Open(ctx, one)
 	if err != nil {
 		return err
 	}

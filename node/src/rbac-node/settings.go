@@ -15,6 +15,7 @@ import (
 	"rbac-node/logs"
 	"rbac-node/metrics"
 	"rbac-node/single"
+	"rbac-node/state"
 	"rbac-node/web"
 )
 
@@ -24,11 +25,14 @@ const defaultConnections = 20_000
 // settings are what the command line chooses for an office, on one machine or on several.
 type settings struct {
 	office, program, listen, origins, refused string
+	publicURL                                 string
+	sessionAge, sessionIdle                   time.Duration
 	answerTimeout, hangTimeout                time.Duration
 	connections                               int
 	tls                                       web.TLS
 	callers                                   callers.Files
 	isCheck                                   bool
+	record                                    recordSettings
 }
 
 // clusterMode is what a program for several machines does.
@@ -75,8 +79,13 @@ func (s *settings) define(flags *flag.FlagSet) {
 	flags.StringVar(&s.callers.Issuer, "oidc-issuer", "", "who has to have issued JWTs")
 	flags.StringVar(&s.callers.Audience, "oidc-audience", "", "for whom JWTs have to be")
 	flags.StringVar(&s.callers.Subject, "oidc-claim", "sub", "claim of a JWT that names its caller")
+	flags.DurationVar(&s.sessionAge, "session-age", 0, "after how much time a session ends (default: never), for one machine")
+	flags.DurationVar(&s.sessionIdle, "session-idle", 0, "after how much time without a use a session ends (default: never), for one machine")
+	flags.StringVar(&s.publicURL, "public-url", "", "where clients find the front: https://HOST:PORT, for AuthZEN's metadata")
 	flags.StringVar(&s.origins, "origin", "", "origins of pages whose requests are answered, separated by commas")
 	flags.StringVar(&s.refused, "refused", "", "file for requests that are refused with 401, 403 or 421 (default: OFFICE.refused)")
+	flags.BoolVar(&s.record.isOff, "no-record", false, "don't record commands, for one machine")
+	flags.Int64Var(&s.record.every, "record-base", 10_000, "commands between two copies of the office, from which a start does them again")
 	flags.BoolVar(&s.isCheck, "check", false, "with callers: only check the files of the callers")
 }
 
@@ -94,6 +103,14 @@ func (s *settings) check() error {
 	switch {
 	case s.answerTimeout <= 0 || s.hangTimeout < time.Second:
 		return errors.New("--timeout must be above zero, and --hang-timeout at least 1s")
+	case s.sessionAge < 0 || s.sessionIdle < 0:
+		return errors.New("--session-age and --session-idle must not be below zero")
+	case s.sessionAge+s.sessionIdle > 0 && cluster.isChosen():
+		return errors.New("--session-age and --session-idle are for one machine")
+	case s.sessionAge+s.sessionIdle > 0 && !state.IsAvailable:
+		return fmt.Errorf("--session-age and --session-idle: %w", state.ErrUnavailable)
+	case s.record.every < 1:
+		return errors.New("--record-base must be at least 1")
 	case s.connections < 1 || s.connections > web.MaxConnections():
 		return fmt.Errorf("--connections must be from 1 to %d, as the limit of file descriptors allows", web.MaxConnections())
 	case files.Callers == "" && files.Tokens+files.Keys != "":
@@ -116,7 +133,8 @@ func (s *settings) listenOr(other string) ([]front.Address, error) {
 func (s *settings) frontOptions(addresses []front.Address, log *logs.Logger, registry *metrics.Registry) front.Options {
 	options := front.Options{
 		Addresses: addresses, TLS: s.tls, Connections: s.connections, AnswerTimeout: s.answerTimeout, Refused: s.refused,
-		Log: log, Metrics: registry,
+		PublicURL: strings.TrimSuffix(s.publicURL, "/"),
+		Log:       log, Metrics: registry,
 		Callers: callers.Options{
 			Files: s.callers, Program: s.program, AnswerTimeout: s.answerTimeout, HangTimeout: s.hangTimeout, Reads: single.MostReads,
 			Log: log, Starts: registry.Counter("rbac_node_replay_starts_total", "Starts of a replay.", "replay"),

@@ -6,7 +6,6 @@ import (
 	"context"
 	"encoding/json"
 	"errors"
-	"fmt"
 	"io"
 	"net/http"
 	"strconv"
@@ -35,6 +34,8 @@ type Answer struct {
 	Place    int
 	// Newest is a moment at which the state that answered a question was the newest one.
 	Newest time.Time
+	// Policy is the revision of the policy after a command, or that of the state that answered a question, or 0 if it isn't known.
+	Policy int64
 }
 
 // A Refusal is what is answered without the office: an HTTP status, a code and its name.
@@ -59,7 +60,9 @@ var (
 	// ForeignOrigin means that a page of a foreign site has made a browser send the request.
 	ForeignOrigin = Refusal{http.StatusForbidden, 65, "ForeignOrigin"}
 	// ForeignHost means that the request was sent to a name that isn't one of this machine.
-	ForeignHost     = Refusal{http.StatusMisdirectedRequest, 66, "ForeignHost"}
+	ForeignHost = Refusal{http.StatusMisdirectedRequest, 66, "ForeignHost"}
+	// Outdated means that the policy has changed since the revision that the request names.
+	Outdated        = Refusal{http.StatusPreconditionFailed, 67, "Outdated"}
 	unknownFunction = Refusal{http.StatusNotFound, 35, "UnknownFunction"}
 )
 
@@ -108,8 +111,12 @@ func (h *Handler) Serve(w http.ResponseWriter, r *http.Request, judge Judge, don
 		err = judge(h.ctx, call)
 	}
 	var answer Answer
+	ctx := h.ctx
 	if err == nil {
-		answer, err = h.office.Ask(h.ctx, kind, call)
+		ctx, err = withCondition(ctx, r, h.office)
+	}
+	if err == nil {
+		answer, err = h.office.Ask(ctx, kind, call)
 	}
 	done()
 	status := respond(w, kind, answer, err)
@@ -125,6 +132,7 @@ func respond(w http.ResponseWriter, kind Kind, answer Answer, err error) int {
 		return Refuse(w, refused)
 	}
 	head := w.Header()
+	SetPolicy(head, answer.Policy)
 	switch {
 	case answer.Revision == 0 && answer.Newest.IsZero():
 		// The office is that of one machine.
@@ -138,19 +146,22 @@ func respond(w http.ResponseWriter, kind Kind, answer Answer, err error) int {
 	return write(w, StatusOf(answer.Text), answer.Text)
 }
 
-// Refuse answers a request without the office, and returns the status.
-func Refuse(w http.ResponseWriter, refused Refusal) int {
+// Refuse answers a request without the office, and returns the status. If nothing else is said, only POST is allowed.
+func Refuse(w http.ResponseWriter, refused Refusal, methods ...string) int {
 	head := w.Header()
 	switch refused.Status {
 	case http.StatusUnauthorized:
 		head.Set("WWW-Authenticate", "Bearer")
 	case http.StatusMethodNotAllowed:
-		head.Set("Allow", http.MethodPost)
+		if len(methods) == 0 {
+			methods = []string{http.MethodPost}
+		}
+		head.Set("Allow", strings.Join(methods, ", "))
 	case http.StatusNotImplemented:
 		// Nobody may take what follows for the next request.
 		head.Set("Connection", "close")
 	}
-	return write(w, refused.Status, []byte(fmt.Sprintf(`{"code":%d,"error":"%s"}`, refused.Code, refused.Name)))
+	return write(w, refused.Status, RefusalText(refused.Code, refused.Name))
 }
 
 func write(w http.ResponseWriter, status int, text []byte) int {

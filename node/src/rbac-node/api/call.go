@@ -77,6 +77,8 @@ type Call struct {
 	Texts map[string]string
 	Roles []string
 	Line  []byte
+	// Caller is who asks, and Reason why, if it has said so.
+	Caller, Reason string
 }
 
 // ParseLine reads a line that names its function.

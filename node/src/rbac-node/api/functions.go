@@ -11,8 +11,39 @@ func KindOf(name string) (Kind, bool) {
 	return called.kind, known
 }
 
-// Keys returns the keys of a function, in their order.
-func Keys(name string) []string { return functions[name].keys }
+// The operations that are no function of the office and that callers may have a right to.
+const (
+	// DecideByUser asks whether a user may do something in some session.
+	DecideByUser = "decideByUser"
+	// Lists, Snapshot and Watch read what no function lists.
+	Lists, Snapshot, Watch = "lists", "snapshot", "watch"
+)
+
+// others has the keys of these operations.
+var others = map[string][]string{DecideByUser: {"user", "operation", "object"}, Lists: nil, Snapshot: nil, Watch: nil}
+
+// IsOther reports whether an operation is one of these.
+func IsOther(name string) bool {
+	_, is := others[name]
+	return is
+}
+
+// Keys returns the keys of a function or of such an operation, in their order.
+func Keys(name string) []string {
+	if called, known := functions[name]; known {
+		return called.keys
+	}
+	return others[name]
+}
+
+// NewOther makes a call of such an operation, for those who judge it. It has no line.
+func NewOther(name string, pairs ...string) *Call {
+	call := &Call{Function: name, Kind: Question, Texts: map[string]string{}}
+	for i := 0; i+1 < len(pairs); i += 2 {
+		call.Texts[pairs[i]] = pairs[i+1]
+	}
+	return call
+}
 
 // Functions returns the names of all functions in their order.
 func Functions() (names []string) {
@@ -33,6 +64,16 @@ func NewCall(name string, pairs ...string) (*Call, error) {
 	for i := 0; i+1 < len(pairs); i += 2 {
 		call.Texts[pairs[i]] = pairs[i+1]
 	}
+	return call, call.write(nil)
+}
+
+// NewCallOfRoles is NewCall for a function that has a list of roles as well.
+func NewCallOfRoles(name string, roles []string, pairs ...string) (*Call, error) {
+	call, err := NewCall(name, pairs...)
+	if err != nil {
+		return nil, err
+	}
+	call.Roles = roles
 	return call, call.write(nil)
 }
 

@@ -5,7 +5,6 @@ import (
 	"fmt"
 	"net/http"
 	"os"
-	"strconv"
 	"sync"
 	"time"
 )
@@ -113,8 +112,8 @@ func (j *Journal) begin() error {
 
 // from returns where a request comes from.
 func from(r *http.Request) string {
-	if peer, _ := r.Context().Value(peerKey{}).(*peer); peer != nil && peer.uid >= 0 {
-		return "unix:" + strconv.FormatInt(peer.uid, 10)
+	if user := PeerOf(r); user != "" {
+		return user
 	}
 	return r.RemoteAddr
 }

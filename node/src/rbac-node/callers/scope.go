@@ -64,8 +64,8 @@ func checkScope(scope string) error {
 // checkRight reports whether a scope can ever cover a call of an operation.
 func checkRight(operation, scope string) error {
 	_, known := api.KindOf(operation)
-	if !known && operation != Metrics {
-		return fmt.Errorf("%q isn't the name of a function", operation)
+	if !known && operation != Metrics && !api.IsOther(operation) {
+		return fmt.Errorf("%q isn't the name of a function or of an operation", operation)
 	}
 	if kind, _, _ := strings.Cut(scope, " "); scope != office && !covers(operation, kind) {
 		return fmt.Errorf("no scope of this kind covers %s: %q", operation, scope)

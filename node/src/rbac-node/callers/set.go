@@ -266,24 +266,11 @@ func (g Grant) String() string {
 // Grants returns who may do what, by the office of the callers.
 func (s *Set) Grants(ctx context.Context) (grants []Grant, err error) {
 	for _, name := range s.callerNames() {
-		answers, err := s.feed.Ask(ctx, lineOf("sessionPermissions", "session", name))
+		own, err := s.grantsOf(ctx, name)
 		if err != nil {
 			return nil, err
 		}
-		var pairs [][2]string
-		if err := json.Unmarshal(valueOf(answers[0]), &pairs); err != nil {
-			return nil, fmt.Errorf("the permissions of %s: %w", name, err)
-		}
-		if len(pairs) == 0 {
-			grants = append(grants, Grant{Caller: name, Scope: "-"})
-		}
-		for i, one := range pairs { // They are in the order of the objects.
-			if i == 0 || pairs[i-1][0] != one[0] {
-				grants = append(grants, Grant{Caller: name, Scope: one[0]})
-			}
-			last := &grants[len(grants)-1]
-			last.Functions = append(last.Functions, one[1])
-		}
+		grants = append(grants, own...)
 	}
 	return grants, nil
 }

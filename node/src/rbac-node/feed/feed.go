@@ -45,15 +45,22 @@ type Options struct {
 	Log   *logs.Logger
 	// Starts counts the starts, by the name.
 	Starts *metrics.Counter
+	// Before is called before each start of a replay, except after one that has answered all. No replay runs then, and all answers of
+	// the one before have been observed and kept. It may be nil, as the observer and the keeper may.
+	Before   func(ctx context.Context) error
+	Observer Observer
+	Keeper   Keeper
 }
 
 // A Feed has one replay, or tries to start one.
 type Feed struct {
 	Options
-	units chan *unit
+	units chan *Unit
 	alive chan struct{}
+	// keeping is nil if there is no keeper.
+	keeping *keeping
 	// sent has the units that the replay has got and not answered, in their order.
-	sent   chan *unit
+	sent   chan *Unit
 	replay *office.Replay
 	// newest is the replay that was started last, for other goroutines.
 	newest atomic.Pointer[office.Replay]
@@ -66,21 +73,6 @@ type Feed struct {
 	why atomic.Value
 }
 
-// A unit is some lines that are asked at once. lost says that the replay has ended before it answered all.
-type unit struct {
-	ctx     context.Context
-	lines   [][]byte
-	answers [][]byte
-	lost    bool
-	done    chan struct{}
-}
-
-// lose tells whoever waits that there is no answer.
-func (u *unit) lose() {
-	u.lost = true
-	close(u.done)
-}
-
 // A RefusedError reports which of the first lines was refused.
 type RefusedError struct {
 	Index  int
@@ -91,9 +83,16 @@ func (e *RefusedError) Error() string { return fmt.Sprintf("line %d: %s", e.Inde
 
 // Open returns a feed whose replay has accepted the first lines.
 func Open(ctx context.Context, options Options) (*Feed, error) {
-	f := &Feed{Options: options, units: make(chan *unit, most), alive: make(chan struct{}), sent: make(chan *unit, most)}
+	f := &Feed{Options: options, units: make(chan *Unit, most), alive: make(chan struct{}), sent: make(chan *Unit, most)}
 	f.why.Store("")
-	return f, f.start(ctx)
+	if err := f.start(ctx); err != nil {
+		return nil, err
+	}
+	if f.Keeper != nil {
+		f.keeping = newKeeping(f.Keeper, f.units)
+		go f.keeping.run()
+	}
+	return f, nil
 }
 
 // IsAccepted reports whether the office accepted what it answers.
@@ -108,15 +107,27 @@ func (f *Feed) Why() string {
 	return why
 }
 
-// Ask returns the answers to some lines, unless the context ends first. Lines that haven't been sent by then never are.
+// Ask returns the answers to some lines, unless the context ends first. Lines that haven't been sent by then never are. A feed with
+// a keeper or an observer gets commands by Do alone.
 func (f *Feed) Ask(ctx context.Context, lines ...[]byte) ([][]byte, error) {
 	if len(lines) == 0 {
 		return nil, nil
 	}
-	u := &unit{ctx: ctx, lines: lines, answers: make([][]byte, len(lines)), done: make(chan struct{})}
+	return f.Do(ctx, &Unit{Lines: lines})
+}
+
+// Do returns the answers to the lines of a unit, unless the context ends first. A unit that hasn't been sent or kept by then never
+// is.
+func (f *Feed) Do(ctx context.Context, u *Unit) ([][]byte, error) {
+	u.begin(ctx)
+	queue := f.units
+	if f.keeping != nil && len(u.Calls) > 0 {
+		queue = f.keeping.asked
+	}
 	select {
-	case f.units <- u:
+	case queue <- u:
 	case <-ctx.Done():
+		u.lose()
 		return nil, api.Unavailable
 	}
 	select {
@@ -124,10 +135,10 @@ func (f *Feed) Ask(ctx context.Context, lines ...[]byte) ([][]byte, error) {
 	case <-ctx.Done():
 		return nil, api.Unavailable
 	}
-	if u.lost {
+	if u.lost.Load() {
 		return nil, api.Unavailable
 	}
-	return u.answers, nil
+	return u.Answers, nil
 }
 
 // IsAlive tells whether the goroutine that passes lines goes on, before the context ends.
@@ -168,16 +179,31 @@ func (f *Feed) Run(ctx context.Context) error {
 		if err != nil {
 			f.why.Store("the replay has ended")
 			f.Log.Error("the replay has ended", "replay", f.Name, "why", err)
-		} else if err := f.end(); err != nil {
-			f.Log.Warn("the replay, which was to be started anew, has failed", "replay", f.Name, "why", err)
-		} else {
-			f.Log.Info("starting the replay anew", "replay", f.Name, "reads", f.reads)
+		} else if f.anew(ctx) {
+			continue
 		}
+		f.halt()
 		f.lose()
 		if err := f.startAgain(ctx); err != nil {
+			f.endKeeping()
 			return nil
 		}
+		f.resume()
 	}
+}
+
+// anew ends the replay in order and starts another one, and reports whether there is one. What is kept can be sent to it.
+func (f *Feed) anew(ctx context.Context) bool {
+	if f.keeping != nil {
+		f.keeping.resting.Lock() // The replay writes the file of the office when it ends.
+		defer f.keeping.resting.Unlock()
+	}
+	if err := f.end(); err != nil {
+		f.Log.Warn("the replay, which was to be started anew, has failed", "replay", f.Name, "why", err)
+		return false
+	}
+	f.Log.Info("starting the replay anew", "replay", f.Name, "reads", f.reads)
+	return f.open(ctx) == nil
 }
 
 // pass passes lines until the context or the replay ends, or until it is time for a new one, for which there is no error.
@@ -206,8 +232,9 @@ func (f *Feed) pass(ctx context.Context) error {
 }
 
 // send passes the lines of a unit to the replay, unless nobody waits for them any more.
-func (f *Feed) send(u *unit) {
-	if u.ctx.Err() != nil {
+func (f *Feed) send(u *Unit) {
+	if !u.isKept && u.ctx.Err() != nil {
+		u.lose()
 		return
 	}
 	select {
@@ -216,15 +243,57 @@ func (f *Feed) send(u *unit) {
 		u.lose()
 		return
 	}
-	for i, line := range u.lines {
+	for i, line := range u.Lines {
 		i := i
 		f.reads += office.ReadsOf(line)
 		f.replay.Send(line, func(answer []byte) {
-			if u.answers[i] = answer; i == len(u.lines)-1 {
+			if u.Answers[i] = answer; i == len(u.Lines)-1 {
 				<-f.sent // It is this unit, since answers come in order.
-				close(u.done)
+				f.answered(u)
 			}
 		})
+	}
+}
+
+// answered passes on a unit that the replay has answered.
+func (f *Feed) answered(u *Unit) {
+	if f.Observer != nil && len(u.Calls) > 0 {
+		f.Observer.Answered(u)
+	}
+	if u.Observed != nil {
+		u.Observed()
+	}
+	if u.isKept {
+		f.keeping.answer(u)
+		return
+	}
+	u.release()
+}
+
+// halt lets the keeper have the answers of a replay that has ended, and nothing more. What it has kept is not sent.
+func (f *Feed) halt() {
+	if f.keeping == nil {
+		return
+	}
+	<-f.replay.Ended() // All answers have come.
+	f.keeping.tell(f.keeping.halts)
+	for n := len(f.units); n > 0; n-- {
+		u := <-f.units
+		if !u.isKept {
+			select {
+			case f.units <- u:
+				continue
+			default:
+			}
+		}
+		u.lose()
+	}
+}
+
+// resume lets commands pass to a new replay.
+func (f *Feed) resume() {
+	if f.keeping != nil {
+		f.keeping.tell(f.keeping.resumes)
 	}
 }
 
@@ -239,6 +308,31 @@ func (f *Feed) lose() {
 func (f *Feed) answerRest() {
 	for len(f.units) > 0 {
 		f.send(<-f.units)
+	}
+	f.endKeeping()
+}
+
+// endKeeping lets the keeper have the last commands and their answers.
+func (f *Feed) endKeeping() {
+	if f.keeping == nil {
+		return
+	}
+	close(f.keeping.ends)
+	ended := f.replay.Ended()
+	for {
+		if len(f.units) == 0 {
+			f.replay.Flush()
+		}
+		select {
+		case u := <-f.units:
+			f.send(u)
+		case <-ended:
+			ended = nil
+			f.halt()
+			f.lose()
+		case <-f.keeping.ended:
+			return
+		}
 	}
 }
 
@@ -282,6 +376,18 @@ func (f *Feed) startAgain(ctx context.Context) error {
 
 // start starts a replay, which has to accept the first lines.
 func (f *Feed) start(ctx context.Context) error {
+	f.starting.Store(true)
+	defer f.starting.Store(false)
+	if f.Before != nil {
+		if err := f.Before(ctx); err != nil {
+			return err
+		}
+	}
+	return f.open(ctx)
+}
+
+// open is start without what comes before it.
+func (f *Feed) open(ctx context.Context) error {
 	f.starting.Store(true)
 	defer f.starting.Store(false)
 	replay, err := f.Start()

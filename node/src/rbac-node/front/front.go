@@ -18,6 +18,7 @@ import (
 
 	"rbac-node/api"
 	"rbac-node/callers"
+	"rbac-node/endpoints"
 	"rbac-node/logs"
 	"rbac-node/metrics"
 	"rbac-node/web"
@@ -36,8 +37,10 @@ type Options struct {
 	// IsHostChecked says that requests from this machine need a Host of this machine if there are no callers.
 	IsHostChecked bool
 	// HasMetrics says that clients get the metrics here.
-	HasMetrics    bool
-	Connections   int
+	HasMetrics  bool
+	Connections int
+	// PublicURL is where clients find the front, or empty.
+	PublicURL     string
 	AnswerTimeout time.Duration
 	Log           *logs.Logger
 	Metrics       *metrics.Registry
@@ -59,6 +62,8 @@ type Front struct {
 	// refusedAt is since when the files of the callers aren't those in force, in seconds of Unix, or 0.
 	refusedAt gauge
 	handler   *api.Handler
+	// endpoints is nil if the office can do no more than its functions.
+	endpoints *endpoints.Endpoints
 	office    api.Office
 	listeners []net.Listener
 	servers   []*http.Server
@@ -150,6 +155,7 @@ func (f *Front) loadCallers(ctx context.Context) error {
 // Serve answers clients from an office. Each server runs in a goroutine.
 func (f *Front) Serve(life context.Context, start func(func() error), office api.Office) {
 	f.office, f.handler = office, api.NewHandler(life, office, f.Metrics)
+	f.serveEndpoints(life)
 	limits := web.Limits{
 		AnswerTimeout: 2*web.RequestTimeout + 2*f.AnswerTimeout, Connected: callers.WithPeer, Errors: log.New(&failures{front: f}, "", 0),
 	}

@@ -30,6 +30,9 @@ func (f *Front) ServeHTTP(w http.ResponseWriter, r *http.Request) {
 		f.serveHealth(w, r)
 		return
 	}
+	if f.endpoints != nil && f.endpoints.ServeConfiguration(w, r) {
+		return
+	}
 	if f.guard == nil {
 		f.answer(w, r, nil)
 		return
@@ -61,11 +64,18 @@ func (f *Front) answer(w http.ResponseWriter, r *http.Request, visit *callers.Vi
 		f.answerMetrics(w, r, visit)
 		return
 	}
+	if f.endpoints != nil && f.endpoints.Has(r) {
+		f.answerEndpoint(w, r, visit)
+		return
+	}
 	if visit == nil {
-		f.handler.Serve(w, r, nil, func() {})
+		f.handler.Serve(w, r, func(_ context.Context, call *api.Call) error { return sign(r, nil, call) }, func() {})
 		return
 	}
 	f.handler.Serve(w, r, func(ctx context.Context, call *api.Call) error {
+		if err := sign(r, visit, call); err != nil {
+			return err
+		}
 		err := visit.May(ctx, call)
 		if err != nil {
 			f.note(r, visit.Caller, errDenied, refusalOf(err))

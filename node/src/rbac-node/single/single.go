@@ -38,43 +38,95 @@ type Options struct {
 	Starts                     *metrics.Counter
 	// IsOpen says that everybody who can connect may do everything.
 	IsOpen bool
+	// SessionAge is after how much time a session ends, and SessionIdle after how much in which it isn't named. Zero is never.
+	SessionAge, SessionIdle time.Duration
+	// CheckRecord refuses what the record can't be that of, before the office is made, and OpenRecord opens the record. Without them
+	// nothing is recorded.
+	CheckRecord func() error
+	OpenRecord  func(ctx context.Context) (Recorder, error)
+}
+
+// A Recorder keeps the commands of an office with their answers.
+type Recorder interface {
+	feed.Keeper
+	// Admit writes the lines of a unit as they are recorded, or refuses it.
+	Admit(u *feed.Unit) error
+	// Before finds out which of the commands without an answer were done. No replay runs meanwhile.
+	Before(ctx context.Context) error
+	// Why says why no command is recorded now, or is empty.
+	Why() string
+	// Close ends the record. No replay runs any more, and the last one has ended in order or not.
+	Close(isInOrder bool) error
 }
 
 // An Office is the office of a file.
 type Office struct {
 	Options
+	order
 	feed *feed.Feed
 	lock *os.File
+	// record is nil if nothing is recorded.
+	record Recorder
 }
 
 // Open opens the office of a file, and makes it if there is no file.
 func Open(ctx context.Context, options Options) (*Office, error) {
-	lock, err := lockOf(ctx, options.File+".lock")
+	lock, err := Lock(ctx, options.File+".lock")
 	if err != nil {
 		return nil, err
 	}
-	if err := makeIfMissing(ctx, options.Program, options.File); err != nil {
+	o := &Office{Options: options, lock: lock}
+	if err := o.open(ctx); err != nil {
+		if o.record != nil {
+			_ = o.record.Close(false) // What has failed before says more.
+		}
 		_ = lock.Close()
 		return nil, err
 	}
-	f, err := feed.Open(ctx, feed.Options{
-		Name: "office",
-		// The replay inherits the lock. So whoever gets it knows that no replay of an earlier front writes the file any more.
-		Start: func() (*office.Replay, error) {
-			return office.Start(options.Program, options.File, options.HangTimeout, lock)
-		},
-		First: [][]byte{[]byte(`{"fn":"ssdRoleSets"}`)},
-		Reads: options.Reads, Log: options.Log, Starts: options.Starts,
-	})
-	if err != nil {
-		_ = lock.Close()
-		return nil, fmt.Errorf("the office %s doesn't open: %w", options.File, err)
-	}
-	return &Office{options, f, lock}, nil
+	return o, nil
 }
 
-// lockOf returns a lock that no other program has. An earlier replay may need a moment to end.
-func lockOf(ctx context.Context, path string) (*os.File, error) {
+// open opens the record and the office. The office is locked.
+func (o *Office) open(ctx context.Context) error {
+	if o.CheckRecord != nil {
+		if err := o.CheckRecord(); err != nil {
+			return err
+		}
+	}
+	if err := makeIfMissing(ctx, o.Program, o.File); err != nil {
+		return err
+	}
+	if err := o.count(); err != nil {
+		return err
+	}
+	options := feed.Options{
+		Name: "office", Before: o.before, Observer: o,
+		// The replay inherits the lock. So whoever gets it knows that no replay of an earlier front writes the file any more.
+		Start: func() (*office.Replay, error) { return office.Start(o.Program, o.File, o.HangTimeout, o.lock) },
+		First: [][]byte{[]byte(`{"fn":"ssdRoleSets"}`)},
+		Reads: o.Reads, Log: o.Log, Starts: o.Starts,
+	}
+	var err error
+	if o.OpenRecord != nil {
+		if o.record, err = o.OpenRecord(ctx); err != nil {
+			return err
+		}
+		options.Keeper = o.record
+	}
+	if o.feed, err = feed.Open(ctx, options); err != nil {
+		return fmt.Errorf("the office %s doesn't open: %w", o.File, err)
+	}
+	if o.unread != nil {
+		ended, end := context.WithCancel(context.Background())
+		end()
+		_ = o.feed.Run(ended) // Nothing has been asked.
+		return fmt.Errorf("the office %s can't be read: %w", o.File, o.unread)
+	}
+	return nil
+}
+
+// Lock returns a lock that no other program has. An earlier replay may need a moment to end.
+func Lock(ctx context.Context, path string) (*os.File, error) {
 	file, err := os.OpenFile(path, os.O_RDWR|os.O_CREATE|syscall.O_NOFOLLOW, 0o600)
 	if err != nil {
 		return nil, fmt.Errorf("lock: %w", err)
@@ -131,7 +183,15 @@ func syncFolder(path string) error {
 // Run answers until the context ends, and then those that have asked before.
 func (o *Office) Run(ctx context.Context) error {
 	defer o.lock.Close()
-	return o.feed.Run(ctx)
+	go o.expire(ctx)
+	err := o.feed.Run(ctx)
+	if o.record == nil {
+		return err
+	}
+	if closing := o.record.Close(err == nil); err == nil {
+		err = closing
+	}
+	return err
 }
 
 // Close ends an office that Run was never called for.
@@ -143,13 +203,11 @@ func (o *Office) Close() error {
 
 // Ask answers a call. All kinds are answered from the newest state.
 func (o *Office) Ask(ctx context.Context, _ api.Kind, call *api.Call) (api.Answer, error) {
-	within, cancel := context.WithTimeout(ctx, o.AnswerTimeout)
-	defer cancel()
-	answers, err := o.feed.Ask(within, call.Line)
+	answers, numbers, err := o.AskAll(ctx, call)
 	if err != nil {
 		return api.Answer{}, err
 	}
-	return api.Answer{Text: answers[0]}, nil
+	return api.Answer{Text: answers[0], Policy: numbers.Policy}, nil
 }
 
 // IsAlive tells whether the goroutine that feeds the replay goes on, before the context ends.
@@ -160,11 +218,17 @@ type health struct {
 	Ready bool   `json:"ready"`
 	Why   string `json:"why,omitempty"`
 	Open  bool   `json:"open,omitempty"`
+	// Record says why commands are refused although questions are answered.
+	Record string `json:"record,omitempty"`
 }
 
 func (o *Office) health() health {
-	why := o.feed.Why()
-	return health{why == "", why, o.IsOpen}
+	h := health{Why: o.feed.Why(), Open: o.IsOpen}
+	h.Ready = h.Why == ""
+	if o.record != nil {
+		h.Record = o.record.Why()
+	}
+	return h
 }
 
 // IsReady reports whether the office answers.

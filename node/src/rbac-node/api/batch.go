@@ -1,0 +1,49 @@
+package api
+
+import (
+	"bytes"
+	"errors"
+	"fmt"
+	"net/http"
+)
+
+// A batch has at most so many lines, so many of them commands, and so many bytes.
+const (
+	MaxBatchLines, MaxBatchCommands = 1000, 100
+	MaxBatchBytes                   = 2_097_152
+)
+
+// A LineError is what is wrong with a line of a batch. Lines are counted from 1.
+type LineError struct {
+	Number  int
+	Refusal Refusal
+}
+
+func (e *LineError) Error() string { return fmt.Sprintf("line %d: %s", e.Number, e.Refusal.Name) }
+
+func (e *LineError) Unwrap() error { return e.Refusal }
+
+// ParseBatch reads the lines of a batch. Each has to be a request; lines without text are none.
+func ParseBatch(body []byte) (calls []*Call, err error) {
+	commands := 0
+	for number := 1; len(body) > 0; number++ {
+		var line []byte
+		if line, body, _ = bytes.Cut(body, []byte("\n")); len(bytes.Trim(line, " \t\r")) == 0 {
+			continue
+		}
+		call, err := ParseLine(line)
+		if err != nil {
+			var refused Refusal
+			_ = errors.As(err, &refused) // Whatever refuses a line is one.
+			return nil, &LineError{number, refused}
+		}
+		if call.Kind == Command {
+			commands++
+		}
+		calls = append(calls, call)
+		if len(calls) > MaxBatchLines || commands > MaxBatchCommands {
+			return nil, &LineError{number, badRequest(http.StatusRequestEntityTooLarge)}
+		}
+	}
+	return calls, nil
+}

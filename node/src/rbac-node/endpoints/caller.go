@@ -1,0 +1,50 @@
+package endpoints
+
+import (
+	"bytes"
+	"encoding/json"
+	"net/http"
+)
+
+// A right is a scope with what a caller may do in it.
+type right struct {
+	Functions []string `json:"functions"`
+	Scope     string   `json:"scope"`
+}
+
+// caller answers who asks, and what that caller may do.
+func (e *Endpoints) caller(r *request) (int, error) {
+	value := struct {
+		Caller string  `json:"caller"`
+		Open   bool    `json:"open,omitempty"`
+		Rights []right `json:"rights"`
+	}{Open: r.visitor == nil, Rights: []right{}}
+	if r.visitor != nil {
+		value.Caller = r.visitor.Name()
+		grants, err := r.visitor.Rights(r.ctx)
+		if err != nil {
+			return 0, err
+		}
+		for _, one := range grants {
+			if len(one.Functions) > 0 {
+				value.Rights = append(value.Rights, right{one.Functions, one.Scope})
+			}
+		}
+	}
+	return r.replyValue(value)
+}
+
+// replyValue answers the request with a value.
+func (r *request) replyValue(value any) (int, error) {
+	var text bytes.Buffer
+	encoder := json.NewEncoder(&text)
+	encoder.SetEscapeHTML(false)
+	err := encoder.Encode(struct {
+		OK    bool `json:"ok"`
+		Value any  `json:"value"`
+	}{true, value})
+	if err != nil {
+		return 0, err
+	}
+	return r.reply(http.StatusOK, bytes.TrimSuffix(text.Bytes(), []byte("\n"))), nil
+}

@@ -1,0 +1,158 @@
+package endpoints
+
+import (
+	"encoding/json"
+	"net/http"
+
+	"rbac-node/api"
+)
+
+// A decision is whether something is allowed, or why the office refused to decide.
+type decision struct {
+	allowed bool
+	// code and name are those of the refusal, or zero.
+	code int
+	name string
+}
+
+// A query is what is to be decided: may a session, or a user in some session, do an operation on an object? One of the two is empty.
+type query struct{ session, user, operation, object string }
+
+// call returns the call that has to be allowed to the visitor.
+func (q query) call() (*api.Call, error) {
+	if q.user != "" {
+		return api.NewOther(api.DecideByUser, "user", q.user, "operation", q.operation, "object", q.object), nil
+	}
+	return api.NewCall("checkAccess", "session", q.session, "operation", q.operation, "object", q.object)
+}
+
+// readQuery reads a query about what is at one of some keys, of which one has to be there.
+func readQuery(fields map[string]json.RawMessage, keys ...string) (q query, err error) {
+	texts := map[string]*string{"session": &q.session, "user": &q.user, "operation": &q.operation, "object": &q.object}
+	count := 0
+	for key, text := range texts {
+		value, isThere := fields[key]
+		if !isThere {
+			continue
+		}
+		if *text, err = api.Text(value); err != nil {
+			return q, err
+		}
+		if has(keys, key) {
+			count++
+		}
+	}
+	if count != 1 || q.operation == "" || q.object == "" || q.session+q.user == "" {
+		return q, errNotRead
+	}
+	return q, nil
+}
+
+// decideAll decides queries of a visitor at one place in the order.
+func (e *Endpoints) decideAll(r *request, queries []query) ([]decision, error) {
+	calls := make([]*api.Call, len(queries))
+	var asked []*api.Call
+	for i, one := range queries {
+		var err error
+		if calls[i], err = one.call(); err != nil {
+			return nil, err
+		}
+		if one.user == "" {
+			asked = append(asked, calls[i])
+			continue
+		}
+		if e.office.State() == nil {
+			return nil, errNoState
+		}
+		questions, err := one.questions()
+		if err != nil {
+			return nil, err
+		}
+		asked = append(asked, questions...)
+	}
+	if err := r.may(calls...); err != nil {
+		return nil, err
+	}
+	views := make([]view, len(queries))
+	answers, err := e.office.Observe(r.ctx, func() { e.lookAll(queries, views) }, asked...)
+	if err != nil {
+		return nil, err
+	}
+	return decisionsOf(queries, answers, views)
+}
+
+// lookAll notes what is known of the office for queries about users.
+func (e *Endpoints) lookAll(queries []query, views []view) {
+	for i, one := range queries {
+		if one.user != "" {
+			views[i] = one.look(e.office.State())
+		}
+	}
+}
+
+// decisionsOf returns the decisions about queries by the answers to what was asked for them.
+func decisionsOf(queries []query, answers [][]byte, views []view) ([]decision, error) {
+	decisions := make([]decision, len(queries))
+	for i, one := range queries {
+		if one.user == "" {
+			decisions[i], answers = decisionOf(answers[0]), answers[1:]
+			continue
+		}
+		found, err := one.find(answers[:askedOfUser], views[i])
+		if err != nil {
+			return nil, err
+		}
+		decisions[i], answers = found.decision, answers[askedOfUser:]
+	}
+	return decisions, nil
+}
+
+// decisionOf returns the decision that an answer of the office to checkAccess is.
+func decisionOf(answer []byte) (d decision) {
+	d.allowed = string(answer) == `{"ok":true,"value":true}`
+	d.code, d.name = api.CodeOf(answer)
+	return d
+}
+
+// The fields of a request to decide.
+const (
+	sessionField, userField     = "Office-Session", "Office-User"
+	operationField, objectField = "Office-Operation", "Office-Object"
+)
+
+// decide answers a request by its status alone: 204 if it is allowed, and 403 if it isn't. What is asked is in its header.
+func (e *Endpoints) decide(r *request) (int, error) {
+	asked, err := readFields(r.Header)
+	if err != nil {
+		return 0, err
+	}
+	if asked.session+asked.user == "" {
+		return r.status(http.StatusForbidden), nil // Nobody has logged in.
+	}
+	decisions, err := e.decideAll(r, []query{asked})
+	if err != nil {
+		return 0, err
+	}
+	if decisions[0].allowed {
+		return r.status(http.StatusNoContent), nil
+	}
+	return r.status(http.StatusForbidden), nil
+}
+
+// readFields reads what is to be decided from a header. The session and the user may be left out: a gateway leaves out what has no
+// value.
+func readFields(header http.Header) (q query, err error) {
+	for name, text := range map[string]*string{
+		sessionField: &q.session, userField: &q.user, operationField: &q.operation, objectField: &q.object,
+	} {
+		values := header[name]
+		if len(values) > 1 {
+			return q, api.BadRequest(http.StatusBadRequest)
+		}
+		*text = header.Get(name)
+	}
+	if q.operation == "" || q.object == "" || q.session != "" && q.user != "" {
+		return q, api.BadRequest(http.StatusBadRequest)
+	}
+	return q, nil
+}

@@ -1,0 +1,212 @@
+// Package endpoints answers what no function of an office does: batches, decisions by status alone, and the interfaces that others
+// speak.
+package endpoints
+
+import (
+	"context"
+	"errors"
+	"net/http"
+	"strings"
+	"time"
+
+	"rbac-node/api"
+	"rbac-node/callers"
+	"rbac-node/state"
+)
+
+// A Turn is a part of the order of an office in which no command of other clients is done.
+type Turn interface {
+	// Ask returns the answers to some calls, with nothing of other clients between them.
+	Ask(calls ...*api.Call) ([][]byte, error)
+	// Numbers returns the numbers of this moment.
+	Numbers() state.Numbers
+}
+
+// An Office is what the endpoints ask.
+type Office interface {
+	// AskAll returns the answers to some calls, with nothing of other clients between them, and the numbers after them.
+	AskAll(ctx context.Context, calls ...*api.Call) ([][]byte, state.Numbers, error)
+	// Observe is AskAll for questions. The function is called at their place in the order. It must not wait.
+	Observe(ctx context.Context, observed func(), questions ...*api.Call) ([][]byte, error)
+	// Turn calls a function when all commands before are done. Those of others wait until it returns.
+	Turn(ctx context.Context, do func(Turn) error) error
+	// State returns what is known of the office, or nil. IsReady reports whether the office answers.
+	State() *state.State
+	IsReady() bool
+}
+
+// A Visitor is who asks, if there are callers.
+type Visitor interface {
+	// May reports whether the caller may do all of some calls. An error is a refusal.
+	May(ctx context.Context, calls ...*api.Call) error
+	// Done says that the office has nothing more to do for the request.
+	Done()
+	// Name returns the name of the caller, and Rights what it may do.
+	Name() string
+	Rights(ctx context.Context) ([]callers.Grant, error)
+	// Again does something while the caller may do an operation by the callers that are in force now.
+	Again(ctx context.Context, r *http.Request, operation string, do func()) error
+}
+
+// Options are what the command line sets.
+type Options struct {
+	// PublicURL is where clients find the front, or empty.
+	PublicURL string
+	// Note is told how a request was answered.
+	Note func(kind api.Kind, status int, start time.Time)
+	// Sign writes on a command who asks for it and why, or refuses it.
+	Sign func(r *http.Request, visitor Visitor, call *api.Call) error
+	// Denied is told that a caller may not do something.
+	Denied func(r *http.Request, visitor Visitor, err error)
+}
+
+// Endpoints answer requests from an office.
+type Endpoints struct {
+	Options
+	// life is the context of requests: they are done also if the client has ended its side of the connection.
+	life   context.Context
+	office Office
+	at     map[string]endpoint
+}
+
+// New returns endpoints that answer until the context ends.
+func New(life context.Context, office Office, options Options) *Endpoints {
+	e := &Endpoints{Options: options, life: life, office: office}
+	e.add()
+	return e
+}
+
+// A request is one that is being answered.
+type request struct {
+	*http.Request
+	sign    func(call *api.Call) error
+	w       http.ResponseWriter
+	ctx     context.Context
+	visitor Visitor
+}
+
+// An endpoint is what is at a path: how a request is counted, its methods, and what answers it and returns the status, or an error
+// that is answered.
+type endpoint struct {
+	kind    api.Kind
+	methods []string
+	answer  func(*request) (int, error)
+}
+
+// add adds what the endpoints are.
+func (e *Endpoints) add() {
+	e.at = map[string]endpoint{
+		"/v1/batch":              {"batch", post, e.batch},
+		"/v1/decideByUser":       {"decision", post, e.decideByUser},
+		"/decide":                {"decision", getOrPost, e.decide},
+		"/access/v1/evaluation":  {"decision", post, e.evaluation},
+		"/access/v1/evaluations": {"batch", post, e.evaluations},
+		"/explain":               {"question", post, e.explain},
+		"/sessions":              {"command", post, e.makeSession},
+		"/snapshot":              {"list", get, e.snapshot},
+		"/watch":                 {"watch", get, e.watch},
+		"/caller":                {"question", get, e.caller},
+	}
+}
+
+// find returns the endpoint at a target.
+func (e *Endpoints) find(target string) (found endpoint, has bool) {
+	path, _, _ := strings.Cut(target, "?")
+	if strings.HasPrefix(path, sessionsPath) {
+		return endpoint{"command", []string{http.MethodDelete}, e.deleteSession}, true
+	}
+	if strings.HasPrefix(path, listsPath) {
+		return endpoint{"list", get, e.list}, true
+	}
+	found, has = e.at[path]
+	return found, has
+}
+
+var get, post, getOrPost = []string{http.MethodGet}, []string{http.MethodPost}, []string{http.MethodGet, http.MethodPost}
+
+// Has reports whether an endpoint is at the path of a request.
+func (e *Endpoints) Has(r *http.Request) bool {
+	_, has := e.find(r.RequestURI)
+	return has
+}
+
+// Serve answers a request of a visitor, or of anybody if that is nil.
+func (e *Endpoints) Serve(w http.ResponseWriter, r *http.Request, visitor Visitor) {
+	start := time.Now()
+	at, _ := e.find(r.RequestURI)
+	sign := func(call *api.Call) error { return e.Sign(r, visitor, call) }
+	asked := &request{r, sign, w, e.life, visitor}
+	if id := r.Header.Get("X-Request-ID"); id != "" && strings.HasPrefix(r.URL.Path, "/access/") {
+		w.Header().Set("X-Request-ID", id)
+	}
+	status, err := 0, error(api.BadRequest(http.StatusMethodNotAllowed))
+	if has(at.methods, r.Method) {
+		status, err = at.answer(asked)
+	}
+	asked.done()
+	if err != nil {
+		refused := api.Unavailable
+		_ = errors.As(err, &refused)
+		if visitor != nil && (refused == api.Forbidden || refused == api.Unavailable) {
+			e.Denied(r, visitor, refused)
+		}
+		status = api.Refuse(w, refused, at.methods...)
+	}
+	e.Note(at.kind, status, start)
+}
+
+func has(methods []string, method string) bool {
+	for _, one := range methods {
+		if one == method {
+			return true
+		}
+	}
+	return false
+}
+
+// known returns what is known of the office, if it answers: nothing is said about an office that may have changed.
+func (e *Endpoints) known() (*state.State, error) {
+	switch {
+	case e.office.State() == nil:
+		return nil, errNoState
+	case !e.office.IsReady():
+		return nil, api.Unavailable
+	}
+	return e.office.State(), nil
+}
+
+// may refuses calls unless the visitor may do all of them.
+func (r *request) may(calls ...*api.Call) error {
+	for _, call := range calls {
+		if err := r.sign(call); err != nil {
+			return err
+		}
+	}
+	if r.visitor == nil {
+		return nil
+	}
+	return r.visitor.May(r.ctx, calls...)
+}
+
+// done says that the office has nothing more to do for the request. Afterwards it may be answered.
+func (r *request) done() {
+	if r.visitor != nil {
+		r.visitor.Done()
+	}
+}
+
+// reply answers the request with a text of JSON.
+func (r *request) reply(status int, text []byte) int {
+	r.done()
+	return api.Write(r.w, status, text)
+}
+
+// status answers the request by a status alone.
+func (r *request) status(status int) int {
+	r.done()
+	if status != http.StatusNoContent {
+		r.w.Header().Set("Content-Length", "0")
+	}
+	r.w.WriteHeader(status)
+	return status
+}

@@ -1,0 +1,262 @@
+package endpoints
+
+import (
+	"encoding/json"
+	"net/http"
+	"net/url"
+	"strconv"
+	"strings"
+
+	"rbac-node/api"
+	"rbac-node/state"
+)
+
+const (
+	// listsPath is where lists are, by their names.
+	listsPath = "/lists/"
+	// usualRows is how many rows an answer has if nothing is said, and mostRows how many it has at most.
+	usualRows, mostRows = 100, 1000
+	// between stands between the names of a row at after: no name has it.
+	between = "\t"
+)
+
+// A page is the part of a list that is answered.
+type page struct {
+	rows []json.RawMessage
+	// next is what after has to be for the next part, or empty. last is the name of the last row.
+	next, last string
+}
+
+// list answers a part of a list.
+func (e *Endpoints) list(r *request) (int, error) {
+	if err := r.may(api.NewOther(api.Lists)); err != nil {
+		return 0, err
+	}
+	if _, err := e.known(); err != nil {
+		return 0, err
+	}
+	name := strings.TrimPrefix(r.URL.Path, listsPath)
+	query, err := readListQuery(name, r.URL.RawQuery)
+	if err != nil {
+		return 0, err
+	}
+	found, numbers, err := e.page(r, name, query)
+	if err != nil {
+		return 0, err
+	}
+	api.SetPolicy(r.w.Header(), numbers.Policy)
+	return r.reply(http.StatusOK, found.text()), nil
+}
+
+// page returns the rows of a list that are wanted.
+func (e *Endpoints) page(r *request, name string, query listQuery) (page, state.Numbers, error) {
+	s := e.office.State()
+	switch {
+	case name == "sessions":
+		sessions, numbers := s.Sessions()
+		return pageOfSessions(sessions, query.Query), numbers, nil
+	case name == "staticSets" || name == "dynamicSets":
+		sets, numbers := s.Sets(name == "staticSets")
+		return pageOfSets(sets, query.Query), numbers, nil
+	case query.holder != nil:
+		rows, numbers, err := e.permissionsOf(r, query.holder)
+		if err != nil {
+			return page{}, numbers, err
+		}
+		found, hasMore := query.Select(name, rows)
+		return pageOfRows(name, found, hasMore), numbers, nil
+	}
+	rows, hasMore, numbers := s.Rows(name, query.Query)
+	return pageOfRows(name, rows, hasMore), numbers, nil
+}
+
+// permissionsOf returns the permissions of a user or a role, as the office answers them.
+func (e *Endpoints) permissionsOf(r *request, holder *api.Call) (rows []state.Row, numbers state.Numbers, err error) {
+	answers, err := e.office.Observe(r.ctx, func() { numbers = e.office.State().Numbers() }, holder)
+	if err != nil {
+		return nil, state.Numbers{}, err
+	}
+	if !api.IsAccepted(answers[0]) {
+		code, name := api.CodeOf(answers[0])
+		return nil, numbers, api.Refusal{Status: api.StatusOf(answers[0]), Code: code, Name: name}
+	}
+	var pairs [][2]string
+	if err := api.ValueOf(answers[0], &pairs); err != nil {
+		return nil, numbers, err
+	}
+	for _, one := range pairs {
+		rows = append(rows, state.Row{one[0], one[1]})
+	}
+	return rows, numbers, nil
+}
+
+// A listQuery is what a request wants of a list. holder asks for the permissions of a user or a role, or is nil.
+type listQuery struct {
+	state.Query
+	holder *api.Call
+}
+
+// readListQuery reads what is wanted of a list.
+func readListQuery(list, text string) (query listQuery, err error) {
+	columns := columnsOf(list)
+	if columns == nil {
+		return query, api.UnknownFunction
+	}
+	values, err := url.ParseQuery(text)
+	if err != nil {
+		return query, errNotRead
+	}
+	query.Query = state.Query{Names: map[string]string{}, Limit: usualRows}
+	for key, given := range values {
+		if len(given) != 1 {
+			return query, errNotRead
+		}
+		if err := query.set(list, columns, key, given[0]); err != nil {
+			return query, err
+		}
+	}
+	return query, nil
+}
+
+// columnsOf returns the names that the rows of a list can be chosen by.
+func columnsOf(list string) []string {
+	switch list {
+	case "sessions":
+		return []string{"session", "user"}
+	case "staticSets", "dynamicSets":
+		return []string{"set"}
+	}
+	return state.Columns(list)
+}
+
+// set sets what a key of a query means.
+func (q *listQuery) set(list string, columns []string, key, text string) (err error) {
+	switch {
+	case key == "contains":
+		q.Contains = text
+	case key == "prefix":
+		q.Prefix = text
+	case key == "after":
+		q.After = strings.Split(text, between)
+	case key == "limit":
+		q.Limit, err = strconv.Atoi(text)
+		if err != nil || q.Limit < 1 || q.Limit > mostRows {
+			return errNotRead
+		}
+	case has(columns, key):
+		q.Names[key] = text
+	case list == "permissions" && key == "user" && q.holder == nil:
+		q.holder, err = api.NewCall("userPermissions", "user", text)
+	case list == "permissions" && key == "role" && q.holder == nil:
+		q.holder, err = api.NewCall("rolePermissions", "role", text)
+	default:
+		return errNotRead
+	}
+	return err
+}
+
+// text returns the answer that has a page.
+func (p page) text() []byte {
+	text := []byte{'{'}
+	if p.next != "" {
+		text = append(api.AppendQuoted(append(text, `"next":`...), p.next), ',')
+	}
+	text = append(text, `"ok":true,"value":[`...)
+	for i, row := range p.rows {
+		if i > 0 {
+			text = append(text, ',')
+		}
+		text = append(text, row...)
+	}
+	return append(text, `]}`...)
+}
+
+// pageOfRows returns a page of rows of names: each is a text if the list has one column, and an object otherwise.
+func pageOfRows(list string, rows []state.Row, hasMore bool) (p page) {
+	columns := state.Columns(list)
+	for _, row := range rows {
+		text := []byte{}
+		for i, column := range columns {
+			if len(columns) > 1 {
+				text = append(text, "{,"[min(i, 1)], '"')
+				text = append(append(text, column...), `":`...)
+			}
+			text = api.AppendQuoted(text, row[i])
+		}
+		if len(columns) > 1 {
+			text = append(text, '}')
+		}
+		p.rows = append(p.rows, text)
+	}
+	if hasMore {
+		last := rows[len(rows)-1]
+		p.next = strings.Join(last[:len(columns)], between)
+	}
+	return p
+}
+
+func min(a, b int) int {
+	if a < b {
+		return a
+	}
+	return b
+}
+
+// times are written as the record writes them.
+const timeForm = "2006-01-02T15:04:05.000Z"
+
+// pageOfSessions returns a page of sessions, in the order of their digests.
+func pageOfSessions(sessions []state.Session, query state.Query) (p page) {
+	for _, one := range sessions {
+		row := state.Row{one.Digest, one.User}
+		if !query.IsWanted([]string{"session", "user"}, row) {
+			continue
+		}
+		text := append([]byte(`{"roles":`), textsOf(one.Active)...)
+		text = append(api.AppendQuoted(append(text, `,"session":`...), one.Digest), `,"since":"`...)
+		text = append(append(text, one.Since.UTC().Format(timeForm)...), `","used":"`...)
+		text = append(append(text, one.Used.UTC().Format(timeForm)...), `","user":`...)
+		if !p.add(append(api.AppendQuoted(text, one.User), '}'), one.Digest, query.Limit) {
+			break
+		}
+	}
+	return p
+}
+
+// pageOfSets returns a page of separation of duty sets, in the order of their names.
+func pageOfSets(sets []state.NamedSet, query state.Query) (p page) {
+	for _, one := range sets {
+		if !query.IsWanted([]string{"set"}, state.Row{one.Name}) {
+			continue
+		}
+		text := strconv.AppendInt([]byte(`{"cardinality":`), one.Cardinality, 10)
+		text = append(append(text, `,"roles":`...), textsOf(one.Roles)...)
+		text = api.AppendQuoted(append(text, `,"set":`...), one.Name)
+		if !p.add(append(text, '}'), one.Name, query.Limit) {
+			break
+		}
+	}
+	return p
+}
+
+// add adds a row with a name, or says that there are more than there is room for.
+func (p *page) add(row json.RawMessage, name string, limit int) bool {
+	if len(p.rows) == limit {
+		p.next = p.last
+		return false
+	}
+	p.rows, p.last = append(p.rows, row), name
+	return true
+}
+
+// textsOf returns a list of texts as JSON.
+func textsOf(texts []string) []byte {
+	list := []byte{'['}
+	for i, text := range texts {
+		if i > 0 {
+			list = append(list, ',')
+		}
+		list = api.AppendQuoted(list, text)
+	}
+	return append(list, ']')
+}

@@ -1,0 +1,184 @@
+package endpoints
+
+import (
+	"bufio"
+	"net"
+	"net/http"
+	"strconv"
+	"sync/atomic"
+	"time"
+
+	"rbac-node/api"
+	"rbac-node/state"
+)
+
+const (
+	// numberField is the field of an answer that has the number of the last accepted command.
+	numberField = "Office-Number"
+	// mostWatches is how many may watch at once, and mostAtOnce how many commands are written at once.
+	mostWatches, mostAtOnce = 256, 500
+	// watchInterval is how often the newest number is written, and the right to watch judged again.
+	watchInterval = time.Second
+)
+
+// outdated is the refusal of a number after which not all commands are known.
+var outdated = api.Refusal{Status: http.StatusGone, Code: api.Outdated.Code, Name: api.Outdated.Name}
+
+// snapshot answers the lines that make an office with what is in this one, in which sessions have their digests for names.
+func (e *Endpoints) snapshot(r *request) (int, error) {
+	if err := r.may(api.NewOther(api.Snapshot)); err != nil {
+		return 0, err
+	}
+	s, err := e.known()
+	if err != nil {
+		return 0, err
+	}
+	text, numbers := s.Snapshot()
+	r.done()
+	head := r.w.Header()
+	head.Set(numberField, strconv.FormatInt(numbers.All, 10))
+	api.SetPolicy(head, numbers.Policy)
+	head.Set("Content-Type", "application/jsonl")
+	head.Set("Content-Length", strconv.Itoa(len(text)))
+	r.w.WriteHeader(http.StatusOK)
+	_, _ = r.w.Write(text) // If it fails, the client is gone.
+	return http.StatusOK, nil
+}
+
+// A watch writes the accepted commands to a client as they come.
+type watch struct {
+	*request
+	endpoints *Endpoints
+	state     *state.State
+	conn      net.Conn
+	lines     *bufio.Writer
+	// after is the number of the last command that was written.
+	after int64
+	// told is when the newest number was written last.
+	told time.Time
+	gone chan struct{}
+}
+
+// watching counts those who watch.
+var watching atomic.Int64
+
+// watch answers the commands after a number, as server-sent events, until the client or its right to them is gone.
+func (e *Endpoints) watch(r *request) (int, error) {
+	if err := r.may(api.NewOther(api.Watch)); err != nil {
+		return 0, err
+	}
+	s, err := e.known()
+	if err != nil {
+		return 0, err
+	}
+	after, err := readAfter(r)
+	if err != nil {
+		return 0, err
+	}
+	if _, known := s.After(after, 0); !known {
+		return 0, outdated
+	}
+	r.done()
+	if watching.Add(1) > mostWatches {
+		watching.Add(-1)
+		return 0, api.TooManyRequests
+	}
+	defer watching.Add(-1)
+	hijacker, can := r.w.(http.Hijacker)
+	if !can {
+		return 0, api.BadRequest(http.StatusBadRequest)
+	}
+	conn, buffered, err := hijacker.Hijack()
+	if err != nil {
+		return 0, err
+	}
+	defer conn.Close()
+	w := &watch{request: r, endpoints: e, state: s, conn: conn, lines: buffered.Writer, after: after, gone: make(chan struct{})}
+	w.run(buffered.Reader)
+	return http.StatusOK, nil
+}
+
+// readAfter reads the number that a client has got last: Last-Event-ID, which a browser sends, or after.
+func readAfter(r *request) (int64, error) {
+	text := r.Header.Get("Last-Event-ID")
+	query := r.URL.Query()
+	for key, values := range query {
+		if key != "after" || len(values) != 1 {
+			return 0, errNotRead
+		}
+	}
+	if text == "" {
+		text = query.Get("after")
+	}
+	after, err := strconv.ParseUint(text, 10, 63)
+	if err != nil {
+		return 0, errNotRead
+	}
+	return int64(after), nil
+}
+
+// run writes until the client is gone, the right to watch is, or the office ends.
+func (w *watch) run(from *bufio.Reader) {
+	// The times of requests are over. Each write has a time of its own.
+	_, _ = w.conn.SetReadDeadline(time.Time{}), w.conn.SetWriteDeadline(time.Time{})
+	go func() {
+		defer close(w.gone)
+		_, _ = from.ReadByte() // A client sends nothing more: whatever comes ends the watch.
+	}()
+	_, _ = w.lines.WriteString("HTTP/1.1 200 OK\r\nContent-Type: text/event-stream\r\nCache-Control: no-store\r\nConnection: close\r\n\r\n")
+	ticker := time.NewTicker(watchInterval)
+	defer ticker.Stop()
+	for w.write() {
+		found, known := w.state.After(w.after, 0)
+		changed := found.Changed
+		if !known || found.Newest > w.after {
+			changed = always
+		}
+		select {
+		case <-changed:
+		case <-ticker.C:
+		case <-w.gone:
+			return
+		case <-w.endpoints.life.Done():
+			return
+		}
+	}
+}
+
+// always is closed.
+var always = func() <-chan struct{} {
+	closed := make(chan struct{})
+	close(closed)
+	return closed
+}()
+
+// write writes the next commands, and once in a while the newest number. It returns false if the watch has ended.
+func (w *watch) write() bool {
+	var found state.Watched
+	known := true
+	// The commands are read while the right holds, and no later change of the callers is in force.
+	err := w.again(func() { found, known = w.state.After(w.after, mostAtOnce) })
+	if err != nil || !known {
+		return false
+	}
+	for _, one := range found.Events {
+		w.after = one.Number
+		_, _ = w.lines.WriteString("id: " + strconv.FormatInt(one.Number, 10) + "\ndata: ")
+		_, _ = w.lines.Write(one.Line)
+		_, _ = w.lines.WriteString("\n\n")
+	}
+	if now := time.Now(); now.Sub(w.told) >= watchInterval {
+		w.told = now
+		_, _ = w.lines.WriteString("event: newest\ndata: " + strconv.FormatInt(found.Newest, 10) + "\n\n")
+	}
+	return w.lines.Flush() == nil
+}
+
+// again does something while the visitor may watch, by the callers that are in force now.
+func (w *watch) again(do func()) error {
+	if w.visitor == nil {
+		do()
+		return nil
+	}
+	return w.visitor.Again(w.ctx, w.Request, api.Watch, do)
+}

@@ -1,0 +1,122 @@
+//go:build sqlite
+
+package record
+
+import (
+	"context"
+	"crypto/sha256"
+	"database/sql"
+	"encoding/hex"
+	"errors"
+	"fmt"
+	"io"
+	"net/url"
+	"strconv"
+	"strings"
+	"time"
+
+	sqlite3 "github.com/mattn/go-sqlite3"
+)
+
+// schema makes the tables of a file. A part begins with a copy of the office, in which sessions have the digests of their names:
+// the commands of its entries are done over that copy. The view has what is asked about most.
+const schema = `
+CREATE TABLE part (
+    first INTEGER PRIMARY KEY, why TEXT NOT NULL, before TEXT NOT NULL, rows TEXT NOT NULL, office BLOB NOT NULL
+) STRICT;
+CREATE TABLE entry (
+    n INTEGER PRIMARY KEY, at TEXT NOT NULL, caller TEXT NOT NULL, reason TEXT NOT NULL, request TEXT NOT NULL,
+    answer TEXT, found INTEGER NOT NULL DEFAULT 0, chain TEXT
+) STRICT;
+CREATE VIEW command AS SELECT
+    n, at, caller, reason, request ->> 'fn' AS function, request ->> 'user' AS user, request ->> 'role' AS role,
+    request ->> 'roles' AS roles, request ->> 'asc' AS ascendant, request ->> 'desc' AS descendant,
+    request ->> 'object' AS object, request ->> 'operation' AS operation, request ->> 'set' AS duty_set,
+    request ->> 'session' AS session, answer ->> 'ok' IS NOT NULL AS accepted, answer ->> 'error' AS refusal, found
+FROM entry WHERE request ->> 'fn' IS NOT NULL;
+`
+
+const columns = "n, at, caller, reason, request, answer, found, chain"
+
+// An entry is a command with what is known about it, or says how a part begins. Its answer and chain are empty until it has one.
+type entry struct {
+	n                                       int64
+	at, caller, reason, request, answer, ch string
+	found                                   bool
+}
+
+// isCommand reports whether the replay gets the entry.
+func (e *entry) isCommand() bool { return strings.HasPrefix(e.request, `{"fn":`) }
+
+// chained returns the link of an entry: a digest of the link before it and of each of its fields.
+func chained(before string, e *entry) string {
+	found := "0"
+	if e.found {
+		found = "1"
+	}
+	h := sha256.New()
+	for _, field := range []string{before, strconv.FormatInt(e.n, 10), e.at, e.caller, e.reason, e.request, e.answer, found} {
+		_, _ = io.WriteString(h, field)
+		_, _ = h.Write([]byte{'\n'}) // No field has one.
+	}
+	return hex.EncodeToString(h.Sum(nil))
+}
+
+func now() string { return time.Now().UTC().Format("2006-01-02T15:04:05.000Z") }
+
+// driver is SQLite with a function that maps the names of sessions.
+const driver = "sqlite3-record"
+
+func init() {
+	sql.Register(driver, &sqlite3.SQLiteDriver{ConnectHook: func(conn *sqlite3.SQLiteConn) error {
+		return conn.RegisterFunc("session_digest", func(name string) string { return digestOf(name) }, true)
+	}})
+}
+
+// digestOf is DigestOf, unless a test wants two names with one digest.
+var digestOf = DigestOf
+
+// openFile opens a file of SQLite by one connection, since some settings belong to a connection.
+func openFile(path, options string) (*sql.DB, error) {
+	source := url.URL{Scheme: "file", Opaque: (&url.URL{Path: path}).EscapedPath(), RawQuery: options}
+	db, err := sql.Open(driver, source.String())
+	if err != nil {
+		return nil, fmt.Errorf("%s: %w", path, err)
+	}
+	db.SetMaxOpenConns(1)
+	if err := db.Ping(); err != nil {
+		_ = db.Close()
+		return nil, fmt.Errorf("%s: %w", path, err)
+	}
+	return db, nil
+}
+
+// A scanner is a row of a table.
+type scanner interface{ Scan(places ...any) error }
+
+// entryOf reads an entry from a row of the columns.
+func entryOf(row scanner) (entry, error) {
+	var e entry
+	var answer, chain sql.NullString
+	err := row.Scan(&e.n, &e.at, &e.caller, &e.reason, &e.request, &answer, &e.found, &chain)
+	e.answer, e.ch = answer.String, chain.String
+	return e, err
+}
+
+// A querier is a file of SQLite, or a transaction on it.
+type querier interface {
+	QueryContext(ctx context.Context, query string, values ...any) (*sql.Rows, error)
+	QueryRow(query string, values ...any) *sql.Row
+}
+
+// lastOf returns the last entry that has an answer, and the last entry. Without any the entries are zero.
+func lastOf(db querier) (answered, last entry, err error) {
+	answered, err = entryOf(db.QueryRow("SELECT " + columns + " FROM entry WHERE answer IS NOT NULL ORDER BY n DESC LIMIT 1"))
+	if err == nil || errors.Is(err, sql.ErrNoRows) {
+		last, err = entryOf(db.QueryRow("SELECT " + columns + " FROM entry ORDER BY n DESC LIMIT 1"))
+	}
+	if errors.Is(err, sql.ErrNoRows) {
+		err = nil
+	}
+	return answered, last, err
+}

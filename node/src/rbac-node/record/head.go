@@ -1,0 +1,93 @@
+//go:build sqlite
+
+package record
+
+import (
+	"errors"
+	"fmt"
+	"strconv"
+	"strings"
+	"time"
+)
+
+// A Head is the number and the link of the last entry with an answer.
+type Head struct {
+	N     int64
+	Chain string
+}
+
+func (h Head) String() string { return fmt.Sprintf("%d:%s", h.N, h.Chain) }
+
+// linkBytes is how long a link is as text.
+const linkBytes = 64
+
+// ParseHead reads what String writes.
+func ParseHead(text string) (Head, error) {
+	number, chain, _ := strings.Cut(text, ":")
+	n, err := strconv.ParseInt(number, 10, 64)
+	if err != nil || len(chain) != linkBytes {
+		return Head{}, errors.New("a head is N:HASH, as `rbac-node record head` prints it")
+	}
+	return Head{n, chain}, nil
+}
+
+// Head returns the head.
+func (r *Record) Head() Head {
+	r.mutex.Lock()
+	defer r.mutex.Unlock()
+	return Head{r.head.n, r.head.ch}
+}
+
+// announce logs the head each minute if it has changed.
+func (r *Record) announce() {
+	r.logHead()
+	ticker := time.NewTicker(announcing)
+	defer ticker.Stop()
+	for {
+		select {
+		case <-ticker.C:
+			r.logHead()
+		case <-r.life.Done():
+			return
+		}
+	}
+}
+
+func (r *Record) logHead() {
+	r.mutex.Lock()
+	head, last := r.head, r.announced
+	r.announced = head
+	r.mutex.Unlock()
+	if head != last {
+		r.Log.Info("the head of the record", "entry", head.n, "chain", head.ch)
+	}
+}
+
+// addMetrics reports the head that was last logged: a number of an entry, and the first 48 bits of its link.
+func (r *Record) addMetrics() {
+	if r.Metrics == nil {
+		return
+	}
+	announced := func() entry {
+		r.mutex.Lock()
+		defer r.mutex.Unlock()
+		return r.announced
+	}
+	r.Metrics.Gauge("rbac_node_record_entry", "The number of the head of the record that was last logged.", func() float64 {
+		return float64(announced().n)
+	})
+	r.Metrics.Gauge("rbac_node_record_chain", "The first 12 hexadecimal digits of that head, as a number.", func() float64 {
+		chain := announced().ch
+		if len(chain) < linkBytes {
+			return 0
+		}
+		number, _ := strconv.ParseUint(chain[:12], 16, 64)
+		return float64(number)
+	})
+	r.Metrics.Gauge("rbac_node_record_failing", "1 if the record can't be written, so that commands are refused.", func() float64 {
+		if r.Why() != "" {
+			return 1
+		}
+		return 0
+	})
+}

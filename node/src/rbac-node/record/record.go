@@ -1,0 +1,406 @@
+//go:build sqlite
+
+// Package record keeps who asked an office for which command, when and why, and what the office answered.
+//
+// It is a file of SQLite in a folder beside the office. A command is in it, synced, before the replay gets the command; its answer
+// is in it before whoever asks gets the answer. So after a crash the office is what the commands with an answer give, followed by
+// some of those without one: reconcile.go finds out which. Each entry has a digest of itself and of all before it: the chain.
+package record
+
+import (
+	"context"
+	"database/sql"
+	"errors"
+	"fmt"
+	"os"
+	"path/filepath"
+	"strings"
+	"sync"
+	"time"
+
+	"rbac-node/feed"
+	"rbac-node/logs"
+	"rbac-node/metrics"
+)
+
+const (
+	// FolderSuffix is added to the path of an office for the folder of its record.
+	FolderSuffix = ".record"
+	fileName     = "record.db"
+	// Front is the caller of what the front does by itself.
+	Front = "front"
+	// announcing is how often the head is logged.
+	announcing = time.Minute
+	// busy is how long SQLite waits for another program that reads or writes the record, in milliseconds.
+	busy = "5000"
+)
+
+// Options are what a record needs.
+type Options struct {
+	// Office is the file of the office, and Program the proved program.
+	Office, Program string
+	// HangTimeout is how long a replay of the record may answer nothing.
+	HangTimeout time.Duration
+	// Every is how many commands there are between two base copies.
+	Every   int64
+	Log     *logs.Logger
+	Metrics *metrics.Registry
+}
+
+// A Record is that of an office which a front has open. Keep, IsDue and Rest are for the goroutine of a feed's keeper.
+type Record struct {
+	Options
+	dir            string
+	db             *sql.DB
+	insert, answer *sql.Stmt
+	level          string
+	// open has the entries that the replay has got and not answered, and late those whose answers couldn't be kept yet.
+	open, late []entry
+
+	mutex sync.Mutex // for what follows
+	// head is the last entry with an answer, and announced the head that was last logged.
+	head, announced entry
+	// based is the entry of the newest base, or the one at which making one was last tried. isMaking says that one is being made.
+	based    int64
+	isMaking bool
+	making   sync.WaitGroup
+	// failing says why nothing can be kept, or is empty.
+	failing string
+	stop    context.CancelFunc
+	life    context.Context
+}
+
+// DirOf returns the folder of the record of an office.
+func DirOf(office string) string { return office + FolderSuffix }
+
+// errors of a start, each of which is one line.
+var (
+	errNoOffice = errors.New("there is a record, but no office: restore the office with its record, or move the record away")
+	errNoFile   = errors.New("it has base copies or earlier parts, but no record.db: restore it, or move the folder away")
+	errDiffers  = errors.New("the office is not what the record gives: somebody has written one of them; restore both from a backup, " +
+		"or let `rbac-node record adopt` begin anew over the office as it is")
+)
+
+// HasRecord reports whether there is a record of an office, or a part of one.
+func HasRecord(office string) (bool, error) {
+	dir := DirOf(office)
+	if _, err := os.Stat(filepath.Join(dir, fileName)); err == nil {
+		return true, nil
+	}
+	files, err := os.ReadDir(dir)
+	if errors.Is(err, os.ErrNotExist) {
+		return false, nil
+	}
+	if err != nil {
+		return false, fmt.Errorf("record: %w", err)
+	}
+	for _, file := range files {
+		name := file.Name()
+		if strings.HasPrefix(name, basePrefix) || strings.HasPrefix(name, partPrefix) {
+			return true, fmt.Errorf("record %s: %w", dir, errNoFile)
+		}
+	}
+	return false, nil
+}
+
+func hasPrefix(name, prefix string) bool {
+	return len(name) > len(prefix) && name[:len(prefix)] == prefix
+}
+
+// CheckOffice refuses a record without its office, or with an empty one.
+func CheckOffice(office string) error {
+	has, err := HasRecord(office)
+	if err != nil || !has {
+		return err
+	}
+	about, err := os.Stat(office)
+	if errors.Is(err, os.ErrNotExist) || err == nil && about.Mode().IsRegular() && about.Size() == 0 {
+		err = fmt.Errorf("office %s: %w", office, errNoOffice)
+	}
+	return err
+}
+
+// Open opens the record of an office that no program has open, and begins one if there is none.
+func Open(ctx context.Context, options Options) (*Record, error) {
+	r := &Record{Options: options, dir: DirOf(options.Office)}
+	r.life, r.stop = context.WithCancel(context.Background())
+	has, err := HasRecord(options.Office)
+	if err == nil && !has {
+		err = r.begin(ctx)
+	}
+	if err == nil {
+		err = r.load()
+	}
+	if err != nil {
+		r.close()
+		return nil, fmt.Errorf("record: %w", err)
+	}
+	r.addMetrics()
+	go r.announce()
+	return r, nil
+}
+
+// begin makes a record that begins with the office as it is. After a crash there is a whole record or none.
+func (r *Record) begin(ctx context.Context) error {
+	if err := os.Mkdir(r.dir, 0o700); err != nil && !errors.Is(err, os.ErrExist) {
+		return err
+	}
+	scratch, err := newScratch(r.Office, r.dir, "begin")
+	if err != nil {
+		return err
+	}
+	defer os.RemoveAll(scratch)
+	copied := filepath.Join(scratch, "office")
+	if err := copyOffice(r.Office, copied); err != nil {
+		return err
+	}
+	rows, err := mapped(ctx, r.Program, copied)
+	if err != nil {
+		return err
+	}
+	if err := makeFile(r.dir, 1, "", beginning, rows.all, copied); err != nil {
+		return err
+	}
+	return addBase(r.dir, copied, base{1, rows.all})
+}
+
+// load opens the file and reads where it ends.
+func (r *Record) load() (err error) {
+	path := filepath.Join(r.dir, fileName)
+	// Who may read the office may read the record.
+	if err := os.Chmod(path, 0o600); err != nil {
+		return err
+	}
+	if r.db, err = openFile(path, "_txlock=immediate&_busy_timeout="+busy); err != nil {
+		return err
+	}
+	if _, err := r.db.Exec("PRAGMA journal_mode = WAL"); err != nil {
+		return err
+	}
+	if err := r.sync("FULL"); err != nil {
+		return err
+	}
+	if r.insert, err = r.db.Prepare("INSERT INTO entry (n, at, caller, reason, request) VALUES (?, ?, ?, ?, ?)"); err != nil {
+		return err
+	}
+	if r.answer, err = r.db.Prepare("UPDATE entry SET answer = ?, found = ?, chain = ? WHERE n = ?"); err != nil {
+		return err
+	}
+	bases, err := basesIn(r.dir)
+	if err != nil {
+		return err
+	}
+	if len(bases) > 0 {
+		r.based = bases[0].n
+	}
+	r.head, _, err = lastOf(r.db)
+	return err
+}
+
+// sync sets how much of a transaction is synced: all of it at FULL, and nothing before the log is merged at NORMAL.
+func (r *Record) sync(level string) error {
+	if level == r.level {
+		return nil
+	}
+	if _, err := r.db.Exec("PRAGMA synchronous = " + level); err != nil {
+		return err
+	}
+	r.level = level
+	return nil
+}
+
+// Keep implements feed.Keeper.
+func (r *Record) Keep(answered, asked []*feed.Unit) error {
+	for _, u := range answered {
+		for _, i := range u.Commands() {
+			e := r.open[0] // Answers come in order.
+			r.open, e.answer = r.open[1:], string(u.Answers[i])
+			r.late = append(r.late, e)
+		}
+	}
+	next := r.entriesOf(asked)
+	err := r.write(r.late, next)
+	r.note(err)
+	if err != nil {
+		return err
+	}
+	r.late = nil
+	r.open = append(r.open, next...)
+	return nil
+}
+
+// entriesOf returns the entries of units that have been asked.
+func (r *Record) entriesOf(asked []*feed.Unit) (next []entry) {
+	n, at := r.Head().N+int64(len(r.late)+len(r.open)), now()
+	for _, u := range asked {
+		for _, i := range u.Commands() {
+			call := u.Calls[i]
+			n++
+			next = append(next, entry{n: n, at: at, caller: call.Caller, reason: call.Reason, request: string(u.Recorded[i])})
+		}
+	}
+	return next
+}
+
+// write adds answers with their links, and entries without an answer. Only the latter have to be synced: after a crash the answers
+// can be found again.
+func (r *Record) write(answered, asked []entry) error {
+	level := "FULL"
+	if len(asked) == 0 {
+		level = "NORMAL"
+	}
+	if len(answered)+len(asked) == 0 {
+		return nil
+	}
+	if err := r.sync(level); err != nil {
+		return err
+	}
+	tx, err := r.db.Begin()
+	if err != nil {
+		return err
+	}
+	defer func() { _ = tx.Rollback() }() // After a commit it does nothing.
+	r.mutex.Lock()
+	head := r.head
+	r.mutex.Unlock()
+	answer, insert := tx.Stmt(r.answer), tx.Stmt(r.insert)
+	for _, e := range answered {
+		if e.n != head.n+1 {
+			return fmt.Errorf("the answer to entry %d came after that to %d", e.n, head.n)
+		}
+		e.ch = chained(head.ch, &e)
+		if _, err := answer.Exec(e.answer, e.found, e.ch, e.n); err != nil {
+			return err
+		}
+		head = e
+	}
+	for _, e := range asked {
+		if _, err := insert.Exec(e.n, e.at, e.caller, e.reason, e.request); err != nil {
+			return err
+		}
+	}
+	if err := tx.Commit(); err != nil {
+		return err
+	}
+	r.mutex.Lock()
+	r.head = head
+	r.mutex.Unlock()
+	return nil
+}
+
+// note notes whether entries can be kept, and logs when that changes.
+func (r *Record) note(err error) {
+	why := ""
+	if err != nil {
+		why = err.Error()
+	}
+	r.mutex.Lock()
+	defer r.mutex.Unlock()
+	switch {
+	case why != "" && r.failing == "":
+		r.Log.Error("commands are refused, since the record can't be written", "why", err)
+	case why == "" && r.failing != "":
+		r.Log.Info("the record can be written again")
+	}
+	r.failing = why
+}
+
+// Why returns why no command is done now, or an empty text.
+func (r *Record) Why() string {
+	r.mutex.Lock()
+	defer r.mutex.Unlock()
+	return r.failing
+}
+
+// IsDue implements feed.Keeper.
+func (r *Record) IsDue() bool {
+	r.mutex.Lock()
+	defer r.mutex.Unlock()
+	return !r.isMaking && r.head.n-r.based >= r.Every && len(r.late) == 0
+}
+
+// Rest implements feed.Keeper. No command is at the replay, so the office doesn't change while it is copied. The rest is done
+// while commands go on.
+func (r *Record) Rest() {
+	scratch, err := newScratch(r.Office, r.dir, "base")
+	if err == nil {
+		err = copyOffice(r.Office, filepath.Join(scratch, "office"))
+	}
+	r.mutex.Lock()
+	r.based, r.isMaking = r.head.n, true
+	n := r.based
+	r.mutex.Unlock()
+	r.making.Add(1)
+	go func() {
+		defer r.making.Done()
+		if err == nil {
+			err = r.makeBase(r.life, scratch, n)
+		}
+		if err != nil {
+			r.Log.Error("no base copy of the office was made", "why", err)
+		}
+		r.mutex.Lock()
+		defer r.mutex.Unlock()
+		r.isMaking = false
+	}()
+}
+
+// makeBase makes the copy of the office in a scratch folder, which it removes, a base.
+func (r *Record) makeBase(ctx context.Context, scratch string, n int64) error {
+	defer os.RemoveAll(scratch)
+	copied := filepath.Join(scratch, "office")
+	rows, err := mapped(ctx, r.Program, copied)
+	if err != nil {
+		return err
+	}
+	if err := addBase(r.dir, copied, base{n, rows.all}); err != nil {
+		return err
+	}
+	r.Log.Info("a base copy of the office was made", "entry", n)
+	return nil
+}
+
+// Close ends the record. If the replay has ended in order, it leaves a base copy, so that the next start has nothing to do again.
+func (r *Record) Close(isInOrder bool) error {
+	r.making.Wait()
+	err := r.write(r.late, nil)
+	if isInOrder && err == nil && len(r.open) == 0 && r.head.n > r.newestBase() {
+		err = r.makeLastBase()
+	}
+	r.logHead()
+	if closing := r.close(); err == nil {
+		err = closing
+	}
+	if err != nil {
+		return fmt.Errorf("record: %w", err)
+	}
+	return nil
+}
+
+// makeLastBase makes a base after the last replay has ended.
+func (r *Record) makeLastBase() error {
+	scratch, err := newScratch(r.Office, r.dir, "base")
+	if err != nil {
+		return err
+	}
+	if err := copyOffice(r.Office, filepath.Join(scratch, "office")); err != nil {
+		return err
+	}
+	return r.makeBase(r.life, scratch, r.head.n)
+}
+
+// newestBase returns the entry of the newest base.
+func (r *Record) newestBase() int64 {
+	if bases, err := basesIn(r.dir); err == nil && len(bases) > 0 {
+		return bases[0].n
+	}
+	return 0
+}
+
+func (r *Record) close() error {
+	r.stop()
+	if r.db == nil {
+		return nil
+	}
+	return r.db.Close()
+}

@@ -1,0 +1,91 @@
+//go:build sqlite
+
+package record
+
+import (
+	"bufio"
+	"context"
+	"strconv"
+	"strings"
+)
+
+// A Filter chooses entries. An empty text chooses all.
+type Filter struct {
+	User, Role, Object, Function, Caller, Since, Until string
+	IsRefused                                          bool
+}
+
+// where returns the condition of a filter, and its values. An import is chosen if its text has the name.
+func (f *Filter) where() (string, []any) {
+	conditions, values := []string{"1"}, []any{}
+	add := func(value, condition string) {
+		if value == "" {
+			return
+		}
+		conditions = append(conditions, "("+condition+")")
+		for i := 0; i < strings.Count(condition, "?"); i++ {
+			values = append(values, value)
+		}
+	}
+	const inImport = " OR instr(coalesce(request ->> 'csv', ''), ?) > 0"
+	add(f.User, "request ->> 'user' = ?"+inImport)
+	add(f.Role, "? IN (request ->> 'role', request ->> 'asc', request ->> 'desc') OR "+
+		"EXISTS (SELECT 1 FROM json_each(coalesce(request -> 'roles', '[]')) WHERE value = ?)"+inImport)
+	add(f.Object, "request ->> 'object' = ?")
+	add(f.Function, "request ->> 'fn' = ?")
+	add(f.Caller, "caller = ?")
+	add(f.Since, "at >= ?")
+	add(f.Until, "at < ?")
+	if f.IsRefused {
+		conditions = append(conditions, "answer ->> 'error' IS NOT NULL")
+	}
+	return strings.Join(conditions, " AND "), values
+}
+
+// Show prints the entries that a filter chooses: number, time, caller, reason, request and answer, with tabs between them. None of
+// them has a tab. An answer that a start has found has a star, and an entry without an answer has a question mark in its place.
+func (t *Tool) Show(ctx context.Context, filter Filter) error {
+	files, err := filesOf(t.Office)
+	if err != nil {
+		return err
+	}
+	out := bufio.NewWriter(t.Out)
+	defer out.Flush()
+	for _, path := range files {
+		if err := show(ctx, out, path, filter); err != nil {
+			return err
+		}
+	}
+	return out.Flush()
+}
+
+func show(ctx context.Context, out *bufio.Writer, path string, filter Filter) error {
+	v, err := openView(ctx, path)
+	if err != nil {
+		return err
+	}
+	defer v.Close()
+	where, values := filter.where()
+	rows, err := v.tx.QueryContext(ctx, "SELECT "+columns+" FROM entry WHERE "+where+" ORDER BY n", values...)
+	if err != nil {
+		return err
+	}
+	defer rows.Close()
+	for rows.Next() {
+		e, err := entryOf(rows)
+		if err != nil {
+			return err
+		}
+		if e.found {
+			e.answer += " *"
+		}
+		if e.answer == "" {
+			e.answer = "?"
+		}
+		fields := []string{strconv.FormatInt(e.n, 10), e.at, e.caller, e.reason, e.request, e.answer}
+		if _, err := out.WriteString(strings.Join(fields, "\t") + "\n"); err != nil {
+			return err
+		}
+	}
+	return rows.Err()
+}

@@ -1,0 +1,274 @@
+//go:build sqlite
+
+package record
+
+import (
+	"context"
+	"database/sql"
+	"errors"
+	"fmt"
+	"io"
+	"os"
+	"path/filepath"
+	"sort"
+	"strings"
+	"time"
+
+	"rbac-node/logs"
+	"rbac-node/single"
+)
+
+// A Tool does what commands other than serve do with the record of an office.
+type Tool struct {
+	Office, Program string
+	HangTimeout     time.Duration
+	Out             io.Writer
+	Log             *logs.Logger
+}
+
+// glance is how long it is looked whether a front has the office.
+const glance = 50 * time.Millisecond
+
+// lockIfFree locks the office, unless a front has it. It returns nil then.
+func (t *Tool) lockIfFree(ctx context.Context) (*os.File, error) {
+	within, cancel := context.WithTimeout(ctx, glance)
+	defer cancel()
+	lock, err := single.Lock(within, t.Office+".lock")
+	if err != nil && within.Err() != nil && ctx.Err() == nil {
+		return nil, nil
+	}
+	return lock, err
+}
+
+var errFrontRuns = errors.New("a front has the office: stop it first")
+
+// openLocked opens the record of an office that no front has. The lock has to be closed.
+func (t *Tool) openLocked(ctx context.Context) (*Record, *os.File, error) {
+	if err := CheckOffice(t.Office); err != nil {
+		return nil, nil, err
+	}
+	if has, err := HasRecord(t.Office); err != nil || !has {
+		if err == nil {
+			err = fmt.Errorf("there is no record %s", DirOf(t.Office))
+		}
+		return nil, nil, err
+	}
+	lock, err := t.lockIfFree(ctx)
+	if err == nil && lock == nil {
+		err = errFrontRuns
+	}
+	if err != nil {
+		return nil, nil, err
+	}
+	r, err := Open(ctx, Options{Office: t.Office, Program: t.Program, HangTimeout: t.HangTimeout, Every: 1, Log: logs.New(io.Discard)})
+	if err != nil {
+		_ = lock.Close()
+		return nil, nil, err
+	}
+	return r, lock, nil
+}
+
+// filesOf returns the paths of the files of a record, in the order of their entries.
+func filesOf(office string) ([]string, error) {
+	dir := DirOf(office)
+	if has, err := HasRecord(office); err != nil || !has {
+		if err == nil {
+			err = fmt.Errorf("there is no record %s", dir)
+		}
+		return nil, err
+	}
+	current := filepath.Join(dir, fileName)
+	about, err := os.Stat(current)
+	if err != nil {
+		return nil, err
+	}
+	found, err := filepath.Glob(filepath.Join(escapeGlob(dir), partPrefix+"*.db"))
+	if err != nil {
+		return nil, err
+	}
+	firsts := map[string]int64{}
+	var files []string
+	for _, path := range found {
+		var first, last int64
+		if _, err := fmt.Sscanf(filepath.Base(path), partPrefix+"%d-%d.db", &first, &last); err != nil {
+			continue
+		}
+		// A crash while a part was closed leaves two names of one file.
+		if other, err := os.Stat(path); err == nil && !os.SameFile(about, other) {
+			firsts[path] = first
+			files = append(files, path)
+		}
+	}
+	sort.Slice(files, func(i, j int) bool { return firsts[files[i]] < firsts[files[j]] })
+	return append(files, current), nil
+}
+
+// escapeGlob returns a pattern that matches a path alone.
+func escapeGlob(path string) string {
+	return strings.NewReplacer(`\`, `\\`, `*`, `\*`, `?`, `\?`, `[`, `\[`).Replace(path)
+}
+
+// A view is a state of a file of a record, which does not change while others write the file.
+type view struct {
+	db *sql.DB
+	tx *sql.Tx
+}
+
+// openView opens a file as it is now.
+func openView(ctx context.Context, path string) (*view, error) {
+	v, err := openViewBy(ctx, path, "mode=ro&_busy_timeout="+busy)
+	if err != nil && strings.Contains(err.Error(), "unable to open") {
+		// A file beside which SQLite can't make its own, as in a backup that can't be written, isn't written by others either.
+		v, err = openViewBy(ctx, path, "mode=ro&immutable=1")
+	}
+	return v, err
+}
+
+func openViewBy(ctx context.Context, path, options string) (*view, error) {
+	db, err := openFile(path, options)
+	if err != nil {
+		return nil, err
+	}
+	tx, err := db.BeginTx(ctx, nil)
+	if err == nil {
+		var count int
+		if err = tx.QueryRowContext(ctx, "SELECT count(*) FROM part").Scan(&count); err == nil {
+			return &view{db, tx}, nil
+		}
+	}
+	_ = db.Close()
+	return nil, fmt.Errorf("%s: %w", path, err)
+}
+
+func (v *view) Close() {
+	_ = v.tx.Rollback() // Nothing was written.
+	_ = v.db.Close()
+}
+
+// PrintHead prints the head.
+func (t *Tool) PrintHead(ctx context.Context) error {
+	files, err := filesOf(t.Office)
+	if err != nil {
+		return err
+	}
+	v, err := openView(ctx, files[len(files)-1])
+	if err != nil {
+		return err
+	}
+	defer v.Close()
+	answered, _, err := lastOf(v.tx)
+	if err != nil {
+		return err
+	}
+	fmt.Fprintln(t.Out, Head{answered.n, answered.ch})
+	return nil
+}
+
+// Adopt begins a new part over the office as it is, and says so in the record.
+func (t *Tool) Adopt(ctx context.Context) error {
+	r, lock, err := t.openLocked(ctx)
+	if err != nil {
+		return err
+	}
+	defer lock.Close()
+	defer r.close()
+	var wrong *AnswerError
+	switch err := r.Before(ctx); {
+	case err == nil:
+		return errors.New("there is nothing to adopt: the office is what the record gives")
+	case !errors.Is(err, errDiffers) && !errors.Is(err, errNoStart) && !errors.As(err, &wrong):
+		return err
+	}
+	err = r.withCopy(ctx, func(copied, rows string) error {
+		if err := inTransaction(r.db, func(tx *sql.Tx) error { return r.adopt(ctx, tx, copied, rows) }); err != nil {
+			return err
+		}
+		return addBase(r.dir, copied, base{r.head.n, rows})
+	})
+	if err != nil {
+		return fmt.Errorf("record: %w", err)
+	}
+	fmt.Fprintf(t.Out, "the record begins anew over the office as it is, at entry %d\n", r.head.n)
+	return nil
+}
+
+// adopt says of each entry without an answer that nobody knows it, and begins a part.
+func (r *Record) adopt(ctx context.Context, tx *sql.Tx, copied, rows string) error {
+	open, err := openEntries(ctx, tx, r.head.n)
+	if err != nil {
+		return err
+	}
+	for _, e := range open {
+		e.answer = unknown
+		e.ch = chained(r.head.ch, &e)
+		if _, err := tx.Exec("UPDATE entry SET answer = ?, chain = ? WHERE n = ?", e.answer, e.ch, e.n); err != nil {
+			return err
+		}
+		r.head = e
+	}
+	r.head, err = addPart(tx, r.head.n+1, r.head.ch, adopted, rows, copied)
+	return err
+}
+
+// withCopy does something with a mapped copy of the office, which no program has open.
+func (r *Record) withCopy(ctx context.Context, work func(copied, rows string) error) error {
+	scratch, err := newScratch(r.Office, r.dir, "part")
+	if err != nil {
+		return err
+	}
+	defer os.RemoveAll(scratch)
+	copied := filepath.Join(scratch, "office")
+	if err := copyOffice(r.Office, copied); err != nil {
+		return err
+	}
+	rows, err := mapped(ctx, r.Program, copied)
+	if err != nil {
+		return err
+	}
+	return work(copied, rows.all)
+}
+
+// Cut closes the part at hand: its file gets another name, and may be moved away. The record goes on in another file.
+func (t *Tool) Cut(ctx context.Context) error {
+	r, lock, err := t.openLocked(ctx)
+	if err != nil {
+		return err
+	}
+	defer lock.Close()
+	defer r.close()
+	if err := r.Before(ctx); err != nil {
+		return err
+	}
+	var first int64
+	if err := r.db.QueryRowContext(ctx, "SELECT min(n) FROM entry").Scan(&first); err != nil {
+		return fmt.Errorf("record: %w", err)
+	}
+	if first == r.head.n {
+		return errors.New("there is nothing to cut: the part at hand has no command")
+	}
+	path := filepath.Join(r.dir, fmt.Sprintf("%s%d-%d.db", partPrefix, first, r.head.n))
+	err = r.withCopy(ctx, func(copied, rows string) error {
+		// Its log is merged when it is closed.
+		if err := r.db.Close(); err != nil {
+			return err
+		}
+		if _, err := os.Stat(filepath.Join(r.dir, fileName+walSuffix)); !errors.Is(err, os.ErrNotExist) {
+			return errors.New("another program reads the record: try again when it has ended")
+		}
+		if err := os.RemoveAll(path); err != nil {
+			return err
+		}
+		if err := os.Link(filepath.Join(r.dir, fileName), path); err != nil {
+			return err
+		}
+		if err := makeFile(r.dir, r.head.n+1, r.head.ch, continued, rows, copied); err != nil {
+			return err
+		}
+		return addBase(r.dir, copied, base{r.head.n + 1, rows})
+	})
+	if err != nil {
+		return fmt.Errorf("record: %w", err)
+	}
+	fmt.Fprintln(t.Out, path)
+	return nil
+}

@@ -1,0 +1,257 @@
+//go:build sqlite
+
+package record
+
+import (
+	"context"
+	"errors"
+	"fmt"
+	"os"
+	"path/filepath"
+)
+
+// A verifier reads a record from its beginning, and does its commands again.
+type verifier struct {
+	*Tool
+	scratch string
+	// want has the rows of the office, or is nil if a front has it.
+	want *sums
+	head *Head
+	// last is the last entry that was read, first the first one, and rows are those after the last one, if a rerun has led there.
+	first, last entry
+	rows        string
+}
+
+// Verify reports whether the chain holds, whether the program gives the same answers, and whether the office has the rows that the
+// record gives. While a front has the office its rows are not compared. A head that is known from elsewhere shows whether the end
+// was cut off, or whether the chain was computed anew.
+func (t *Tool) Verify(ctx context.Context, head *Head) error {
+	if err := CheckOffice(t.Office); err != nil {
+		return err
+	}
+	files, err := filesOf(t.Office)
+	if err != nil {
+		return err
+	}
+	scratch, err := newScratch(t.Office, DirOf(t.Office), "verify")
+	if err != nil {
+		return err
+	}
+	defer os.RemoveAll(scratch)
+	v := &verifier{Tool: t, scratch: scratch, head: head}
+	current, err := v.look(ctx, files[len(files)-1])
+	if err != nil {
+		return err
+	}
+	defer current.Close()
+	for _, path := range files[:len(files)-1] {
+		if err := v.file(ctx, path); err != nil {
+			return fmt.Errorf("%s: %w", path, err)
+		}
+	}
+	if err := v.read(ctx, current, true); err != nil {
+		return fmt.Errorf("%s: %w", files[len(files)-1], err)
+	}
+	if head != nil && v.last.n < head.N {
+		return fmt.Errorf("the record ends at entry %d: those from there to %d are missing", v.last.n, head.N)
+	}
+	fmt.Fprintf(t.Out, "head %s\n", Head{v.last.n, v.last.ch})
+	return nil
+}
+
+// look opens the file at hand and describes the office, both as of one moment if no front has the office.
+func (v *verifier) look(ctx context.Context, path string) (*view, error) {
+	lock, err := v.lockIfFree(ctx)
+	if err != nil {
+		return nil, err
+	}
+	if lock == nil {
+		return openView(ctx, path)
+	}
+	defer lock.Close()
+	want, err := sumsOf(ctx, v.Program, v.Office, filepath.Join(v.scratch, "office"))
+	if err != nil {
+		return nil, err
+	}
+	v.want = &want
+	return openView(ctx, path)
+}
+
+// file reads the file of an earlier part.
+func (v *verifier) file(ctx context.Context, path string) error {
+	opened, err := openView(ctx, path)
+	if err != nil {
+		return err
+	}
+	defer opened.Close()
+	if err := v.read(ctx, opened, false); err != nil {
+		return err
+	}
+	var first, last int64
+	if _, err := fmt.Sscanf(filepath.Base(path), partPrefix+"%d-%d.db", &first, &last); err == nil && v.last.n != last {
+		return fmt.Errorf("it ends at entry %d, and its name says %d", v.last.n, last)
+	}
+	return nil
+}
+
+// A part is a row of its table.
+type part struct {
+	first             int64
+	why, before, rows string
+}
+
+func partsOf(ctx context.Context, opened *view) (parts []part, err error) {
+	rows, err := opened.tx.QueryContext(ctx, "SELECT first, why, before, rows FROM part ORDER BY first")
+	if err != nil {
+		return nil, err
+	}
+	defer rows.Close()
+	for rows.Next() {
+		var p part
+		if err := rows.Scan(&p.first, &p.why, &p.before, &p.rows); err != nil {
+			return nil, err
+		}
+		parts = append(parts, p)
+	}
+	if len(parts) == 0 {
+		return nil, errors.New("it has no part")
+	}
+	return parts, rows.Err()
+}
+
+// read reads a file. The last one may have entries without an answer.
+func (v *verifier) read(ctx context.Context, opened *view, isLast bool) error {
+	parts, err := partsOf(ctx, opened)
+	if err != nil {
+		return err
+	}
+	answered, last, err := lastOf(opened.tx)
+	if err != nil {
+		return err
+	}
+	if !isLast && last.n != answered.n {
+		return fmt.Errorf("entry %d has no answer", last.n)
+	}
+	for i, p := range parts {
+		end, isEnd := answered.n, i == len(parts)-1
+		if !isEnd {
+			end = parts[i+1].first - 1
+		}
+		if err := v.part(ctx, opened, p, end, isLast && isEnd); err != nil {
+			return err
+		}
+	}
+	return nil
+}
+
+// part reads a part that ends with an entry.
+func (v *verifier) part(ctx context.Context, opened *view, p part, end int64, isLast bool) error {
+	if err := v.join(p); err != nil {
+		return err
+	}
+	var text []byte
+	if err := opened.tx.QueryRowContext(ctx, "SELECT office FROM part WHERE first = ?", p.first).Scan(&text); err != nil {
+		return err
+	}
+	file := filepath.Join(v.scratch, rerunFile)
+	for _, left := range []string{file, file + walSuffix} {
+		if err := os.RemoveAll(left); err != nil {
+			return err
+		}
+	}
+	if err := os.WriteFile(file, text, 0o600); err != nil {
+		return err
+	}
+	if rows, err := rowsOf(ctx, file); err != nil || rows != p.rows {
+		return fmt.Errorf("the copy of the office at entry %d is not what the entry says", p.first)
+	}
+	again, err := startRerun(v.Program, v.scratch, v.HangTimeout)
+	if err != nil {
+		return err
+	}
+	defer func() { _ = again.Close() }() // What it has done is thrown away.
+	from := p.first
+	if err := again.each(ctx, v.checked(entriesAfter(ctx, opened.tx, p.first-1, end), p)); err != nil {
+		return err
+	}
+	if v.last.n != end {
+		return fmt.Errorf("entries %d to %d are missing", v.last.n+1, end)
+	}
+	fmt.Fprintf(v.Out, "entries %d to %d: the chain holds, and the program gives the same answers\n", from, end)
+	if isLast && v.want != nil {
+		return v.compare(ctx, opened, again)
+	}
+	s, err := again.sums(ctx)
+	v.rows = s.all
+	if isLast {
+		fmt.Fprintln(v.Out, "a front has the office: its rows are not compared")
+	}
+	return err
+}
+
+// join reports how a part follows what was read before.
+func (v *verifier) join(p part) error {
+	switch next := v.last.n + 1; {
+	case p.first < next:
+		return fmt.Errorf("the part that begins with entry %d comes after entry %d", p.first, v.last.n)
+	case p.first > next:
+		fmt.Fprintf(v.Out, "entries %d to %d are not here: their part was moved away\n", next, p.first-1)
+		if v.head != nil && next <= v.head.N && v.head.N < p.first {
+			return fmt.Errorf("entry %d, whose link is known, is not here", v.head.N)
+		}
+		v.last = entry{n: p.first - 1, ch: p.before}
+	case p.before != v.last.ch:
+		return fmt.Errorf("the part that begins with entry %d does not follow entry %d", p.first, v.last.n)
+	case p.why == continued && p.rows != v.rows:
+		return fmt.Errorf("the part that begins with entry %d has other rows than entry %d leaves", p.first, v.last.n)
+	}
+	if p.why == adopted {
+		fmt.Fprintf(v.Out, "entry %d begins anew over an office that somebody has written behind the record\n", p.first)
+	}
+	return nil
+}
+
+// checked returns entries as next does, after it has checked their links.
+func (v *verifier) checked(next func() (*entry, error), p part) func() (*entry, error) {
+	return func() (*entry, error) {
+		e, err := next()
+		if err != nil || e == nil {
+			return e, err
+		}
+		begins := firstEntry(e.n, "", p.why, p.rows)
+		switch {
+		case e.n != v.last.n+1:
+			return nil, fmt.Errorf("entry %d is missing", v.last.n+1)
+		case e.ch == "":
+			return nil, fmt.Errorf("entry %d has no answer", e.n)
+		case chained(v.last.ch, e) != e.ch:
+			return nil, fmt.Errorf("the chain breaks at entry %d: it or the one before it was changed", e.n)
+		case v.head != nil && v.head.N == e.n && v.head.Chain != e.ch:
+			return nil, fmt.Errorf("entry %d has another link than the one that is known: the chain was computed anew", e.n)
+		case e.n == p.first && e.request != begins.request || e.n > p.first && !e.isCommand():
+			return nil, fmt.Errorf("entry %d is not what its part says", e.n)
+		}
+		v.last = *e
+		return e, nil
+	}
+}
+
+// compare compares the rows of the office with those that the record gives. The last entries may have no answer yet.
+func (v *verifier) compare(ctx context.Context, opened *view, again *rerun) error {
+	open, err := openEntries(ctx, opened.tx, v.last.n)
+	if err != nil {
+		return err
+	}
+	done, err := again.fit(ctx, open, *v.want)
+	if err != nil {
+		return err
+	}
+	if done < 0 {
+		return errDiffers
+	}
+	if len(open) > 0 {
+		fmt.Fprintf(v.Out, "%d entries have no answer yet; the next start of the front finds out which were done\n", len(open))
+	}
+	fmt.Fprintln(v.Out, "the office has the rows that the record gives")
+	return nil
+}

@@ -1,0 +1,52 @@
+package main
+
+import (
+	"errors"
+	"fmt"
+	"os"
+	"path/filepath"
+
+	"rbac-node/metrics"
+	"rbac-node/single"
+)
+
+// recordSettings are what the command line chooses for the record of an office.
+type recordSettings struct {
+	isOff bool
+	every int64
+}
+
+// recordMode is what a program with SQLite does.
+type recordMode interface {
+	// add makes an office keep a record.
+	add(s *settings, office *single.Options, registry *metrics.Registry) error
+	// run does `record WORD ..` and `backup ..`.
+	run(words []string) error
+}
+
+// records is replaced if the program is built with the library of SQLite.
+var records recordMode = withoutRecord{}
+
+// withoutRecord is a program that can't keep a record.
+type withoutRecord struct{}
+
+var errWithoutRecord = errors.New(
+	"this rbac-node was built without SQLite, which the record needs: docs/FRONT.md says how to build it, or give --no-record")
+
+func (withoutRecord) add(*settings, *single.Options, *metrics.Registry) error {
+	return errWithoutRecord
+}
+
+func (withoutRecord) run([]string) error { return errWithoutRecord }
+
+// addRecord makes an office keep a record, unless the command line says that it shouldn't.
+func (s *settings) addRecord(office *single.Options, registry *metrics.Registry) error {
+	if !s.record.isOff {
+		return records.add(s, office, registry)
+	}
+	folder := s.office + ".record"
+	if _, err := os.Stat(filepath.Join(folder, "record.db")); err == nil {
+		return fmt.Errorf("--no-record would part the office from its record %s: move that folder away first", folder)
+	}
+	return nil
+}

@@ -1,0 +1,124 @@
+//go:build sqlite
+
+package main
+
+import (
+	"context"
+	"errors"
+	"flag"
+	"os"
+	"time"
+
+	"rbac-node/logs"
+	"rbac-node/metrics"
+	"rbac-node/record"
+	"rbac-node/single"
+)
+
+func init() { records = withRecord{} }
+
+// withRecord is a program that keeps a record.
+type withRecord struct{}
+
+func (withRecord) add(s *settings, office *single.Options, registry *metrics.Registry) error {
+	office.CheckRecord = func() error { return record.CheckOffice(s.office) }
+	office.OpenRecord = func(ctx context.Context) (single.Recorder, error) {
+		r, err := record.Open(ctx, record.Options{
+			Office: s.office, Program: s.program, HangTimeout: s.hangTimeout, Every: s.record.every, Log: office.Log, Metrics: registry,
+		})
+		if err != nil {
+			return nil, err // Not a Recorder that is there and nil.
+		}
+		return r, nil
+	}
+	return nil
+}
+
+// toolHangTimeout is how long a replay of the record may answer nothing in a command other than serve.
+const toolHangTimeout = 10 * time.Minute
+
+// recordCommand is what a command about a record needs.
+type recordCommand struct {
+	record.Tool
+	head   string
+	filter record.Filter
+}
+
+var errRecordUsage = errors.New("usage: rbac-node record verify|show|head|cut|adopt --office FILE [options], or " +
+	"rbac-node backup --office FILE FOLDER")
+
+func (withRecord) run(words []string) error {
+	c := &recordCommand{Tool: record.Tool{HangTimeout: toolHangTimeout, Out: os.Stdout, Log: logs.New(os.Stderr)}}
+	name, rest := words[0], words[1:]
+	if name == "record" {
+		if len(rest) == 0 {
+			return errRecordUsage
+		}
+		name, rest = rest[0], rest[1:]
+	}
+	flags := flag.NewFlagSet("rbac-node "+words[0], flag.ContinueOnError)
+	c.define(flags, name)
+	if err := flags.Parse(rest); err != nil {
+		return err
+	}
+	isBackup := words[0] == "backup"
+	if c.Office == "" || isBackup != (flags.NArg() == 1) || !isBackup && flags.NArg() > 0 {
+		return errRecordUsage
+	}
+	return untilSignal(func(ctx context.Context) error {
+		if isBackup {
+			return c.Backup(ctx, flags.Arg(0))
+		}
+		return c.do(ctx, name)
+	})
+}
+
+// define defines the flags of a command.
+func (c *recordCommand) define(flags *flag.FlagSet, name string) {
+	flags.StringVar(&c.Office, "office", "", "file of the office")
+	if name != "show" && name != "head" {
+		flags.StringVar(&c.Program, "program", "rbac", "the proved program, a path or a name that is looked up in PATH")
+	}
+	switch name {
+	case "verify":
+		flags.StringVar(&c.head, "head", "", "a head N:HASH that is known from elsewhere")
+	case "show":
+		flags.StringVar(&c.filter.User, "user", "", "only commands that name this user")
+		flags.StringVar(&c.filter.Role, "role", "", "only commands that name this role")
+		flags.StringVar(&c.filter.Object, "object", "", "only commands that name this object")
+		flags.StringVar(&c.filter.Function, "function", "", "only commands of this function")
+		flags.StringVar(&c.filter.Caller, "caller", "", "only commands of this caller")
+		flags.StringVar(&c.filter.Since, "since", "", "only commands from this time on, such as 2026-11-27T09")
+		flags.StringVar(&c.filter.Until, "until", "", "only commands before this time")
+		flags.BoolVar(&c.filter.IsRefused, "refused", false, "only commands that were refused")
+	}
+}
+
+// do does a command.
+func (c *recordCommand) do(ctx context.Context, name string) error {
+	switch name {
+	case "verify":
+		return c.verify(ctx)
+	case "show":
+		return c.Show(ctx, c.filter)
+	case "head":
+		return c.PrintHead(ctx)
+	case "cut":
+		return c.Cut(ctx)
+	case "adopt":
+		return c.Adopt(ctx)
+	}
+	return errRecordUsage
+}
+
+// verify verifies a record, with the head that the command line may have.
+func (c *recordCommand) verify(ctx context.Context) error {
+	if c.head == "" {
+		return c.Verify(ctx, nil)
+	}
+	head, err := record.ParseHead(c.head)
+	if err != nil {
+		return err
+	}
+	return c.Verify(ctx, &head)
+}

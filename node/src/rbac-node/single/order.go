@@ -1,0 +1,297 @@
+package single
+
+import (
+	"context"
+	"errors"
+	"fmt"
+	"os"
+	"path/filepath"
+	"strconv"
+	"strings"
+	"sync"
+	"sync/atomic"
+
+	"rbac-node/api"
+	"rbac-node/endpoints"
+	"rbac-node/feed"
+	"rbac-node/state"
+)
+
+// An order is what is known of the one order of commands: the state that they have led to, and who has a part of the order alone.
+type order struct {
+	state *state.State
+	// gate is read by each command until it has been done, and locked by a turn.
+	gate sync.RWMutex
+	// unread says why the state couldn't be read at the first start.
+	unread error
+	// isStale says that commands may have been done whose answers nobody has read.
+	isStale atomic.Bool
+}
+
+// block is how many numbers a start of the front takes for itself.
+const block = 1 << 36
+
+// count makes the state, whose numbers are greater than all that earlier fronts of this office have used.
+func (o *Office) count() error {
+	if !state.IsAvailable {
+		return nil
+	}
+	path := o.File + ".numbers"
+	text, err := os.ReadFile(path)
+	if err != nil && !errors.Is(err, os.ErrNotExist) {
+		return fmt.Errorf("numbers: %w", err)
+	}
+	first := int64(1)
+	if err == nil {
+		if first, err = strconv.ParseInt(strings.TrimSpace(string(text)), 10, 64); err != nil || first < 0 {
+			return fmt.Errorf("numbers: %s has no number", path)
+		}
+	}
+	if err := writeDurably(path, strconv.FormatInt(first+block, 10)+"\n"); err != nil {
+		return fmt.Errorf("numbers: %w", err)
+	}
+	o.state = state.New(state.Numbers{All: first, Policy: first})
+	return nil
+}
+
+// writeDurably writes a file. After a crash it has this text or that of before.
+func writeDurably(path, text string) error {
+	file, err := os.OpenFile(path+".new", os.O_WRONLY|os.O_CREATE|os.O_TRUNC, 0o600)
+	if err != nil {
+		return err
+	}
+	defer file.Close()
+	if _, err := file.WriteString(text); err != nil {
+		return err
+	}
+	if err := file.Sync(); err != nil {
+		return err
+	}
+	if err := os.Rename(path+".new", path); err != nil {
+		return err
+	}
+	return syncFolder(filepath.Dir(path))
+}
+
+// before finds out what the file has, which no replay has open.
+func (o *Office) before(ctx context.Context) error {
+	if o.record != nil {
+		if err := o.record.Before(ctx); err != nil {
+			return err
+		}
+	}
+	if o.state == nil {
+		return nil
+	}
+	if o.isStale.Swap(false) {
+		o.state.Skip()
+	}
+	err := o.state.Load(ctx, o.File)
+	if o.feed == nil {
+		o.unread = err // If the office doesn't open either, that says more.
+		return nil
+	}
+	return err
+}
+
+// Answered follows the commands of a unit. The feed calls it in the one order.
+func (o *Office) Answered(u *feed.Unit) {
+	if o.state != nil {
+		o.state.Answered(u.Calls, u.Answers)
+	}
+}
+
+// State returns what is known of the office, or nil if this program can't read its rows.
+func (o *Office) State() *state.State { return o.state }
+
+// JudgesConditions reports whether the office knows the revision of its policy.
+func (o *Office) JudgesConditions() bool { return o.state != nil }
+
+// AskAll returns the answers to some calls, with nothing of others between them, and the numbers after them.
+func (o *Office) AskAll(ctx context.Context, calls ...*api.Call) (answers [][]byte, numbers state.Numbers, err error) {
+	if len(calls) == 0 {
+		return nil, numbers, nil
+	}
+	_, isConditional := api.Condition(ctx)
+	if isConditional || o.state != nil && state.NeedsReview(calls) {
+		return o.askInTurn(ctx, calls)
+	}
+	within, cancel := context.WithTimeout(ctx, o.AnswerTimeout)
+	defer cancel()
+	o.touch(calls)
+	u := &feed.Unit{Lines: linesOf(calls), Observed: o.counting(&numbers)}
+	if haveCommand(calls) {
+		if err := o.admit(u, calls); err != nil {
+			return nil, numbers, err
+		}
+		if err := o.enter(within); err != nil {
+			return nil, numbers, err
+		}
+		u.Finally = o.gate.RUnlock
+	}
+	if answers, err = o.feed.Do(within, u); err != nil {
+		return nil, state.Numbers{}, err
+	}
+	return answers, numbers, nil
+}
+
+// admit makes a unit one of commands.
+func (o *Office) admit(u *feed.Unit, calls []*api.Call) error {
+	u.Calls = calls
+	o.isStale.Store(true)
+	if o.record == nil {
+		return nil
+	}
+	return o.record.Admit(u)
+}
+
+// counting returns what notes the numbers when a unit is observed.
+func (o *Office) counting(numbers *state.Numbers) func() {
+	if o.state == nil {
+		return nil
+	}
+	return func() { *numbers = o.state.Numbers() }
+}
+
+// askInTurn is AskAll while no command of others is done.
+func (o *Office) askInTurn(ctx context.Context, calls []*api.Call) ([][]byte, state.Numbers, error) {
+	var answers [][]byte // The function may outlive the request.
+	var numbers state.Numbers
+	err := o.Turn(ctx, func(t endpoints.Turn) (err error) {
+		answers, err = t.Ask(calls...)
+		numbers = t.Numbers()
+		return err
+	})
+	if err != nil {
+		return nil, state.Numbers{}, err
+	}
+	return answers, numbers, nil
+}
+
+// enter waits until nobody has or awaits a turn.
+func (o *Office) enter(ctx context.Context) error {
+	if o.gate.TryRLock() {
+		return nil
+	}
+	entered := make(chan struct{})
+	go func() {
+		o.gate.RLock()
+		close(entered)
+	}()
+	select {
+	case <-entered:
+		return nil
+	case <-ctx.Done():
+		go func() {
+			<-entered
+			o.gate.RUnlock()
+		}()
+		return api.Unavailable
+	}
+}
+
+// Observe returns the answers to some questions. A function is called at their place in the order, when the state is that in which
+// they are answered. It must not wait.
+func (o *Office) Observe(ctx context.Context, observed func(), questions ...*api.Call) ([][]byte, error) {
+	within, cancel := context.WithTimeout(ctx, o.AnswerTimeout)
+	defer cancel()
+	o.touch(questions)
+	return o.feed.Do(within, &feed.Unit{Lines: linesOf(questions), Observed: observed})
+}
+
+// touch says that the sessions are used which calls name.
+func (o *Office) touch(calls []*api.Call) {
+	if o.state == nil {
+		return
+	}
+	for _, call := range calls {
+		if name, has := call.Texts["session"]; has && call.Kind == api.Question {
+			o.state.Touch(name)
+		}
+	}
+}
+
+// linesOf returns the lines of some calls.
+func linesOf(calls []*api.Call) [][]byte {
+	lines := make([][]byte, len(calls))
+	for i, call := range calls {
+		lines[i] = call.Line
+	}
+	return lines
+}
+
+func haveCommand(calls []*api.Call) bool {
+	for _, call := range calls {
+		if call.Kind == api.Command {
+			return true
+		}
+	}
+	return false
+}
+
+// A turn is a part of the order in which no command of others is done.
+type turn struct {
+	office *Office
+	ctx    context.Context
+	// asked has the units that aren't finished.
+	asked sync.WaitGroup
+}
+
+// Turn calls a function when all commands before are done. Those of others wait until it returns, so it must wait for little but
+// its answers. It isn't called if the context has ended before, or names a revision that the policy no longer has.
+func (o *Office) Turn(ctx context.Context, do func(endpoints.Turn) error) error {
+	within, cancel := context.WithTimeout(ctx, o.AnswerTimeout)
+	done := make(chan error, 1)
+	go func() {
+		defer cancel()
+		o.gate.Lock()
+		defer o.gate.Unlock()
+		t := &turn{office: o, ctx: within}
+		err := error(api.Unavailable)
+		if revision, has := api.Condition(ctx); has && revision != t.Numbers().Policy {
+			err = api.Outdated
+		} else if within.Err() == nil {
+			err = do(t)
+		}
+		done <- err
+		t.asked.Wait() // Nobody may wait any more for what was asked last.
+	}()
+	select {
+	case err := <-done:
+		return err
+	case <-within.Done():
+		return api.Unavailable
+	}
+}
+
+// Numbers returns the numbers of this moment.
+func (t *turn) Numbers() (numbers state.Numbers) {
+	if t.office.state != nil {
+		numbers = t.office.state.Numbers()
+	}
+	return numbers
+}
+
+// Ask returns the answers to some calls, with nothing of others between them.
+func (t *turn) Ask(calls ...*api.Call) ([][]byte, error) {
+	o := t.office
+	o.touch(calls)
+	if !haveCommand(calls) {
+		return o.feed.Ask(t.ctx, linesOf(calls)...)
+	}
+	all := calls
+	if o.state != nil && state.NeedsReview(calls) {
+		all = append(append([]*api.Call(nil), calls...), o.state.Review(calls)...)
+	}
+	u := &feed.Unit{Lines: linesOf(all)}
+	if err := o.admit(u, all); err != nil {
+		return nil, err
+	}
+	t.asked.Add(1)
+	u.Finally = t.asked.Done
+	answers, err := o.feed.Do(t.ctx, u)
+	if err != nil {
+		return nil, err
+	}
+	return answers[:len(calls)], nil
+}

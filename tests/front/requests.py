@@ -1,0 +1,62 @@
+"""The commands of docs/REQUESTS.md print what it shows, from its top to its end; its lines for nginx are those that are tried."""
+
+import os
+import re
+import shutil
+
+from pages import markdown
+from pages.shell import Shell
+from program.bench import TESTS
+
+from . import gateways
+from .page import runs
+from .running import PROGRAM
+
+PAGE = markdown.page("REQUESTS.md")
+
+# The most lines that the page may have.
+MOST_LINES = 420
+
+
+def check_commands(bench):
+    """The commands of the page print what is shown below them."""
+    if not shutil.which("curl"):
+        print("left out: the commands of docs/REQUESTS.md, since curl is not installed")
+        return
+    with Shell(bench) as reader:
+        (bench.folder / "examples").symlink_to(TESTS.parent / "examples")
+        (bench.folder / "bin/rbac-node").symlink_to(os.environ[PROGRAM])
+        for block in markdown.blocks(PAGE, "console"):
+            for command, shown in joined(runs(block)):
+                bench.same(f"what {command} prints", reader.type(command), reader.here(shown))
+
+
+def joined(shown):
+    """The commands, with the lines behind them that begin with `> `."""
+    for command, lines in shown:
+        while lines.startswith("> "):
+            more, _, lines = lines.partition("\n")
+            command += "\n" + more[2:]
+        yield command, lines
+
+
+def check_form(bench):
+    """The page is not too long, its lines are short, and each block is of a language that is run or compared."""
+    bench.same("the page is short", len(PAGE.splitlines()) <= MOST_LINES, True)
+    bench.same("long lines", [line for line in PAGE.splitlines() if len(line) > 130 and not line.startswith("|")], [])
+    bench.same("the languages", set(re.findall(r"^```(\w+)$", PAGE, re.M)), {"console", "nginx"})
+
+
+def check_nginx(bench):
+    """The lines for nginx on the page are those that the real nginx is tried with."""
+    tried = [line.strip().replace("{{", "{").replace("}}", "}") for line in gateways.NGINX.splitlines()]
+    (lines,) = markdown.blocks(PAGE, "nginx")
+    places = {
+        "http://127.0.0.1:8000": "http://{host}:{site}",
+        "http://127.0.0.1:8080": "http://{host}:{front}",
+        "TOKEN": "{token}",
+    }
+    for line in lines:
+        for shown, used in places.items():
+            line = line.replace(shown, used)
+        bench.same(f"{line.strip()} is tried", line.strip() in tried, True)
