@@ -196,8 +196,7 @@ func refusal(text []byte, code int, name string) error {
 	return &RefusedError{Code: code, Name: name, Details: details}
 }
 
-// Check decides whether the session may do the operation on the object. It takes about half a microsecond. With an error the
-// access has to be denied.
+// Check decides whether the session may do the operation on the object. With an error the access has to be denied.
 func (o *Office) Check(session, operation, object string) (bool, error) {
 	o.mu.Lock()
 	if o.room == nil {
