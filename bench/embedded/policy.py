@@ -7,6 +7,8 @@ from typing import Iterator, NamedTuple
 
 # How many questions the programs here ask, and how they choose the session and the object of each.
 QUESTIONS, SESSION_STEP, OBJECT_STEP = 2048, 37, 91
+# How many of the roles are assigned: the most senior ones, so that about two in five questions have the answer yes.
+ASSIGNED = 7
 
 # What SQLite and PostgreSQL are asked, with the closure of the inheritances stored.
 TABLES = {
@@ -31,7 +33,7 @@ class Policy(NamedTuple):
 
     def role_of(self, user: int) -> int:
         """Returns the role that a user has, and that is activated in the user's session."""
-        return user * 3 % self.roles
+        return user % ASSIGNED
 
     def granted_to(self, thing: int) -> int:
         """Returns the role to which the permission for an object is granted."""
@@ -64,10 +66,10 @@ class Policy(NamedTuple):
             yield "addPermission", {"operation": "read", "object": f"o{thing}"}
             yield "grantPermission", {"operation": "read", "object": f"o{thing}", "role": f"r{self.granted_to(thing)}"}
         for user in range(self.users):
-            role = f"r{self.role_of(user)}"
+            assigned = f"r{self.role_of(user)}"
             yield "addUser", {"user": f"u{user}"}
-            yield "assignUser", {"user": f"u{user}", "role": role}
-            yield "createSession", {"user": f"u{user}", "roles": [role], "session": f"{self.prefix}{user}"}
+            yield "assignUser", {"user": f"u{user}", "role": assigned}
+            yield "createSession", {"user": f"u{user}", "roles": [assigned], "session": f"{self.prefix}{user}"}
 
     def lines(self) -> bytes:
         """Returns the lines that make the office."""
@@ -75,11 +77,11 @@ class Policy(NamedTuple):
 
     def questions(self) -> bytes:
         """Returns the questions as lines."""
-        asked = (
-            (f"{self.prefix}{at * SESSION_STEP % self.users}", f"o{at * OBJECT_STEP % self.objects}") for at in range(QUESTIONS)
-        )
-        lines = ({"fn": "checkAccess", "session": it, "operation": "read", "object": thing} for it, thing in asked)
-        return "".join(json.dumps(it) + "\n" for it in lines).encode()
+        lines = []
+        for at in range(QUESTIONS):
+            session, thing = f"{self.prefix}{at * SESSION_STEP % self.users}", f"o{at * OBJECT_STEP % self.objects}"
+            lines.append(json.dumps({"fn": "checkAccess", "session": session, "operation": "read", "object": thing}) + "\n")
+        return "".join(lines).encode()
 
     def rows(self) -> Iterator[tuple[str, list[str]]]:
         """Yields the rows for SQLite and PostgreSQL, each with its table."""
