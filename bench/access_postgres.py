@@ -78,10 +78,10 @@ class Server:
         )
         return told.stdout
 
-    def start(self):
-        """Makes the database, and starts the server on a socket in its folder."""
+    def start(self, more="-c listen_addresses= -c fsync=off"):
+        """Makes the database, and starts the server on a socket in its folder, with more settings."""
         self.run("initdb", "-D", f"{self.folder}/data", "-A", "trust", "-E", "UTF8", "--locale=C")
-        settings = f"-k {self.folder} -c listen_addresses= -c fsync=off"
+        settings = f"-k {self.folder} {more}"
         log = f"{self.folder}/log"
         self.run("pg_ctl", "-D", f"{self.folder}/data", "-w", "-o", settings, "-l", log, "start")
 

@@ -1,6 +1,8 @@
 #!/usr/bin/env python3
 """bin/build.py [library]: proves the crates that the program uses, builds it, and copies it to out/release.
 bin/build.py left FILE: proves rbac_c alone, over the libraries that `rt ci` has left in crates/, and builds its archive to FILE.
+bin/build.py arm64 FOLDER: builds rbac.o and librbac_c.a for Linux on arm64 into FOLDER, over libraries that `bin/rbac --build` or
+`rt ci` has proved and left. Of each it checks the uppermost crate alone, for that processor; bin/arm64 is the command for this.
 
 With `library` it proves and builds the static library of rbac_c instead of the program. Crates that don't use each other are
 proved side by side. A crate that was proved by an earlier run here is proved again only if a file of its own, or a library below
@@ -29,6 +31,8 @@ OUT = f"{CACHE}/rbac-build/{hashlib.sha256(kit.TOP.encode()).hexdigest()[:16]}"
 LASTS = "It takes about an hour on four processors from scratch."
 # The seconds between two lines of progress.
 PAUSE = 10
+# How rattle names Linux on arm64.
+ARM64 = "aarch64-unknown-linux-gnu"
 CHECKED = re.compile(r"checked (?:\w+::)?(\S+), (\d+ of \d+)")
 
 
@@ -54,6 +58,9 @@ class Failed(Exception):
 
 class Build:
     """A build of some crates: what is known about each, and what is being done."""
+
+    # The processor for which the program and the static library are built: x86-64 if none is named.
+    target = []
 
     def __init__(self, crates):
         self.kit, self.start, self.crates = kit.folder(), time.monotonic(), crates
@@ -94,7 +101,7 @@ class Build:
 
     def prove(self, crate, jobs):
         """Proves a crate and builds its library or, for the program, the object file and the executable."""
-        at, words = self.at(crate), crate.words(self.kit, self.library)
+        at, words = self.at(crate), [*crate.words(self.kit, self.library), *self.target]
         shutil.rmtree(at, ignore_errors=True)
         os.makedirs(at)
         logic = ["--logic-built", f"{self.kit}/logic_built"]
@@ -109,10 +116,14 @@ class Build:
             self.rattle(crate, "build", *words, *cut, "-o", self.library(crate))
         else:
             self.rattle(crate, "build", *words, *toolchain, "--backend", "llvm", "-o", f"{self.product(crate)}.o")
-            with_c = [f"{self.kit}/c/{it}" for it in ("libos_c.a", "liblibc_c.a")]
-            link = [f"{self.kit}/bin/rattle-link", "--target", "x86_64-unknown-linux-gnu", *toolchain]
-            subprocess.run([*link, "-o", self.product(crate), f"{self.product(crate)}.o", *with_c], check=True, stdin=subprocess.DEVNULL)
+            self.link(crate)
         shutil.rmtree(f"{at}/checked")
+
+    def link(self, crate):
+        """Links the program's object file with the kit's functions in C."""
+        with_c = [f"{self.kit}/c/{it}" for it in ("libos_c.a", "liblibc_c.a")]
+        link = [f"{self.kit}/bin/rattle-link", "--target", "x86_64-unknown-linux-gnu", "--toolchain", f"{self.kit}/toolchain"]
+        subprocess.run([*link, "-o", self.product(crate), f"{self.product(crate)}.o", *with_c], check=True, stdin=subprocess.DEVNULL)
 
     def make(self, crate, jobs):
         """Proves and builds a crate, unless an earlier run did so from the same files."""
@@ -168,12 +179,52 @@ class Build:
                     done.add(crate)
 
 
+def left_by_ci(crate):
+    """Returns the library of a crate that `rt ci` leaves in the crate's folder."""
+    return f"{crate.folder}/out/rlib/{crate.name}.rlib"
+
+
 class OverLeft(Build):
     """A build over the libraries that `rt ci` has left in the crates' folders."""
 
     def library(self, crate):
         """Returns the library of a crate that `rt ci` has left."""
-        return f"{crate.folder}/out/rlib/{crate.name}.rlib"
+        return left_by_ci(crate)
+
+
+class Arm64(Build):
+    """A build of the program and of the static library for arm64, over libraries that are there. Libraries are for any processor."""
+
+    target = ["--target", ARM64]
+
+    def __init__(self, crates):
+        super().__init__(crates)
+        self.below = [it for crate in crates for it in crate.below()]
+        self.is_kept = all(map(self.was_kept, dict.fromkeys(self.below)))
+        missing = [] if self.is_kept else [it.name for it in self.below if not os.path.isdir(left_by_ci(it))]
+        if missing:
+            raise Failed(f"{missing[0]} is not proved and built from these sources: bin/rbac --build and bin/release library do that")
+        self.sums = {it.name: sum_of(self.library(it)) for it in dict.fromkeys(self.below)}
+
+    def was_kept(self, crate):
+        """Returns whether an earlier run of this script has built the library of a crate from the files at hand, and notes its sum."""
+        kept = super().library(crate)
+        with contextlib.suppress(OSError, KeyError):
+            if kit.read(f"{os.path.dirname(kept)}/key") == self.key(crate):
+                self.sums[crate.name] = sum_of(kept)
+                return True
+        return False
+
+    def at(self, crate):
+        """Returns the folder in which the work on a crate for arm64 is kept."""
+        return f"{OUT}/arm64/{crate.name}"
+
+    def library(self, crate):
+        """Returns the library of a crate that is there."""
+        return f"{OUT}/{crate.name}/{crate.name}.rlib" if self.is_kept else left_by_ci(crate)
+
+    def link(self, crate):
+        """Leaves the object file as it is: the kit has no functions in C for arm64."""
 
 
 def build_over_left(path):
@@ -188,6 +239,19 @@ def build_over_left(path):
         sys.exit(f"rbac: the build failed: {error}")
 
 
+def build_for_arm64(folder):
+    """Builds the program's object file and the archive of the static library for arm64, and copies them to a folder."""
+    crates = [kit.crates()[it] for it in ("rbac", "rbac_c")]
+    try:
+        build = Arm64(crates)
+        for crate, made in zip(crates, ("rbac.o", "librbac_c.a")):
+            say(f"building {made} for arm64")
+            build.make(crate, kit.lanes())
+            shutil.copyfile(f"{build.at(crate)}/{made}", f"{folder}/{made}")
+    except (Failed, OSError) as error:
+        sys.exit(f"rbac: the build failed: {error}")
+
+
 def digest(sort):
     """Returns the digest of the sources of the program, or of the library."""
     return subprocess.run([f"{kit.TOP}/bin/release", *sort, "--digest"], stdout=subprocess.PIPE, text=True, check=True).stdout.strip()
@@ -197,6 +261,8 @@ def main(words):
     """Builds the program, or the library."""
     if words[:1] == ["left"] and len(words) == 2:
         return build_over_left(words[1])
+    if words[:1] == ["arm64"] and len(words) == 2:
+        return build_for_arm64(words[1])
     if words not in ([], ["library"]):
         sys.exit(__doc__)
     crate = kit.crates()["rbac_c" if words else "rbac"]

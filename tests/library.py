@@ -16,7 +16,7 @@ import tempfile
 from library import answers, building
 from stopped.running import checks_of, run_all
 
-MODULES = ["answers", "interface", "memory", "bindings", "page", "arm64"]
+MODULES = ["answers", "saving", "interface", "memory", "bindings", "page", "arm64"]
 
 
 def main(words):

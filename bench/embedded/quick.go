@@ -48,10 +48,16 @@ func main() {
 		sessions[i], objects[i] = fmt.Sprintf("s%d", i*37%1000), fmt.Sprintf("o%d", i*91%1000)
 	}
 	lines := [][]byte{[]byte(`{"fn":"addUser","user":"extra"}`), []byte(`{"fn":"deleteUser","user":"extra"}`)}
+	granted := 0
 	decision := perCall(decisions, func() error {
+		granted = 0
 		for i := range sessions {
-			if _, err := office.Check(sessions[i], "read", objects[i]); err != nil {
+			allowed, err := office.Check(sessions[i], "read", objects[i])
+			if err != nil {
 				return err
+			}
+			if allowed {
+				granted++
 			}
 		}
 		return nil
@@ -64,5 +70,5 @@ func main() {
 		}
 		return nil
 	})
-	fmt.Println(decision.Nanoseconds(), command.Nanoseconds())
+	fmt.Println(decision.Nanoseconds(), command.Nanoseconds(), granted)
 }

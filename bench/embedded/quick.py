@@ -26,16 +26,20 @@ def main():
     asked = [(f"s{at * 37 % 1000}", "read", f"o{at * 91 % 1000}") for at in range(DECISIONS)]
     lines = [b'{"fn":"addUser","user":"extra"}', b'{"fn":"deleteUser","user":"extra"}'] * (COMMANDS // 2)
 
+    granted = 0
+
     def decide():
-        check = office.check
+        nonlocal granted
+        granted, check = 0, office.check
         for session, operation, object in asked:
-            check(session, operation, object)
+            if check(session, operation, object):
+                granted += 1
 
     def command():
         for line in lines:
             office.answer(line)
 
-    print(f"{per_call(DECISIONS, decide):.0f} {per_call(COMMANDS, command):.0f}")
+    print(f"{per_call(DECISIONS, decide):.0f} {per_call(COMMANDS, command):.0f} {granted}")
 
 
 if __name__ == "__main__":

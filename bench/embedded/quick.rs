@@ -28,9 +28,11 @@ fn main() -> Result<(), Box<dyn std::error::Error>> {
     }
     let asked: Vec<_> = (0..DECISIONS).map(|at| (format!("s{}", at * 37 % 1000), format!("o{}", at * 91 % 1000))).collect();
     let lines = [br#"{"fn":"addUser","user":"extra"}"#.as_slice(), br#"{"fn":"deleteUser","user":"extra"}"#];
+    let mut granted = 0;
     let decision = per_call(DECISIONS, || {
+        granted = 0;
         for (session, object) in &asked {
-            black_box(office.check(session, "read", object)?);
+            granted += usize::from(office.check(session, "read", object)?);
         }
         Ok(())
     })?;
@@ -40,6 +42,6 @@ fn main() -> Result<(), Box<dyn std::error::Error>> {
         }
         Ok(())
     })?;
-    println!("{decision} {command}");
+    println!("{decision} {command} {granted}");
     Ok(())
 }

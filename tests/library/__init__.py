@@ -2,6 +2,7 @@
 
     building    builds the library, and a program in each language that answers lines
     answers     the answers and decisions of each language are those of the plain model and of the program
+    saving      rows that are saved, and offices that are loaded from them
     interface   rbac.h: its symbols, its codes, null pointers, buffers that are too short
     memory      each allocation fails in turn; sanitizers and valgrind
     bindings    what each language has of its own: its errors, its threads, its own tests

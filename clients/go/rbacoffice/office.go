@@ -8,14 +8,40 @@ package rbacoffice
 // #include <stdlib.h>
 // #include "rbac.h"
 //
-// static int32_t check(rbac_office *office, _GoString_ session, _GoString_ operation, _GoString_ object) {
-//     return rbac_check(office, _GoStringPtr(session), _GoStringLen(session), _GoStringPtr(operation),
+// enum { ROOM = 4096 };
+//
+// // An office with what its calls return. It is in the memory of C: cgo would check a pointer to Go's memory at each call,
+// // and copy an array that it leads to. For the same reason Go passes its address as a number.
+// typedef struct {
+//     rbac_office office;
+//     size_t length;
+//     rbac_row row;
+//     char out[ROOM];
+// } room;
+//
+// static int32_t check(uintptr_t at, _GoString_ session, _GoString_ operation, _GoString_ object) {
+//     return rbac_check(&((room *)at)->office, _GoStringPtr(session), _GoStringLen(session), _GoStringPtr(operation),
 //         _GoStringLen(operation), _GoStringPtr(object), _GoStringLen(object));
 // }
 //
-// static uint32_t add_row(rbac_office *office, uint32_t table, _GoString_ first, _GoString_ second, _GoString_ third,
+// static uint32_t answer(uintptr_t at, const void *line, size_t length) {
+//     room *made = (room *)at;
+//     return rbac_answer(&made->office, line, length, made->out, ROOM, &made->length);
+// }
+//
+// static uint32_t kept_answer(uintptr_t at, void *out, size_t length) {
+//     room *made = (room *)at;
+//     return rbac_kept_answer(&made->office, out, length, &made->length);
+// }
+//
+// static uint32_t row_at(uintptr_t at, uint32_t table, size_t index) {
+//     room *made = (room *)at;
+//     return rbac_row_at(&made->office, table, index, made->out, ROOM, &made->row);
+// }
+//
+// static uint32_t add_row(uintptr_t at, uint32_t table, _GoString_ first, _GoString_ second, _GoString_ third,
 //     uint32_t number) {
-//     return rbac_add_row(office, table, _GoStringPtr(first), _GoStringLen(first), _GoStringPtr(second),
+//     return rbac_add_row(&((room *)at)->office, table, _GoStringPtr(first), _GoStringLen(first), _GoStringPtr(second),
 //         _GoStringLen(second), _GoStringPtr(third), _GoStringLen(third), number);
 // }
 import "C"
@@ -24,6 +50,7 @@ import (
 	"encoding/json"
 	"errors"
 	"fmt"
+	"runtime"
 	"sync"
 	"unsafe"
 )
@@ -47,65 +74,80 @@ func (e *RefusedError) Error() string {
 	return fmt.Sprintf("rbacoffice: refused: %d %s", e.Code, e.Name)
 }
 
-// room is the length of the buffer for answers. Longer answers need a second call of the library.
-const room = 4096
-
 // Office is an office in memory. Its methods may be called by several goroutines: each waits for the one before it.
 type Office struct {
-	mu     sync.Mutex
-	handle *C.rbac_office // in C's memory, since Go's may move
-	out    [room]byte
+	mu   sync.Mutex
+	room *C.room // nil once the office is closed
 }
 
-// Open returns a new and empty office. The caller has to call Close at the end.
+// Open returns a new and empty office. Close frees it, and so does the garbage collector, some time after its last use.
 func Open() (*Office, error) {
-	handle := (*C.rbac_office)(C.calloc(1, C.sizeof_rbac_office))
-	if handle == nil {
+	room := (*C.room)(C.calloc(1, C.sizeof_room))
+	if room == nil {
 		return nil, ErrMemory
 	}
-	if code := C.rbac_open(handle); code != C.RBAC_DONE {
-		C.free(unsafe.Pointer(handle))
+	if code := C.rbac_open(&room.office); code != C.RBAC_DONE {
+		C.free(unsafe.Pointer(room))
 		return nil, errorOf(code)
 	}
-	return &Office{handle: handle}, nil
+	o := &Office{room: room}
+	runtime.SetFinalizer(o, (*Office).Close)
+	return o, nil
 }
 
 // Close frees the office. Further calls return ErrClosed.
 func (o *Office) Close() {
 	o.mu.Lock()
 	defer o.mu.Unlock()
-	if o.handle == nil {
+	if o.room == nil {
 		return
 	}
-	C.rbac_close(o.handle)
-	C.free(unsafe.Pointer(o.handle))
-	o.handle = nil
+	runtime.SetFinalizer(o, nil)
+	C.rbac_close(&o.room.office)
+	C.free(unsafe.Pointer(o.room))
+	o.room = nil
+}
+
+// at returns the address of the room. The caller holds the lock, and the unlocking afterwards keeps o from the finalizer.
+func (o *Office) at() C.uintptr_t {
+	return C.uintptr_t(uintptr(unsafe.Pointer(o.room)))
+}
+
+// out returns these bytes of the room's buffer, which the next call overwrites. The caller holds the lock.
+func (o *Office) out(from, to C.size_t) []byte {
+	return (*[C.ROOM]byte)(unsafe.Pointer(&o.room.out))[from:to]
 }
 
 // Answer returns the answer to a line of docs/API.md, both without a line feed.
 func (o *Office) Answer(line []byte) ([]byte, error) {
 	o.mu.Lock()
 	defer o.mu.Unlock()
-	if o.handle == nil {
+	if o.room == nil {
 		return nil, ErrClosed
 	}
-	var first unsafe.Pointer
-	if len(line) > 0 {
-		first = unsafe.Pointer(&line[0])
+	var code C.uint32_t
+	if len(line) == 0 {
+		code = C.answer(o.at(), nil, 0)
+	} else {
+		code = C.answer(o.at(), unsafe.Pointer(&line[0]), C.size_t(len(line)))
 	}
-	var length C.size_t
-	switch code := C.rbac_answer(o.handle, first, C.size_t(len(line)), unsafe.Pointer(&o.out[0]), room, &length); code {
+	switch code {
 	case C.RBAC_DONE:
-		return append([]byte(nil), o.out[:length]...), nil
+		return append([]byte(nil), o.out(0, o.room.length)...), nil
 	case C.RBAC_SHORT:
-		answer := make([]byte, length)
-		if code := C.rbac_kept_answer(o.handle, unsafe.Pointer(&answer[0]), length, &length); code != C.RBAC_DONE {
-			return nil, errorOf(code)
-		}
-		return answer, nil
+		return o.keptAnswer()
 	default:
 		return nil, errorOf(code)
 	}
+}
+
+// keptAnswer returns an answer that is longer than the room's buffer. The caller holds the lock.
+func (o *Office) keptAnswer() ([]byte, error) {
+	answer := make([]byte, o.room.length)
+	if code := C.kept_answer(o.at(), unsafe.Pointer(&answer[0]), o.room.length); code != C.RBAC_DONE {
+		return nil, errorOf(code)
+	}
+	return answer, nil
 }
 
 // Call calls any function with these arguments, and stores its value in value, unless that is nil.
@@ -154,15 +196,16 @@ func refusal(text []byte, code int, name string) error {
 	return &RefusedError{Code: code, Name: name, Details: details}
 }
 
-// Check decides whether the session may do the operation on the object. It takes about a microsecond. With an error the
-// access has to be denied.
+// Check decides whether the session may do the operation on the object. With an error the access has to be denied.
 func (o *Office) Check(session, operation, object string) (bool, error) {
 	o.mu.Lock()
-	defer o.mu.Unlock()
-	if o.handle == nil {
+	if o.room == nil {
+		o.mu.Unlock()
 		return false, ErrClosed
 	}
-	switch decision := C.check(o.handle, session, operation, object); decision {
+	decision := C.check(o.at(), session, operation, object)
+	o.mu.Unlock()
+	switch decision {
 	case 1:
 		return true, nil
 	case 0:
@@ -176,11 +219,11 @@ func (o *Office) Check(session, operation, object string) (bool, error) {
 func (o *Office) Revision() (uint64, error) {
 	o.mu.Lock()
 	defer o.mu.Unlock()
-	if o.handle == nil {
+	if o.room == nil {
 		return 0, ErrClosed
 	}
 	var revision C.uint64_t
-	if code := C.rbac_revision(o.handle, &revision); code != C.RBAC_DONE {
+	if code := C.rbac_revision(&o.room.office, &revision); code != C.RBAC_DONE {
 		return 0, errorOf(code)
 	}
 	return uint64(revision), nil
@@ -240,36 +283,32 @@ type Row struct {
 func (o *Office) Rows() ([]Row, error) {
 	o.mu.Lock()
 	defer o.mu.Unlock()
-	if o.handle == nil {
+	if o.room == nil {
 		return nil, ErrClosed
 	}
 	var rows []Row
 	for table := Table(0); table < tables; table++ {
 		for index := 0; ; index++ {
-			row, code := o.row(table, index)
+			code := C.row_at(o.at(), C.uint32_t(table), C.size_t(index))
 			if code == C.RBAC_ABSENT {
 				break
 			}
 			if code != C.RBAC_DONE {
 				return nil, errorOf(code)
 			}
-			rows = append(rows, row)
+			rows = append(rows, o.row(table))
 		}
 	}
 	return rows, nil
 }
 
-// row returns the row at this place of the table, if the code is RBAC_DONE. The caller holds the lock.
-func (o *Office) row(table Table, index int) (Row, C.uint32_t) {
-	var made C.rbac_row
-	code := C.rbac_row_at(o.handle, C.uint32_t(table), C.size_t(index), unsafe.Pointer(&o.out[0]), room, &made)
-	if code != C.RBAC_DONE {
-		return Row{}, code
-	}
+// row returns the row that the library has just returned. The caller holds the lock.
+func (o *Office) row(table Table) Row {
+	made := &o.room.row
 	second := made.first + made.second
 	third := second + made.third
-	names := [3]string{string(o.out[:made.first]), string(o.out[made.first:second]), string(o.out[second:third])}
-	return Row{Table: table, Names: names, Number: uint32(made.number)}, code
+	names := [3]string{string(o.out(0, made.first)), string(o.out(made.first, second)), string(o.out(second, third))}
+	return Row{Table: table, Names: names, Number: uint32(made.number)}
 }
 
 // Load returns the office that has exactly these rows, in any order. Its revision counts on from the one that is given.
@@ -278,16 +317,25 @@ func Load(rows []Row, revision uint64) (*Office, error) {
 	if err != nil {
 		return nil, err
 	}
-	for _, row := range rows {
-		code := C.add_row(o.handle, C.uint32_t(row.Table), row.Names[0], row.Names[1], row.Names[2], C.uint32_t(row.Number))
-		if code != C.RBAC_DONE {
-			o.Close()
-			return nil, fmt.Errorf("the row %v: %w", row, errorOf(code))
-		}
-	}
-	if code := C.rbac_load(o.handle, C.uint64_t(revision)); code != C.RBAC_DONE {
+	if err := o.load(rows, revision); err != nil {
 		o.Close()
-		return nil, errorOf(code)
+		return nil, err
 	}
 	return o, nil
+}
+
+// load has the office start again with exactly these rows.
+func (o *Office) load(rows []Row, revision uint64) error {
+	o.mu.Lock()
+	defer o.mu.Unlock()
+	for _, row := range rows {
+		code := C.add_row(o.at(), C.uint32_t(row.Table), row.Names[0], row.Names[1], row.Names[2], C.uint32_t(row.Number))
+		if code != C.RBAC_DONE {
+			return fmt.Errorf("the row %v: %w", row, errorOf(code))
+		}
+	}
+	if code := C.rbac_load(&o.room.office, C.uint64_t(revision)); code != C.RBAC_DONE {
+		return errorOf(code)
+	}
+	return nil
 }

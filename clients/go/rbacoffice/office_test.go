@@ -2,9 +2,14 @@ package rbacoffice
 
 import (
 	"errors"
+	"fmt"
+	"os"
 	"reflect"
+	"runtime"
+	"strings"
 	"sync"
 	"testing"
+	"time"
 )
 
 // open returns a new office that is closed at the end of the test.
@@ -99,6 +104,91 @@ func TestLoad(t *testing.T) {
 				t.Errorf("the revision is %d, %v; want 7", revision, err)
 			}
 		})
+	}
+}
+
+// TestAnswersAreCopied shows that an answer stays the same when the next line is answered.
+func TestAnswersAreCopied(t *testing.T) {
+	rows := []Row{{Table: Roles, Names: [3]string{"clerk"}}}
+	for i := 0; i < 1000; i++ {
+		user := fmt.Sprintf("user%d", i)
+		rows = append(rows, Row{Table: Users, Names: [3]string{user}}, Row{Table: Assignments, Names: [3]string{user, "clerk"}})
+	}
+	office, err := Load(rows, 0)
+	if err != nil {
+		t.Fatal(err)
+	}
+	defer office.Close()
+	tests := []struct {
+		name, line, end string
+	}{
+		{"empty line", "", `"BadRequest"}`},
+		{"short answer", `{"fn":"addRole","role":"clerk"}`, `"RoleExists"}`},
+		{"answer longer than the buffer", `{"fn":"assignedUsers","role":"clerk"}`, `"user999"]}`},
+	}
+	for _, test := range tests {
+		t.Run(test.name, func(t *testing.T) {
+			answer, err := office.Answer([]byte(test.line))
+			if err != nil {
+				t.Fatal(err)
+			}
+			kept := string(answer)
+			if _, err := office.Answer([]byte(`{"fn":"addUser","user":"zoe"}`)); err != nil {
+				t.Fatal(err)
+			}
+			if string(answer) != kept || !strings.HasSuffix(kept, test.end) {
+				t.Errorf("the answer was %q and is %q; want one that ends with %s", kept, answer, test.end)
+			}
+		})
+	}
+}
+
+// residentBytes returns how much memory the process has.
+func residentBytes(t *testing.T) int {
+	t.Helper()
+	text, err := os.ReadFile("/proc/self/statm")
+	if err != nil {
+		t.Skip(err)
+	}
+	var size, resident int
+	if _, err := fmt.Sscan(string(text), &size, &resident); err != nil {
+		t.Fatal(err)
+	}
+	return resident * os.Getpagesize()
+}
+
+// collect runs the garbage collector, and waits until it has called the finalizer of an object that nobody uses.
+func collect(t *testing.T) {
+	t.Helper()
+	called := make(chan struct{})
+	runtime.SetFinalizer(&Office{}, func(*Office) { close(called) })
+	runtime.GC()
+	select {
+	case <-called:
+	case <-time.After(time.Minute):
+		t.Fatal("no finalizer was called in a minute")
+	}
+}
+
+// TestForgottenOfficesAreFreed opens offices of about 200 KB each, which nobody closes. The memory of those that were freed is
+// used for the next ones, so the process grows by those that weren't.
+func TestForgottenOfficesAreFreed(t *testing.T) {
+	const offices, users, most = 400, 2000, 40 << 20
+	rows := make([]Row, users)
+	for i := range rows {
+		rows[i] = Row{Table: Users, Names: [3]string{fmt.Sprintf("%060d", i)}}
+	}
+	before := residentBytes(t)
+	for i := 0; i < offices; i++ {
+		if _, err := Load(rows, 0); err != nil {
+			t.Fatal(err)
+		}
+		if i%10 == 0 {
+			collect(t)
+		}
+	}
+	if more := residentBytes(t) - before; more > most {
+		t.Errorf("the process has %d more bytes; want at most %d", more, most)
 	}
 }
 

@@ -192,27 +192,21 @@ impl Office {
 
     /// The answer to a line of docs/API.md, as `rbac replay` writes it, both without a line feed.
     pub fn answer(&self, line: &[u8]) -> Result<Vec<u8>, Error> {
-        let mut answer = vec![0; ROOM];
+        let mut room = [0; ROOM];
         let mut length = 0;
         let mut handle = self.lock();
         // SAFETY: the pointers and lengths are those of slices, and the lock is held.
-        let mut code = unsafe {
-            ffi::rbac_answer(&mut *handle, line.as_ptr(), line.len(), answer.as_mut_ptr(), answer.len(), &mut length)
+        let code = unsafe {
+            ffi::rbac_answer(&mut *handle, line.as_ptr(), line.len(), room.as_mut_ptr(), room.len(), &mut length)
         };
-        if code == ffi::SHORT {
-            answer.resize(length, 0);
-            // SAFETY: as above.
-            code = unsafe { ffi::rbac_kept_answer(&mut *handle, answer.as_mut_ptr(), answer.len(), &mut length) };
+        match code {
+            ffi::DONE => Ok(room[..length].to_vec()),
+            ffi::SHORT => kept_answer(&mut handle, length),
+            _ => Err(Error::of(code)),
         }
-        drop(handle);
-        if code != ffi::DONE {
-            return Err(Error::of(code));
-        }
-        answer.truncate(length);
-        Ok(answer)
     }
 
-    /// Whether the session may do the operation on the object. It takes about a microsecond.
+    /// Whether the session may do the operation on the object.
     ///
     /// With an error the access has to be denied.
     pub fn check(&self, session: &str, operation: &str, object: &str) -> Result<bool, Error> {
@@ -259,6 +253,16 @@ impl Office {
             }
         }
         Ok(rows)
+    }
+}
+
+/// The answer to the last line, which has this length.
+fn kept_answer(handle: &mut Handle, mut length: usize) -> Result<Vec<u8>, Error> {
+    let mut answer = vec![0; length];
+    // SAFETY: the pointer and the length are those of a vector, and the caller holds the lock.
+    match unsafe { ffi::rbac_kept_answer(handle, answer.as_mut_ptr(), answer.len(), &mut length) } {
+        ffi::DONE => Ok(answer),
+        code => Err(Error::of(code)),
     }
 }
 
