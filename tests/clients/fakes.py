@@ -195,7 +195,14 @@ STATUSES = ["201 A", "202 A", "203 A", "204 A", "206 A", "300 A", "304 A", "400 
 STATUSES += ["599 A", "999 A", "20 A", "0200 A", "-200 A", "OK"]
 
 # Statuses of proxies, with a page instead of a refusal.
-PAGES = {401: "unauthenticated", 403: "forbidden", 429: "unavailable", 502: "unavailable", 503: "unavailable", 504: "unavailable"}
+PAGES = {
+    401: "unauthenticated",
+    403: "forbidden",
+    429: "unavailable",
+    502: "unavailable",
+    503: "unavailable",
+    504: "unavailable",
+}
 
 # Refusals that a decision can get, with their statuses and reasons.
 REFUSALS = [

@@ -127,7 +127,16 @@ def addresses_are_read(bench, name):
 def commands_are_strict(bench, name):
     """A command is done only by its own answer, and refused only by a refusal; its answer may be lost otherwise."""
     done, wrong = b'{"ok":true}', ("unexpected", True)
-    bodies = [b'{"ok":true,"value":[]}', b'{"ok":true,"value":null}', b'{"ok":false}', b'{"ok":1}', b"{}", b"", b"[]", b" " + done]
+    bodies = [
+        b'{"ok":true,"value":[]}',
+        b'{"ok":true,"value":null}',
+        b'{"ok":false}',
+        b'{"ok":1}',
+        b"{}",
+        b"",
+        b"[]",
+        b" " + done,
+    ]
     answers = [(f"the body {body}", reply(200, body), wrong) for body in bodies]
     answers += [(f"done with status {status}", answered(status, done), wrong) for status in (201, 302, 404)]
     answers += [
@@ -153,8 +162,30 @@ def commands_are_strict(bench, name):
 def values_are_strict(bench, name):
     """A value of another type than that of the question is no answer to it."""
     counts = b'{"already":0,"assigned":1,"refused":[{"code":2,"record":3}]}'
-    values = [b"true", b"2", b'"a"', b'["a"]', b'["a\\"\\\\b"]', b'[["a","b"]]', b"[]", counts, b"2.0", b"02", b'[["a"]]', b"[1]"]
-    values += [b'["a",]', b'["a" ]', b'["\\u0061"]', b'["\xff"]', b'{"already":0,"assigned":0,"refused":[]}', b"null", b"-1", b'["a"']
+    values = [
+        b"true",
+        b"2",
+        b'"a"',
+        b'["a"]',
+        b'["a\\"\\\\b"]',
+        b'[["a","b"]]',
+        b"[]",
+        counts,
+        b"2.0",
+        b"02",
+        b'[["a"]]',
+        b"[1]",
+    ]
+    values += [
+        b'["a",]',
+        b'["a" ]',
+        b'["\\u0061"]',
+        b'["\xff"]',
+        b'{"already":0,"assigned":0,"refused":[]}',
+        b"null",
+        b"-1",
+        b'["a"',
+    ]
     right = {
         "ssdRoleSetCardinality": {1},
         "assignedUsers": {3, 4, 6},
