@@ -93,7 +93,9 @@ def visits(bench, app, office):
     status, ann = app.visit("/login", user="ann", password="apple")
     bench.same("a login", (status, bool(ann)), (200, True))
     _, erin = app.visit("/login", user="erin", password="elder")
-    bench.same("who may open the vault", [app.visit("/vault", one)[0] for one in (ann, erin, "login=x", "")], [200, 403, 401, 401])
+    bench.same(
+        "who may open the vault", [app.visit("/vault", one)[0] for one in (ann, erin, "login=x", "")], [200, 403, 401, 401]
+    )
     bench.same("who may count what is in it", [app.visit("/count", one)[0] for one in (ann, erin)], [403, 200])
     bench.same("a page without a need", app.visit("/vault/", ann)[0] in (200, 404), True)
     bench.same("a demotion", outcome(office.deassign_user, "ann", "branch manager"), '{"ok":true}')
