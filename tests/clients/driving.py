@@ -49,6 +49,7 @@ CLIENTS = {
     "python": ("python3", None, lambda folder: [sys.executable, DRIVERS / "driver.py", "sync"]),
     "asyncio": ("python3", None, lambda folder: [sys.executable, DRIVERS / "driver.py", "async"]),
     "go": ("go", build_go, lambda folder: [f"{folder}/go-driver", json.dumps(KEYS)]),
+    "node": ("node", None, lambda folder: ["node", DRIVERS / "driver.mjs", json.dumps(KEYS)]),
 }
 
 

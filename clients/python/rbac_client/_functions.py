@@ -2,7 +2,7 @@
 
 from typing import Any, Dict, Iterable, List, Mapping, Tuple
 
-from ._values import ImportReport, Permission
+from ._values import ImportReport, Permission, names
 
 # What the answer of each function has as its value.
 VALUES: Mapping[str, str] = {
@@ -238,7 +238,7 @@ class Functions:
         Refused: 4 NoRole for one of `roles`; 19 SetExists for `set`; 23 BadCardinality unless 2 <= `cardinality` <=
         number of `roles`; 32 TooMany `ssdSet`; 32 TooMany `member`; 24 StaticSeparation for the new set.
         """
-        self._call("createSsdSet", {"set": set, "roles": list(roles), "cardinality": cardinality})
+        self._call("createSsdSet", {"set": set, "roles": names(roles), "cardinality": cardinality})
 
     def add_ssd_role_member(self, set: str, role: str) -> None:
         """AddSsdRoleMember: makes the role `role` a member of the static set `set`.
@@ -278,7 +278,7 @@ class Functions:
         Refused: 4 NoRole for one of `roles`; 19 SetExists for `set`; 23 BadCardinality unless 2 <= `cardinality` <=
         number of `roles`; 32 TooMany `dsdSet`; 32 TooMany `member`; 25 DynamicSeparation for the new set.
         """
-        self._call("createDsdSet", {"set": set, "roles": list(roles), "cardinality": cardinality})
+        self._call("createDsdSet", {"set": set, "roles": names(roles), "cardinality": cardinality})
 
     def add_dsd_role_member(self, set: str, role: str) -> None:
         """AddDsdRoleMember: makes the role `role` a member of the dynamic set `set`.
@@ -319,7 +319,7 @@ class Functions:
         `user` is not authorized for one of `roles`; 37 UserLocked for `user`; 32 TooMany `session`; 32 TooMany
         `activeRole`; 25 DynamicSeparation if the session would have too many members of a dynamic set.
         """
-        self._call("createSession", {"user": user, "roles": list(roles), "session": session})
+        self._call("createSession", {"user": user, "roles": names(roles), "session": session})
 
     def delete_session(self, user: str, session: str) -> None:
         """DeleteSession: ends the session `session` of the user `user`.
@@ -657,7 +657,7 @@ class AsyncFunctions:
         Refused: 4 NoRole for one of `roles`; 19 SetExists for `set`; 23 BadCardinality unless 2 <= `cardinality` <=
         number of `roles`; 32 TooMany `ssdSet`; 32 TooMany `member`; 24 StaticSeparation for the new set.
         """
-        await self._call("createSsdSet", {"set": set, "roles": list(roles), "cardinality": cardinality})
+        await self._call("createSsdSet", {"set": set, "roles": names(roles), "cardinality": cardinality})
 
     async def add_ssd_role_member(self, set: str, role: str) -> None:
         """AddSsdRoleMember: makes the role `role` a member of the static set `set`.
@@ -697,7 +697,7 @@ class AsyncFunctions:
         Refused: 4 NoRole for one of `roles`; 19 SetExists for `set`; 23 BadCardinality unless 2 <= `cardinality` <=
         number of `roles`; 32 TooMany `dsdSet`; 32 TooMany `member`; 25 DynamicSeparation for the new set.
         """
-        await self._call("createDsdSet", {"set": set, "roles": list(roles), "cardinality": cardinality})
+        await self._call("createDsdSet", {"set": set, "roles": names(roles), "cardinality": cardinality})
 
     async def add_dsd_role_member(self, set: str, role: str) -> None:
         """AddDsdRoleMember: makes the role `role` a member of the dynamic set `set`.
@@ -738,7 +738,7 @@ class AsyncFunctions:
         `user` is not authorized for one of `roles`; 37 UserLocked for `user`; 32 TooMany `session`; 32 TooMany
         `activeRole`; 25 DynamicSeparation if the session would have too many members of a dynamic set.
         """
-        await self._call("createSession", {"user": user, "roles": list(roles), "session": session})
+        await self._call("createSession", {"user": user, "roles": names(roles), "session": session})
 
     async def delete_session(self, user: str, session: str) -> None:
         """DeleteSession: ends the session `session` of the user `user`.

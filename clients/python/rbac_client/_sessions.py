@@ -7,6 +7,7 @@ from typing import TYPE_CHECKING, List, Sequence
 
 from ._decision import Decision, Error, Reason, Refused
 from ._office import undecided
+from ._values import names
 
 if TYPE_CHECKING:
     from ._async import AsyncOffice
@@ -23,7 +24,7 @@ def session_name() -> str:
 
 class _Base:
     def __init__(self, user: str, roles: Sequence[str], renews: bool) -> None:
-        self.user, self.roles, self.renews = user, list(roles), renews
+        self.user, self.roles, self.renews = user, names(roles), renews
         self.name = ""
 
     def __repr__(self) -> str:

@@ -1,7 +1,7 @@
 """What the methods of the clients return."""
 
 from dataclasses import dataclass
-from typing import List, NamedTuple
+from typing import Iterable, List, NamedTuple
 
 
 class Permission(NamedTuple):
@@ -25,3 +25,10 @@ class ImportReport:
     already: int
     assigned: int
     refused: List[RefusedRecord]
+
+
+def names(given: Iterable[str]) -> List[str]:
+    """A list of names. One text isn't one, though its letters could be."""
+    if isinstance(given, str):
+        raise ValueError(f"{given!r} is a name and not a list of names")
+    return list(given)
