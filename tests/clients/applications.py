@@ -43,7 +43,16 @@ def go_app(folder):
     return [program], {}
 
 
-APPS = {"python": (python_app, "app.py"), "go": (go_app, "go/main.go")}
+def node_app(folder):
+    """Starts the example for Node, beside a folder of packages that has the client."""
+    packages = folder / "node_modules"
+    packages.mkdir()
+    (packages / "rbac-client").symlink_to(TESTS.parent / "clients/javascript")
+    shutil.copy(WEB / "app.mjs", folder)
+    return ["node", str(folder / "app.mjs")], {}
+
+
+APPS = {"python": (python_app, "app.py"), "go": (go_app, "go/main.go"), "node": (node_app, "app.mjs")}
 
 
 class App:

@@ -17,6 +17,7 @@ ON_DISK = True
 
 PYTHON = ROOT / "clients/python"
 GO = ROOT / "clients/go/rbacclient"
+NODE = ROOT / "clients/javascript"
 
 # The longest lines of sources in Python.
 WIDTH = "128"
@@ -53,6 +54,24 @@ func main() {
 }
 """,
 }
+ASKING[
+    "typescript"
+] = """import { Client, Decision, guard, type ImportReport, type Permission } from "rbac-client";
+
+declare const process: { env: Record<string, string> };
+declare const console: { log(...words: unknown[]): void };
+
+const office = new Client({ addresses: process.env.RBAC ?? "", timeout: 20_000 });
+const decisions: Decision[] = await Promise.all(["s1", "s2"].map((name) => office.check(name, "open", "safe")));
+const roles: string[] = await office.authorizedRoles("ann");
+const permissions: Permission[] = await office.sessionPermissions("s1");
+const object: string = permissions[0]![0];
+const report: ImportReport = await office.importAssignments("user,role\\n");
+const passes = guard(office, (request: { url: string }) => [request.url, object], () => undefined);
+// @ts-expect-error: a name is no list of names
+const wrong = () => office.createSession("ann", "boss", "s3");
+console.log(...decisions.map((one) => one.reason), ...roles.slice(0, report.assigned + 2), ...[passes, wrong].slice(2));
+"""
 PRINTED = "allowed ended_session boss clerk\n"
 
 
@@ -90,7 +109,10 @@ def written(bench):
         bench.same(f"the version in {name}", found, [version])
 
 
-VERSIONS = {"clients/python/pyproject.toml": r'^version = "(.*)"$'}
+VERSIONS = {
+    "clients/python/pyproject.toml": r'^version = "(.*)"$',
+    "clients/javascript/package.json": r'^  "version": "(.*)",$',
+}
 
 
 def python_form(bench):
@@ -169,4 +191,48 @@ def go_installed(bench):
     asked(bench, "the installed client in Go", folder / "asking", seconds=SECONDS)
 
 
-JOBS = [(written,), (python_form,), (go_form,), (python_installed,), (go_installed,)]
+def typescript_form(bench):
+    """tsc finds nothing with --strict, and would write the declarations that are there: those that index.d.ts leads to."""
+    if without("tsc", "the types of the client for Node"):
+        return
+    bench.same("what tsc finds", run("tsc", "-p", NODE, "--outDir", bench.path("types")), (0, ""))
+    written = {path.name: path.read_text(encoding="utf-8") for path in (bench.folder / "types").iterdir()}
+    present = {path.name: path.read_text(encoding="utf-8") for path in (NODE / "types").iterdir()}
+    reached, ahead = set(), ["index.d.ts"]
+    while ahead:
+        name = ahead.pop()
+        if name not in reached:
+            reached.add(name)
+            ahead += [f"{one}.d.ts" for one in re.findall(r'"\./(\w+)\.js"', written[name])]
+    bench.same("the declarations", present, {name: written[name] for name in reached})
+
+
+def node_installed(bench):
+    """npm packs the client, and installs it into a new folder without a network. TypeScript finds its types there."""
+    if without("npm", "the installation of the client for Node"):
+        return
+    folder = bench.folder.parent / "app"
+    folder.mkdir()
+    environment = {**os.environ, "npm_config_cache": bench.path("cache"), "npm_config_offline": "true"}
+    environment |= {"npm_config_audit": "false", "npm_config_fund": "false", "npm_config_update_notifier": "false"}
+    status, said = run("npm", "pack", "--silent", NODE, cwd=folder, env=environment)
+    bench.same("npm pack", status, 0)
+    (folder / "package.json").write_text('{"name": "app", "private": true, "type": "module"}', encoding="utf-8")
+    bench.same("npm install", run("npm", "install", "--silent", folder / said.split()[-1], cwd=folder, env=environment)[0], 0)
+    (folder / "asking.ts").write_text(ASKING["typescript"], encoding="utf-8")
+    if without("tsc", "the types of the installed client"):
+        return
+    words = ["--strict", "--module", "node16", "--moduleResolution", "node16", "--target", "es2022", "--lib", "es2022"]
+    bench.same("what tsc finds in a program that uses it", run("tsc", *words, "asking.ts", cwd=folder), (0, ""))
+    asked(bench, "the installed client for Node", "node", "asking.js", cwd=folder, seconds=SECONDS)
+
+
+JOBS = [
+    (written,),
+    (python_form,),
+    (go_form,),
+    (typescript_form,),
+    (python_installed,),
+    (go_installed,),
+    (node_installed,),
+]
