@@ -15,7 +15,7 @@ from program.offices import Office
 from program.web import HOST
 
 from .client import PATIENT, office_at, outcome, rbac
-from .driving import KEYS, go_environment, installed
+from .driving import JAVA, KEYS, go_environment, installed
 
 # The example in Go is built on the disk: a file system in memory may forbid running programs.
 ON_DISK = True
@@ -52,7 +52,25 @@ def node_app(folder):
     return ["node", str(folder / "app.mjs")], {}
 
 
-APPS = {"python": (python_app, "app.py"), "go": (go_app, "go/main.go"), "node": (node_app, "app.mjs")}
+def java_app(folder):
+    """Builds the example in Java, with a store of the authority that it trusts."""
+    sources = [*sorted((TESTS.parent / "clients/java/src/main/java/rbac/client").glob("*.java")), WEB / "App.java"]
+    words = ["javac", "-Xlint:all", "-Werror", "--release", "11", "-encoding", "UTF-8", "-d", str(folder / "java")]
+    subprocess.run([*words, *map(str, sources)], check=True, timeout=600)
+    store = ["-keystore", str(folder / "store"), "-storepass", "changeit", "-file", str(folder / "files/ca.crt")]
+    subprocess.run(
+        ["keytool", "-importcert", "-noprompt", "-alias", "ca", *store], check=True, capture_output=True, timeout=SECONDS
+    )
+    trusted = [f"-Djavax.net.ssl.trustStore={folder}/store", "-Djavax.net.ssl.trustStorePassword=changeit"]
+    return [*JAVA, *trusted, "-cp", str(folder / "java"), "App"], {}
+
+
+APPS = {
+    "python": (python_app, "app.py"),
+    "go": (go_app, "go/main.go"),
+    "node": (node_app, "app.mjs"),
+    "java": (java_app, "App.java"),
+}
 
 
 class App:

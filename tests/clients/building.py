@@ -5,6 +5,7 @@ import re
 import shutil
 import subprocess
 import sys
+from pathlib import Path
 
 from program.bench import SECONDS, TESTS
 from program.offices import small_office
@@ -18,6 +19,10 @@ ON_DISK = True
 PYTHON = ROOT / "clients/python"
 GO = ROOT / "clients/go/rbacclient"
 NODE = ROOT / "clients/javascript"
+JAVA = ROOT / "clients/java"
+
+# Where Debian keeps the libraries and plugins of Maven.
+MAVEN = Path("/usr/share/maven-repo")
 
 # The longest lines of sources in Python.
 WIDTH = "128"
@@ -72,6 +77,18 @@ const passes = guard(office, (request: { url: string }) => [request.url, object]
 const wrong = () => office.createSession("ann", "boss", "s3");
 console.log(...decisions.map((one) => one.reason), ...roles.slice(0, report.assigned + 2), ...[passes, wrong].slice(2));
 """
+ASKING[
+    "java"
+] = """import rbac.client.Client;
+
+class Asking {
+    public static void main(String[] arguments) {
+        var office = Client.of(System.getenv("RBAC")).build();
+        var decisions = office.check("s1", "open", "safe").reason() + " " + office.check("s2", "open", "safe").reason();
+        System.out.println(decisions + " " + String.join(" ", office.authorizedRoles("ann")));
+    }
+}
+"""
 PRINTED = "allowed ended_session boss clerk\n"
 
 
@@ -112,6 +129,7 @@ def written(bench):
 VERSIONS = {
     "clients/python/pyproject.toml": r'^version = "(.*)"$',
     "clients/javascript/package.json": r'^  "version": "(.*)",$',
+    "clients/java/pom.xml": r"^  <version>(.*)</version>$",
 }
 
 
@@ -227,6 +245,28 @@ def node_installed(bench):
     asked(bench, "the installed client for Node", "node", "asking.js", cwd=folder, seconds=SECONDS)
 
 
+def java_installed(bench):
+    """Maven builds and installs the client from Debian's repository, without a network, and javac finds it there."""
+    if without("mvn", "the installation of the client in Java") or without("javac", "the client in Java"):
+        return
+    if not (MAVEN / "org/apache/maven/plugins/maven-jar-plugin").is_dir():
+        print("skipped: the installation of the client in Java: Debian's plugins of Maven are missing")
+        return
+    folder = bench.folder.parent
+    shutil.copytree(JAVA, folder / "source", ignore=shutil.ignore_patterns("target"))
+    shutil.copytree(MAVEN, folder / "repository", symlinks=False, copy_function=os.symlink)
+    settings = f"<settings><localRepository>{folder}/repository</localRepository><offline>true</offline></settings>"
+    (folder / "settings.xml").write_text(settings, encoding="utf-8")
+    status, said = run("mvn", "-o", "-q", "-B", "-s", "../settings.xml", "install", cwd=folder / "source")
+    bench.judge("mvn install", [] if status == 0 else [said[-2000:]])
+    version = (ROOT / "VERSION").read_text(encoding="utf-8").strip()
+    own = folder / f"repository/rbac/rbac-client/{version}/rbac-client-{version}.jar"
+    (folder / "Asking.java").write_text(ASKING["java"], encoding="utf-8")
+    words = ["javac", "-Xlint:all", "-Werror", "--release", "11", "-cp", own, "Asking.java"]
+    bench.same("what javac finds in a program that uses it", run(*words, cwd=folder), (0, ""))
+    asked(bench, "the installed client in Java", "java", "-cp", f"{own}:.", "Asking", cwd=folder, seconds=SECONDS)
+
+
 JOBS = [
     (written,),
     (python_form,),
@@ -235,4 +275,5 @@ JOBS = [
     (python_installed,),
     (go_installed,),
     (node_installed,),
+    (java_installed,),
 ]

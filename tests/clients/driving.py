@@ -44,12 +44,23 @@ def build_go(folder):
     subprocess.run(command, cwd=DRIVERS / "go", env=go_environment(), check=True, timeout=600)
 
 
+def build_java(folder):
+    """Builds the client and the driver in Java, with all warnings as errors."""
+    sources = [*sorted((ROOT / "clients/java/src/main/java/rbac/client").glob("*.java")), DRIVERS / "Driver.java"]
+    words = ["javac", "-Xlint:all", "-Werror", "--release", "11", "-encoding", "UTF-8", "-d", str(Path(folder) / "java")]
+    subprocess.run([*words, *map(str, sources)], check=True, timeout=600)
+
+
+# Java, without what a short run doesn't need. Its log has a line for each message.
+JAVA = ["java", "-XX:TieredStopAtLevel=1", "-XX:+UseSerialGC", "-Djava.util.logging.SimpleFormatter.format=%5$s%n"]
+
 # What each client needs, what builds its driver into a folder, and what starts it.
 CLIENTS = {
     "python": ("python3", None, lambda folder: [sys.executable, DRIVERS / "driver.py", "sync"]),
     "asyncio": ("python3", None, lambda folder: [sys.executable, DRIVERS / "driver.py", "async"]),
     "go": ("go", build_go, lambda folder: [f"{folder}/go-driver", json.dumps(KEYS)]),
     "node": ("node", None, lambda folder: ["node", DRIVERS / "driver.mjs", json.dumps(KEYS)]),
+    "java": ("javac", build_java, lambda folder: [*JAVA, "-cp", f"{folder}/java", "Driver", json.dumps(KEYS)]),
 }
 
 
@@ -66,6 +77,10 @@ def build(folder):
             print(f"skipped: the client in {name}, since there is no {program}")
         elif builder:
             builder(folder)
+
+
+# The clients that can connect to a socket in the file system, by their standard libraries.
+WITH_SOCKETS = {"python", "asyncio", "go", "node"}
 
 
 class Driven:

@@ -298,7 +298,7 @@ def wrong_answers(port):
     named |= {name: (answer, reason) for name, answer, reason in unequal_lengths()}
     named["no answer"] = b"", "unanswered"
     named["a reset"] = RESET, "unanswered"
-    named["no HTTP"] = ALLOWED, "unexpected"
+    named["no HTTP"] = ALLOWED + b"\r\n\r\n", "unexpected"
     named["a gigabyte"] = [lengthened(b"", 1_000_000_000), *[b" " * 1_000_000] * 8], "unexpected"
     named["a head without an end"] = [b"HTTP/1.1 200 OK\r\n", *[b"X: %s\r\n" % (b"y" * 1_000)] * 1_000], "unexpected"
     return named

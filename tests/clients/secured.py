@@ -13,7 +13,7 @@ from program.offices import small_office
 from program.web import HOST
 
 from .client import HASTY, PATIENT
-from .driving import Driven, installed
+from .driving import WITH_SOCKETS, Driven, installed
 from .fakes import RIGHT, Fake
 
 # Who may ask what: an application that decides and one that doesn't, by tokens, by a certificate and by a socket.
@@ -23,9 +23,6 @@ RIGHTS = {
     "cert:shop": [("checkAccess", "office")],
     f"unix:{os.getuid()}": [("checkAccess", "office")],
 }
-
-# The clients that can show a certificate, and those that can connect to a socket, by their standard libraries.
-WITH_SOCKETS = {"python", "asyncio", "go", "node"}
 
 
 def asked(driver, function="assignedRoles", **arguments):

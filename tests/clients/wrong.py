@@ -6,7 +6,7 @@ from program.bench import SECONDS
 from program.web import HOST, free_port, reply
 
 from .client import HASTY, PATIENT
-from .driving import Driven, installed
+from .driving import WITH_SOCKETS, Driven, installed
 from .fakes import ALLOWED, DENIED, RIGHT, Fake, Kept, answered, slow_answers, with_status, wrong_answers
 
 NAMES = b'{"ok":true,"value":["a"]}'
@@ -35,15 +35,19 @@ def wrong_answers_deny(bench, name):
 
 def slow_answers_deny(bench, name):
     """Answers that don't come in time are denied when the time is over, and not much later."""
-    slow = slow_answers()
-    with Fake([*slow.values(), RIGHT]) as fake, Driven(bench, name, timeout=HASTY) as driver:
-        driver.open(fake.address)
-        for what in slow:
-            start = time.monotonic()
-            bench.same(what, driver.check(), "unanswered")
-            bench.same(f"{what}: the time limit is kept", HASTY * 0.9 <= time.monotonic() - start < SECONDS / 2, True)
-        driver.open(fake.address, timeout=PATIENT)
-        bench.same("the right answer", driver.check(), "allowed")
+    with Driven(bench, name, timeout=PATIENT) as driver:
+        for what, answer in {"the right answer": RIGHT, **slow_answers()}.items():
+            with Fake([answer]) as fake:
+                driver.open(fake.address, **({} if answer == RIGHT else {"timeout": HASTY}))
+                start = time.monotonic()
+                reason = driver.check()
+                seconds = time.monotonic() - start
+            if answer == RIGHT:
+                bench.same(what, reason, "allowed")
+                continue
+            # On a busy machine the time may be over before there is a connection.
+            bench.same(f"{what}: {reason}", reason in ("unanswered", "unreachable"), True)
+            bench.same(f"{what}: the time limit is kept", HASTY * 0.9 <= seconds < SECONDS / 2, True)
 
 
 def changed_bytes():
@@ -112,7 +116,7 @@ def several_addresses(bench, name):
         driver.open(first.address, second.address, timeout=4 * HASTY)
         first.answers, second.answers = [[SECONDS]], [RIGHT]
         bench.same("a slow one", driver.check(), "allowed")
-        driver.open(dead, f"unix:{bench.path('none')}")
+        driver.open(dead, f"unix:{bench.path('none')}" if name in WITH_SOCKETS else dead)
         bench.same("none that can be reached", driver.check(), "unreachable")
 
 
@@ -194,13 +198,13 @@ def values_are_strict(bench, name):
         "importAssignments": {7, 16},
     }
     given = {"ssdRoleSetCardinality": {"set": "a"}, "ssdRoleSets": {}, "importAssignments": {"csv": ""}}
-    for function, good in right.items():
-        with Fake([reply(200, b'{"ok":true,"value":%s}' % value) for value in values]) as fake:
-            with Driven(bench, name, timeout=PATIENT) as driver:
-                driver.open(fake.address)
-                for place, value in enumerate(values):
-                    outcome = driver.call(function, **given.get(function, {"role": "a"}))
-                    bench.same(f"{function} answered by {value}", "value" in outcome, place in good)
+    with Fake([]) as fake, Driven(bench, name, timeout=PATIENT) as driver:
+        driver.open(fake.address)
+        for function, good in right.items():
+            fake.answers = [reply(200, b'{"ok":true,"value":%s}' % value) for value in values]
+            for place, value in enumerate(values):
+                outcome = driver.call(function, **given.get(function, {"role": "a"}))
+                bench.same(f"{function} answered by {value}", "value" in outcome, place in good)
 
 
 TESTS = [
