@@ -20,7 +20,7 @@ ROUNDS, QUESTIONS = 6, 2_000
 PORT = 18_080
 
 sys.path.append(str(BENCH.parent / "clients/python"))
-import rbac
+import rbac_client
 
 
 def lines(what, count):
@@ -35,7 +35,7 @@ def ask(office, questions):
     for question in questions:
         try:
             office.check_access(question["session"], question["operation"], question["object"])
-        except rbac.Refused:
+        except rbac_client.Refused:
             pass
     return (time.monotonic() - before) / len(questions) * 1e6
 
@@ -57,10 +57,10 @@ def main():
         with subprocess.Popen(serving, stdout=subprocess.PIPE) as server:
             try:
                 server.stdout.readline()
-                measure("over HTTP", rbac.Office(f"http://127.0.0.1:{PORT}"), questions)
+                measure("over HTTP", rbac_client.Client(f"http://127.0.0.1:{PORT}"), questions)
             finally:
                 server.kill()
-        with rbac.Lines([PROGRAM, "replay", path]) as office:
+        with rbac_client.Lines([PROGRAM, "replay", path]) as office:
             measure("by lines", office, questions)
 
 

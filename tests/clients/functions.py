@@ -2,6 +2,7 @@
 
 import json
 import os
+import shutil
 from pathlib import Path
 
 from front.identities import secured
@@ -169,4 +170,6 @@ def page_repeated(bench, name):
     bench.same("commands that were not repeated", set(COMMANDS) - done, set())
 
 
-JOBS = [(test, name) for name in installed() for test in (over_serve, over_the_front)] + [(page_repeated, "python")]
+JOBS = [(over_serve, name) for name in installed()] + [(page_repeated, "python")]
+if shutil.which("go"):
+    JOBS += [(over_the_front, name) for name in installed()]
