@@ -7,7 +7,7 @@ from . import markdown, openapi, sources, verdicts
 from .shell import Shell
 
 PAGE = markdown.page("INTEGRATING.md")
-MOST_LINES = 250
+MOST_LINES = 260
 
 # The languages of the blocks that tests/clients.py runs, and that of those that are run here.
 ELSEWHERE, HERE = {"python", "sh", "go", "java", "javascript"}, {"console"}
