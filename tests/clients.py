@@ -23,10 +23,10 @@ def main(words):
         driving.build(folder)
         if shutil.which("go"):
             os.environ[front.PROGRAM] = front.build(folder)
-        from clients import applications, building, failures, functions, lines, lost, secured, sessions, snippets, wrong
+        from clients import applications, building, failures, functions, guards, lines, lost, secured, sessions, snippets, wrong
 
         functions.prepare()
-        modules = [building, applications, lost, functions, secured, snippets, wrong, sessions, failures, lines]
+        modules = [building, applications, lost, functions, secured, snippets, wrong, sessions, failures, lines, guards]
         return run_all([job for module in modules for job in module.JOBS], words)
 
 

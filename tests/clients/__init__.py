@@ -11,6 +11,7 @@
     snippets      the examples of the page in each language
     failures      programs that are busy, killed, stopped or missing, for the client in Python
     lines         wrong lines to the client in Python that asks a child process
+    guards        the guards of the client in Python, and kept connections that several share
     client        the client in Python
     fakes         servers that send wrong answers
 """

@@ -74,7 +74,8 @@ class Client(Office):
         """`addresses`: one or more of `http://HOST:PORT`, `https://HOST:PORT` and `unix:PATH`; one answers for all.
 
         `token`: shows who asks; a text, or a function that returns the present one.
-        `timeout`: how many seconds a call may take as a whole, with all of its attempts.
+        `timeout`: how many seconds a call may take as a whole, with all of its attempts. Only the system limits how long it looks
+        for the address of a host.
         `ca`: the file of the authorities that may have issued the server's certificate, instead of those of the system.
         `certificate`, `key`: the files of the client's own certificate and key.
         `pause`: how many seconds pass before a command is sent again. Each further pause is twice as long.
