@@ -61,4 +61,18 @@ def ended_for_good(bench, name):
         bench.same("names of twenty logins", len(names), 20)
 
 
-JOBS = [(test, name) for name in installed() for test in (a_demotion, ended_for_good)]
+def missing_names(bench, name):
+    """A name that is missing isn't another name: nothing is allowed, not even if something has the name of nothing."""
+    with Server(bench, small_office(bench).path, 10_000) as server, Driven(bench, name, timeout=PATIENT) as driver:
+        driver.open(f"http://{HOST}:{server.port}")
+        for word in ("null", "None", "undefined"):
+            driver.call("addPermObj", object=word)
+            driver.call("addPermission", object=word, operation=word)
+            driver.call("grantPermission", object=word, operation=word, role="boss")
+            driver.call("createSession", user="ann", roles=["boss"], session=word)
+            bench.same(f"the names {word}", driver.check(word, word, word), "allowed")
+        for names in [(None, "open", "safe"), ("s1", None, "null"), ("s1", "open", None), (None, None, None), ("", "", "")]:
+            bench.same(f"the names {names}", driver.check(*names), "invalid_request")
+
+
+JOBS = [(test, name) for name in installed() for test in (a_demotion, ended_for_good, missing_names)]

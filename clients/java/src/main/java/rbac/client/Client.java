@@ -7,6 +7,7 @@ import java.util.Collection;
 import java.util.EnumMap;
 import java.util.List;
 import java.util.Map;
+import java.util.Objects;
 import java.util.concurrent.atomic.AtomicInteger;
 import java.util.function.Supplier;
 import javax.net.ssl.SSLContext;
@@ -164,8 +165,8 @@ public final class Client extends Functions {
 
     /** Calls a function. The code again means that a command was done, if its answer was lost before. */
     <T> T call(String function, Map<String, Object> keys, Reader<T> reader, Integer again) {
-        var body = function.equals("importAssignments") ? String.valueOf(keys.get("csv")) : Json.body(keys);
-        if (!isSendable(body)) {
+        var body = function.equals("importAssignments") ? (String) keys.get("csv") : Json.body(keys);
+        if (!isSendable(Objects.requireNonNull(body))) {
             throw OfficeException.failed(Reason.INVALID_REQUEST, false, "a name has half of a character", null);
         }
         var course = new Course(function, again, addresses.size(), first.get(), timeout, pause);

@@ -16,7 +16,7 @@ final class Json {
         this.text = text;
     }
 
-    /** The body of a request. */
+    /** The body of a request. A name that is null is not the text "null": it can't be sent. */
     static String body(Map<String, Object> keys) {
         var written = new StringBuilder("{");
         keys.forEach(
@@ -32,14 +32,14 @@ final class Json {
         if (value instanceof Collection) {
             var separator = "[";
             for (var one : (Collection<?>) value) {
-                append(written.append(separator), String.valueOf(one));
+                append(written.append(separator), (String) one);
                 separator = ",";
             }
             written.append(separator.equals("[") ? "[]" : "]");
         } else if (value instanceof Long) {
             written.append(value);
         } else {
-            append(written, String.valueOf(value));
+            append(written, (String) value);
         }
     }
 
