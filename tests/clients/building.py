@@ -148,7 +148,7 @@ def go_form(bench):
     """gofmt changes nothing, and `go vet` finds nothing in the client, its driver and its example."""
     if without("go", "the form of the client in Go"):
         return
-    for folder in (GO, DRIVERS / "go", ROOT / "examples/web/go"):
+    for folder in (GO, DRIVERS / "go", ROOT / "examples/web/go", ROOT / "bench/clients/go"):
         bench.same(f"what gofmt would change in {folder.name}", run("gofmt", "-l", ".", cwd=folder), (0, ""))
         bench.same(f"what go vet finds in {folder.name}", run("go", "vet", "./...", cwd=folder, env=go_environment()), (0, ""))
     found = run("go", "list", "-deps", ".", cwd=GO, env=go_environment())[1].split()
