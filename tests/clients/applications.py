@@ -24,6 +24,9 @@ WEB = TESTS.parent / "examples/web"
 BANK = (TESTS.parent / "examples/bank.jsonl").read_bytes().splitlines(keepends=True)
 LONGEST = 60
 
+# How often a page is asked for.
+ATTEMPTS = 10
+
 # What a bank's application may do, and the administrator of this test.
 RIGHTS = {
     "token:admin": [(function, "office") for function in KEYS],
@@ -100,7 +103,18 @@ class App:
         self.process.stdout.close()
 
     def visit(self, path, cookie="", **form):
-        """The status of a page, and the cookie that comes with it."""
+        """The status of a page, and the cookie that comes with it. A page without a decision is asked for again some times.
+
+        On a busy machine the application may take longer for TLS than the front waits.
+        """
+        for _ in range(ATTEMPTS):
+            status, given = self.visit_once(path, cookie, **form)
+            if status != 503:
+                break
+        return status, given
+
+    def visit_once(self, path, cookie, **form):
+        """The same, asked for once."""
         body = urllib.parse.urlencode(form).encode() if form or path in ("/logout",) else None
         request = urllib.request.Request(self.address + path, body, {"Cookie": cookie} if cookie else {})
         opener = urllib.request.build_opener(urllib.request.ProxyHandler({}))

@@ -25,9 +25,27 @@ RIGHTS = {
 }
 
 
+# How often a question is asked. On a busy machine a client may take longer for TLS than the front waits.
+ATTEMPTS = 10
+
+
+def again(ask):
+    """What comes of a question, which is asked again some times if it is unanswered."""
+    for _ in range(ATTEMPTS):
+        outcome = ask()
+        if outcome != "unanswered":
+            break
+    return outcome
+
+
 def asked(driver, function="assignedRoles", **arguments):
     """The reason why a call has no result, or nothing."""
-    return driver.call(function, **(arguments or {"user": "ann"})).get("reason")
+    return again(lambda: driver.call(function, **(arguments or {"user": "ann"})).get("reason"))
+
+
+def decided(driver, **names):
+    """The reason of a decision."""
+    return again(lambda: driver.check(**names))
 
 
 def over_tls(bench, name):
@@ -38,20 +56,20 @@ def over_tls(bench, name):
     with secured(bench, *tls_words(bench), rights=RIGHTS) as front, Driven(bench, name, timeout=PATIENT) as driver:
         address = f"https://{HOST}:{front.port}"
         driver.open(address, token="another", **own)
-        bench.same("a decision", [driver.check(), driver.check(operation="burn")], ["allowed", "unknown_name"])
+        bench.same("a decision", [decided(driver), decided(driver, operation="burn")], ["allowed", "unknown_name"])
         bench.same("a session", "value" in driver.do("login", user="bob", roles=["clerk"], renews=False), True)
         bench.same("a decision of it", driver.do("ask", operation="view", object="safe")["reason"], "denied")
         bench.same("the end of it", driver.do("logout"), {"value": None})
         bench.same("what the caller may not do", asked(driver), "forbidden")
         driver.open(address, token="secret", **own)
-        bench.same("a decision of a caller that may not ask for it", driver.check(), "forbidden")
+        bench.same("a decision of a caller that may not ask for it", decided(driver), "forbidden")
         bench.same("what that caller may do", asked(driver), None)
         for what, token in [("a wrong token", "other"), ("no token", None)]:
             driver.open(address, **({"token": token} if token else {}), **own)
-            bench.same(what, (driver.check(), asked(driver)), ("unauthenticated", "unauthenticated"))
+            bench.same(what, (decided(driver), asked(driver)), ("unauthenticated", "unauthenticated"))
         for who, reason in [("shop", "allowed"), ("nameless", "unauthenticated"), ("foreign", None)]:
             driver.open(address, certificate=bench.path(f"{who}.crt"), key=bench.path(f"{who}.key"), **own)
-            given = driver.check()
+            given = decided(driver)
             # TLS 1.3 tells a client only later that its certificate is refused.
             wanted = reason or (given if given in ("untrusted", "unanswered", "unreachable") else "one of these")
             bench.same(f"the certificate {who}", given, wanted)
@@ -123,7 +141,8 @@ def wrong_servers(bench, name):
             bench.same("no TLS", driver.check(), "untrusted")
         with Talking(b"") as port:
             driver.open(f"https://{HOST}:{port}", **{**own, "timeout": HASTY})
-            bench.same("a server that is silent", driver.check(), "unreachable")
+            # A client that is slow itself doesn't see that there was no connection.
+            bench.same("a server that is silent", driver.check() in ("unreachable", "unanswered"), True)
         bench.same("the token in the log", "secret" in driver.said(), False)
 
 
