@@ -2,7 +2,7 @@
 
 Each line of a driver's input is an object with the key `do`, and each line of its output says what came of it:
 
-    open     makes a client of `addresses`, `timeout`, `pause`, `token`, `ca`, `certificate` and `key`
+    open     makes a client of `addresses`, `timeout`, `pause`, `repeats`, `token`, `ca`, `certificate` and `key`
     call     calls the method of `function` with `arguments`: its `value`, or the `reason` why there is none, with `may_be_done`
              and the `refusal`, if there is one
     check    a decision about `session`, `operation` and `object`: `allowed`, its `reason`, and the `code` of a refusal or 0

@@ -163,6 +163,30 @@ def commands_are_strict(bench, name):
         bench.same("no server", (outcome["reason"], outcome["may_be_done"]), ("unreachable", False))
 
 
+def commands_are_repeated(bench, name):
+    """A command that may be repeated is sent again until it is answered, unless the client was told not to."""
+    done, had_been = reply(200, b'{"ok":true}'), reply(409, b'{"code":10,"error":"AlreadyAssigned"}')
+    given = {"user": "ann", "role": "boss"}
+    with Fake([]) as fake, Driven(bench, name, timeout=PATIENT, pause=0.001) as driver:
+        driver.open(fake.address)
+        for what, answers, wanted in [
+            ("accepted", [b"", done], {"value": None}),
+            ("had been done", [b"", b"", had_been], {"value": None}),
+            ("lost each time", [b""] * 4, {"reason": "unanswered", "may_be_done": True}),
+        ]:
+            fake.answers = list(answers)
+            bench.same(f"a repeated command: {what}", driver.call("assignUser", **given), wanted)
+            bench.same("answers that are left", fake.answers, [])
+        fake.answers = [had_been]
+        bench.same("refused at once", driver.call("assignUser", **given)["reason"], "refused")
+        for function, more in ("assignUser", given), ("importAssignments", {"csv": "user,role\n"}):
+            driver.open(fake.address, repeats=False)
+            fake.answers = [b"", done]
+            outcome = driver.call(function, **more)
+            bench.same(f"{function}, not repeated", outcome, {"reason": "unanswered", "may_be_done": True})
+            bench.same("requests that weren't sent", fake.answers, [done])
+
+
 def values_are_strict(bench, name):
     """A value of another type than that of the question is no answer to it."""
     counts = b'{"already":0,"assigned":1,"refused":[{"code":2,"record":3}]}'
@@ -215,6 +239,7 @@ TESTS = [
     several_addresses,
     addresses_are_read,
     commands_are_strict,
+    commands_are_repeated,
     values_are_strict,
 ]
 JOBS = [(test, name) for name in installed() for test in TESTS]

@@ -38,6 +38,8 @@ type Config struct {
 	TLS *tls.Config
 	// Pause passes before a command is sent again, and each further pause is twice as long. The default is 100 milliseconds.
 	Pause time.Duration
+	// NoRepeats says that a command whose answer was lost is never sent again, even if docs/INTEGRATING.md, section 3, allows it.
+	NoRepeats bool
 	// Log gets a line for each decision that the office hasn't made. The default is the standard logger.
 	Log *log.Logger
 }
@@ -48,6 +50,7 @@ type Client struct {
 	token     func() string
 	timeout   time.Duration
 	pause     time.Duration
+	noRepeats bool
 	log       *log.Logger
 	first     atomic.Int64 // the address that answered last
 
@@ -73,7 +76,14 @@ func New(config Config) (*Client, error) {
 		}
 		token = func() string { return config.Token }
 	}
-	c := &Client{token: token, timeout: config.Timeout, pause: config.Pause, log: config.Log, counts: map[Reason]uint64{}}
+	c := &Client{
+		token:     token,
+		timeout:   config.Timeout,
+		pause:     config.Pause,
+		noRepeats: config.NoRepeats,
+		log:       config.Log,
+		counts:    map[Reason]uint64{},
+	}
 	for _, text := range config.Addresses {
 		read, err := readAddress(text, config.TLS)
 		if err != nil {

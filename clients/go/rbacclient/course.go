@@ -38,7 +38,7 @@ func newCourse(ctx context.Context, c *Client, function string, again int) *cour
 	switch {
 	case r.isQuestion:
 		r.left = len(c.addresses)
-	case isRepeatable:
+	case isRepeatable && !c.noRepeats:
 		r.left = mostAttempts
 	}
 	return r

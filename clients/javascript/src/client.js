@@ -18,12 +18,14 @@ import { Address } from "./transport.js";
  * @property {string | Uint8Array} [certificate] the client's own certificate
  * @property {string | Uint8Array} [key] the key of that certificate
  * @property {number} [pause] how many milliseconds pass before a command is sent again, each time twice as many; 100 if absent
+ * @property {boolean} [repeats] whether a command whose answer was lost is sent again, if docs/INTEGRATING.md, section 3, says that it
+ *   may be; true if absent
  * @property {(line: string) => void} [log] gets a line for each decision that the office hasn't made
  */
 
 /** A server, or several servers of one office. */
 export class Client extends Functions {
-  /** @type {{ addresses: Address[], timeout: number, pause: number, first: number }} */
+  /** @type {{ addresses: Address[], timeout: number, pause: number, repeats: boolean, first: number }} */
   #settings;
   /** @type {() => string | undefined} */
   #token;
@@ -35,13 +37,13 @@ export class Client extends Functions {
   /** @param {Options} options */
   constructor(options) {
     super();
-    const { ca, certificate: cert, key, token, timeout = 10_000, pause = 100 } = options;
+    const { ca, certificate: cert, key, token, timeout = 10_000, pause = 100, repeats = true } = options;
     const given = typeof options.addresses === "string" ? [options.addresses] : options.addresses;
     const addresses = given.map((text) => new Address(text, { minVersion: "TLSv1.2", ca, cert, key }));
     if (addresses.length === 0) {
       throw new TypeError("there is no address");
     }
-    this.#settings = { addresses, timeout, pause, first: 0 };
+    this.#settings = { addresses, timeout, pause, repeats, first: 0 };
     this.#token = typeof token === "function" ? token : () => token;
     this.#log = options.log ?? ((line) => console.warn(line));
   }

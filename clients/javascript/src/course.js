@@ -10,7 +10,7 @@ const OF_ONE_ADDRESS = ["unavailable", "unreachable", "untrusted", "unanswered",
 /** The course of one call. It ends with an answer, or with the error that `after` throws. */
 export class Course {
   /**
-   * @param {{ addresses: readonly unknown[], timeout: number, pause: number, first: number }} settings
+   * @param {{ addresses: readonly unknown[], timeout: number, pause: number, repeats: boolean, first: number }} settings
    * @param {string} name
    * @param {number | undefined} again the code that means that the command was done, if the function alone doesn't say it
    */
@@ -18,7 +18,7 @@ export class Course {
     this.settings = settings;
     this.deadline = now() + settings.timeout;
     this.isQuestion = VALUES[name] !== "done" && VALUES[name] !== "import";
-    this.again = again ?? AGAIN[name];
+    this.again = settings.repeats ? again ?? AGAIN[name] : undefined;
     this.left = this.isQuestion ? settings.addresses.length : this.again === undefined ? 1 : MOST_ATTEMPTS;
     // Addresses that can't be reached cost no attempt: nothing was sent.
     this.unreached = settings.addresses.length - 1;

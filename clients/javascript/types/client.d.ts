@@ -9,6 +9,8 @@
  * @property {string | Uint8Array} [certificate] the client's own certificate
  * @property {string | Uint8Array} [key] the key of that certificate
  * @property {number} [pause] how many milliseconds pass before a command is sent again, each time twice as many; 100 if absent
+ * @property {boolean} [repeats] whether a command whose answer was lost is sent again, if docs/INTEGRATING.md, section 3, says that it
+ *   may be; true if absent
  * @property {(line: string) => void} [log] gets a line for each decision that the office hasn't made
  */
 /** A server, or several servers of one office. */
@@ -111,6 +113,11 @@ export type Options = {
      * how many milliseconds pass before a command is sent again, each time twice as many; 100 if absent
      */
     pause?: number | undefined;
+    /**
+     * whether a command whose answer was lost is sent again, if docs/INTEGRATING.md, section 3, says that it
+     * may be; true if absent
+     */
+    repeats?: boolean | undefined;
     /**
      * gets a line for each decision that the office hasn't made
      */

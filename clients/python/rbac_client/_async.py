@@ -68,10 +68,11 @@ class AsyncClient(AsyncOffice):
         certificate: Optional[str] = None,
         key: Optional[str] = None,
         pause: float = 0.1,
+        repeats: bool = True,
     ) -> None:
         """The parameters are those of `Client`."""
         super().__init__()
-        self._settings = Settings.of(addresses, timeout, token, ca, certificate, key, pause)
+        self._settings = Settings.of(addresses, timeout, token, ca, certificate, key, pause, repeats)
         self._idle: List[Tuple[Address, _Connection]] = []
 
     async def __aenter__(self) -> "AsyncClient":

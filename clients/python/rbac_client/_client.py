@@ -70,6 +70,7 @@ class Client(Office):
         certificate: Optional[str] = None,
         key: Optional[str] = None,
         pause: float = 0.1,
+        repeats: bool = True,
     ) -> None:
         """`addresses`: one or more of `http://HOST:PORT`, `https://HOST:PORT` and `unix:PATH`; one answers for all.
 
@@ -79,9 +80,10 @@ class Client(Office):
         `ca`: the file of the authorities that may have issued the server's certificate, instead of those of the system.
         `certificate`, `key`: the files of the client's own certificate and key.
         `pause`: how many seconds pass before a command is sent again. Each further pause is twice as long.
+        `repeats`: whether a command whose answer was lost is sent again, if docs/INTEGRATING.md, section 3, says that it may be.
         """
         super().__init__()
-        self._settings = Settings.of(addresses, timeout, token, ca, certificate, key, pause)
+        self._settings = Settings.of(addresses, timeout, token, ca, certificate, key, pause, repeats)
         self._idle: List[Tuple[Address, socket.socket]] = []
         self._lock, self._owner = threading.Lock(), os.getpid()
 

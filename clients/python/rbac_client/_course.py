@@ -29,6 +29,7 @@ class Settings:
     token: Optional[Token] = field(repr=False)
     context: Optional[ssl.SSLContext]
     pause: float
+    repeats: bool
     first: int = field(default=0)
 
     @classmethod
@@ -41,6 +42,7 @@ class Settings:
         certificate: Optional[str],
         key: Optional[str],
         pause: float,
+        repeats: bool,
     ) -> "Settings":
         """Reads the arguments of a client."""
         read = [Address.read(one) for one in ([addresses] if isinstance(addresses, str) else addresses)]
@@ -52,7 +54,7 @@ class Settings:
             context.minimum_version = ssl.TLSVersion.TLSv1_2
             if certificate is not None:
                 context.load_cert_chain(certificate, key)
-        return cls(read, timeout, token, context, pause)
+        return cls(read, timeout, token, context, pause, repeats)
 
 
 class Course:
@@ -64,6 +66,8 @@ class Course:
         self.deadline = time.monotonic() + settings.timeout
         self.is_question = VALUES[function] not in ("done", "import")
         self._again = AGAIN.get(function) if again is None else again
+        if not settings.repeats:
+            self._again = None
         can_be_repeated = self.is_question or self._again is not None
         self._left = (len(settings.addresses) if self.is_question else MOST_ATTEMPTS) if can_be_repeated else 1
         # Addresses that can't be reached cost no attempt: nothing was sent.

@@ -95,6 +95,9 @@ public final class Driver {
         if (line.get("pause") != null) {
             builder.pause(Duration.ofNanos((long) ((Double) line.get("pause") * 1e9)));
         }
+        if (line.get("repeats") != null) {
+            builder.repeats(line.get("repeats").equals(true));
+        }
         if (line.get("token") != null) {
             builder.token(text(line, "token"));
         }

@@ -31,7 +31,7 @@ function shown(decision) {
 }
 
 /** Makes the client. */
-function open({ addresses, token, timeout, pause, ca, certificate, key }) {
+function open({ addresses, token, timeout, pause, repeats, ca, certificate, key }) {
   const file = (path) => (path === undefined ? undefined : readFileSync(path));
   const milliseconds = (seconds) => (seconds === undefined ? undefined : seconds * 1000);
   try {
@@ -40,6 +40,7 @@ function open({ addresses, token, timeout, pause, ca, certificate, key }) {
       token,
       timeout: milliseconds(timeout),
       pause: milliseconds(pause),
+      repeats,
       ca: file(ca),
       certificate: file(certificate),
       key: file(key),

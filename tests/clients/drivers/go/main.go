@@ -28,6 +28,7 @@ type line struct {
 	User                        string
 	Roles                       []string
 	Renews                      bool
+	Repeats                     *bool
 	Function                    string
 	Arguments                   map[string]interface{}
 }
@@ -90,6 +91,7 @@ func config(l line) (rbacclient.Config, error) {
 		Token:     l.Token,
 		Timeout:   time.Duration(l.Timeout * float64(time.Second)),
 		Pause:     time.Duration(l.Pause * float64(time.Second)),
+		NoRepeats: l.Repeats != nil && !*l.Repeats,
 		Log:       log.New(os.Stderr, "", 0),
 	}
 	if l.CA == "" {

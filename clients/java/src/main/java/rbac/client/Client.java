@@ -24,6 +24,7 @@ public final class Client extends Functions {
     private final Supplier<String> token;
     private final Duration timeout;
     private final Duration pause;
+    private final boolean repeats;
     private final Map<Reason, Long> counts = new EnumMap<>(Reason.class);
 
     private Client(Builder builder) {
@@ -41,6 +42,7 @@ public final class Client extends Functions {
         token = builder.token;
         timeout = builder.timeout;
         pause = builder.pause;
+        repeats = builder.repeats;
     }
 
     /** What makes a client. */
@@ -49,6 +51,7 @@ public final class Client extends Functions {
         private Supplier<String> token = () -> null;
         private Duration timeout = Duration.ofSeconds(10);
         private Duration pause = Duration.ofMillis(100);
+        private boolean repeats = true;
         private SSLContext context;
 
         private Builder() {}
@@ -79,6 +82,12 @@ public final class Client extends Functions {
         /** Passes before a command is sent again. Each further pause is twice as long. */
         public Builder pause(Duration given) {
             pause = given;
+            return this;
+        }
+
+        /** Whether a command whose answer was lost is sent again, if docs/INTEGRATING.md, section 3, says that it may be. */
+        public Builder repeats(boolean given) {
+            repeats = given;
             return this;
         }
 
@@ -169,7 +178,7 @@ public final class Client extends Functions {
         if (!isSendable(Objects.requireNonNull(body))) {
             throw OfficeException.failed(Reason.INVALID_REQUEST, false, "a name has half of a character", null);
         }
-        var course = new Course(function, again, addresses.size(), first.get(), timeout, pause);
+        var course = new Course(function, again, repeats, addresses.size(), first.get(), timeout, pause);
         while (true) {
             try {
                 var value = answered(course, function, body, reader);

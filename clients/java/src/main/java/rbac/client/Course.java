@@ -19,12 +19,12 @@ final class Course {
     private boolean isLost;
 
     /** again is the code that means that the command was done, or null if the function alone says it. */
-    Course(String function, Integer again, int addresses, int first, Duration timeout, Duration pause) {
+    Course(String function, Integer again, boolean repeats, int addresses, int first, Duration timeout, Duration pause) {
         this.addresses = addresses;
         this.pause = pause;
         this.deadline = System.nanoTime() + timeout.toNanos();
         this.isQuestion = !Functions.COMMANDS.contains(function);
-        this.again = again != null ? again : Functions.AGAIN.get(function);
+        this.again = !repeats ? null : again != null ? again : Functions.AGAIN.get(function);
         this.left = isQuestion ? addresses : this.again == null ? 1 : MOST_ATTEMPTS;
         // Addresses that can't be reached cost no attempt: nothing was sent.
         this.unreached = addresses - 1;
