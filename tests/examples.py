@@ -159,7 +159,8 @@ def finds_names(bench):
 def runs_commands(bench):
     """Each command of the page prints the lines below it, and ends with status 0."""
     for path in EXAMPLES.iterdir():
-        shutil.copy(path, bench.folder)
+        if path.is_file():
+            shutil.copy(path, bench.folder)
     words = beside(bench, "words")
     os.mkdir(words)
     os.symlink(PROGRAM, os.path.join(words, "rbac"))

@@ -1,4 +1,4 @@
-"""The Python client, and the page that describes it."""
+"""The Python client, and the page that describes the clients."""
 
 import json
 import sys
@@ -8,17 +8,17 @@ from program.bench import PROGRAM, TESTS
 from program.web import HOST
 
 sys.path.insert(0, str(TESTS.parent / "clients/python"))
-import rbac
+import rbac_client as rbac
 
 PAGE = markdown.page("INTEGRATING.md")
 
 # How long a call may take if it is meant to be answered, and if it is not.
-PATIENT, HASTY = 20, 0.3
+PATIENT, HASTY = 60, 0.3
 
 
 def office_at(port, timeout=PATIENT):
     """A client over HTTP."""
-    return rbac.Office(f"http://{HOST}:{port}", timeout)
+    return rbac.Client(f"http://{HOST}:{port}", timeout=timeout)
 
 
 def lines_of(office):
@@ -40,7 +40,15 @@ def outcome(call, *given, **named):
     """Returns the outcome of a call, as the text of the answer that it corresponds to."""
     try:
         value = call(*given, **named)
-        answer = {"ok": True} if value is None else {"ok": True, "value": value}
+        answer = {"ok": True} if value is None else {"ok": True, "value": plain(value)}
     except rbac.Refused as refused:
         answer = {"code": refused.code, "error": refused.name, **refused.details}
     return json.dumps(answer, ensure_ascii=False, separators=(",", ":"), sort_keys=True)
+
+
+def plain(value):
+    """A value as `rbac` has it."""
+    if isinstance(value, rbac.ImportReport):
+        refused = [{"code": one.code, "record": one.record} for one in value.refused]
+        return {"already": value.already, "assigned": value.assigned, "refused": refused}
+    return value

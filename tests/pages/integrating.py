@@ -3,14 +3,17 @@
 import json
 import re
 
-from . import markdown, sources, verdicts
+from . import markdown, openapi, sources, verdicts
 from .shell import Shell
 
 PAGE = markdown.page("INTEGRATING.md")
-MOST_LINES = 250
+MOST_LINES = 260
 
 # The languages of the blocks that tests/clients.py runs, and that of those that are run here.
-ELSEWHERE, HERE = {"python", "sh", "go", "java"}, {"console"}
+ELSEWHERE, HERE = {"python", "sh", "go", "java", "javascript"}, {"console"}
+
+# Statuses of proxies in front of a server that they can't reach.
+OF_PROXIES = {502, 504}
 
 
 def check_length(bench):
@@ -95,7 +98,8 @@ def check_decisions(bench):
     codes = re.findall(r"\b(\d+) [A-Z]", text)
     bench.same("the refusals of checkAccess", sorted(codes), sorted(verdicts.refusals()["checkAccess"]))
     statuses = {int(status) for status in re.findall(r"\b\d{3}\b", text)}
-    bench.same("statuses that the server does not have", statuses - sources.statuses(), set())
+    known = sources.statuses() | set(openapi.codes_of_front()) | OF_PROXIES
+    bench.same("statuses that neither server nor proxy has", statuses - known, set())
     bench.same("how often it allows", [row[1] for row in table].count("allow"), 1)
     bench.same("what it allows", table[0][:2], ['200 and exactly `{"ok":true,"value":true}`', "allow"])
 

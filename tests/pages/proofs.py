@@ -34,7 +34,7 @@ def naming_all():
 
 def files_in(rows):
     """The paths that rows name: a folder, and files in it."""
-    return [f"{folder}/{name}" for folder, names in rows for name in re.findall(r"[\w/]+\.(?:rt\.\w+|\w+)", names)]
+    return [f"{folder}/{name}" for folder, names in rows for name in re.findall(r"[\w/]+\.(?:rt\.\w+|d\.ts|\w+)", names)]
 
 
 def check_adding(bench):

@@ -1,0 +1,347 @@
+// Package rbacclient is a client of the role administration server rbac and of its front.
+//
+// A Client has a method for each of the functions of docs/API.md, Check and May for decisions, OpenSession for sessions, and Guard
+// for handlers of net/http. docs/INTEGRATING.md shows how an application uses them. It needs nothing but Go's own library.
+package rbacclient
+
+import (
+	"bytes"
+	"context"
+	"crypto/tls"
+	"errors"
+	"fmt"
+	"io"
+	"log"
+	"net"
+	"net/http"
+	"net/http/httptrace"
+	"net/url"
+	"strings"
+	"sync"
+	"sync/atomic"
+	"time"
+)
+
+// longestHead is how many bytes the head of an answer may have.
+const longestHead = 16 << 10
+
+// Config is what a client is made from. Addresses is required.
+type Config struct {
+	// Addresses are one or more of http://HOST:PORT, https://HOST:PORT and unix:PATH. One answers for all.
+	Addresses []string
+	// Token shows who asks, and TokenFunc returns the present one. At most one of them is given.
+	Token     string
+	TokenFunc func() string
+	// Timeout limits a call as a whole, with all of its attempts. The default is 10 seconds.
+	Timeout time.Duration
+	// TLS has the authorities that are trusted and the client's own certificate. The default trusts those of the system.
+	TLS *tls.Config
+	// Pause passes before a command is sent again, and each further pause is twice as long. The default is 100 milliseconds.
+	Pause time.Duration
+	// NoRepeats says that a command whose answer was lost is never sent again, even if docs/INTEGRATING.md, section 3, allows it.
+	NoRepeats bool
+	// Log gets a line for each decision that the office hasn't made. The default is the standard logger.
+	Log *log.Logger
+}
+
+// Client asks a server, or several servers of one office. Goroutines may share it.
+type Client struct {
+	addresses []*address
+	token     func() string
+	timeout   time.Duration
+	pause     time.Duration
+	noRepeats bool
+	log       *log.Logger
+	first     atomic.Int64 // the address that answered last
+
+	mu     sync.Mutex
+	counts map[Reason]uint64
+}
+
+// address is where a server listens. Questions go over connections that are kept, commands over new ones.
+type address struct {
+	base        string
+	kept, fresh *http.Transport
+}
+
+// New makes a client. It connects when it is first used.
+func New(config Config) (*Client, error) {
+	if len(config.Addresses) == 0 {
+		return nil, errors.New("rbacclient: there is no address")
+	}
+	token := config.TokenFunc
+	if config.Token != "" {
+		if token != nil {
+			return nil, errors.New("rbacclient: there is a Token and a TokenFunc")
+		}
+		token = func() string { return config.Token }
+	}
+	c := &Client{
+		token:     token,
+		timeout:   config.Timeout,
+		pause:     config.Pause,
+		noRepeats: config.NoRepeats,
+		log:       config.Log,
+		counts:    map[Reason]uint64{},
+	}
+	for _, text := range config.Addresses {
+		read, err := readAddress(text, config.TLS)
+		if err != nil {
+			return nil, err
+		}
+		c.addresses = append(c.addresses, read)
+	}
+	if c.timeout <= 0 {
+		c.timeout = 10 * time.Second
+	}
+	if c.pause <= 0 {
+		c.pause = 100 * time.Millisecond
+	}
+	if c.log == nil {
+		c.log = log.Default()
+	}
+	return c, nil
+}
+
+// readAddress reads an address.
+func readAddress(text string, config *tls.Config) (*address, error) {
+	if path := strings.TrimPrefix(text, "unix:"); path != text && path != "" {
+		return &address{"http://localhost/v1/", transport(config, path, true), transport(config, path, false)}, nil
+	}
+	parsed, err := url.Parse(text)
+	if err != nil || parsed.Scheme != "http" && parsed.Scheme != "https" || parsed.Hostname() == "" ||
+		parsed.User != nil || strings.Trim(parsed.Path, "/") != "" || parsed.RawQuery != "" || parsed.Fragment != "" {
+		return nil, fmt.Errorf("rbacclient: %q is not an address such as https://localhost:8080 or unix:/run/rbac-front/socket", text)
+	}
+	base := parsed.Scheme + "://" + parsed.Host + "/v1/"
+	return &address{base, transport(config, "", true), transport(config, "", false)}, nil
+}
+
+// transport makes a transport without proxies, compression and HTTP/2.
+func transport(config *tls.Config, path string, keeps bool) *http.Transport {
+	dialer := &net.Dialer{}
+	made := &http.Transport{
+		DialContext:            dialer.DialContext,
+		DisableCompression:     true,
+		DisableKeepAlives:      !keeps,
+		MaxIdleConnsPerHost:    16,
+		IdleConnTimeout:        time.Minute,
+		MaxResponseHeaderBytes: longestHead,
+		TLSClientConfig:        &tls.Config{MinVersion: tls.VersionTLS12},
+		TLSNextProto:           map[string]func(string, *tls.Conn) http.RoundTripper{},
+	}
+	if config != nil {
+		made.TLSClientConfig = config.Clone()
+	}
+	if path != "" {
+		made.DialContext = func(ctx context.Context, _, _ string) (net.Conn, error) {
+			return dialer.DialContext(ctx, "unix", path)
+		}
+	}
+	return made
+}
+
+// Close closes the connections that are kept. A further call opens a new one.
+func (c *Client) Close() {
+	for _, one := range c.addresses {
+		one.kept.CloseIdleConnections()
+	}
+}
+
+// Check says whether the session may do the operation on the object, and why. Without an answer it denies.
+func (c *Client) Check(ctx context.Context, session, operation, object string) Decision {
+	return c.keep(c.decide(ctx, session, operation, object), operation, object)
+}
+
+// May reports whether to let the session do the operation on the object.
+func (c *Client) May(ctx context.Context, session, operation, object string) bool {
+	return c.Check(ctx, session, operation, object).Allowed()
+}
+
+// Counts returns how many decisions there were, by their reasons.
+func (c *Client) Counts() map[Reason]uint64 {
+	c.mu.Lock()
+	defer c.mu.Unlock()
+	copied := make(map[Reason]uint64, len(c.counts))
+	for reason, count := range c.counts {
+		copied[reason] = count
+	}
+	return copied
+}
+
+// decide returns a decision that isn't counted yet.
+func (c *Client) decide(ctx context.Context, session, operation, object string) Decision {
+	isAllowed, err := c.CheckAccess(ctx, session, operation, object)
+	switch {
+	case err != nil:
+		return undecided(err)
+	case isAllowed:
+		return Decision{Reason: Allowed}
+	}
+	return Decision{Reason: Denied}
+}
+
+// keep counts a decision, and logs it if the office hasn't made it. The log has no names of sessions.
+func (c *Client) keep(decision Decision, operation, object string) Decision {
+	c.mu.Lock()
+	c.counts[decision.Reason]++
+	c.mu.Unlock()
+	if !decision.IsDecided() {
+		c.log.Printf("no decision about %q on %q: %s: %s", operation, object, decision.Reason, decision.Detail)
+	}
+	return decision
+}
+
+// done calls a command without a value.
+func (c *Client) done(ctx context.Context, function string, arguments ...argument) error {
+	return c.doneAgain(ctx, 0, function, arguments...)
+}
+
+// doneAgain calls a command that a refusal with the code again means to have been done, if an answer was lost before.
+func (c *Client) doneAgain(ctx context.Context, again int, function string, arguments ...argument) error {
+	return c.call(ctx, function, again, arguments, func(status int, text []byte) *Error {
+		if status == http.StatusOK && string(text) == doneText {
+			return nil
+		}
+		return readRefusal(status, text)
+	})
+}
+
+// names calls a question whose value is a list of names.
+func (c *Client) names(ctx context.Context, function string, arguments ...argument) (found []string, err error) {
+	err = c.value(ctx, function, arguments, func(r *reader) { found = r.names() })
+	return found, err
+}
+
+// permissions calls a question whose value is a list of permissions.
+func (c *Client) permissions(ctx context.Context, function string, arguments ...argument) (found []Permission, err error) {
+	err = c.value(ctx, function, arguments, func(r *reader) { found = r.permissions() })
+	return found, err
+}
+
+// count calls a question whose value is a number.
+func (c *Client) count(ctx context.Context, function string, arguments ...argument) (found uint32, err error) {
+	err = c.value(ctx, function, arguments, func(r *reader) { found = r.number() })
+	return found, err
+}
+
+// imported calls importAssignments.
+func (c *Client) imported(ctx context.Context, function string, arguments ...argument) (found ImportReport, err error) {
+	err = c.value(ctx, function, arguments, func(r *reader) { found = r.report() })
+	return found, err
+}
+
+// access calls checkAccess. It is true only after the one answer that allows.
+func (c *Client) access(ctx context.Context, function string, arguments ...argument) (isAllowed bool, err error) {
+	err = c.call(ctx, function, 0, arguments, func(status int, text []byte) *Error {
+		isAllowed = status == http.StatusOK && string(text) == allowedText
+		if isAllowed || status == http.StatusOK && string(text) == deniedText {
+			return nil
+		}
+		return readRefusal(status, text)
+	})
+	return isAllowed && err == nil, err
+}
+
+// value calls a function whose answer has a value.
+func (c *Client) value(ctx context.Context, function string, arguments []argument, read func(*reader)) error {
+	return c.call(ctx, function, 0, arguments, func(status int, text []byte) *Error {
+		return readValue(status, text, read)
+	})
+}
+
+// call sends a request until it is answered, as often as its course wants.
+func (c *Client) call(ctx context.Context, function string, again int, arguments []argument,
+	read func(status int, text []byte) *Error) error {
+	text, err := body(function, arguments)
+	if err != nil {
+		return err
+	}
+	course := newCourse(ctx, c, function, again)
+	for {
+		status, answer, failure := c.attempt(course, function, text)
+		if failure == nil {
+			failure = read(status, answer)
+		}
+		if failure == nil {
+			course.answered()
+			return nil
+		}
+		if failure = course.after(failure); failure != nil {
+			return failure
+		}
+		if course.isDone {
+			return nil
+		}
+	}
+}
+
+// attempt sends a request once. A question whose kept connection was closed meanwhile is asked once more.
+func (c *Client) attempt(course *course, function string, text []byte) (int, []byte, *Error) {
+	ctx, cancel := context.WithDeadline(course.ctx, course.limit())
+	defer cancel()
+	address := course.address()
+	if !course.isQuestion {
+		status, answer, _, err := c.exchange(ctx, address.fresh, address.base+function, text)
+		return status, answer, err
+	}
+	status, answer, isReused, err := c.exchange(ctx, address.kept, address.base+function, text)
+	if err != nil && err.Reason == Unanswered && isReused && ctx.Err() == nil {
+		status, answer, _, err = c.exchange(ctx, address.fresh, address.base+function, text)
+	}
+	return status, answer, err
+}
+
+// exchange sends a request, and reads its answer. It also returns whether the connection had been used before.
+func (c *Client) exchange(ctx context.Context, over *http.Transport, target string, text []byte) (int, []byte, bool, *Error) {
+	var isConnected, isReused bool
+	trace := &httptrace.ClientTrace{GotConn: func(got httptrace.GotConnInfo) { isConnected, isReused = true, got.Reused }}
+	request, err := http.NewRequestWithContext(httptrace.WithClientTrace(ctx, trace), http.MethodPost, target, bytes.NewReader(text))
+	if err != nil {
+		return 0, nil, false, failed(InvalidRequest, false, err)
+	}
+	request.Header["Content-Type"] = []string{"application/json"}
+	if c.token != nil {
+		request.Header["Authorization"] = []string{"Bearer " + c.token()}
+	}
+	// A transport follows no redirect.
+	response, err := over.RoundTrip(request)
+	if err != nil {
+		return 0, nil, isReused, lost(err, isConnected)
+	}
+	defer response.Body.Close()
+	if response.ContentLength < 0 || response.ContentLength > longestAnswer {
+		return 0, nil, isReused, failed(Unexpected, true, fmt.Errorf("the answer has a length of %d", response.ContentLength))
+	}
+	answer := make([]byte, response.ContentLength)
+	if _, err := io.ReadFull(response.Body, answer); err != nil {
+		return 0, nil, isReused, failed(Unanswered, true, err)
+	}
+	// The transport keeps the connection once it has seen the end.
+	if _, err := response.Body.Read(make([]byte, 1)); err != io.EOF {
+		return 0, nil, isReused, failed(Unexpected, true, errors.New("there is more than an answer"))
+	}
+	return response.StatusCode, answer, isReused, nil
+}
+
+// lost returns the error of a request without an answer. Without a connection nothing was sent.
+func lost(err error, isConnected bool) *Error {
+	if isConnected {
+		if isOfConnection(err) {
+			return failed(Unanswered, true, err)
+		}
+		return failed(Unexpected, true, err)
+	}
+	if text := err.Error(); strings.Contains(text, "x509:") || strings.Contains(text, "tls:") {
+		return failed(Untrusted, false, err)
+	}
+	return failed(Unreachable, false, err)
+}
+
+// isOfConnection reports whether an error is that of a connection that was lost, or of a time limit.
+func isOfConnection(err error) bool {
+	var operation *net.OpError
+	return errors.Is(err, io.EOF) || errors.Is(err, io.ErrUnexpectedEOF) || errors.As(err, &operation) ||
+		errors.Is(err, context.DeadlineExceeded) || errors.Is(err, context.Canceled) ||
+		strings.HasSuffix(err.Error(), "EOF") || strings.HasSuffix(err.Error(), "server closed idle connection")
+}

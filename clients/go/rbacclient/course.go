@@ -1,0 +1,130 @@
+package rbacclient
+
+import (
+	"context"
+	"time"
+)
+
+// mostAttempts is how often a command is sent at most.
+const mostAttempts = 4
+
+// course is that of one call: which address is asked next, for how long, and after which pause.
+type course struct {
+	client     *Client
+	ctx        context.Context
+	deadline   time.Time
+	isQuestion bool
+	again      int // the code that means that a repeated command was done; 0 if none does
+	left       int // attempts
+	unreached  int // further addresses for a command; one that can't be reached costs no attempt, since nothing was sent
+	at         int
+	sent       int
+	isLost     bool
+	isDone     bool
+}
+
+// newCourse begins a call. again is the code that means that the command was done, if the function alone doesn't say it.
+func newCourse(ctx context.Context, c *Client, function string, again int) *course {
+	deadline, hasDeadline := ctx.Deadline()
+	if own := time.Now().Add(c.timeout); !hasDeadline || own.Before(deadline) {
+		deadline = own
+	}
+	code, isRepeatable := repeatable[function]
+	if again != 0 {
+		code, isRepeatable = again, true
+	}
+	r := &course{client: c, ctx: ctx, deadline: deadline, isQuestion: !commands[function], again: code, left: 1}
+	r.unreached, r.at = len(c.addresses)-1, int(c.first.Load())
+	switch {
+	case r.isQuestion:
+		r.left = len(c.addresses)
+	case isRepeatable && !c.noRepeats:
+		r.left = mostAttempts
+	}
+	return r
+}
+
+// address is the one that is asked now.
+func (r *course) address() *address {
+	return r.client.addresses[r.at%len(r.client.addresses)]
+}
+
+// limit is when the attempt has to have ended: a share of the time is left for each further attempt.
+func (r *course) limit() time.Time {
+	share := r.left
+	if !r.isQuestion {
+		share = 1 + r.unreached
+		if r.left > 1 {
+			share++
+		}
+	}
+	now := time.Now()
+	return now.Add(r.deadline.Sub(now) / time.Duration(share))
+}
+
+// answered notes that the address has answered: the next call begins with it.
+func (r *course) answered() {
+	r.client.first.Store(int64(r.at % len(r.client.addresses)))
+}
+
+// after returns the error of the call, or nil if there is another attempt or the command was done.
+func (r *course) after(err *Error) *Error {
+	isRefused := err.Code != 0 && err.Reason != Unavailable
+	if isRefused {
+		r.answered()
+		if r.isLost && r.again != 0 && err.Code == r.again {
+			r.isDone = true
+			return nil
+		}
+	}
+	err.MayBeDone = !r.isQuestion && (err.MayBeDone || r.isLost)
+	if isRefused || !isOfOneAddress(err.Reason) || r.ctx.Err() != nil || !time.Now().Before(r.deadline) {
+		return err
+	}
+	r.at++
+	if r.isQuestion {
+		r.left--
+		if r.left == 0 {
+			return err
+		}
+		return nil
+	}
+	if err.Reason == Unreachable || err.Reason == Untrusted {
+		if r.unreached > 0 {
+			r.unreached--
+			return nil
+		}
+		if !r.isLost {
+			return err
+		}
+		return r.pause(err) // The command waits for a server.
+	}
+	r.left--
+	if r.left == 0 || err.Reason == Unexpected {
+		return err
+	}
+	r.isLost = r.isLost || err.MayBeDone
+	return r.pause(err)
+}
+
+// pause waits, each time longer, and returns the error if the call ends meanwhile.
+func (r *course) pause(err *Error) *Error {
+	timer := time.NewTimer(r.client.pause << r.sent)
+	defer timer.Stop()
+	r.sent++
+	select {
+	case <-timer.C:
+		return nil
+	case <-r.ctx.Done():
+		return err
+	}
+}
+
+// isOfOneAddress reports whether another address may have an answer.
+func isOfOneAddress(reason Reason) bool {
+	switch reason {
+	case Unavailable, Unreachable, Untrusted, Unanswered, Unexpected:
+		return true
+	}
+	return false
+}

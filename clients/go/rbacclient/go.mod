@@ -1,0 +1,3 @@
+module rbac/clients/go/rbacclient
+
+go 1.19

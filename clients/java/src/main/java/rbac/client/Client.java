@@ -1,0 +1,223 @@
+package rbac.client;
+
+import java.net.http.HttpClient;
+import java.time.Duration;
+import java.util.ArrayList;
+import java.util.Collection;
+import java.util.EnumMap;
+import java.util.List;
+import java.util.Map;
+import java.util.Objects;
+import java.util.concurrent.atomic.AtomicInteger;
+import java.util.function.Supplier;
+import javax.net.ssl.SSLContext;
+
+/**
+ * A server, or several servers of one office: the functions as methods, decisions, and sessions. Threads may share it.
+ * docs/INTEGRATING.md shows how an application uses it.
+ */
+public final class Client extends Functions {
+    private static final System.Logger LOGGER = System.getLogger("rbac.client");
+
+    private final List<Exchange> addresses = new ArrayList<>();
+    private final AtomicInteger first = new AtomicInteger();
+    private final Supplier<String> token;
+    private final Duration timeout;
+    private final Duration pause;
+    private final boolean repeats;
+    private final Map<Reason, Long> counts = new EnumMap<>(Reason.class);
+
+    private Client(Builder builder) {
+        var http =
+            HttpClient.newBuilder()
+                .version(HttpClient.Version.HTTP_1_1)
+                .followRedirects(HttpClient.Redirect.NEVER)
+                .proxy(HttpClient.Builder.NO_PROXY)
+                .connectTimeout(builder.timeout.dividedBy(2L * builder.addresses.size()));
+        if (builder.context != null) {
+            http.sslContext(builder.context);
+        }
+        var shared = http.build();
+        builder.addresses.forEach(address -> addresses.add(new Exchange(shared, address)));
+        token = builder.token;
+        timeout = builder.timeout;
+        pause = builder.pause;
+        repeats = builder.repeats;
+    }
+
+    /** What makes a client. */
+    public static final class Builder {
+        private final List<String> addresses = new ArrayList<>();
+        private Supplier<String> token = () -> null;
+        private Duration timeout = Duration.ofSeconds(10);
+        private Duration pause = Duration.ofMillis(100);
+        private boolean repeats = true;
+        private SSLContext context;
+
+        private Builder() {}
+
+        /** Adds an address: {@code http://HOST:PORT} or {@code https://HOST:PORT}. One answers for all. */
+        public Builder address(String address) {
+            addresses.add(address);
+            return this;
+        }
+
+        /** Shows who asks. */
+        public Builder token(String given) {
+            return token(() -> given);
+        }
+
+        /** Shows who asks: the function returns the present token. */
+        public Builder token(Supplier<String> given) {
+            token = given;
+            return this;
+        }
+
+        /** Limits a call as a whole, with all of its attempts. */
+        public Builder timeout(Duration given) {
+            timeout = given;
+            return this;
+        }
+
+        /** Passes before a command is sent again. Each further pause is twice as long. */
+        public Builder pause(Duration given) {
+            pause = given;
+            return this;
+        }
+
+        /** Whether a command whose answer was lost is sent again, if docs/INTEGRATING.md, section 3, says that it may be. */
+        public Builder repeats(boolean given) {
+            repeats = given;
+            return this;
+        }
+
+        /** Has the authorities that are trusted instead of those of Java, and the client's own certificate. */
+        public Builder sslContext(SSLContext given) {
+            context = given;
+            return this;
+        }
+
+        /** Makes the client. It connects when it is first used. */
+        public Client build() {
+            if (addresses.isEmpty()) {
+                throw new IllegalArgumentException("there is no address");
+            }
+            return new Client(this);
+        }
+    }
+
+    /** What makes a client of these addresses. */
+    public static Builder of(String... addresses) {
+        var builder = new Builder();
+        for (var address : addresses) {
+            builder.address(address);
+        }
+        return builder;
+    }
+
+    /** Whether the session may do the operation on the object, and why. It throws nothing: without an answer it denies. */
+    public Decision check(String session, String operation, String object) {
+        return keep(decide(session, operation, object), operation, object);
+    }
+
+    /** Whether to let the session do the operation on the object. */
+    public boolean may(String session, String operation, String object) {
+        return check(session, operation, object).isAllowed();
+    }
+
+    /** Makes a session of the user with these roles activated, under a new name that nobody can guess. */
+    public Session openSession(String user, Collection<String> roles) {
+        return Session.opened(this, user, roles, false);
+    }
+
+    /**
+     * Makes such a session. It is made again when a decision finds that it has ended, with those of the roles that are left.
+     */
+    public Session openRenewedSession(String user, Collection<String> roles) {
+        return Session.opened(this, user, roles, true);
+    }
+
+    /** How many decisions there were, by their reasons. */
+    public Map<Reason, Long> counts() {
+        synchronized (counts) {
+            return new EnumMap<>(counts);
+        }
+    }
+
+    /** A decision that isn't counted yet. Whatever goes wrong, it doesn't allow. */
+    Decision decide(String session, String operation, String object) {
+        try {
+            return Decision.of(checkAccess(session, operation, object));
+        } catch (RuntimeException error) {
+            return Decision.undecided(error);
+        }
+    }
+
+    /** Counts a decision, and logs it if the office hasn't made it. The log has no names of sessions. */
+    Decision keep(Decision decision, String operation, String object) {
+        synchronized (counts) {
+            counts.merge(decision.reason(), 1L, Long::sum);
+        }
+        if (!decision.isDecided()) {
+            var about = new StringBuilder("no decision about ");
+            Json.append(about, String.valueOf(operation));
+            Json.append(about.append(" on "), String.valueOf(object));
+            LOGGER.log(System.Logger.Level.WARNING, about.append(": ").append(decision).toString());
+        }
+        return decision;
+    }
+
+    @Override
+    <T> T call(String function, Map<String, Object> keys, Reader<T> reader) {
+        return call(function, keys, reader, null);
+    }
+
+    /** Calls a function. The code again means that a command was done, if its answer was lost before. */
+    <T> T call(String function, Map<String, Object> keys, Reader<T> reader, Integer again) {
+        var body = function.equals("importAssignments") ? (String) keys.get("csv") : Json.body(keys);
+        if (!isSendable(Objects.requireNonNull(body))) {
+            throw OfficeException.failed(Reason.INVALID_REQUEST, false, "a name has half of a character", null);
+        }
+        var course = new Course(function, again, repeats, addresses.size(), first.get(), timeout, pause);
+        while (true) {
+            try {
+                var value = answered(course, function, body, reader);
+                first.set(course.place());
+                return value;
+            } catch (OfficeException error) {
+                if (Course.isRefused(error)) {
+                    first.set(course.place());
+                }
+                var milliseconds = course.after(error);
+                if (milliseconds < 0) {
+                    return null;
+                }
+                pause(milliseconds, error);
+            }
+        }
+    }
+
+    private <T> T answered(Course course, String function, String body, Reader<T> reader) {
+        var address = addresses.get(course.place());
+        var shown = token.get();
+        var answer =
+            course.isQuestion()
+                ? address.ask(function, body, shown, course.limit())
+                : address.send(function, body, shown, course.limit());
+        return reader.read(answer.status, answer.text);
+    }
+
+    /** Whether a text has no half of a character of two. */
+    private static boolean isSendable(String text) {
+        return text.codePoints().noneMatch(one -> one >= Character.MIN_SURROGATE && one <= Character.MAX_SURROGATE);
+    }
+
+    private static void pause(long milliseconds, OfficeException error) {
+        try {
+            Thread.sleep(milliseconds);
+        } catch (InterruptedException interrupted) {
+            Thread.currentThread().interrupt();
+            throw error;
+        }
+    }
+}

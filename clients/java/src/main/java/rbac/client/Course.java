@@ -1,0 +1,113 @@
+package rbac.client;
+
+import java.time.Duration;
+
+/** The course of one call: which address is asked next, for how long, and after which pause. */
+final class Course {
+    /** How often a command is sent at most. */
+    private static final int MOST_ATTEMPTS = 4;
+
+    private final int addresses;
+    private final Duration pause;
+    private final long deadline;
+    private final boolean isQuestion;
+    private final Integer again;
+    private int left;
+    private int unreached;
+    private int at;
+    private int sent;
+    private boolean isLost;
+
+    /** again is the code that means that the command was done, or null if the function alone says it. */
+    Course(String function, Integer again, boolean repeats, int addresses, int first, Duration timeout, Duration pause) {
+        this.addresses = addresses;
+        this.pause = pause;
+        this.deadline = System.nanoTime() + timeout.toNanos();
+        this.isQuestion = !Functions.COMMANDS.contains(function);
+        this.again = !repeats ? null : again != null ? again : Functions.AGAIN.get(function);
+        this.left = isQuestion ? addresses : this.again == null ? 1 : MOST_ATTEMPTS;
+        // Addresses that can't be reached cost no attempt: nothing was sent.
+        this.unreached = addresses - 1;
+        this.at = first;
+    }
+
+    /** The number of the address that is asked now. */
+    int place() {
+        return at % addresses;
+    }
+
+    boolean isQuestion() {
+        return isQuestion;
+    }
+
+    /** How many nanoseconds the attempt may take: a share of the time is left for each further attempt. */
+    long limit() {
+        var share = isQuestion ? left : Math.min(left, 2) + unreached;
+        return Math.max(deadline - System.nanoTime(), 0) / share;
+    }
+
+    /**
+     * What follows on an error: after how many milliseconds the next attempt, or -1 if the command was done. Throws what the
+     * call has to throw if there is no further attempt.
+     */
+    long after(OfficeException error) {
+        if (isRefused(error) && isLost && again != null && again != 0 && error.code() == again) {
+            return -1;
+        }
+        var own = error.thatMayBeDone(!isQuestion && (error.mayBeDone() || isLost));
+        if (isRefused(error) || !isOfOneAddress(error.reason()) || System.nanoTime() >= deadline) {
+            throw own;
+        }
+        at++;
+        if (isQuestion) {
+            left--;
+            if (left == 0) {
+                throw own;
+            }
+            return 0;
+        }
+        return afterCommand(own);
+    }
+
+    private long afterCommand(OfficeException error) {
+        if (error.reason() == Reason.UNREACHABLE || error.reason() == Reason.UNTRUSTED) {
+            if (unreached > 0) {
+                unreached--;
+                return 0;
+            }
+            if (!isLost) {
+                throw error;
+            }
+            return pause(); // The command waits for a server.
+        }
+        left--;
+        if (left == 0 || error.reason() == Reason.UNEXPECTED) {
+            throw error;
+        }
+        isLost |= error.mayBeDone();
+        return pause();
+    }
+
+    private long pause() {
+        var milliseconds = pause.toMillis() << Math.min(sent++, 16);
+        return Math.min(milliseconds, Math.max(deadline - System.nanoTime(), 0) / 1_000_000);
+    }
+
+    static boolean isRefused(OfficeException error) {
+        return error.code() != 0 && error.reason() != Reason.UNAVAILABLE;
+    }
+
+    /** Whether another address may have an answer. */
+    private static boolean isOfOneAddress(Reason reason) {
+        switch (reason) {
+            case UNAVAILABLE:
+            case UNREACHABLE:
+            case UNTRUSTED:
+            case UNANSWERED:
+            case UNEXPECTED:
+                return true;
+            default:
+                return false;
+        }
+    }
+}

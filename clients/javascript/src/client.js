@@ -1,0 +1,181 @@
+// The client: the functions as methods, decisions, and sessions.
+
+import { bodyOf, readAnswer } from "./answers.js";
+import { Course } from "./course.js";
+import { Decision, undecided } from "./decision.js";
+import { Functions } from "./functions.js";
+import { Session } from "./session.js";
+import { Address } from "./transport.js";
+
+/**
+ * What a client is made from. One address answers for all.
+ *
+ * @typedef {object} Options
+ * @property {string | readonly string[]} addresses one or more of `http://HOST:PORT`, `https://HOST:PORT` and `unix:PATH`
+ * @property {string | (() => string)} [token] shows who asks; a text, or a function that returns the present one
+ * @property {number} [timeout] how many milliseconds a call may take as a whole, with all of its attempts; 10,000 if absent
+ * @property {string | Uint8Array} [ca] the certificates of the authorities that are trusted instead of those of Node
+ * @property {string | Uint8Array} [certificate] the client's own certificate
+ * @property {string | Uint8Array} [key] the key of that certificate
+ * @property {number} [pause] how many milliseconds pass before a command is sent again, each time twice as many; 100 if absent
+ * @property {boolean} [repeats] whether a command whose answer was lost is sent again, if docs/INTEGRATING.md, section 3, says that it
+ *   may be; true if absent
+ * @property {(line: string) => void} [log] gets a line for each decision that the office hasn't made
+ */
+
+/** A server, or several servers of one office. */
+export class Client extends Functions {
+  /** @type {{ addresses: Address[], timeout: number, pause: number, repeats: boolean, first: number }} */
+  #settings;
+  /** @type {() => string | undefined} */
+  #token;
+  /** @type {(line: string) => void} */
+  #log;
+  /** @type {Map<import("./decision.js").Reason, number>} */
+  #counts = new Map();
+
+  /** @param {Options} options */
+  constructor(options) {
+    super();
+    const { ca, certificate: cert, key, token, timeout = 10_000, pause = 100, repeats = true } = options;
+    const given = typeof options.addresses === "string" ? [options.addresses] : options.addresses;
+    const addresses = given.map((text) => new Address(text, { minVersion: "TLSv1.2", ca, cert, key }));
+    if (addresses.length === 0) {
+      throw new TypeError("there is no address");
+    }
+    this.#settings = { addresses, timeout, pause, repeats, first: 0 };
+    this.#token = typeof token === "function" ? token : () => token;
+    this.#log = options.log ?? ((line) => console.warn(line));
+  }
+
+  /** Closes the connections that are kept. A further call opens a new one. */
+  close() {
+    for (const address of this.#settings.addresses) {
+      address.close();
+    }
+  }
+
+  /** How many decisions there were, by their reasons. */
+  get counts() {
+    return new Map(this.#counts);
+  }
+
+  /**
+   * Whether the session may do the operation on the object, and why. It is never rejected: without an answer it denies.
+   *
+   * @param {string} session
+   * @param {string} operation
+   * @param {string} object
+   * @returns {Promise<Decision>}
+   */
+  async check(session, operation, object) {
+    return this.keep(await this.decide(session, operation, object), operation, object);
+  }
+
+  /**
+   * Whether to let the session do the operation on the object.
+   *
+   * @param {string} session
+   * @param {string} operation
+   * @param {string} object
+   * @returns {Promise<boolean>}
+   */
+  async may(session, operation, object) {
+    return (await this.check(session, operation, object)).allowed;
+  }
+
+  /**
+   * Makes a session of the user with these roles activated, under a new name that nobody can guess. With `renews` it is made again when
+   * a decision finds that it has ended, with those of the roles that are left.
+   *
+   * @param {string} user
+   * @param {readonly string[]} roles
+   * @param {{ renews?: boolean }} [options]
+   * @returns {Promise<Session>}
+   */
+  async openSession(user, roles, options) {
+    const session = new Session(this, user, roles, options?.renews ?? false);
+    await session.open();
+    return session;
+  }
+
+  /**
+   * A decision that isn't counted yet.
+   *
+   * @internal
+   * @param {string} session
+   * @param {string} operation
+   * @param {string} object
+   */
+  async decide(session, operation, object) {
+    try {
+      return new Decision((await this.checkAccess(session, operation, object)) === true ? "allowed" : "denied");
+    } catch (error) {
+      return undecided(error);
+    }
+  }
+
+  /**
+   * Counts a decision, and logs it if the office hasn't made it. The log has no names of sessions.
+   *
+   * @internal
+   * @param {Decision} decision
+   * @param {string} operation
+   * @param {string} object
+   */
+  keep(decision, operation, object) {
+    this.#counts.set(decision.reason, (this.#counts.get(decision.reason) ?? 0) + 1);
+    if (!decision.isDecided) {
+      const about = `${JSON.stringify(operation)} on ${JSON.stringify(object)}`;
+      this.#log(`no decision about ${about}: ${decision.reason}: ${decision.detail}`);
+    }
+    return decision;
+  }
+
+  /**
+   * Calls a function. `again` is the code that means that the command was done, if its answer was lost before.
+   *
+   * @internal
+   * @param {string} name
+   * @param {Record<string, unknown>} keys
+   * @param {number} [again]
+   * @returns {Promise<any>}
+   */
+  async call(name, keys, again) {
+    const body = bodyOf(name, keys);
+    const course = new Course(this.#settings, name, again);
+    for (;;) {
+      try {
+        const { status, body: bytes } = await this.#attempt(course, name, body);
+        const value = readAnswer(name, status, bytes);
+        course.answered();
+        return value;
+      } catch (error) {
+        const pause = course.after(error);
+        if (pause === undefined) {
+          return undefined;
+        }
+        if (pause > 0) {
+          await new Promise((resolve) => setTimeout(() => resolve(undefined), pause));
+        }
+      }
+    }
+  }
+
+  /**
+   * @param {Course} course
+   * @param {string} name
+   * @param {string} body
+   */
+  #attempt(course, name, body) {
+    const token = this.#token();
+    /** @type {Record<string, string>} */
+    const headers = { "Content-Type": "application/json", "Content-Length": String(Buffer.byteLength(body)) };
+    if (token !== undefined) {
+      headers.Authorization = `Bearer ${token}`;
+    }
+    const address = /** @type {Address} */ (this.#settings.addresses[course.place]);
+    const limit = course.limit();
+    return course.isQuestion ? address.ask(name, body, headers, limit) : address.command(name, body, headers, limit);
+  }
+}

@@ -1,0 +1,108 @@
+// The course of a call: which address is asked next, for how long, and after which pause.
+
+import { OfficeError, RefusedError } from "./decision.js";
+import { AGAIN, VALUES } from "./functions.js";
+
+// How often a command is sent at most, and for what a question is asked at the next address.
+const MOST_ATTEMPTS = 4;
+const OF_ONE_ADDRESS = ["unavailable", "unreachable", "untrusted", "unanswered", "unexpected"];
+
+/** The course of one call. It ends with an answer, or with the error that `after` throws. */
+export class Course {
+  /**
+   * @param {{ addresses: readonly unknown[], timeout: number, pause: number, repeats: boolean, first: number }} settings
+   * @param {string} name
+   * @param {number | undefined} again the code that means that the command was done, if the function alone doesn't say it
+   */
+  constructor(settings, name, again) {
+    this.settings = settings;
+    this.deadline = now() + settings.timeout;
+    this.isQuestion = VALUES[name] !== "done" && VALUES[name] !== "import";
+    this.again = settings.repeats ? again ?? AGAIN[name] : undefined;
+    this.left = this.isQuestion ? settings.addresses.length : this.again === undefined ? 1 : MOST_ATTEMPTS;
+    // Addresses that can't be reached cost no attempt: nothing was sent.
+    this.unreached = settings.addresses.length - 1;
+    this.at = settings.first;
+    this.sent = 0;
+    this.isLost = false;
+  }
+
+  /** The number of the address that is asked now. */
+  get place() {
+    return this.at % this.settings.addresses.length;
+  }
+
+  /** When the attempt has to have ended: a share of the time is left for each further attempt. */
+  limit() {
+    const share = this.isQuestion ? this.left : Math.min(this.left, 2) + this.unreached;
+    return now() + Math.max(this.deadline - now(), 0) / share;
+  }
+
+  /** The address has answered: the next call begins with it. */
+  answered() {
+    this.settings.first = this.place;
+  }
+
+  /**
+   * What follows on an error: after how many milliseconds the next attempt, or nothing if the command was done. Throws what the call
+   * has to throw if there is no further attempt.
+   *
+   * @param {unknown} error
+   * @returns {number | undefined}
+   */
+  after(error) {
+    if (!(error instanceof OfficeError)) {
+      throw error;
+    }
+    const isRefused = error instanceof RefusedError && error.reason !== "unavailable";
+    if (isRefused) {
+      this.answered();
+      if (this.isLost && this.again && error.code === this.again) {
+        return undefined;
+      }
+    }
+    error.mayBeDone = !this.isQuestion && (error.mayBeDone || this.isLost);
+    if (isRefused || !OF_ONE_ADDRESS.includes(error.reason) || now() >= this.deadline) {
+      throw error;
+    }
+    this.at += 1;
+    if (this.isQuestion) {
+      this.left -= 1;
+      if (this.left === 0) {
+        throw error;
+      }
+      return 0;
+    }
+    return this.afterCommand(error);
+  }
+
+  /** @param {OfficeError} error */
+  afterCommand(error) {
+    if (error.reason === "unreachable" || error.reason === "untrusted") {
+      if (this.unreached > 0) {
+        this.unreached -= 1;
+        return 0;
+      }
+      if (!this.isLost) {
+        throw error;
+      }
+      return this.pause(); // The command waits for a server.
+    }
+    this.left -= 1;
+    if (this.left === 0 || error.reason === "unexpected") {
+      throw error;
+    }
+    this.isLost = this.isLost || error.mayBeDone;
+    return this.pause();
+  }
+
+  pause() {
+    this.sent += 1;
+    return Math.min(this.settings.pause * 2 ** (this.sent - 1), Math.max(this.deadline - now(), 0));
+  }
+}
+
+/** The milliseconds of a clock that nobody sets. */
+export function now() {
+  return performance.now();
+}

@@ -1,0 +1,118 @@
+// Decisions with their reasons, and the errors of calls without a result.
+
+/**
+ * Why a decision allows or denies, or why a call has no result. docs/INTEGRATING.md, section 1, has what to do.
+ *
+ * @typedef {"allowed" | "denied" | "ended_session" | "unknown_name" | "refused" | "invalid_request" | "unauthenticated" | "forbidden"
+ *   | "unavailable" | "unreachable" | "untrusted" | "unanswered" | "unexpected"} Reason
+ */
+
+/** Whether a session may do something, and why. */
+export class Decision {
+  /**
+   * @param {Reason} reason
+   * @param {string} detail what the log has about it
+   * @param {number} code that of the refusal, or 0
+   */
+  constructor(reason, detail = "", code = 0) {
+    this.reason = reason;
+    this.detail = detail;
+    this.code = code;
+    Object.freeze(this);
+  }
+
+  /** Whether to allow: only after the one answer that allows. */
+  get allowed() {
+    return this.reason === "allowed";
+  }
+
+  /** Whether the office has decided. If not, the reason is to be reported. */
+  get isDecided() {
+    return this.reason === "allowed" || this.reason === "denied";
+  }
+}
+
+/** A call has no result. A command wasn't done unless `mayBeDone`. */
+export class OfficeError extends Error {
+  /**
+   * @param {Reason} reason
+   * @param {string} message
+   * @param {boolean} mayBeDone
+   */
+  constructor(reason, message, mayBeDone) {
+    super(message);
+    this.name = "OfficeError";
+    this.reason = reason;
+    this.mayBeDone = mayBeDone;
+  }
+}
+
+/** The server refused the request. `code` and `refusal` are those of docs/API.md, `details` has the further key, if any. */
+export class RefusedError extends OfficeError {
+  /**
+   * @param {number} code
+   * @param {string} refusal
+   * @param {Record<string, string | number>} details
+   */
+  constructor(code, refusal, details) {
+    const more = Object.entries(details).map(([key, value]) => ` ${key} ${JSON.stringify(value)}`);
+    super(REASONS[code] ?? "refused", `${code} ${refusal}${more.join("")}`, [41, 60, 61].includes(code));
+    this.name = "RefusedError";
+    this.code = code;
+    this.refusal = refusal;
+    this.details = details;
+  }
+}
+
+/**
+ * The reasons of the refusals that a decision can get, by their codes.
+ *
+ * @type {Record<number, Reason>}
+ */
+const REASONS = {
+  26: "ended_session",
+  6: "unknown_name",
+  33: "unknown_name",
+  1: "invalid_request",
+  34: "invalid_request",
+  35: "invalid_request",
+  36: "invalid_request",
+  62: "unauthenticated",
+  63: "forbidden",
+  65: "forbidden",
+  66: "forbidden",
+  40: "unavailable",
+  41: "unavailable",
+  42: "unavailable",
+  60: "unavailable",
+  61: "unavailable",
+  64: "unavailable",
+};
+
+/**
+ * The reasons of answers that aren't those of `rbac`, by their statuses: a proxy sends them.
+ *
+ * @type {Record<number, Reason>}
+ */
+export const REASONS_OF_STATUSES = {
+  401: "unauthenticated",
+  403: "forbidden",
+  429: "unavailable",
+  502: "unavailable",
+  503: "unavailable",
+  504: "unavailable",
+};
+
+/**
+ * The decision if the question has no answer: it denies.
+ *
+ * @param {unknown} error
+ */
+export function undecided(error) {
+  if (!(error instanceof OfficeError)) {
+    return new Decision("invalid_request", String(error));
+  }
+  // No other refusal is an answer to this question.
+  const reason = error.reason === "refused" ? "unexpected" : error.reason;
+  return new Decision(reason, error.message, error instanceof RefusedError ? error.code : 0);
+}

@@ -1,0 +1,13 @@
+// A client of the role administration server `rbac` and of its front, for Node 18 or later. docs/INTEGRATING.md shows how an
+// application uses it. It needs nothing but Node's own modules.
+
+export { Client } from "./client.js";
+export { Decision, OfficeError, RefusedError } from "./decision.js";
+export { guard } from "./guard.js";
+export { Session, sessionName } from "./session.js";
+
+/** @typedef {import("./client.js").Options} Options */
+/** @typedef {import("./decision.js").Reason} Reason */
+/** @typedef {import("./values.js").ImportReport} ImportReport */
+/** @typedef {import("./values.js").Permission} Permission */
+/** @typedef {import("./values.js").RefusedRecord} RefusedRecord */

@@ -1,0 +1,215 @@
+// One exchange over HTTP/1.1 with one address.
+
+import * as http from "node:http";
+import * as https from "node:https";
+
+import { LONGEST_ANSWER } from "./answers.js";
+import { now } from "./course.js";
+import { OfficeError } from "./decision.js";
+
+const LONGEST_HEAD = 16_384;
+
+// The codes of errors of TLS begin with these.
+const OF_TLS = /^(ERR_TLS|ERR_SSL|CERT|DEPTH_ZERO|SELF_SIGNED|UNABLE_TO|EPROTO|HOSTNAME|INVALID_CA|INVALID_PURPOSE|PATH_LENGTH)/;
+
+/** @typedef {{ status: number, body: Uint8Array }} Reply */
+
+/** Where a server listens. Questions go over connections that are kept, and commands over new ones. */
+export class Address {
+  /**
+   * Reads `http://HOST:PORT`, `https://HOST:PORT` or `unix:PATH`.
+   *
+   * @param {string} text
+   * @param {object} tls
+   */
+  constructor(text, tls) {
+    const url = text.startsWith("unix:") && text.length > 5 ? undefined : urlOf(text);
+    this.isTls = url?.protocol === "https:";
+    this.library = this.isTls ? https : http;
+    const place = url
+      ? { hostname: url.hostname.replace(/^\[|\]$/g, ""), port: Number(url.port) || (this.isTls ? 443 : 80) }
+      : { socketPath: text.slice(5), hostname: "localhost" };
+    this.options = { method: "POST", maxHeaderSize: LONGEST_HEAD, ...place, ...(this.isTls ? tls : {}) };
+    this.agent = new this.library.Agent({ keepAlive: true, maxFreeSockets: 16 });
+    this.agent.on("free", closesAtData);
+  }
+
+  /** Closes the connections that are kept. */
+  close() {
+    this.agent.destroy();
+  }
+
+  /**
+   * Asks a question over a kept connection if there is one. If that was closed meanwhile, the question is asked once more.
+   *
+   * @param {string} name
+   * @param {string} body
+   * @param {Record<string, string>} headers
+   * @param {number} limit
+   */
+  async ask(name, body, headers, limit) {
+    const first = new Exchange(this, this.agent);
+    try {
+      return await first.run(name, body, headers, limit);
+    } catch (error) {
+      if (!(error instanceof OfficeError) || error.reason !== "unanswered" || !first.isReused || now() >= limit) {
+        throw error;
+      }
+    }
+    return this.command(name, body, headers, limit);
+  }
+
+  /**
+   * Sends a command over a new connection.
+   *
+   * @param {string} name
+   * @param {string} body
+   * @param {Record<string, string>} headers
+   * @param {number} limit
+   */
+  command(name, body, headers, limit) {
+    return new Exchange(this, false).run(name, body, headers, limit);
+  }
+}
+
+/**
+ * What comes on a connection that waits for a request closes it.
+ *
+ * @param {http.Socket} socket
+ */
+function closesAtData(socket) {
+  const close = () => socket.destroy();
+  socket.on("data", close);
+  ON_DATA.set(socket, close);
+}
+
+/** @type {WeakMap<http.Socket, () => void>} */
+const ON_DATA = new WeakMap();
+
+/** @param {string} text */
+function urlOf(text) {
+  let url;
+  try {
+    url = new URL(text);
+  } catch {
+    throw new TypeError(`${JSON.stringify(text)} is not an address`);
+  }
+  const isPlain = !url.username && !url.password && url.pathname === "/" && !url.search && !url.hash && url.hostname;
+  if (!["http:", "https:"].includes(url.protocol) || !isPlain) {
+    throw new TypeError(`${JSON.stringify(text)} is not an address such as https://localhost:8080 or unix:/run/rbac-front/socket`);
+  }
+  return url;
+}
+
+class Exchange {
+  /**
+   * @param {Address} address
+   * @param {http.Agent | false} agent
+   */
+  constructor(address, agent) {
+    this.address = address;
+    this.agent = agent;
+    this.isConnected = false;
+    this.isReused = false;
+    this.isOver = false;
+  }
+
+  /**
+   * @param {string} name
+   * @param {string} body
+   * @param {Record<string, string>} headers
+   * @param {number} limit
+   * @returns {Promise<Reply>}
+   */
+  run(name, body, headers, limit) {
+    return new Promise((resolve, reject) => {
+      const options = { ...this.address.options, agent: this.agent, path: `/v1/${name}`, headers };
+      const request = this.address.library.request(options);
+      const timer = setTimeout(() => {
+        this.isOver = true;
+        request.destroy();
+        reject(this.lost("no complete answer came in time"));
+      }, Math.max(limit - now(), 0));
+      request.on("socket", (socket) => this.connected(socket, request));
+      request.on("error", (error) => reject(this.failure(error)));
+      request.on("close", () => {
+        clearTimeout(timer);
+        reject(this.lost("the connection was closed before the answer ended"));
+      });
+      request.on("response", (response) => this.receive(request, response, resolve, reject));
+      request.end(body);
+    });
+  }
+
+  /**
+   * @param {http.Socket} socket
+   * @param {http.ClientRequest} request
+   */
+  connected(socket, request) {
+    this.isReused = request.reusedSocket;
+    const close = ON_DATA.get(socket);
+    if (close) {
+      socket.off("data", close);
+    }
+    if (!socket.connecting) {
+      this.isConnected = true;
+    } else {
+      socket.once(this.address.isTls ? "secureConnect" : "connect", () => {
+        this.isConnected = true;
+      });
+    }
+  }
+
+  /**
+   * Reads an answer. It has to state the length of its body in exactly one way.
+   *
+   * @param {http.ClientRequest} request
+   * @param {http.IncomingMessage} response
+   * @param {(reply: Reply) => void} resolve
+   * @param {(error: Error) => void} reject
+   */
+  receive(request, response, resolve, reject) {
+    const names = response.rawHeaders.map((text, place) => (place % 2 === 0 ? text.toLowerCase() : ""));
+    const lengths = names.flatMap((name, place) => (name === "content-length" ? [response.rawHeaders[place + 1] ?? ""] : []));
+    const length = lengths.length === 1 && /^\d{1,9}$/.test(lengths[0] ?? "") ? Number(lengths[0]) : LONGEST_ANSWER + 1;
+    if (length > LONGEST_ANSWER || names.includes("transfer-encoding")) {
+      reject(new OfficeError("unexpected", `the answer has a length of ${lengths}`, true));
+      request.destroy();
+      return;
+    }
+    /** @type {Buffer[]} */
+    const pieces = [];
+    response.on("data", (piece) => pieces.push(piece));
+    response.on("error", (error) => reject(this.failure(error)));
+    response.on("end", () => {
+      const body = pieces.length === 1 ? /** @type {Buffer} */ (pieces[0]) : Buffer.concat(pieces);
+      if (response.complete && body.length === length) {
+        resolve({ status: response.statusCode ?? 0, body });
+      } else {
+        reject(this.lost("the connection was closed before the answer ended"));
+      }
+    });
+  }
+
+  /**
+   * The error of an exchange without an answer.
+   *
+   * @param {http.Failure} error
+   */
+  failure(error) {
+    const code = error.code ?? "";
+    if (this.isConnected) {
+      return code.startsWith("HPE_") ? new OfficeError("unexpected", error.message, true) : this.lost(error.message);
+    }
+    return OF_TLS.test(code) ? new OfficeError("untrusted", error.message, false) : this.lost(error.message);
+  }
+
+  /**
+   * The error if the connection was lost, or was never made: then nothing was sent.
+   *
+   * @param {string} message
+   */
+  lost(message) {
+    return this.isConnected ? new OfficeError("unanswered", message, true) : new OfficeError("unreachable", message, false);
+  }
+}

@@ -1,0 +1,128 @@
+/**
+ * What a client is made from. One address answers for all.
+ *
+ * @typedef {object} Options
+ * @property {string | readonly string[]} addresses one or more of `http://HOST:PORT`, `https://HOST:PORT` and `unix:PATH`
+ * @property {string | (() => string)} [token] shows who asks; a text, or a function that returns the present one
+ * @property {number} [timeout] how many milliseconds a call may take as a whole, with all of its attempts; 10,000 if absent
+ * @property {string | Uint8Array} [ca] the certificates of the authorities that are trusted instead of those of Node
+ * @property {string | Uint8Array} [certificate] the client's own certificate
+ * @property {string | Uint8Array} [key] the key of that certificate
+ * @property {number} [pause] how many milliseconds pass before a command is sent again, each time twice as many; 100 if absent
+ * @property {boolean} [repeats] whether a command whose answer was lost is sent again, if docs/INTEGRATING.md, section 3, says that it
+ *   may be; true if absent
+ * @property {(line: string) => void} [log] gets a line for each decision that the office hasn't made
+ */
+/** A server, or several servers of one office. */
+export class Client extends Functions {
+    /** @param {Options} options */
+    constructor(options: Options);
+    /** Closes the connections that are kept. A further call opens a new one. */
+    close(): void;
+    /** How many decisions there were, by their reasons. */
+    get counts(): Map<import("./decision.js").Reason, number>;
+    /**
+     * Whether the session may do the operation on the object, and why. It is never rejected: without an answer it denies.
+     *
+     * @param {string} session
+     * @param {string} operation
+     * @param {string} object
+     * @returns {Promise<Decision>}
+     */
+    check(session: string, operation: string, object: string): Promise<Decision>;
+    /**
+     * Whether to let the session do the operation on the object.
+     *
+     * @param {string} session
+     * @param {string} operation
+     * @param {string} object
+     * @returns {Promise<boolean>}
+     */
+    may(session: string, operation: string, object: string): Promise<boolean>;
+    /**
+     * Makes a session of the user with these roles activated, under a new name that nobody can guess. With `renews` it is made again when
+     * a decision finds that it has ended, with those of the roles that are left.
+     *
+     * @param {string} user
+     * @param {readonly string[]} roles
+     * @param {{ renews?: boolean }} [options]
+     * @returns {Promise<Session>}
+     */
+    openSession(user: string, roles: readonly string[], options?: {
+        renews?: boolean | undefined;
+    } | undefined): Promise<Session>;
+    /**
+     * A decision that isn't counted yet.
+     *
+     * @internal
+     * @param {string} session
+     * @param {string} operation
+     * @param {string} object
+     */
+    decide(session: string, operation: string, object: string): Promise<Decision>;
+    /**
+     * Counts a decision, and logs it if the office hasn't made it. The log has no names of sessions.
+     *
+     * @internal
+     * @param {Decision} decision
+     * @param {string} operation
+     * @param {string} object
+     */
+    keep(decision: Decision, operation: string, object: string): Decision;
+    /**
+     * Calls a function. `again` is the code that means that the command was done, if its answer was lost before.
+     *
+     * @internal
+     * @param {string} name
+     * @param {Record<string, unknown>} keys
+     * @param {number} [again]
+     * @returns {Promise<any>}
+     */
+    call(name: string, keys: Record<string, unknown>, again?: number | undefined): Promise<any>;
+    #private;
+}
+/**
+ * What a client is made from. One address answers for all.
+ */
+export type Options = {
+    /**
+     * one or more of `http://HOST:PORT`, `https://HOST:PORT` and `unix:PATH`
+     */
+    addresses: string | readonly string[];
+    /**
+     * shows who asks; a text, or a function that returns the present one
+     */
+    token?: string | (() => string) | undefined;
+    /**
+     * how many milliseconds a call may take as a whole, with all of its attempts; 10,000 if absent
+     */
+    timeout?: number | undefined;
+    /**
+     * the certificates of the authorities that are trusted instead of those of Node
+     */
+    ca?: string | Uint8Array | undefined;
+    /**
+     * the client's own certificate
+     */
+    certificate?: string | Uint8Array | undefined;
+    /**
+     * the key of that certificate
+     */
+    key?: string | Uint8Array | undefined;
+    /**
+     * how many milliseconds pass before a command is sent again, each time twice as many; 100 if absent
+     */
+    pause?: number | undefined;
+    /**
+     * whether a command whose answer was lost is sent again, if docs/INTEGRATING.md, section 3, says that it
+     * may be; true if absent
+     */
+    repeats?: boolean | undefined;
+    /**
+     * gets a line for each decision that the office hasn't made
+     */
+    log?: ((line: string) => void) | undefined;
+};
+import { Functions } from "./functions.js";
+import { Decision } from "./decision.js";
+import { Session } from "./session.js";

@@ -1,0 +1,93 @@
+"""The bodies of requests and of answers. An answer is read only if it is exactly one that `rbac` sends."""
+
+import json
+from typing import Any, Callable, Dict, List, Mapping, Optional, Set
+
+from ._decision import REASONS_OF_STATUSES, Reason, Refused, Unexpected
+from ._functions import STATUSES, VALUES
+from ._values import ImportReport, Permission, RefusedRecord
+
+ALLOWED = b'{"ok":true,"value":true}'
+DENIED = b'{"ok":true,"value":false}'
+LONGEST_ANSWER = 4 * 1024 * 1024
+
+# The further keys of refusals.
+_DETAILS: List[Set[str]] = [set(), {"set"}, {"kind"}, {"record"}, {"version"}, {"check"}]
+
+
+def written(value: Any, is_sorted: bool = False) -> bytes:
+    """A value as `rbac` writes it, if its keys are sorted. Raises `ValueError` for what can't be sent."""
+    return json.dumps(value, ensure_ascii=False, allow_nan=False, separators=(",", ":"), sort_keys=is_sorted).encode()
+
+
+def body_of(function: str, arguments: Mapping[str, Any]) -> bytes:
+    """The body of a request."""
+    if function == "importAssignments":
+        return str(arguments["csv"]).encode()
+    try:
+        return written(arguments)
+    except TypeError as error:
+        raise ValueError(str(error)) from error
+
+
+def read_answer(function: str, status: Optional[int], text: bytes) -> Any:
+    """The value of an answer, whose status is None for lines. Raises `Refused` for a refusal, otherwise `Unexpected`."""
+    if function == "checkAccess" and status in (None, 200) and text in (ALLOWED, DENIED):
+        return text == ALLOWED
+    answer = _read_exactly(text)
+    if answer.get("ok") is True and answer.keys() <= {"ok", "value"} and status in (None, 200):
+        kind = VALUES[function]
+        if kind != "access" and _IS_RIGHT[kind](answer.get("value")) and ("value" in answer) == (kind != "done"):
+            return _RESULTS.get(kind, lambda value: value)(answer.get("value"))
+    code, name = answer.pop("code", None), answer.pop("error", None)
+    is_refusal = type(code) is int and isinstance(name, str) and set(answer) in _DETAILS
+    if is_refusal and (status is None or status in STATUSES.get(code, (409,))):
+        raise Refused(code, name, answer)
+    reason = REASONS_OF_STATUSES.get(status or 0, Reason.UNEXPECTED)
+    raise Unexpected(f"no answer of rbac to {function}: {status or ''} {text[:200]!r}", reason)
+
+
+def _read_exactly(text: bytes) -> Dict[str, Any]:
+    """The object that a text is, if `rbac` writes it so. Otherwise it is empty."""
+    try:
+        answer = json.loads(text)
+        return answer if isinstance(answer, dict) and written(answer, True) == text else {}
+    except (ValueError, RecursionError):
+        return {}
+
+
+def _is_names(value: Any) -> bool:
+    return isinstance(value, list) and all(isinstance(name, str) for name in value)
+
+
+def _is_pairs(value: Any) -> bool:
+    return isinstance(value, list) and all(_is_names(pair) and len(pair) == 2 for pair in value)
+
+
+def _is_count(value: Any) -> bool:
+    return type(value) is int and value >= 0
+
+
+def _is_report(value: Any) -> bool:
+    if not isinstance(value, dict) or list(value) != ["already", "assigned", "refused"]:
+        return False
+    records = value["refused"]
+    is_right = isinstance(records, list) and all(isinstance(one, dict) and list(one) == ["code", "record"] for one in records)
+    counts = [value["already"], value["assigned"]]
+    return is_right and all(_is_count(one) for one in [*counts, *(one for record in records for one in record.values())])
+
+
+# What the value of each kind looks like, and what becomes of it.
+_IS_RIGHT: Dict[str, Callable[[Any], bool]] = {
+    "done": lambda value: value is None,
+    "import": _is_report,
+    "names": _is_names,
+    "permissions": _is_pairs,
+    "count": _is_count,
+}
+_RESULTS: Dict[str, Callable[[Any], Any]] = {
+    "import": lambda value: ImportReport(
+        value["already"], value["assigned"], [RefusedRecord(one["record"], one["code"]) for one in value["refused"]]
+    ),
+    "permissions": lambda value: [Permission(*pair) for pair in value],
+}

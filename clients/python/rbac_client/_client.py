@@ -1,0 +1,215 @@
+"""The client that waits for its answers."""
+
+import os
+import socket
+import ssl
+import threading
+import time
+from typing import Any, Dict, List, Optional, Sequence, Tuple, Union
+
+from ._answers import body_of, read_answer
+from ._course import Course, Settings, remaining
+from ._decision import Decision, Error, Reason, Unanswered, Unexpected, Unreachable
+from ._functions import Functions
+from ._http import Address, Reply, Token, request
+from ._office import Decisions, decided, undecided
+from ._sessions import Session, session_name
+
+_MOST_IDLE = 16
+
+
+class Office(Functions):
+    """The functions as methods, decisions, and sessions."""
+
+    def __init__(self) -> None:
+        self._decisions = Decisions()
+
+    @property
+    def counts(self) -> Dict[Reason, int]:
+        """How many decisions there were, by their reasons."""
+        return self._decisions.counts
+
+    def check(self, session: str, operation: str, object: str) -> Decision:
+        """Whether the session may do the operation on the object, and why. It raises nothing: without an answer it denies."""
+        return self._decisions.keep(self._decide(session, operation, object), operation, object)
+
+    def _decide(self, session: str, operation: str, object: str) -> Decision:
+        """A decision that isn't counted yet."""
+        try:
+            return decided(self.check_access(session, operation, object))
+        except Exception as error:  # Whatever it is, it doesn't allow.
+            return undecided(error)
+
+    def may(self, session: str, operation: str, object: str) -> bool:
+        """Whether to let the session do the operation on the object."""
+        return self.check(session, operation, object).allowed
+
+    def open_session(self, user: str, roles: Sequence[str], renews: bool = False) -> Session:
+        """Makes a session of the user with these roles activated, under a new name that nobody can guess.
+
+        With `renews` it is made again when a decision finds that it has ended, with those of the roles that are left.
+        """
+        session = Session(self, user, roles, renews)
+        session.open()
+        return session
+
+    def _call(self, function: str, arguments: Dict[str, Any], again: Optional[int] = None) -> Any:
+        raise NotImplementedError
+
+
+class Client(Office):
+    """A server, or several servers of one office. Threads may share it, and so may processes after a fork."""
+
+    def __init__(
+        self,
+        addresses: Union[str, Sequence[str]],
+        *,
+        token: Optional[Token] = None,
+        timeout: float = 10.0,
+        ca: Optional[str] = None,
+        certificate: Optional[str] = None,
+        key: Optional[str] = None,
+        pause: float = 0.1,
+        repeats: bool = True,
+    ) -> None:
+        """`addresses`: one or more of `http://HOST:PORT`, `https://HOST:PORT` and `unix:PATH`; one answers for all.
+
+        `token`: shows who asks; a text, or a function that returns the present one.
+        `timeout`: how many seconds a call may take as a whole, with all of its attempts. Only the system limits how long it looks
+        for the address of a host.
+        `ca`: the file of the authorities that may have issued the server's certificate, instead of those of the system.
+        `certificate`, `key`: the files of the client's own certificate and key.
+        `pause`: how many seconds pass before a command is sent again. Each further pause is twice as long.
+        `repeats`: whether a command whose answer was lost is sent again, if docs/INTEGRATING.md, section 3, says that it may be.
+        """
+        super().__init__()
+        self._settings = Settings.of(addresses, timeout, token, ca, certificate, key, pause, repeats)
+        self._idle: List[Tuple[Address, socket.socket]] = []
+        self._lock, self._owner = threading.Lock(), os.getpid()
+
+    def __enter__(self) -> "Client":
+        return self
+
+    def __exit__(self, *_: object) -> None:
+        self.close()
+
+    def close(self) -> None:
+        """Closes the connections that are kept. A further call opens a new one."""
+        with self._lock:
+            idle, self._idle = self._idle, []
+        for _, connection in idle:
+            connection.close()
+
+    def _call(self, function: str, arguments: Dict[str, Any], again: Optional[int] = None) -> Any:
+        body = body_of(function, arguments)
+        course = Course(self._settings, function, again)
+        while True:
+            try:
+                reply = self._attempt(course, function, body)
+                value = read_answer(function, reply.status, reply.body)
+            except Error as error:
+                pause = course.after(error)
+                if pause is None:
+                    return None
+                time.sleep(pause)
+            else:
+                course.answered()
+                return value
+
+    def _attempt(self, course: Course, function: str, body: bytes) -> Reply:
+        """Sends a request once. A question is sent over a kept connection if there is one, and a command over a new one."""
+        address, limit = course.address, course.limit()
+        text = request(address, function, body, self._settings.token, course.is_question)
+        kept = self._kept(address) if course.is_question else None
+        if kept is not None:
+            try:
+                return self._exchange(address, kept, text, limit)
+            except Unanswered:
+                remaining(limit)  # The server may have closed it: this question is asked once more.
+        return self._exchange(address, self._connected(address, limit), text, limit)
+
+    def _exchange(self, address: Address, connection: socket.socket, text: bytes, limit: float) -> Reply:
+        reply = Reply()
+        try:
+            _exchange(connection, text, reply, limit)
+        except BaseException:
+            connection.close()
+            raise
+        if reply.keeps:
+            self._keep(address, connection)
+        else:
+            connection.close()
+        return reply
+
+    def _connected(self, address: Address, limit: float) -> socket.socket:
+        connection: Optional[socket.socket] = None
+        try:
+            if address.path:
+                connection = socket.socket(socket.AF_UNIX)
+                connection.settimeout(remaining(limit))
+                connection.connect(address.path)
+                return connection
+            connection = socket.create_connection((address.host, address.port), remaining(limit))
+            connection.setsockopt(socket.IPPROTO_TCP, socket.TCP_NODELAY, 1)
+            if not address.is_tls or self._settings.context is None:
+                return connection
+            connection.settimeout(remaining(limit))
+            return self._settings.context.wrap_socket(connection, server_hostname=address.host)
+        except (OSError, ValueError, Unanswered) as error:
+            if connection is not None:
+                connection.close()
+            reason = Reason.UNTRUSTED if isinstance(error, ssl.SSLError) else Reason.UNREACHABLE
+            raise Unreachable(str(error), reason) from error
+
+    def _keep(self, address: Address, connection: socket.socket) -> None:
+        with self._lock:
+            if len(self._idle) < _MOST_IDLE and self._owner == os.getpid():
+                self._idle.append((address, connection))
+                return
+        connection.close()
+
+    def _kept(self, address: Address) -> Optional[socket.socket]:
+        """A connection to the address that is open, and on which nothing has come meanwhile."""
+        if self._owner != os.getpid():
+            self._forked()
+        while True:
+            with self._lock:
+                place = next((at for at, (of, _) in reversed(list(enumerate(self._idle))) if of is address), None)
+                if place is None:
+                    return None
+                _, connection = self._idle.pop(place)
+            try:
+                connection.settimeout(0)
+                connection.recv(1)
+            except (BlockingIOError, ssl.SSLWantReadError):
+                return connection
+            except OSError:
+                pass
+            connection.close()
+
+    def _forked(self) -> None:
+        """After a fork the connections are those of the other process."""
+        self._lock, self._owner = threading.Lock(), os.getpid()
+        self.close()
+
+
+def _exchange(connection: socket.socket, text: bytes, reply: Reply, limit: float) -> None:
+    """Sends a request, and reads its answer."""
+    broken: Optional[OSError] = None
+    try:
+        connection.settimeout(remaining(limit))
+        try:
+            connection.sendall(text)
+        except OSError as error:  # A server may refuse a request that it hasn't read to the end.
+            broken = error
+        while True:
+            connection.settimeout(remaining(limit))
+            piece = connection.recv(65_536)
+            if not piece:
+                raise Unanswered("the connection was closed before the answer ended")
+            if reply.feed(piece):
+                break
+    except OSError as error:
+        raise Unanswered(str(broken or error)) from error
+    if broken is not None:
+        reply.keeps = False

@@ -1,0 +1,143 @@
+"""What a client was configured with, and the course of a call: which address is asked next, for how long, after which pause."""
+
+import ssl
+import time
+from dataclasses import dataclass, field
+from typing import List, Optional, Sequence, Union
+
+from ._decision import Error, Reason, Refused, Unanswered, Unreachable
+from ._functions import AGAIN, VALUES
+from ._http import Address, Token
+
+# How often a command is sent at most, and for what a question is asked at the next address.
+MOST_ATTEMPTS = 4
+_OF_ONE_ADDRESS = (
+    Reason.UNAVAILABLE,
+    Reason.UNREACHABLE,
+    Reason.UNTRUSTED,
+    Reason.UNANSWERED,
+    Reason.UNEXPECTED,
+)
+
+
+@dataclass
+class Settings:
+    """What a client was configured with, and the address that answered last."""
+
+    addresses: List[Address]
+    timeout: float
+    token: Optional[Token] = field(repr=False)
+    context: Optional[ssl.SSLContext]
+    pause: float
+    repeats: bool
+    first: int = field(default=0)
+
+    @classmethod
+    def of(
+        cls,
+        addresses: Union[str, Sequence[str]],
+        timeout: float,
+        token: Optional[Token],
+        ca: Optional[str],
+        certificate: Optional[str],
+        key: Optional[str],
+        pause: float,
+        repeats: bool,
+    ) -> "Settings":
+        """Reads the arguments of a client."""
+        read = [Address.read(one) for one in ([addresses] if isinstance(addresses, str) else addresses)]
+        if not read:
+            raise ValueError("there is no address")
+        context = None
+        if any(one.is_tls for one in read):
+            context = ssl.create_default_context(cafile=ca)
+            context.minimum_version = ssl.TLSVersion.TLSv1_2
+            if certificate is not None:
+                context.load_cert_chain(certificate, key)
+        return cls(read, timeout, token, context, pause, repeats)
+
+
+class Course:
+    """The course of one call. It ends with an answer, or with the error that `after` raises."""
+
+    def __init__(self, settings: Settings, function: str, again: Optional[int] = None) -> None:
+        """`again` is the code that means that the command was done, if the function alone doesn't say it."""
+        self._settings = settings
+        self.deadline = time.monotonic() + settings.timeout
+        self.is_question = VALUES[function] not in ("done", "import")
+        self._again = AGAIN.get(function) if again is None else again
+        if not settings.repeats:
+            self._again = None
+        can_be_repeated = self.is_question or self._again is not None
+        self._left = (len(settings.addresses) if self.is_question else MOST_ATTEMPTS) if can_be_repeated else 1
+        # Addresses that can't be reached cost no attempt: nothing was sent.
+        self._unreached = len(settings.addresses) - 1
+        self._at, self._sent, self._lost = settings.first, 0, False
+
+    @property
+    def address(self) -> Address:
+        """The address that is asked now."""
+        return self._settings.addresses[self._at % len(self._settings.addresses)]
+
+    def limit(self) -> float:
+        """When the attempt has to have ended: a share of the time is left for each further attempt."""
+        now = time.monotonic()
+        share = (self._left if self.is_question else min(self._left, 2)) + self._unreached * (not self.is_question)
+        return now + max(self.deadline - now, 0) / max(share, 1)
+
+    def answered(self) -> None:
+        """The address has answered: the next call begins with it."""
+        self._settings.first = self._at % len(self._settings.addresses)
+
+    def after(self, error: Error) -> Optional[float]:
+        """What follows on an error: after how many seconds the next attempt, or None if the command was done.
+
+        Raises what the call has to raise if there is no further attempt.
+        """
+        is_refused = isinstance(error, Refused) and error.reason is not Reason.UNAVAILABLE
+        if is_refused:
+            self.answered()
+            if self._lost and self._again and isinstance(error, Refused) and error.code == self._again:
+                return None
+        error.may_be_done = not self.is_question and (error.may_be_done or self._lost)
+        if is_refused or error.reason not in _OF_ONE_ADDRESS or time.monotonic() >= self.deadline:
+            raise error
+        if isinstance(error, Unreachable):
+            return self._elsewhere(error)
+        self._left -= 1
+        if self._left <= 0 or (not self.is_question and error.reason is Reason.UNEXPECTED):
+            raise error
+        self._lost = self._lost or error.may_be_done
+        self._at += 1
+        if self.is_question:
+            return 0.0
+        self._sent += 1
+        return self._pause(self._sent)
+
+    def _elsewhere(self, error: Error) -> float:
+        """The next address, since nothing was sent to this one. A command whose answer was lost waits for a server."""
+        self._at += 1
+        if self.is_question:
+            self._left -= 1
+            if self._left <= 0:
+                raise error
+            return 0.0
+        if self._unreached > 0:
+            self._unreached -= 1
+            return 0.0
+        if not self._lost:
+            raise error
+        self._sent += 1
+        return self._pause(self._sent)
+
+    def _pause(self, number: int) -> float:
+        seconds: float = min(self._settings.pause * 2 ** (number - 1), max(self.deadline - time.monotonic(), 0))
+        return seconds
+
+
+def remaining(limit: float) -> float:
+    """The seconds until a limit. Raises `Unanswered` if there are none."""
+    seconds = limit - time.monotonic()
+    if seconds <= 0:
+        raise Unanswered("no complete answer came in time")
+    return seconds

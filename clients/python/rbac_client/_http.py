@@ -1,0 +1,95 @@
+"""HTTP/1.1 as far as `rbac` and its front use it: requests as bytes, and answers that are read from bytes as they arrive."""
+
+import re
+from dataclasses import dataclass
+from typing import Callable, Optional, Union
+
+from ._answers import LONGEST_ANSWER
+from ._decision import Unexpected
+
+LONGEST_HEAD = 16_384
+
+# A token, or what returns the present one.
+Token = Union[str, Callable[[], str]]
+
+
+@dataclass(frozen=True)
+class Address:
+    """Where a server listens: at a host and a port, with or without TLS, or at a socket in the file system."""
+
+    host: str
+    port: int = 0
+    is_tls: bool = False
+    path: str = ""
+
+    @classmethod
+    def read(cls, text: str) -> "Address":
+        """Reads `http://HOST:PORT`, `https://HOST:PORT` or `unix:PATH`."""
+        if text.startswith("unix:") and len(text) > 5:
+            return cls("localhost", path=text[5:])
+        parts = re.fullmatch(r"(https?)://([^\s/:@?#\[\]]+|\[[0-9A-Fa-f:.]+\])(?::(\d{1,5}))?/?", text)
+        if not parts or int(parts[3] or 0) > 65_535:
+            raise ValueError(f"{text!r} is not an address such as https://localhost:8080 or unix:/run/rbac-front/socket")
+        is_tls = parts[1] == "https"
+        return cls(parts[2].strip("[]"), int(parts[3] or (443 if is_tls else 80)), is_tls)
+
+    @property
+    def field(self) -> str:
+        """The value of the field `Host`."""
+        host = f"[{self.host}]" if ":" in self.host else self.host
+        return host if self.path else f"{host}:{self.port}"
+
+
+def request(address: Address, function: str, body: bytes, token: Optional[Token], keeps: bool) -> bytes:
+    """The bytes of a request. The connection is kept after it if `keeps`."""
+    shown = token() if callable(token) else token
+    if shown is not None and not re.fullmatch(r"[\x21-\x7e]+", shown):
+        raise ValueError("the token has a space, or a character that is not ASCII")
+    fields = f"POST /v1/{function} HTTP/1.1\r\nHost: {address.field}\r\nContent-Length: {len(body)}\r\n"
+    fields += "Content-Type: text/csv\r\n" if function == "importAssignments" else "Content-Type: application/json\r\n"
+    if shown is not None:
+        fields += f"Authorization: Bearer {shown}\r\n"
+    return f"{fields}{'' if keeps else 'Connection: close' + chr(13) + chr(10)}\r\n".encode() + body
+
+
+class Reply:
+    """An answer as it arrives. It has to state the length of its body in exactly one way."""
+
+    def __init__(self) -> None:
+        self._received = bytearray()
+        self._start = self._end = 0
+        self.status, self.keeps = 0, False
+
+    @property
+    def body(self) -> bytes:
+        """The body of a complete answer."""
+        return bytes(self._received[self._start : self._end])
+
+    def feed(self, piece: bytes) -> bool:
+        """Adds bytes, and returns whether the answer is complete. Raises `Unexpected` if it isn't one of `rbac`."""
+        self._received += piece
+        if not self._end:
+            if not self._received.startswith(b"HTTP/1."[: len(self._received)]):
+                raise Unexpected(f"no HTTP: {bytes(self._received[:200])!r}")
+            at = self._received.find(b"\r\n\r\n")
+            if at < 0:
+                if len(self._received) > LONGEST_HEAD:
+                    raise Unexpected("the head of the answer is too long")
+                return False
+            self._read_head(bytes(self._received[: at + 2]), at + 4)
+        if len(self._received) > self._end:
+            raise Unexpected("there is more than an answer")
+        return len(self._received) == self._end
+
+    def _read_head(self, head: bytes, start: int) -> None:
+        status = re.match(rb"HTTP/1\.([01]) (\d{3}) [^\r\n]*\r\n", head)
+        lengths = re.findall(rb"(?i)\ncontent-length[ \t]*:[ \t]*([^\r\n]*)\r", head)
+        if not status or len(lengths) != 1 or not re.fullmatch(rb"\d{1,9}", lengths[0].strip()) or len(head) > LONGEST_HEAD:
+            raise Unexpected(f"no answer of rbac: {head[:200]!r}")
+        if re.search(rb"(?i)\ntransfer-encoding", head):
+            raise Unexpected("the answer states its length in two ways")
+        self.status, length = int(status[2]), int(lengths[0])
+        if length > LONGEST_ANSWER:
+            raise Unexpected(f"the answer has {length} bytes")
+        self._start, self._end = start, start + length
+        self.keeps = status[1] == b"1" and not re.search(rb"(?i)\nconnection[ \t]*:[^\r\n]*close", head)

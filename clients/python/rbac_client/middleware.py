@@ -1,0 +1,121 @@
+"""Guards for applications of WSGI and of ASGI: a request passes only if the session may do what it asks for."""
+
+import functools
+from typing import Any, Awaitable, Callable, Dict, Iterable, List, Mapping, MutableMapping, Optional, Tuple, TypeVar
+
+from ._async import AsyncOffice
+from ._client import Office
+from ._decision import Decision, Reason
+
+# An operation and an object. A request for which there is none passes without a question.
+Need = Optional[Tuple[str, str]]
+
+_WORDS = {401: "Unauthorized", 403: "Forbidden", 503: "Service Unavailable"}
+_PLAIN = [("Content-Type", "text/plain; charset=utf-8"), ("Cache-Control", "no-store")]
+
+
+def status_of(decision: Optional[Decision]) -> int:
+    """The status of the answer to a request that doesn't pass. Without a session there is no decision."""
+    if decision is None or decision.reason is Reason.ENDED_SESSION:
+        return 401
+    return 403 if decision.is_decided else 503
+
+
+Environ = Dict[str, Any]
+StartResponse = Callable[..., Any]
+WsgiApp = Callable[[Environ, StartResponse], Iterable[bytes]]
+
+
+class WsgiGuard:
+    """An application of WSGI behind a guard."""
+
+    def __init__(
+        self,
+        app: WsgiApp,
+        office: Office,
+        need: Callable[[Environ], Need],
+        session: Callable[[Environ], Optional[str]],
+    ) -> None:
+        """`need` returns what a request needs, and `session` the name of its session, which the application keeps."""
+        self._app, self._office, self._need, self._session = app, office, need, session
+
+    def __call__(self, environ: Environ, start_response: StartResponse) -> Iterable[bytes]:
+        need = self._need(environ)
+        if need is not None:
+            name = self._session(environ)
+            decision = self._office.check(name, *need) if name else None
+            if not decision:
+                status = status_of(decision)
+                start_response(f"{status} {_WORDS[status]}", list(_PLAIN))
+                return [f"{_WORDS[status]}\n".encode()]
+        return self._app(environ, start_response)
+
+
+Scope = MutableMapping[str, Any]
+Receive = Callable[[], Awaitable[Any]]
+Send = Callable[[Any], Awaitable[None]]
+AsgiApp = Callable[[Scope, Receive, Send], Awaitable[None]]
+
+
+class AsgiGuard:
+    """An application of ASGI behind a guard: requests over HTTP, and websockets before they are accepted."""
+
+    def __init__(
+        self,
+        app: AsgiApp,
+        office: AsyncOffice,
+        need: Callable[[Scope], Need],
+        session: Callable[[Scope], Optional[str]],
+    ) -> None:
+        """`need` returns what a request needs, and `session` the name of its session, which the application keeps."""
+        self._app, self._office, self._need, self._session = app, office, need, session
+
+    async def __call__(self, scope: Scope, receive: Receive, send: Send) -> None:
+        need = self._need(scope) if scope["type"] in ("http", "websocket") else None
+        if need is not None:
+            name = self._session(scope)
+            decision = await self._office.check(name, *need) if name else None
+            if not decision:
+                await _refuse(scope, send, status_of(decision))
+                return
+        await self._app(scope, receive, send)
+
+
+async def _refuse(scope: Scope, send: Send, status: int) -> None:
+    """Answers a request that doesn't pass."""
+    if scope["type"] == "websocket":
+        await send({"type": "websocket.close", "code": 1008})
+        return
+    headers: List[Tuple[bytes, bytes]] = [(name.lower().encode(), value.encode()) for name, value in _PLAIN]
+    await send({"type": "http.response.start", "status": status, "headers": headers})
+    await send({"type": "http.response.body", "body": f"{_WORDS[status]}\n".encode()})
+
+
+class NotAllowed(Exception):
+    """A function with `needs` was called for a session that may not do it. `decision` is None without a session."""
+
+    def __init__(self, decision: Optional[Decision]) -> None:
+        super().__init__(decision)
+        self.decision, self.status = decision, status_of(decision)
+
+
+Result = TypeVar("Result")
+
+
+def needs(
+    office: Office, session: Callable[[], Optional[str]], operation: str, object: str
+) -> Callable[[Callable[..., Result]], Callable[..., Result]]:
+    """A decorator: the function runs only if the session may do the operation on the object. Otherwise it raises `NotAllowed`."""
+
+    def decorated(function: Callable[..., Result]) -> Callable[..., Result]:
+        @functools.wraps(function)
+        def guarded(*given: Any, **named: Any) -> Result:
+            name = session()
+            decision = office.check(name, operation, object) if name else None
+            if not decision:
+                raise NotAllowed(decision)
+            return function(*given, **named)
+
+        return guarded
+
+    return decorated
