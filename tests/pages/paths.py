@@ -9,7 +9,7 @@ PAGES = [f"docs/{name}.md" for name in ("ARCHITECTURE", "DECISIONS", "MODEL", "P
 PAGES += [f"{folder}/README.md" for folder in ("bench", "examples", "tests")]
 
 # The most words that a page may have.
-MOST_WORDS = {"tests/README.md": 2_800, "bench/README.md": 2_900, "docs/CONTRACTS.md": 5_600}
+MOST_WORDS = {"tests/README.md": 2_800, "bench/README.md": 3_000, "docs/CONTRACTS.md": 5_600}
 
 # A path of the repository: below one of its folders.
 PATH = r"(?<![\w/.-])(?:bench|bin|crates|deploy|docs|examples|release|tests|tools|\.ci)/[\w./-]*"
