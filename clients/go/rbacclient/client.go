@@ -338,10 +338,20 @@ func lost(err error, isConnected bool) *Error {
 	return failed(Unreachable, false, err)
 }
 
+// ofConnection are in the texts of the errors of net/http that don't wrap the error of the connection.
+var ofConnection = []string{"EOF", "server closed idle connection", "tls: ", "reset by peer", "broken pipe", "closed network connection"}
+
 // isOfConnection reports whether an error is that of a connection that was lost, or of a time limit.
 func isOfConnection(err error) bool {
 	var operation *net.OpError
-	return errors.Is(err, io.EOF) || errors.Is(err, io.ErrUnexpectedEOF) || errors.As(err, &operation) ||
-		errors.Is(err, context.DeadlineExceeded) || errors.Is(err, context.Canceled) ||
-		strings.HasSuffix(err.Error(), "EOF") || strings.HasSuffix(err.Error(), "server closed idle connection")
+	if errors.Is(err, io.EOF) || errors.Is(err, io.ErrUnexpectedEOF) || errors.As(err, &operation) ||
+		errors.Is(err, context.DeadlineExceeded) || errors.Is(err, context.Canceled) {
+		return true
+	}
+	for _, text := range ofConnection {
+		if strings.Contains(err.Error(), text) {
+			return true
+		}
+	}
+	return false
 }

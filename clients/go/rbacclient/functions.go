@@ -20,6 +20,7 @@ var statuses = map[int][]int{
 	64: {429},
 	65: {403},
 	66: {421},
+	67: {412},
 }
 
 // repeatable: the commands that may be repeated if their answer was lost. The code, if it isn't 0, then says that it

@@ -75,6 +75,7 @@ STATUSES: Mapping[int, Tuple[int, ...]] = {
     64: (429,),
     65: (403,),
     66: (421,),
+    67: (412,),
 }
 
 # The commands that may be repeated if their answer was lost. The code, if it isn't 0, then says that it was done.
