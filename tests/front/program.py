@@ -3,6 +3,7 @@
 import http.client
 import json
 import os
+import shutil
 import signal
 import socket
 import ssl
@@ -13,6 +14,7 @@ from program.bench import PROGRAM as RBAC
 from program.bench import SECONDS
 from program.web import free_port
 
+from .recorded import left_in_memory
 from .running import PROGRAM
 
 HOST = "127.0.0.1"
@@ -91,6 +93,9 @@ class Front:
         if self.process.poll() is None:
             self.process.kill()
         self.process.wait()
+        # The next start would remove them.
+        for name in left_in_memory(self.office):
+            shutil.rmtree(f"/dev/shm/{name}", ignore_errors=True)
 
     def said(self, after=0):
         """What the front has logged after some bytes."""

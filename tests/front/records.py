@@ -1,5 +1,6 @@
 """The record of a front: what is in it, which starts it refuses, what `rbac-node record` finds in one that was changed."""
 
+import hashlib
 import json
 import os
 import re
@@ -121,6 +122,19 @@ def check_names(bench):
     bench.judge("what is printed", [str(one) for one in said if one[0] != 0 or SESSION in one[1] + one[2]])
     bench.same("files", set(files_with(bench.folder, SESSION)), {front.office, bench.path(f"backups/{backup}/office")})
     bench.same("what is left in memory", left_in_memory(front.office), [])
+
+
+def check_left_copies(bench):
+    """What a crash leaves of copies of the office is removed at the next start."""
+    front = made(bench)
+    part = hashlib.sha256(front.office.encode()).hexdigest()[:16]
+    for purpose in ("start", "base", "part"):
+        for path in (f"/dev/shm/rbac-record-{os.getuid()}-{part}-{purpose}", path_of(front.office, f"scratch-{purpose}")):
+            os.mkdir(path)
+            shutil.copy(front.office, path)
+    with front:
+        bench.same("in memory", left_in_memory(front.office), [])
+        bench.same("beside the record", [name for name in os.listdir(f"{front.office}.record") if "scratch" in name], [])
 
 
 def made(bench, name="office"):

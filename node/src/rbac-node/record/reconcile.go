@@ -18,7 +18,7 @@ import (
 func (r *Record) Before(ctx context.Context) error {
 	r.making.Wait()
 	r.open, r.late = nil, nil // The answers are found again.
-	scratch, err := newScratch(r.Office, r.dir, "start")
+	scratch, err := newScratch(r.Office, r.dir, forStart)
 	if err != nil {
 		return fmt.Errorf("record: %w", err)
 	}

@@ -126,6 +126,7 @@ func CheckOffice(office string) error {
 func Open(ctx context.Context, options Options) (*Record, error) {
 	r := &Record{Options: options, dir: DirOf(options.Office)}
 	r.life, r.stop = context.WithCancel(context.Background())
+	removeScratch(r.Office, r.dir)
 	has, err := HasRecord(options.Office)
 	if err == nil && !has {
 		err = r.begin(ctx)
@@ -146,7 +147,7 @@ func (r *Record) begin(ctx context.Context) error {
 	if err := os.Mkdir(r.dir, 0o700); err != nil && !errors.Is(err, os.ErrExist) {
 		return err
 	}
-	scratch, err := newScratch(r.Office, r.dir, "begin")
+	scratch, err := newScratch(r.Office, r.dir, forPart)
 	if err != nil {
 		return err
 	}
@@ -323,7 +324,7 @@ func (r *Record) IsDue() bool {
 // Rest implements feed.Keeper. No command is at the replay, so the office doesn't change while it is copied. The rest is done
 // while commands go on.
 func (r *Record) Rest() {
-	scratch, err := newScratch(r.Office, r.dir, "base")
+	scratch, err := newScratch(r.Office, r.dir, forBase)
 	if err == nil {
 		err = copyOffice(r.Office, filepath.Join(scratch, "office"))
 	}
@@ -386,7 +387,7 @@ func (r *Record) Close(isInOrder bool) error {
 
 // makeLastBase makes a base after the last replay has ended.
 func (r *Record) makeLastBase() error {
-	scratch, err := newScratch(r.Office, r.dir, "base")
+	scratch, err := newScratch(r.Office, r.dir, forBase)
 	if err != nil {
 		return err
 	}

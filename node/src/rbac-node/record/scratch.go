@@ -22,20 +22,36 @@ const (
 	walSuffix   = "-wal"
 )
 
-// newScratch returns a new empty folder for copies of an office, in memory if there is room. Its name depends on the office and on
-// what it is for, so that what a crash leaves is removed here.
-func newScratch(office, dir, purpose string) (string, error) {
+// Folders for copies, by what they are for. All but those of verify belong to whoever has the lock of the office.
+const (
+	forStart  = "start"
+	forBase   = "base"
+	forPart   = "part"
+	forVerify = "verify"
+)
+
+// scratchPaths returns where a folder for copies of an office may be: in memory, and beside the record. The names depend on the
+// office and on what they are for, so that what a crash leaves is found again.
+func scratchPaths(office, dir, purpose string) ([]string, error) {
 	absolute, err := filepath.Abs(office)
 	if err != nil {
-		return "", fmt.Errorf("copies: %w", err)
+		return nil, fmt.Errorf("copies: %w", err)
 	}
 	sum := sha256.Sum256([]byte(absolute))
-	candidates := []string{filepath.Join(dir, "scratch-"+purpose)}
-	if hasRoom(office) {
-		name := fmt.Sprintf("rbac-record-%d-%s-%s", os.Getuid(), hex.EncodeToString(sum[:8]), purpose)
-		candidates = append([]string{filepath.Join(memory, name)}, candidates...)
+	name := fmt.Sprintf("rbac-record-%d-%s-%s", os.Getuid(), hex.EncodeToString(sum[:8]), purpose)
+	return []string{filepath.Join(memory, name), filepath.Join(dir, "scratch-"+purpose)}, nil
+}
+
+// newScratch returns a new empty folder for copies of an office, in memory if there is room.
+func newScratch(office, dir, purpose string) (string, error) {
+	paths, err := scratchPaths(office, dir, purpose)
+	if err != nil {
+		return "", err
 	}
-	for _, path := range candidates {
+	if !hasRoom(office) {
+		paths = paths[1:]
+	}
+	for _, path := range paths {
 		if err = os.RemoveAll(path); err != nil {
 			continue // Somebody else may have made it in memory.
 		}
@@ -44,6 +60,16 @@ func newScratch(office, dir, purpose string) (string, error) {
 		}
 	}
 	return "", fmt.Errorf("copies: %w", err)
+}
+
+// removeScratch removes what a crash has left of copies of an office, which have the names of sessions. The office is locked.
+func removeScratch(office, dir string) {
+	for _, purpose := range []string{forStart, forBase, forPart} {
+		paths, _ := scratchPaths(office, dir, purpose)
+		for _, path := range paths {
+			_ = os.RemoveAll(path) // What somebody else has made is no copy.
+		}
+	}
 }
 
 // hasRoom reports whether there is room in memory for copies of an office.

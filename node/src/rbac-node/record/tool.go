@@ -212,7 +212,7 @@ func (r *Record) adopt(ctx context.Context, tx *sql.Tx, copied, rows string) err
 
 // withCopy does something with a mapped copy of the office, which no program has open.
 func (r *Record) withCopy(ctx context.Context, work func(copied, rows string) error) error {
-	scratch, err := newScratch(r.Office, r.dir, "part")
+	scratch, err := newScratch(r.Office, r.dir, forPart)
 	if err != nil {
 		return err
 	}

@@ -33,7 +33,7 @@ func (t *Tool) Verify(ctx context.Context, head *Head) error {
 	if err != nil {
 		return err
 	}
-	scratch, err := newScratch(t.Office, DirOf(t.Office), "verify")
+	scratch, err := newScratch(t.Office, DirOf(t.Office), forVerify)
 	if err != nil {
 		return err
 	}
