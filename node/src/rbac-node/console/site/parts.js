@@ -180,7 +180,7 @@ export function drawn(query, about) {
 export function later(title, load) {
     const element = section(title, h("p", { class: "quiet" }, "…"));
     load().then(
-        (children) => element.replaceChildren(h("h2", {}, title), ...[children].flat()),
+        (children) => element.replaceChildren(h("h2", {}, title), ...[children].flat(Infinity).filter(Boolean)),
         async (error) => {
             const text = error instanceof Refused ? await why({}, error) : [LOST];
             element.replaceChildren(h("h2", {}, title), h("p", {}, text));

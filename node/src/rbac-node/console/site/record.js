@@ -50,7 +50,7 @@ export async function recordPage({ query }) {
                 next ? h("a", { href: `${hashOf(["record"])}?${new URLSearchParams(older)}` }, "Older entries") : null)),
         section("Head of the chain",
             h("p", {}, "Each entry has a digest of itself and of all entries before it. Write this head down elsewhere: ",
-                "`rbac-node record verify --head` then finds whether somebody has changed what came before."),
+                h("span", { class: "mono" }, "rbac-node record verify --head"), " then finds whether somebody has changed what came before."),
             h("p", { class: "mono", id: "head" }, `${last}:${chain}`)),
     ];
 }

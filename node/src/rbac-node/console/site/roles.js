@@ -2,7 +2,7 @@
 
 import { ask, everything, list, may, maySome, rows } from "./api.js";
 import { action, button, command, deliberate, drawn, field, form, later, pager, section, table } from "./parts.js";
-import { counted, h, hashOf, listed, name, object, role, set, user } from "./text.js";
+import { counted, few, h, hashOf, listed, name, object, role, set, user } from "./text.js";
 
 const SHOWN = 100;
 
@@ -73,8 +73,8 @@ export async function rolePage([text], { query, anew }) {
             "Delete the role with all of its assignments and grants?", () => command("deleteRole", values, hashOf(["roles"])))) : null,
         h("div", { class: "columns" },
             section("Inheritance",
-                edges("Senior roles, which inherit from this one", seniors.map(({ asc }) => ({ asc, desc: text })), "asc", anew),
-                edges("Junior roles, from which this one inherits", juniors.map(({ desc }) => ({ asc: text, desc })), "desc", anew),
+                edges("Senior roles, which inherit from this one", seniors.map(({ asc }) => ({ asc, desc: text })), "asc", "No role inherits from this one.", anew),
+                edges("Junior roles, from which this one inherits", juniors.map(({ desc }) => ({ asc: text, desc })), "desc", "It inherits from no role.", anew),
                 addEdges(text, anew)),
             section("Neighbours", drawn({ role: text }, `The role with its ${counted(seniors.length, "senior role")}, ${counted(juniors.length, "junior role")} and its separation of duty sets, as in the lists beside it`))),
         h("div", { class: "columns" }, later("Users", () => usersOf(text, anew)), later("Separation of duty", () => setsOf(text))),
@@ -82,10 +82,10 @@ export async function rolePage([text], { query, anew }) {
     ];
 }
 
-function edges(caption, found, key, anew) {
+function edges(caption, found, key, empty, anew) {
     const remove = (edge) => (may("deleteInheritance", edge)
         ? button("Remove", `Remove the inheritance from ${edge[key]}`, () => command("deleteInheritance", edge, anew)) : null);
-    return [h("h3", {}, caption.split(",")[0]), table(caption, ["Role", ""], found.map((edge) => [role(edge[key]), action(remove(edge))]), "None.")];
+    return table(caption, ["Role", ""], found.map((edge) => [role(edge[key]), action(remove(edge))]), empty);
 }
 
 function addEdges(text, anew) {
@@ -128,7 +128,7 @@ async function setsOf(text) {
     const [fixed, dynamic] = await Promise.all([everything("staticSets"), everything("dynamicSets")]);
     const lines = [["static", fixed], ["dynamic", dynamic]].flatMap(([kind, sets]) => sets
         .filter((one) => one.roles.includes(text))
-        .map((one) => h("li", {}, set(kind, one.set), ` (${kind}): at most ${one.cardinality - 1} of `, listed(one.roles.map(role)))));
+        .map((one) => h("li", {}, set(kind, one.set), ` (${kind}): at most ${few(one.cardinality - 1)} of `, listed(one.roles.map(role)))));
     return lines.length ? h("ul", { class: "sets" }, lines) : h("p", { class: "quiet" }, "The role is in no set.");
 }
 

@@ -80,6 +80,11 @@ export function counted(number, noun) {
     return `${number.toLocaleString("en")} ${noun}${number === 1 ? "" : "s"}`;
 }
 
+/** Returns how many there may be, as a word if it is one: "one", "2". */
+export function few(number) {
+    return number === 1 ? "one" : String(number);
+}
+
 /** Returns a time of the record or of a list, in UTC. */
 export function time(text) {
     return h("time", { datetime: text }, text.replace("T", " ").replace(/\.\d+Z$/, ""));

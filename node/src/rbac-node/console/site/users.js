@@ -135,7 +135,7 @@ async function permissionsOf(text, authorized, after) {
     const has = new Set(authorized ?? []);
     const found = part.value.map((row, i) => [
         object(row.object), name(row.operation), listed((givers[i].value ?? []).filter((one) => has.has(one)).map(role)),
-        action(link(["explain", text, row.operation, row.object], h("span", {}, "Why", h("span", { class: "quiet" }, "?")))),
+        action(link(["explain", text, row.operation, row.object], "Why")),
     ]);
     return [table(`Permissions through all roles`, ["Object", "Operation", "Given by", ""], found, "No permission."),
         pager(["users", text], part.next ? { after: part.next } : null, !after)];

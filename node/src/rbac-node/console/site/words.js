@@ -1,7 +1,7 @@
 /** Refusals and commands in words. A sentence is a list of texts and of names. */
 
 import { ask, may, rows } from "./api.js";
-import { listed, name, object, role, set, user } from "./text.js";
+import { few, listed, name, object, role, set, user } from "./text.js";
 
 const permission = (v) => [name(v.operation), " on ", object(v.object)];
 const pair = (v) => [role(v.asc), " inherits from ", role(v.desc)];
@@ -68,7 +68,7 @@ for (const [kind, word] of [["Ssd", "static"], ["Dsd", "dynamic"]]) {
     const the = (v) => [`the ${word} set `, set(word, v.set)];
     Object.assign(COMMANDS, {
         [`create${kind}Set`]: [
-            (v) => ["There is ", the(v), ": at most ", String(v.cardinality - 1), " of ", rolesOf(v.roles)],
+            (v) => ["There is ", the(v), ": at most ", few(v.cardinality - 1), " of ", rolesOf(v.roles)],
             (v) => [`The ${word} set `, name(v.set), " can't be made"],
         ],
         [`delete${kind}Set`]: [(v) => [`The ${word} set `, name(v.set), " is deleted"], (v) => [the(v), " can't be deleted"]],
@@ -160,8 +160,7 @@ async function membersOf(kind, text) {
 
 /** Returns " allows one of auditor, teller". */
 export function allows(found) {
-    const number = found.cardinality === 2 ? "one" : `only ${found.cardinality - 1}`;
-    return [` allows ${number} of `, found.roles.flatMap((one, i) => (i > 0 ? [", ", role(one)] : [role(one)]))];
+    return [` allows ${few(found.cardinality - 1)} of `, found.roles.flatMap((one, i) => (i > 0 ? [", ", role(one)] : [role(one)]))];
 }
 
 /** Which members of a set a user is authorized for, each with the assigned role that gives it. */
@@ -174,11 +173,12 @@ async function membersHeld(text, roles) {
 
 /** Why a separation of duty set refuses a command. */
 async function separated(values, refused, kind) {
-    const found = await membersOf(kind, refused.set);
+    const isNew = values.roles !== undefined && values.cardinality !== undefined;
+    const found = isNew ? values : await membersOf(kind, refused.set);
     if (!found) {
         return ["the ", kind, " separation of duty set ", name(refused.set), " forbids it"];
     }
-    const rule = [set(kind, refused.set), allows(found)];
+    const rule = [isNew ? name(refused.set) : set(kind, refused.set), allows(found)];
     if (kind === "dynamic") {
         return [rule, " in one session"];
     }

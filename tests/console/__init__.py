@@ -1,0 +1,12 @@
+"""The console of the front, as people use it in Chromium.
+
+    serving     the files of the console, their headers and their size; the parts of the front that only the console asks for
+    pages       each page with its actions and refusals, on the bank
+    tasks       what administrators and auditors want to do, with the number of clicks
+    rights      callers who may not do everything, and a token that is nowhere
+    hostile     names that are markup or can't be seen; pages of another origin
+    lost        a front that goes away and comes back
+    looks       the keyboard alone, widths, dark, print, rules of accessibility, and the pictures of docs/CONSOLE.md
+    limits      an office that is full, with --long
+    browser     runs Chromium and looks at its pages
+"""
