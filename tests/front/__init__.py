@@ -11,7 +11,21 @@
     page        the commands of the page
     batches     batches of lines
     gateways    decisions by status alone, also through nginx, and AuthZEN
+    revisions   the revision of the policy, conditions on it, and what a caller may do
+    explained   users in some session, and explanations, beside the plain model
+    sessions    sessions with random names, their end and their expiry
+    lists       lists beside SQL
+    watching    snapshots, and followers that watch
+    separated   which separation of duty sets refuse a command, beside the plain model
+    conforming  the answers of what the front has besides the functions, beside docs/openapi.json
     requests    the commands of docs/REQUESTS.md
     browsers    a page of a foreign site in Chromium
+    records     what the record has, which starts it refuses, and what is found in one that was changed
+    recordkills     the front and its replay are killed under load: record, office and clients agree
+    recordfaults    disks under the record that fail or are full
+    recordorder     the order of writes and syncs, by strace
+    wrongfronts     wrong fronts are found: with --long they are built and run
+    auditing    the commands of docs/AUDITING.md about the record
+    recorded    reads a record
     program     runs the front, and asks it
 """

@@ -16,12 +16,15 @@ from .program import HOST, Front, until
 
 # An office in which the session s1 of ann may open the safe, and s2 of bob may not.
 OFFICE = [
-    ("addUser", {"user": "ann"}), ("addUser", {"user": "bob"}), ("addRole", {"role": "clerk"}), ("addPermObj", {"object": "safe"}),
+    ("addUser", {"user": "ann"}), ("addUser", {"user": "bob"}), ("addRole", {"role": "clerk"}), ("addPermObj",
+    {"object": "safe"}),
     ("addPermObj", {"object": "till:7"}), ("addPermission", {"object": "safe", "operation": "open"}),
     ("addPermission", {"object": "till:7", "operation": "GET"}),
     ("grantPermission", {"object": "safe", "operation": "open", "role": "clerk"}),
-    ("grantPermission", {"object": "till:7", "operation": "GET", "role": "clerk"}), ("assignUser", {"user": "ann", "role": "clerk"}),
-    ("createSession", {"user": "ann", "roles": ["clerk"], "session": "s1"}), ("createSession", {"user": "bob", "roles": [], "session": "s2"}),
+    ("grantPermission", {"object": "till:7", "operation": "GET", "role": "clerk"}), ("assignUser", {"user": "ann",
+    "role": "clerk"}),
+    ("createSession", {"user": "ann", "roles": ["clerk"], "session": "s1"}), ("createSession", {"user": "bob", "roles": [],
+    "session": "s2"}),
 ]  # fmt: skip
 
 RIGHTS = {
@@ -50,7 +53,8 @@ def check_decide(bench):
             bench.same(f"{method}: allowed", decide(front, method, **asked), (204, ""))
         for name, value in [
             ("Office_Session", "s2"), ("Office_Session", "s3"), ("Office_Operation", "close"), ("Office_Object", "till:7"),
-            ("Office_Object", "vault"), ("Office_Session", ""), ("Office_Session", "x" * 65), ("Office_Session", "\xff"), ("Office_Session", '"'),
+            ("Office_Object", "vault"), ("Office_Session", ""), ("Office_Session", "x" * 65), ("Office_Session", "\xff"),
+            ("Office_Session", '"'),
         ]:  # fmt: skip
             bench.same(f"{name} {value}", decide(front, **{**asked, name: value}), (403, ""))
         without = {name: value for name, value in asked.items() if name != "Office_Session"}
@@ -146,7 +150,14 @@ def check_nginx(bench):
         filled(bench, front, **bearer("another"))
         threading.Thread(target=site.serve_forever, daemon=True).start()
         port = free_port()
-        values = {"folder": bench.folder, "host": HOST, "port": port, "site": site.server_port, "front": front.port, "token": "secret"}
+        values = {
+            "folder": bench.folder,
+            "host": HOST,
+            "port": port,
+            "site": site.server_port,
+            "front": front.port,
+            "token": "secret",
+        }
         path = bench.write("nginx.conf", NGINX.format(**values).encode())
         process = subprocess.Popen([nginx, "-c", path, "-e", bench.path("nginx.log")], stdin=subprocess.DEVNULL)
         try:
@@ -201,12 +212,16 @@ def check_evaluation(bench):
         filled(bench, front)
         for what, parts, wanted in [
             ("allowed", {}, {"decision": True}),
-            ("more than is read", {"context": {"time": "now"}, "subject": {**entity("session", "s1"), "properties": {"a": [1]}}},
+            ("more than is read", {"context": {"time": "now"}, "subject": {**entity("session", "s1"),
+            "properties": {"a": [1]}}},
              {"decision": True}),
             ("another session", {"subject": entity("session", "s2")}, {"decision": False}),
-            ("no such session", {"subject": entity("session", "s9")}, {"context": {"code": 26, "error": "NoSession"}, "decision": False}),
-            ("no such object", {"resource": entity("object", "x")}, {"context": {"code": 6, "error": "NoObject"}, "decision": False}),
-            ("no such operation", {"action": {"name": "fly"}}, {"context": {"code": 33, "error": "NoOperation"}, "decision": False}),
+            ("no such session", {"subject": entity("session", "s9")}, {"context": {"code": 26, "error": "NoSession"},
+            "decision": False}),
+            ("no such object", {"resource": entity("object", "x")}, {"context": {"code": 6, "error": "NoObject"},
+            "decision": False}),
+            ("no such operation", {"action": {"name": "fly"}}, {"context": {"code": 33, "error": "NoOperation"},
+            "decision": False}),
             ("a type", {"resource": entity("till", "7"), "action": {"name": "GET"}}, {"decision": True}),
             ("the same object", {"resource": entity("object", "till:7"), "action": {"name": "GET"}}, {"decision": True}),
         ]:  # fmt: skip
@@ -254,7 +269,8 @@ def check_evaluations(bench):
         bench.same("1,000", given, (200, {"evaluations": [yes] * 1_000}))
         bench.same("1,001", evaluated(front, "evaluations", body_of(evaluations=[{}] * 1_001))[0], 413)
         for what, parts in [
-            ("another semantic", {"evaluations": [{}], "options": {"evaluations_semantic": "any"}}), ("no list", {"evaluations": {}}),
+            ("another semantic", {"evaluations": [{}], "options": {"evaluations_semantic": "any"}}), ("no list",
+            {"evaluations": {}}),
             ("null", {"evaluations": None, "subject": None}), ("one without an action", {"evaluations": [{}, {"action": {}}]}),
             ("a text in it", {"evaluations": ["x"]}), ("a text for options", {"evaluations": [{}], "options": "x"}),
         ]:  # fmt: skip

@@ -15,9 +15,11 @@ from program.bench import PROGRAM as RBAC
 from .batches import batch
 from .explained import forget
 from .identities import bearer, secured
+from .kills import ROLES, Client, kill_at_random
 from .program import Front, children, refused_start, until
 from .running import LONG
 from .sessions import digest_of
+from .watching import Watch, request_of, snapshot
 
 # How many random offices there are, how many with --long, and how many random lines each gets before its lists are compared.
 OFFICES, MORE_OFFICES, LINES = 20, 200, 150
@@ -150,12 +152,6 @@ def work(draws, front, kept, ended):
         front.ask(path, body, kept)
 
 
-def request_of(line):
-    """The function and the body by which an accepted line is asked over HTTP."""
-    value = json.loads(line)
-    return (value["fn"], value["csv"].encode()) if value["fn"] == "importAssignments" else (value["fn"], line)
-
-
 def check_ending(bench):
     """A session that a command has ended isn't listed any more when the command is answered."""
     with Front(bench) as front:
@@ -165,10 +161,12 @@ def check_ending(bench):
         front_ask = lambda: len(whole(front, "sessions", 1_000, kept))  # noqa: E731
         bench.same("the office", {*batch(front, lines, connection=kept)[1]}, {'{"ok":true}'})
         for function, values in [
-            ("deleteUser", {"user": "ann"}), ("lockUserAccount", {"user": "ann"}), ("deassignUser", {"user": "ann", "role": "chief"}),
+            ("deleteUser", {"user": "ann"}), ("lockUserAccount", {"user": "ann"}),
+            ("deassignUser", {"user": "ann", "role": "chief"}),
             ("deleteInheritance", {"asc": "chief", "desc": "boss"}), ("deleteRole", {"role": "clerk"}),
         ]:  # fmt: skip
-            start = [{"fn": "addInheritance", "asc": "chief", "desc": "boss"}, {"fn": "addUser", "user": "ann"}, {"fn": "assignUser", "user": "ann", "role": "chief"},
+            start = [{"fn": "addInheritance", "asc": "chief", "desc": "boss"}, {"fn": "addUser", "user": "ann"},
+                     {"fn": "assignUser", "user": "ann", "role": "chief"},
                      {"fn": "assignUser", "user": "ann", "role": "clerk"}]  # fmt: skip
             start += [{"fn": "createSession", "user": "ann", "roles": ["boss"], "session": f"s{i}"} for i in range(20)]
             start += [{"fn": "createSession", "user": "ann", "roles": ["clerk"], "session": f"t{i}"} for i in range(20)]
@@ -194,7 +192,10 @@ def check_load(bench):
             try:
                 for i in range(60):
                     user = f"u{number}.{i}"
-                    ok = [front.ask("addUser", {"user": user}, kept)[0] == 200, user in whole(front, "users", 1_000, kept, contains=user)]
+                    ok = [
+                        front.ask("addUser", {"user": user}, kept)[0] == 200,
+                        user in whole(front, "users", 1_000, kept, contains=user),
+                    ]
                     front.ask("assignUser", {"user": user, "role": "clerk"}, kept)
                     front.ask("createSession", {"user": user, "roles": ["clerk"], "session": f"s {user}"}, kept)
                     ok.append([row["user"] for row in whole(front, "sessions", 1_000, kept, user=user)] == [user])
@@ -218,7 +219,7 @@ def check_load(bench):
         same_lists(bench, front, "after the load")
         for process in children(front.process.pid):
             os.kill(process, 9)
-        until(lambda: front.exchange("GET", "/healthz")[0] == 200, "the front answers again")
+        until(lambda: "the replay answers again" in front.said(), "the replay answers again")
         same_lists(bench, front, "after a kill of the replay")
         front.kill()
         front.start()
@@ -226,11 +227,39 @@ def check_load(bench):
         bench.same("the end", front.end(), 0)
 
 
+def check_closed(bench):
+    """While the office doesn't answer, nothing is said about what is in it. A watch ends, and the numbers go on behind a gap."""
+    with Front(bench, "--no-record") as front:
+        bench.same("addUser", front.ask("addUser", {"user": "ann"})[0], 200)
+        status, number, _ = snapshot(front)
+        watch = Watch(front, number)
+        os.rename(front.office, bench.path("away"))
+        bench.write("office", b"no office")
+        for process in children(front.process.pid):
+            os.kill(process, 9)
+        until(lambda: front.exchange("GET", "/healthz")[0] == 503, "the office doesn't answer")
+        for path in ("/lists/users", "/snapshot", f"/watch?after={number}"):
+            bench.same(path, front.exchange("GET", path)[0], 503)
+        asked = {"user": "ann", "operation": "open", "object": "safe"}
+        for path in ("/explain", "/v1/decideByUser", "/sessions"):
+            bench.same(path, front.exchange("POST", path, json.dumps(asked))[0], 503)
+        os.replace(bench.path("away"), front.office)
+        until(lambda: front.exchange("GET", "/healthz")[0] == 200, "the office answers again")
+        bench.same("the watch has ended", [line for _, line in watch.events() if line], [])
+        same_lists(bench, front, "after that")
+        bench.same("later numbers are greater", (status, snapshot(front)[1] > number), (200, True))
+        bench.same("the end", front.end(), 0)
+
+
 def check_queries(bench):
     """Each key of a query chooses rows, and what isn't one is refused."""
     with Front(bench) as front:
         lines = [{"fn": "addUser", "user": name} for name in ("ann", "annika", "bob", "joanna", "<&>", "zoe\u00e9")]
-        lines += [{"fn": "addRole", "role": "clerk"}, {"fn": "addPermObj", "object": "shop:till"}, {"fn": "addPermObj", "object": "wh:1"}]
+        lines += [
+            {"fn": "addRole", "role": "clerk"},
+            {"fn": "addPermObj", "object": "shop:till"},
+            {"fn": "addPermObj", "object": "wh:1"},
+        ]
         for ob, op in (("shop:till", "open"), ("shop:till", "close"), ("wh:1", "open")):
             lines.append({"fn": "addPermission", "object": ob, "operation": op})
         lines += [{"fn": "grantPermission", "object": "shop:till", "operation": "open", "role": "clerk"},
@@ -239,14 +268,18 @@ def check_queries(bench):
         till, close = {"object": "shop:till", "operation": "open"}, {"object": "shop:till", "operation": "close"}
         house = {"object": "wh:1", "operation": "open"}
         for name, query, wanted in [
-            ("users", {}, ["<&>", "ann", "annika", "bob", "joanna", "zoe\u00e9"]), ("users", {"contains": "an"}, ["ann", "annika", "joanna"]),
-            ("users", {"prefix": "ann"}, ["ann", "annika"]), ("users", {"user": "ann"}, ["ann"]), ("users", {"after": "bob"}, ["joanna", "zoe\u00e9"]),
+            ("users", {}, ["<&>", "ann", "annika", "bob", "joanna", "zoe\u00e9"]), ("users", {"contains": "an"}, ["ann",
+            "annika", "joanna"]),
+            ("users", {"prefix": "ann"}, ["ann", "annika"]), ("users", {"user": "ann"}, ["ann"]), ("users", {"after": "bob"},
+            ["joanna", "zoe\u00e9"]),
             ("users", {"contains": "an", "after": "ann", "limit": 1}, ["annika"]), ("users", {"prefix": "x"}, []),
             ("users", {"prefix": "ann", "after": "a"}, ["ann", "annika"]), ("users", {"prefix": "b", "after": "z"}, []),
             ("permissions", {}, [close, till, house]), ("permissions", {"operation": "open"}, [till, house]),
-            ("permissions", {"prefix": "shop:"}, [close, till]), ("permissions", {"user": "ann"}, [till]), ("permissions", {"role": "clerk"}, [till]),
+            ("permissions", {"prefix": "shop:"}, [close, till]), ("permissions", {"user": "ann"}, [till]), ("permissions",
+            {"role": "clerk"}, [till]),
             ("permissions", {"user": "ann", "operation": "close"}, []), ("permissions", {"user": "bob"}, []),
-            ("permissions", {"after": "shop:till\tclose"}, [till, house]), ("permissions", {"after": "shop:till"}, [close, till, house]),
+            ("permissions", {"after": "shop:till\tclose"}, [till, house]), ("permissions", {"after": "shop:till"},
+            [close, till, house]),
             ("permissions", {"contains": "till"}, [close, till]), ("grants", {"role": "clerk"}, [{**till, "role": "clerk"}]),
             ("assignments", {"role": "clerk"}, [{"role": "clerk", "user": "ann"}]), ("assignments", {"user": "bob"}, []),
         ]:  # fmt: skip
@@ -257,8 +290,10 @@ def check_queries(bench):
         bench.same("of permissions", listed(front, "permissions", limit=1)[1]["next"], "shop:till\tclose")
         bench.same("nobody's", listed(front, "permissions", user="nobody"), (409, {"code": 2, "error": "NoUser"}))
         for name, query, status in [
-            ("users", {"limit": 0}, 400), ("users", {"limit": 1_001}, 400), ("users", {"limit": "x"}, 400), ("users", {"role": "clerk"}, 400),
-            ("users", {"x": "y"}, 400), ("permissions", {"user": "ann", "role": "clerk"}, 400), ("planets", {}, 404), ("", {}, 404),
+            ("users", {"limit": 0}, 400), ("users", {"limit": 1_001}, 400), ("users", {"limit": "x"}, 400), ("users",
+            {"role": "clerk"}, 400),
+            ("users", {"x": "y"}, 400), ("permissions", {"user": "ann", "role": "clerk"}, 400), ("planets", {}, 404), ("",
+            {}, 404),
         ]:  # fmt: skip
             bench.same(f"{name} {query}", listed(front, name, **query)[0], status)
         bench.same("a key twice", front.exchange("GET", "/lists/users?limit=1&limit=2")[0], 400)
@@ -268,7 +303,9 @@ def check_queries(bench):
 
 def check_rights(bench):
     """Every list needs the right to `lists` on the office; who may ask each function is told nothing."""
-    questions = [(function, "office") for function in ("assignedRoles", "userPermissions", "checkAccess", "sessionRoles", "ssdRoleSets")]
+    questions = [
+        (function, "office") for function in ("assignedRoles", "userPermissions", "checkAccess", "sessionRoles", "ssdRoleSets")
+    ]
     rights = {"token:desk": questions, "token:admin": [("lists", "office"), ("addUser", "office")]}
     with secured(bench, rights=rights) as front:
         bench.same("addUser", front.ask("addUser", {"user": "ann"}, **bearer("another"))[0], 200)
@@ -277,8 +314,38 @@ def check_rights(bench):
                 given = front.exchange("GET", f"/lists/{name}{query}", **bearer("secret"))
                 bench.same(f"{name}{query}", given, (403, '{"code":63,"error":"Forbidden"}'))
             bench.same(f"{name} of nobody", front.exchange("GET", f"/lists/{name}")[0], 401)
-        bench.same("with the right", front.exchange("GET", "/lists/users", **bearer("another")), (200, '{"ok":true,"value":["ann"]}'))
+        bench.same(
+            "with the right", front.exchange("GET", "/lists/users", **bearer("another")), (200, '{"ok":true,"value":["ann"]}')
+        )
     bad = '{"fn":"addPermObj","object":"role clerk"}\n{"fn":"addPermission","object":"role clerk","operation":"lists"}\n'
     path = bench.write("bad.jsonl", bad.encode())
     status, _, said = refused_start("callers", "--program", RBAC, path)
     bench.same("no other scope covers lists", (status, "no scope of this kind covers lists" in said), (1, True))
+
+
+# How many kills there are.
+KILLS = 12
+
+
+def check_kills(bench):
+    """After kills of the front and of its replay under load the lists are what SQL reads."""
+    draws, counts = random.Random(os.urandom(8)), {}
+    with Front(bench) as front:
+        for role in ROLES:
+            bench.same(f"addRole {role}", front.ask("addRole", {"role": role})[0], 200)
+        for number in range(KILLS):
+            stop = threading.Event()
+            clients = [Client(front, f"{number}.{client}", stop) for client in range(4)]
+            for client in clients:
+                client.start()
+            kill_at_random(front, draws, counts)
+            until(lambda: front.exchange("GET", "/lists/users")[0] == 200, "the front answers again")
+            stop.set()
+            for client in clients:
+                client.join()
+                bench.judge("the answers of a client", client.faults)
+            # What was kept and not answered may still be done.
+            until(lambda: front.ask("addRole", {"role": "clerk"})[0] == 409, "commands are done")
+            same_lists(bench, front, f"after kill {number}")
+        bench.same("the end", front.end(), 0)
+    return {f"lists: {name}": count for name, count in counts.items()}

@@ -15,7 +15,7 @@ from .running import PROGRAM
 PAGE = markdown.page("FRONT.md")
 
 # The most lines that the page may have.
-MOST_LINES = 390
+MOST_LINES = 440
 
 # How long Go may take on a machine that is busy.
 BUILDING_SECONDS = 600

@@ -41,24 +41,40 @@ class Front:
         self.listen = listen or f"{HOST}:{self.port}"
         self.log = bench.path(f"{name}.log")
         self.environment = environment
+        # The words before those of the front, which run it in some way.
+        self.prefix = []
         self.process = None
+        # How many bytes the log had before the last start.
+        self.logged = 0
 
     def words(self):
         """The arguments of the front."""
         return ["serve", "--office", self.office, "--program", RBAC, "--listen", self.listen, *self.more]
 
+    def start_without_waiting(self):
+        """Starts the front, and returns its process."""
+        with open(self.log, "ab") as log:
+            self.logged = log.tell()
+            return subprocess.Popen(
+                [*self.prefix, os.environ[PROGRAM], *self.words()],
+                stdin=subprocess.DEVNULL,
+                stdout=log,
+                stderr=log,
+                env=self.environment,
+            )
+
     def start(self):
         """Starts the front, and waits until it answers."""
-        with open(self.log, "ab") as log:
-            self.process = subprocess.Popen(
-                [os.environ[PROGRAM], *self.words()], stdin=subprocess.DEVNULL, stdout=log, stderr=log, env=self.environment
-            )
+        self.process = self.start_without_waiting()
         until(self.is_listening, "the front listens", lambda: self.said()[-2000:])
 
     def is_listening(self):
         """Whether somebody listens for the front, which still runs."""
         if self.process.poll() is not None:
             raise RuntimeError(f"the front has ended: {self.said()[-2000:]}")
+        # What a front that was killed has just begun to run has its sockets for some moments.
+        if '"msg":"listening"' not in self.said(self.logged):
+            return False
         try:
             connection = self.connection()
             connection.connect()
@@ -76,10 +92,11 @@ class Front:
             self.process.kill()
         self.process.wait()
 
-    def said(self):
-        """What the front has logged."""
-        with open(self.log, encoding="utf-8", errors="replace") as file:
-            return file.read()
+    def said(self, after=0):
+        """What the front has logged after some bytes."""
+        with open(self.log, "rb") as file:
+            file.seek(after)
+            return file.read().decode(errors="replace")
 
     def end(self):
         """Ends the front in order, and returns its status."""

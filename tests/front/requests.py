@@ -1,4 +1,4 @@
-"""The commands of docs/REQUESTS.md print what it shows, from its top to its end; what the page says about nginx is what is tested."""
+"""The commands of docs/REQUESTS.md print what it shows, from its top to its end; its lines for nginx are those that are tried."""
 
 import os
 import re
@@ -51,7 +51,11 @@ def check_nginx(bench):
     """The lines for nginx on the page are those that the real nginx is tried with."""
     tried = [line.strip().replace("{{", "{").replace("}}", "}") for line in gateways.NGINX.splitlines()]
     (lines,) = markdown.blocks(PAGE, "nginx")
-    places = {"http://127.0.0.1:8000": "http://{host}:{site}", "http://127.0.0.1:8080": "http://{host}:{front}", "TOKEN": "{token}"}
+    places = {
+        "http://127.0.0.1:8000": "http://{host}:{site}",
+        "http://127.0.0.1:8080": "http://{host}:{front}",
+        "TOKEN": "{token}",
+    }
     for line in lines:
         for shown, used in places.items():
             line = line.replace(shown, used)

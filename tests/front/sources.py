@@ -45,7 +45,7 @@ OTHERS = {"build", "features", "unix-socket", "cacert", "system", "home-dir", "s
 
 def check_metrics(bench):
     """The page lists each metric of the front, and no other one."""
-    sources = text_of("api/api.go", "front/front.go", "one.go", "settings.go")
+    sources = text_of("api/api.go", "front/front.go", "one.go", "settings.go", "record/head.go")
     known = set(re.findall(r'(?:Counter|Gauge|Histogram)\(\s*"(rbac_\w+)"', sources))
     bench.same("metrics of the page", sorted(set(re.findall(r"rbac_node_\w+", PAGE))), sorted(known))
 
@@ -56,7 +56,7 @@ def check_refusals(bench):
     for _, code, name in found:
         if name not in ("Diverged", "UnknownFunction"):
             bench.same(f"{code} {name}", f"{code} {name}" in PAGE or f'"code":{code},"error":"{name}"' in PAGE, True)
-    bench.same("how many", len(found), 8)
+    bench.same("how many", len(found), 9)
 
 
 def check_limits(bench):
@@ -82,6 +82,8 @@ def check_limits(bench):
         ("mostLines = 200", "200 lines are written for one second"),
         ('"timeout", 10*time.Second', "(default: 10s)"),
         ('"hang-timeout", time.Minute', "(default: 1m)"),
+        ("longestReason = 256", "up to 256 bytes of UTF-8"),
+        ('"record-base", 10_000', "the later commands again (default: 10,000)"),
         ("nobody = 65534", "65534, which is nobody"),
     ]:
         bench.same(f"{source} and {text}", (source in sources, text in page), (True, True))

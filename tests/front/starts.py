@@ -19,6 +19,9 @@ from .running import features
 
 OK = '{"ok":true}'
 
+# What a front leaves in the folder of its office, with the log of the test.
+LEFT = ["office", "office.lock", "office.log", "office.numbers", "office.record", "office.run"]
+
 
 def check_refused(bench):
     """What can't work ends with status 1 and one line, and makes nothing."""
@@ -79,6 +82,8 @@ def check_without_libraries(bench):
     bench.write("callers", b"")
     for words, says in [
         (["serve", "--etcd", "http://127.0.0.1:1", "--listen", "127.0.0.1:0"], "built without etcd"),
+        (["serve", "--office", bench.path("office"), "--program", RBAC], "built without SQLite"),
+        (["record", "head", "--office", bench.path("office")], "built without SQLite"),
         (["adopt", "x"], "built without etcd"),
         (["callers", "--check", "--program", RBAC, "--callers", bench.path("callers"), "--oidc-keys", "k"], "built without JWTs"),
     ]:
@@ -87,8 +92,9 @@ def check_without_libraries(bench):
     old = os.environ["RBAC_FRONT"]
     os.environ["RBAC_FRONT"] = path
     try:
-        with Front(bench) as front:
+        with Front(bench, "--no-record") as front:
             bench.same("a command", front.ask("addUser", {"user": "ann"}), (200, OK))
+        bench.same("no record was made", os.path.exists(bench.path("office.record")), False)
     finally:
         os.environ["RBAC_FRONT"] = old
     if "etcd" not in features():
@@ -116,7 +122,7 @@ def check_first_start(bench):
         bench.same("a second front", (status, said.count("\n"), "another front" in said), (1, 1, True))
         bench.same("the first one answers", front.ask("assignedRoles", {"user": "ann"}), (200, '{"ok":true,"value":[]}'))
         bench.same("the end", front.end(), 0)
-    bench.same("what is left", sorted(os.listdir(bench.folder)), ["office", "office.lock", "office.log", "office.run"])
+    bench.same("what is left", sorted(os.listdir(bench.folder)), LEFT)
     done = subprocess.run([RBAC, "check", front.office], capture_output=True, text=True, check=False)
     bench.same("rbac check", done.stdout, "good\n")
 
@@ -171,6 +177,7 @@ def check_end(bench):
             bench.judge("what was answered is there", missing)
             bench.same("the end", front.end(), 0)
         os.remove(front.office)
+        shutil.rmtree(f"{front.office}.record")
     return {"requests until the end": len(answers)}
 
 

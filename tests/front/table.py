@@ -12,6 +12,12 @@ from .identities import bearer, rules, tokens
 from .program import Front
 from .sources import keys_of_functions
 
+# The operations for what is read by GET. Their own checks try them.
+READ = ("metrics", "lists", "snapshot", "watch")
+
+# The keys of what is asked like a function and is none.
+OTHERS_KEYS = {"decideByUser": ["user", "operation", "object"]}
+
 # What the calls of the checks are about.
 VALUES = {
     "user": "ann", "role": "clerk", "asc": "boss", "desc": "clerk", "object": "shop:till", "operation": "open", "session": "s1",
@@ -54,17 +60,17 @@ def body_of(function, values):
     """The body of a call."""
     if function == "importAssignments":
         return values["csv"]
-    return json.dumps({key: values[key] for key in keys_of_functions()[function]})
+    return json.dumps({key: values[key] for key in {**keys_of_functions(), **OTHERS_KEYS}[function]})
 
 
 def check_rows(bench):
     """Each function is allowed by the scopes of its row, and by no fewer."""
     listed = rows()
     functions = sorted({*COMMANDS, *QUESTIONS})
-    bench.same("the functions of the table", sorted(listed), sorted([*functions, "metrics"]))
+    bench.same("the functions of the table", sorted(listed), sorted([*functions, *READ, "decideByUser"]))
     rights = {}
     for function, allowed in listed.items():
-        if function != "metrics":
+        if function not in READ:
             rights.update(rights_of(function, SCOPES[allowed]))
     bench.write("callers.jsonl", rules(rights).encode())
     names = [caller.partition(":")[2] for caller in rights]

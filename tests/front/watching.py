@@ -17,9 +17,14 @@ from program.bench import SECONDS
 
 from .batches import batch
 from .identities import bearer, reload, rules, secured
-from .lists import request_of
 from .program import Front, children, until
 from .sessions import digest_of
+
+
+def request_of(line):
+    """The function and the body by which an accepted line is asked over HTTP."""
+    value = json.loads(line)
+    return (value["fn"], value["csv"].encode()) if value["fn"] == "importAssignments" else (value["fn"], line)
 
 
 def snapshot(front, **fields):
@@ -208,7 +213,15 @@ def check_watch(bench):
             pass
         bench.same("a later command", event, (last + 1, b'{"fn":"addUser","user":"late"}'))
         watch.close()
-        for after, status in [("0", 410), (str(last + 2), 410), ("x", 400), ("-1", 400), ("", 400), ("1&after=2", 400), ("1&x=1", 400)]:
+        for after, status in [
+            ("0", 410),
+            (str(last + 2), 410),
+            ("x", 400),
+            ("-1", 400),
+            ("", 400),
+            ("1&after=2", 400),
+            ("1&x=1", 400),
+        ]:
             bench.same(f"after {after}", front.exchange("GET", f"/watch?after={after}")[0], status)
         bench.same("nothing", front.exchange("GET", "/watch")[0], 400)
         bench.same("POST", front.exchange("POST", "/watch?after=1", "{}")[0], 405)
@@ -244,11 +257,16 @@ def check_rights(bench):
             bench.same(f"addUser after {how} is lost", front.ask("addUser", {"user": how}, **admin)[0], 200)
             number += 1
             for event in watch.events():
-                seen += [event] if event[1] else []
+                if event[1] or event[0] >= number:
+                    seen.append(event)
+                    break
+            watch.close()
             bench.same(f"what is seen after {how} is lost", seen, [])
             while not next(other.events())[1]:
                 pass
             other.close()
-            bench.same(f"a new watch after {how} is lost", Watch(front, number, **desk).status, 403 if how == "the right" else 401)
+            bench.same(
+                f"a new watch after {how} is lost", Watch(front, number, **desk).status, 403 if how == "the right" else 401
+            )
             bench.write("callers.jsonl", rules(rights).encode())
             reload(front, "the callers are in force")

@@ -10,7 +10,10 @@ PAGE = markdown.page("AUDITING.md")
 TOOLS = sources.ROOT / "tools"
 
 # The most lines that the page may have.
-MOST_LINES = 255
+MOST_LINES, MOST_BYTES = 380, 20_000
+
+# From here on the page needs a front: tests/front/auditing.py runs its commands.
+OF_A_FRONT = "## 9. Who did what: the record of a front"
 
 
 def check_commands(bench):
@@ -21,7 +24,9 @@ def check_commands(bench):
         # The page names the program by its place in the repository.
         (bench.folder / "release").symlink_to(bench.folder / "bin")
         reader.type("unset RBAC_PROGRAM")
-        for command, shown in runs([line for block in markdown.blocks(PAGE, "console") for line in block]):
+        for command, shown in runs(
+            [line for block in markdown.blocks(PAGE.partition(OF_A_FRONT)[0], "console") for line in block]
+        ):
             if "| dot " in command and not shutil.which("dot"):
                 print(f"left out, since dot can't be found: {command}")
             else:
@@ -30,7 +35,8 @@ def check_commands(bench):
 
 def check_length(bench):
     """The page is short."""
-    bench.same("the page is short", len(PAGE.splitlines()) <= MOST_LINES, True)
+    bench.same("the page is short", (len(PAGE.splitlines()) <= MOST_LINES, len(PAGE.encode()) <= MOST_BYTES), (True, True))
+    bench.same("it has a part about the record", OF_A_FRONT in PAGE, True)
 
 
 def check_lengths(bench):

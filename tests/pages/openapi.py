@@ -50,10 +50,18 @@ PATHS_OF_FRONT = {
     "/healthz": ["get"],
     "/metrics": ["get"],
     "/v1/batch": ["post"],
+    "/v1/decideByUser": ["post"],
     "/decide": ["get", "post"],
     "/access/v1/evaluation": ["post"],
     "/access/v1/evaluations": ["post"],
     "/.well-known/authzen-configuration": ["get"],
+    "/explain": ["post"],
+    "/caller": ["get"],
+    "/sessions": ["post"],
+    "/sessions/{digest}": ["delete"],
+    "/lists/{list}": ["get"],
+    "/snapshot": ["get"],
+    "/watch": ["get"],
 }
 
 # The statuses of a conflict, and of a target or a method that no path here has.
@@ -235,7 +243,7 @@ def check_references(bench):
 def check_paths(bench):
     """Each function has a path with POST alone, and the description that it has on the page."""
     wanted = [*(f"/v1/{name}" for name in sources.functions().values()), *PATHS_OF_FRONT]
-    bench.same("the paths", list(SPEC["paths"]), wanted)
+    bench.same("the paths", sorted(SPEC["paths"]), sorted(wanted))
     commands = sources.command_keys()
     for path, methods in SPEC["paths"].items():
         bench.same(f"the methods of {path}", list(methods), PATHS_OF_FRONT.get(path, ["post"]))

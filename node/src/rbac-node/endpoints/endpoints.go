@@ -30,8 +30,9 @@ type Office interface {
 	Observe(ctx context.Context, observed func(), questions ...*api.Call) ([][]byte, error)
 	// Turn calls a function when all commands before are done. Those of others wait until it returns.
 	Turn(ctx context.Context, do func(Turn) error) error
-	// State returns what is known of the office, or nil.
+	// State returns what is known of the office, or nil. IsReady reports whether the office answers.
 	State() *state.State
+	IsReady() bool
 }
 
 // A Visitor is who asks, if there are callers.
@@ -164,6 +165,17 @@ func has(methods []string, method string) bool {
 		}
 	}
 	return false
+}
+
+// known returns what is known of the office, if it answers: nothing is said about an office that may have changed.
+func (e *Endpoints) known() (*state.State, error) {
+	switch {
+	case e.office.State() == nil:
+		return nil, errNoState
+	case !e.office.IsReady():
+		return nil, api.Unavailable
+	}
+	return e.office.State(), nil
 }
 
 // may refuses calls unless the visitor may do all of them.

@@ -40,12 +40,15 @@ func (e *Endpoints) explain(r *request) (int, error) {
 	if err != nil {
 		return 0, err
 	}
+	if _, err := e.known(); err != nil {
+		return 0, err
+	}
+	if command, isThere := fields["command"]; isThere {
+		return e.explainCommand(r, command)
+	}
 	q, err := readQuery(fields, "session", "user")
 	if err != nil {
 		return 0, err
-	}
-	if e.office.State() == nil {
-		return 0, errNoState
 	}
 	base, err := q.call()
 	if err == nil {

@@ -32,8 +32,8 @@ func (e *Endpoints) list(r *request) (int, error) {
 	if err := r.may(api.NewOther(api.Lists)); err != nil {
 		return 0, err
 	}
-	if e.office.State() == nil {
-		return 0, errNoState
+	if _, err := e.known(); err != nil {
+		return 0, err
 	}
 	name := strings.TrimPrefix(r.URL.Path, listsPath)
 	query, err := readListQuery(name, r.URL.RawQuery)

@@ -29,10 +29,11 @@ func (e *Endpoints) snapshot(r *request) (int, error) {
 	if err := r.may(api.NewOther(api.Snapshot)); err != nil {
 		return 0, err
 	}
-	if e.office.State() == nil {
-		return 0, errNoState
+	s, err := e.known()
+	if err != nil {
+		return 0, err
 	}
-	text, numbers := e.office.State().Snapshot()
+	text, numbers := s.Snapshot()
 	r.done()
 	head := r.w.Header()
 	head.Set(numberField, strconv.FormatInt(numbers.All, 10))
@@ -66,9 +67,9 @@ func (e *Endpoints) watch(r *request) (int, error) {
 	if err := r.may(api.NewOther(api.Watch)); err != nil {
 		return 0, err
 	}
-	s := e.office.State()
-	if s == nil {
-		return 0, errNoState
+	s, err := e.known()
+	if err != nil {
+		return 0, err
 	}
 	after, err := readAfter(r)
 	if err != nil {

@@ -45,8 +45,8 @@ type Options struct {
 	Log   *logs.Logger
 	// Starts counts the starts, by the name.
 	Starts *metrics.Counter
-	// Before is called before each start of a replay, while none runs and all answers of the one before have been observed and
-	// kept. It may be nil, as the observer and the keeper may.
+	// Before is called before each start of a replay, except after one that has answered all. No replay runs then, and all answers of
+	// the one before have been observed and kept. It may be nil, as the observer and the keeper may.
 	Before   func(ctx context.Context) error
 	Observer Observer
 	Keeper   Keeper
@@ -174,13 +174,8 @@ func (f *Feed) Run(ctx context.Context) error {
 		if err != nil {
 			f.why.Store("the replay has ended")
 			f.Log.Error("the replay has ended", "replay", f.Name, "why", err)
-		} else if err := f.end(); err != nil {
-			f.Log.Warn("the replay, which was to be started anew, has failed", "replay", f.Name, "why", err)
-		} else {
-			f.Log.Info("starting the replay anew", "replay", f.Name, "reads", f.reads)
-			if f.open(ctx) == nil {
-				continue
-			}
+		} else if f.anew(ctx) {
+			continue
 		}
 		f.halt()
 		f.lose()
@@ -190,6 +185,20 @@ func (f *Feed) Run(ctx context.Context) error {
 		}
 		f.resume()
 	}
+}
+
+// anew ends the replay in order and starts another one, and reports whether there is one. What is kept can be sent to it.
+func (f *Feed) anew(ctx context.Context) bool {
+	if f.keeping != nil {
+		f.keeping.resting.Lock() // The replay writes the file of the office when it ends.
+		defer f.keeping.resting.Unlock()
+	}
+	if err := f.end(); err != nil {
+		f.Log.Warn("the replay, which was to be started anew, has failed", "replay", f.Name, "why", err)
+		return false
+	}
+	f.Log.Info("starting the replay anew", "replay", f.Name, "reads", f.reads)
+	return f.open(ctx) == nil
 }
 
 // pass passes lines until the context or the replay ends, or until it is time for a new one, for which there is no error.
@@ -375,7 +384,7 @@ func (f *Feed) start(ctx context.Context) error {
 	return f.open(ctx)
 }
 
-// open is start if the last replay has answered all that it got: what is kept can be sent to the next one.
+// open is start without what comes before it.
 func (f *Feed) open(ctx context.Context) error {
 	f.starting.Store(true)
 	defer f.starting.Store(false)

@@ -26,6 +26,8 @@ type keeping struct {
 	// halts says that the replay has ended, and resumes that there is one again. ends says that nothing more will be asked.
 	halts, resumes chan chan struct{}
 	ends, ended    chan struct{}
+	// resting is locked while the keeper rests. The file of the office must not change then.
+	resting sync.Mutex
 	// isOver says that nothing more will be asked, and that there is no replay. Only the goroutine of run uses it.
 	isOver bool
 }
@@ -77,7 +79,7 @@ func (k *keeping) run() {
 			continue
 		}
 		if open == 0 && k.keeper.IsDue() {
-			k.keeper.Rest()
+			k.rest()
 			continue
 		}
 		more, ends := k.asked, k.ends
@@ -104,6 +106,12 @@ func (k *keeping) run() {
 			return
 		}
 	}
+}
+
+func (k *keeping) rest() {
+	k.resting.Lock()
+	defer k.resting.Unlock()
+	k.keeper.Rest()
 }
 
 // take returns units that the keeper is to get next, as many as the replay may have.

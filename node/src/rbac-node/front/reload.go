@@ -6,6 +6,7 @@ import (
 
 	"rbac-node/api"
 	"rbac-node/callers"
+	"rbac-node/endpoints"
 )
 
 // ReloadOnSignal reads the files of the callers again whenever SIGHUP comes, until the context ends. The certificate of the front
@@ -50,6 +51,13 @@ func (f *Front) ask(ctx context.Context) error {
 	call, err := api.NewCall("ssdRoleSets")
 	if err != nil {
 		return err
+	}
+	if ordered, can := f.office.(endpoints.Office); can {
+		// It also waits for commands that nobody waits for any more.
+		return ordered.Turn(ctx, func(turn endpoints.Turn) error {
+			_, err := turn.Ask(call)
+			return err
+		})
 	}
 	_, err = f.office.Ask(ctx, api.Question, call)
 	return err

@@ -47,8 +47,12 @@ func basesIn(dir string) ([]base, error) {
 	return found, nil
 }
 
-// mapped maps the sessions of a copy of an office, merges its log, and describes its rows. The program accepts the file.
+// mapped maps the sessions of a copy of an office, merges its log, and describes its rows. The program accepts the file before and
+// after that.
 func mapped(ctx context.Context, program, path string) (sums, error) {
+	if err := office.Run(ctx, program, "check", path); err != nil {
+		return sums{}, err
+	}
 	c, err := openCopy(path, false)
 	if err != nil {
 		return sums{}, err

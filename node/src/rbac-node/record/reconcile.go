@@ -9,6 +9,8 @@ import (
 	"fmt"
 	"os"
 	"path/filepath"
+
+	"rbac-node/office"
 )
 
 // Before finds out how far the office got, while no replay has it open. After it each entry has an answer, and the entries give
@@ -30,7 +32,7 @@ func (r *Record) Before(ctx context.Context) error {
 func (r *Record) reconcile(ctx context.Context, scratch string) error {
 	ctx, cancel := context.WithCancel(ctx)
 	defer cancel() // It closes what is still being read.
-	want, err := sumsOf(ctx, r.Office, filepath.Join(scratch, "office"))
+	want, err := sumsOf(ctx, r.Program, r.Office, filepath.Join(scratch, "office"))
 	if err != nil {
 		return err
 	}
@@ -92,17 +94,23 @@ func (r *Record) settle(open []entry, done int) error {
 	return err
 }
 
-// sumsOf describes the rows of an office by a copy of it, which nobody writes meanwhile.
-func sumsOf(ctx context.Context, office, copied string) (sums, error) {
-	if err := copyOffice(office, copied); err != nil {
-		return sums{}, err
+// sumsOf describes the rows of an office by a copy of it, which nobody writes meanwhile. If they can't be read, the program says why
+// it refuses the copy.
+func sumsOf(ctx context.Context, program, file, copied string) (s sums, err error) {
+	if err := copyOffice(file, copied); err != nil {
+		return s, err
 	}
 	c, err := openCopy(copied, false)
-	if err != nil {
-		return sums{}, err
+	if err == nil {
+		defer c.Close()
+		s, err = c.sums(ctx)
 	}
-	defer c.Close()
-	return c.sums(ctx)
+	if err != nil && !errors.Is(err, errTwoNames) {
+		if refused := office.Run(ctx, program, "check", copied); refused != nil {
+			err = refused
+		}
+	}
+	return s, err
 }
 
 var errNoStart = errors.New("no copy of the office is what the record says that it is: restore the record from a backup")
@@ -110,22 +118,25 @@ var errNoStart = errors.New("no copy of the office is what the record says that 
 // startOf copies to a file the newest copy of the office that is at most as new as an entry, and returns after which entry it was
 // made. A copy that has other rows than it should have is passed over.
 func startOf(ctx context.Context, db *sql.DB, dir, to string, newest int64) (int64, error) {
+	var n int64
+	var rows string
+	if err := db.QueryRowContext(ctx, "SELECT first, rows FROM part ORDER BY first DESC LIMIT 1").Scan(&n, &rows); err != nil {
+		return 0, err
+	}
 	bases, err := basesIn(dir)
 	if err != nil {
 		return 0, err
 	}
 	for _, b := range bases {
-		if b.n > newest || copyFile(filepath.Join(dir, b.name()), to) != nil {
+		if b.n < n || b.n > newest || copyFile(filepath.Join(dir, b.name()), to) != nil {
 			continue
 		}
 		if rows, err := rowsOf(ctx, to); err == nil && rows == b.rows {
 			return b.n, nil
 		}
 	}
-	var n int64
-	var rows string
 	var text []byte
-	err = db.QueryRowContext(ctx, "SELECT first, rows, office FROM part ORDER BY first DESC LIMIT 1").Scan(&n, &rows, &text)
+	err = db.QueryRowContext(ctx, "SELECT office FROM part WHERE first = ?", n).Scan(&text)
 	if err == nil {
 		err = os.WriteFile(to, text, 0o600)
 	}

@@ -14,6 +14,7 @@ import (
 	"fmt"
 	"os"
 	"path/filepath"
+	"strings"
 	"sync"
 	"time"
 
@@ -95,7 +96,7 @@ func HasRecord(office string) (bool, error) {
 	}
 	for _, file := range files {
 		name := file.Name()
-		if hasPrefix(name, basePrefix) || hasPrefix(name, partPrefix) {
+		if strings.HasPrefix(name, basePrefix) || strings.HasPrefix(name, partPrefix) {
 			return true, fmt.Errorf("record %s: %w", dir, errNoFile)
 		}
 	}
@@ -364,12 +365,7 @@ func (r *Record) Close(isInOrder bool) error {
 	r.making.Wait()
 	err := r.write(r.late, nil)
 	if isInOrder && err == nil && len(r.open) == 0 && r.head.n > r.newestBase() {
-		var scratch string
-		if scratch, err = newScratch(r.Office, r.dir, "base"); err == nil {
-			if err = copyOffice(r.Office, filepath.Join(scratch, "office")); err == nil {
-				err = r.makeBase(r.life, scratch, r.head.n)
-			}
-		}
+		err = r.makeLastBase()
 	}
 	r.logHead()
 	if closing := r.close(); err == nil {
@@ -379,6 +375,18 @@ func (r *Record) Close(isInOrder bool) error {
 		return fmt.Errorf("record: %w", err)
 	}
 	return nil
+}
+
+// makeLastBase makes a base after the last replay has ended.
+func (r *Record) makeLastBase() error {
+	scratch, err := newScratch(r.Office, r.dir, "base")
+	if err != nil {
+		return err
+	}
+	if err := copyOffice(r.Office, filepath.Join(scratch, "office")); err != nil {
+		return err
+	}
+	return r.makeBase(r.life, scratch, r.head.n)
 }
 
 // newestBase returns the entry of the newest base.

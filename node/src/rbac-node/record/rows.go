@@ -169,6 +169,7 @@ func (c *officeCopy) mapSessions(ctx context.Context) error {
 		return err
 	}
 	for _, statement := range []string{
+		"PRAGMA temp_store = MEMORY",
 		"PRAGMA secure_delete = ON",
 		// A name may be the digest of another one. No name begins with this character.
 		"UPDATE pair_row SET a = char(1) || session_digest(a) WHERE kind >= 7",

@@ -116,26 +116,28 @@ type view struct {
 
 // openView opens a file as it is now.
 func openView(ctx context.Context, path string) (*view, error) {
-	// A file beside which SQLite can't make its own, as in a backup that can't be written, isn't written by others either.
-	for _, options := range []string{"mode=ro&_busy_timeout=" + busy, "mode=ro&immutable=1"} {
-		db, err := openFile(path, options)
-		if err != nil {
-			return nil, err
-		}
-		tx, err := db.BeginTx(ctx, nil)
-		if err == nil {
-			var count int
-			if err = tx.QueryRowContext(ctx, "SELECT count(*) FROM part").Scan(&count); err == nil {
-				return &view{db, tx}, nil
-			}
-		}
-		_ = db.Close()
-		if options != "mode=ro&immutable=1" && strings.Contains(err.Error(), "unable to open") {
-			continue
-		}
-		return nil, fmt.Errorf("%s: %w", path, err)
+	v, err := openViewBy(ctx, path, "mode=ro&_busy_timeout="+busy)
+	if err != nil && strings.Contains(err.Error(), "unable to open") {
+		// A file beside which SQLite can't make its own, as in a backup that can't be written, isn't written by others either.
+		v, err = openViewBy(ctx, path, "mode=ro&immutable=1")
 	}
-	return nil, nil // It is never reached.
+	return v, err
+}
+
+func openViewBy(ctx context.Context, path, options string) (*view, error) {
+	db, err := openFile(path, options)
+	if err != nil {
+		return nil, err
+	}
+	tx, err := db.BeginTx(ctx, nil)
+	if err == nil {
+		var count int
+		if err = tx.QueryRowContext(ctx, "SELECT count(*) FROM part").Scan(&count); err == nil {
+			return &view{db, tx}, nil
+		}
+	}
+	_ = db.Close()
+	return nil, fmt.Errorf("%s: %w", path, err)
 }
 
 func (v *view) Close() {
@@ -259,7 +261,10 @@ func (t *Tool) Cut(ctx context.Context) error {
 		if err := os.Link(filepath.Join(r.dir, fileName), path); err != nil {
 			return err
 		}
-		return makeFile(r.dir, r.head.n+1, r.head.ch, continued, rows, copied)
+		if err := makeFile(r.dir, r.head.n+1, r.head.ch, continued, rows, copied); err != nil {
+			return err
+		}
+		return addBase(r.dir, copied, base{r.head.n + 1, rows})
 	})
 	if err != nil {
 		return fmt.Errorf("record: %w", err)

@@ -69,7 +69,7 @@ func (v *verifier) look(ctx context.Context, path string) (*view, error) {
 		return openView(ctx, path)
 	}
 	defer lock.Close()
-	want, err := sumsOf(ctx, v.Office, filepath.Join(v.scratch, "office"))
+	want, err := sumsOf(ctx, v.Program, v.Office, filepath.Join(v.scratch, "office"))
 	if err != nil {
 		return nil, err
 	}
@@ -84,7 +84,14 @@ func (v *verifier) file(ctx context.Context, path string) error {
 		return err
 	}
 	defer opened.Close()
-	return v.read(ctx, opened, false)
+	if err := v.read(ctx, opened, false); err != nil {
+		return err
+	}
+	var first, last int64
+	if _, err := fmt.Sscanf(filepath.Base(path), partPrefix+"%d-%d.db", &first, &last); err == nil && v.last.n != last {
+		return fmt.Errorf("it ends at entry %d, and its name says %d", v.last.n, last)
+	}
+	return nil
 }
 
 // A part is a row of its table.

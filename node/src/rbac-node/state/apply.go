@@ -68,25 +68,29 @@ func (s *State) revokeAll(object, operation string) {
 
 // applyToGraph follows a command about inheritances or separation of duty sets. Earlier graphs stay as they are.
 func (s *State) applyToGraph(call *api.Call) {
-	asc, desc := call.Texts["asc"], call.Texts["desc"]
-	graph := s.graph.clone()
-	switch name := call.Function; {
-	case name == "addInheritance":
-		graph.addEdge(asc, desc)
-	case name == "deleteInheritance":
-		graph.removeEdge(asc, desc)
-	case name == "addAscendant":
-		s.roles.add(asc)
-		graph.addEdge(asc, desc)
-	case name == "addDescendant":
-		s.roles.add(desc)
-		graph.addEdge(asc, desc)
-	case strings.Contains(name, "Ssd"):
-		applyToSets(graph.static, call)
-	case strings.Contains(name, "Dsd"):
-		applyToSets(graph.dynamic, call)
+	switch call.Function {
+	case "addAscendant":
+		s.roles.add(call.Texts["asc"])
+	case "addDescendant":
+		s.roles.add(call.Texts["desc"])
 	}
-	s.graph = graph
+	s.graph = s.graph.after(call)
+}
+
+// after returns the graph after a command that has been done.
+func (g *Graph) after(call *api.Call) *Graph {
+	asc, desc := call.Texts["asc"], call.Texts["desc"]
+	switch name := call.Function; {
+	case name == "addInheritance", name == "addAscendant", name == "addDescendant":
+		return g.withJuniors(asc, func(juniors []string) []string { return append(juniors, desc) })
+	case name == "deleteInheritance":
+		return g.withJuniors(asc, func(juniors []string) []string { return without(juniors, desc) })
+	case strings.Contains(name, "Ssd"):
+		return &Graph{juniors: g.juniors, static: withSet(g.static, call), dynamic: g.dynamic}
+	case strings.Contains(name, "Dsd"):
+		return &Graph{juniors: g.juniors, static: g.static, dynamic: withSet(g.dynamic, call)}
+	}
+	return g
 }
 
 // applyToSets follows a command about the sets of one kind.
@@ -100,7 +104,9 @@ func applyToSets(sets map[string]Set, call *api.Call) {
 		}
 		sets[name] = Set{roles, cardinalityOf(call)}
 	case "addRoleMember":
-		sets[name].Roles[role] = true
+		if set, has := sets[name]; has {
+			set.Roles[role] = true
+		}
 	case "deleteRoleMember":
 		delete(sets[name].Roles, role)
 	case "setSetCardinality":

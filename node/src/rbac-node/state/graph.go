@@ -3,6 +3,8 @@ package state
 import (
 	"sort"
 	"sync"
+
+	"rbac-node/api"
 )
 
 // A Set is a separation of duty set.
@@ -42,24 +44,34 @@ func newGraph() *Graph {
 	return &Graph{juniors: map[string][]string{}, static: map[string]Set{}, dynamic: map[string]Set{}}
 }
 
-// clone returns a copy that may be changed.
-func (g *Graph) clone() *Graph {
-	c := &Graph{juniors: make(map[string][]string, len(g.juniors)), static: copyOf(g.static), dynamic: copyOf(g.dynamic)}
-	for role, juniors := range g.juniors {
-		c.juniors[role] = append([]string(nil), juniors...)
+// withJuniors returns a graph in which a role has other immediate juniors.
+func (g *Graph) withJuniors(role string, change func(juniors []string) []string) *Graph {
+	juniors := make(map[string][]string, len(g.juniors)+1)
+	for one, has := range g.juniors {
+		juniors[one] = has
 	}
-	return c
+	juniors[role] = change(append([]string(nil), juniors[role]...))
+	if len(juniors[role]) == 0 {
+		delete(juniors, role)
+	}
+	return &Graph{juniors: juniors, static: g.static, dynamic: g.dynamic}
 }
 
-func copyOf(sets map[string]Set) map[string]Set {
-	copied := make(map[string]Set, len(sets))
-	for name, set := range sets {
-		roles := make(map[string]bool, len(set.Roles))
+// withSet returns sets in which one is as a command leaves it.
+func withSet(sets map[string]Set, call *api.Call) map[string]Set {
+	name := call.Texts["set"]
+	copied := make(map[string]Set, len(sets)+1)
+	for one, set := range sets {
+		copied[one] = set
+	}
+	if set, has := copied[name]; has {
+		roles := make(map[string]bool, len(set.Roles)+1)
 		for role := range set.Roles {
 			roles[role] = true
 		}
 		copied[name] = Set{roles, set.Cardinality}
 	}
+	applyToSets(copied, call)
 	return copied
 }
 
@@ -130,17 +142,13 @@ func (g *Graph) edges() []Row {
 	return t.rows
 }
 
-// addEdge and removeEdge change a clone.
-func (g *Graph) addEdge(asc, desc string) { g.juniors[asc] = append(g.juniors[asc], desc) }
-
-func (g *Graph) removeEdge(asc, desc string) {
-	left := g.juniors[asc][:0]
-	for _, junior := range g.juniors[asc] {
-		if junior != desc {
-			left = append(left, junior)
+// without returns names without one of them.
+func without(names []string, name string) []string {
+	left := names[:0]
+	for _, one := range names {
+		if one != name {
+			left = append(left, one)
 		}
 	}
-	if g.juniors[asc] = left; len(left) == 0 {
-		delete(g.juniors, asc)
-	}
+	return left
 }

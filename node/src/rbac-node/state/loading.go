@@ -54,7 +54,7 @@ func (l *loading) add(table string, kind int, row Row) {
 	case kind == assignPair:
 		s.assign.rows = append(s.assign.rows, row)
 	case kind == edgePair:
-		s.graph.addEdge(row[0], row[1])
+		s.graph.juniors[row[0]] = append(s.graph.juniors[row[0]], row[1])
 	case kind == staticPair || kind == dynamicPair:
 		l.members = append(l.members, member{kind, row})
 	case kind == sessionPair:

@@ -1,0 +1,162 @@
+package state
+
+import (
+	"sort"
+
+	"rbac-node/api"
+)
+
+// mostHolders is how many holders of a set's members are told.
+const mostHolders = 100
+
+// A Conflict is a separation of duty set that a command would violate.
+type Conflict struct {
+	NamedSet
+	IsStatic bool
+	// Holders has those who would hold too many members, up to a bound, in the order of their names.
+	Holders []Holder
+}
+
+// A Holder is a user who would be authorized for too many members of a static set, or a session that would have too many of a dynamic
+// one.
+type Holder struct {
+	User, Digest string
+	Members      []Held
+}
+
+// Held is a member, and the roles by which a holder has it: those that the user is assigned to, or that were activated.
+type Held struct {
+	Role string
+	By   []string
+}
+
+// separating has the commands that can be refused by separation of duty, and the kinds of sets that refuse them.
+var separating = map[string][2]bool{ // static, dynamic
+	"assignUser": {true, false}, "addInheritance": {true, true}, "createSession": {false, true}, "addActiveRole": {false, true},
+	"createSsdSet": {true, false}, "addSsdRoleMember": {true, false}, "setSsdSetCardinality": {true, false},
+	"createDsdSet": {false, true}, "addDsdRoleMember": {false, true}, "setDsdSetCardinality": {false, true},
+}
+
+// IsSeparating reports whether separation of duty can refuse a command.
+func IsSeparating(function string) bool {
+	_, is := separating[function]
+	return is
+}
+
+// A holding is a user or a session with the roles that are judged.
+type holding struct {
+	user, digest string
+	roles        []string
+}
+
+// Conflicts returns the separation of duty sets that a command would violate now, static ones first, in the order of their names. It
+// looks at nothing else that might refuse the command.
+func (s *State) Conflicts(call *api.Call) (found []Conflict) {
+	s.mutex.RLock()
+	graph, users, sessions := s.graph, s.usersAfter(call), s.sessionsAfter(call)
+	s.mutex.RUnlock()
+	kinds := separating[call.Function]
+	graph = graph.after(call)
+	if kinds[0] {
+		found = append(found, graph.conflicts(true, only(graph.static, call), users)...)
+	}
+	if kinds[1] {
+		found = append(found, graph.conflicts(false, only(graph.dynamic, call), sessions)...)
+	}
+	return found
+}
+
+// only returns the sets that a command can violate: the one that it changes, or all.
+func only(sets map[string]Set, call *api.Call) map[string]Set {
+	name, has := call.Texts["set"]
+	if !has {
+		return sets
+	}
+	return map[string]Set{name: sets[name]}
+}
+
+// usersAfter returns the users with the roles that they would be assigned to, those whom a command can concern.
+func (s *State) usersAfter(call *api.Call) (found []holding) {
+	if !separating[call.Function][0] {
+		return nil
+	}
+	rows := s.assign.rows
+	if call.Function == "assignUser" {
+		own := table{}
+		i, _ := s.assign.find(Row{call.Texts["user"]})
+		for ; i < len(rows) && rows[i][0] == call.Texts["user"]; i++ {
+			own.rows = append(own.rows, rows[i])
+		}
+		own.add(call.Texts["user"], call.Texts["role"])
+		rows = own.rows
+	}
+	for i, row := range rows {
+		if i == 0 || rows[i-1][0] != row[0] {
+			found = append(found, holding{user: row[0]})
+		}
+		last := &found[len(found)-1]
+		last.roles = append(last.roles, row[1])
+	}
+	return found
+}
+
+// sessionsAfter returns the sessions with the roles that would be activated, those that a command can concern.
+func (s *State) sessionsAfter(call *api.Call) (found []holding) {
+	if !separating[call.Function][1] {
+		return nil
+	}
+	name := call.Texts["session"]
+	switch call.Function {
+	case "createSession":
+		return []holding{{call.Texts["user"], digest(name), append([]string(nil), call.Roles...)}}
+	case "addActiveRole":
+		active := map[string]bool{}
+		if one := s.sessions[name]; one != nil {
+			active = one.active
+		}
+		roles := Set{Roles: changed(active, call.Texts["role"], true)}.members()
+		return []holding{{call.Texts["user"], digest(name), roles}}
+	}
+	for _, one := range s.allSessions() {
+		found = append(found, holding{one.User, one.Digest, one.Active})
+	}
+	return found
+}
+
+// conflicts returns the sets of which one of some holders has too many members.
+func (g *Graph) conflicts(isStatic bool, sets map[string]Set, holders []holding) (found []Conflict) {
+	below := map[string]map[string]bool{}
+	for _, name := range namesOf(sets) {
+		one := Conflict{NamedSet: NamedSet{name, sets[name].members(), sets[name].Cardinality}, IsStatic: isStatic}
+		for _, holder := range holders {
+			members := g.held(one.Roles, holder.roles, below)
+			if int64(len(members)) >= one.Cardinality && one.Cardinality > 0 && len(one.Holders) < mostHolders {
+				one.Holders = append(one.Holders, Holder{holder.user, holder.digest, members})
+			}
+		}
+		if len(one.Holders) > 0 {
+			found = append(found, one)
+		}
+	}
+	return found
+}
+
+// held returns which of some members are among roles and their juniors, and by which of the roles. What is below a role is kept.
+func (g *Graph) held(members, roles []string, below map[string]map[string]bool) (found []Held) {
+	for _, member := range members {
+		one := Held{Role: member}
+		for _, role := range roles {
+			if below[role] == nil {
+				below[role] = g.Below(role)
+			}
+			if below[role][member] {
+				one.By = append(one.By, role)
+			}
+		}
+		if len(one.By) > 0 {
+			sort.Strings(one.By)
+			found = append(found, one)
+		}
+	}
+	return found
+}

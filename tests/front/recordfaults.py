@@ -1,0 +1,172 @@
+"""Disks that fail under the record: one without room, and writes and syncs that fail or in whose place the front ends."""
+
+import errno
+import json
+import os
+import shutil
+import subprocess
+from collections import Counter
+
+from program.bench import TESTS
+
+from .program import Front, until
+from .recorded import Model, entries, path_of, rows_of, verified
+from .running import LONG
+
+OK = '{"ok":true}'
+
+# How many calls of SQLite each kind of disturbance goes through, and with `--long`.
+CALLS, MORE_CALLS = 14, 400
+
+
+class Mounted:
+    """A file system of some size at the folder of a record, which processes see that are started by its words."""
+
+    def __init__(self, folder, size):
+        os.mkdir(folder)
+        self.folder = folder
+        mount = f'mount -t tmpfs -o size={size},mode=700 tmpfs "$0" && echo mounted && exec sleep 100000'
+        self.holder = subprocess.Popen(
+            ["unshare", "--mount", "sh", "-c", mount, folder], stdout=subprocess.PIPE, stderr=subprocess.DEVNULL, text=True
+        )
+        self.is_mounted = self.holder.stdout.readline() == "mounted\n"
+
+    def words(self):
+        """What comes before the words of a command that is to see the file system."""
+        return ["nsenter", "-t", str(self.holder.pid), "-m", "--"]
+
+    def resize(self, size):
+        """Gives the file system another size."""
+        subprocess.run([*self.words(), "mount", "-o", f"remount,size={size}", self.folder], check=True)
+
+    def __enter__(self):
+        return self
+
+    def __exit__(self, *_):
+        self.holder.kill()
+        self.holder.wait()
+
+
+def check_full_disk(bench):
+    """Without room for the record commands get 503, and questions are answered. When there is room again, commands are done."""
+    front = Front(bench)
+    with Mounted(f"{front.office}.record", "600k") as disk:
+        if not disk.is_mounted:
+            print("left out: a full disk, since this process may not mount one")
+            return
+        front.prefix = disk.words()
+        with front:
+            connection, done = front.connection(), 0
+            while (given := front.ask("addUser", {"user": f"u{done}"}, connection))[0] == 200 and done < 100_000:
+                done += 1
+            bench.same("a command without room", given, (503, '{"code":60,"error":"Unavailable"}'))
+            for turn in range(20):
+                bench.same("a question", front.ask("assignedRoles", {"user": "u0"}, connection)[0], 200)
+                bench.same("a command", front.ask("addRole", {"role": f"r{turn}"}, connection)[0], 503)
+            status, text = front.exchange("GET", "/healthz")
+            bench.same("health", (status, json.loads(text)["ready"], "full" in json.loads(text)["record"]), (200, True, True))
+            bench.same("a metric", "rbac_node_record_failing 1" in front.exchange("GET", "/metrics")[1], True)
+            bench.same("lines of the log", front.said().count("commands are refused, since the record"), 1)
+            disk.resize("60m")
+            until(lambda: front.ask("addUser", {"user": "again"}, connection)[0] in (200, 409), "commands are done again")
+            bench.same("a role", front.ask("addRole", {"role": "r0"}, connection)[1], OK)
+            bench.same("health", front.exchange("GET", "/healthz"), (200, '{"ready":true,"open":true}\n'))
+            bench.same("the log", front.said().count("the record can be written again"), 1)
+            bench.same("the end", front.end(), 0)
+        shutil.copytree(f"/proc/{disk.holder.pid}/root{front.office}.record", bench.path("kept"))
+    os.rmdir(f"{front.office}.record")
+    os.rename(bench.path("kept"), f"{front.office}.record")
+    judge(bench, "a full disk", front)
+    return {"commands until the disk of the record was full": done}
+
+
+def judge(bench, what, front):
+    """Judges the record and the office of a front that has ended."""
+    verified(bench, what, front.office)
+    model = Model()
+    bench.judge(f"{what}: the model's answers", model.go_on(entries(front.office)))
+    bench.same(f"{what}: the rows", rows_of(front.office, bench.path("copy")) == model.rows(), True)
+
+
+def check_disturbed(bench):
+    """Each write and sync of SQLite fails in turn, or the front ends in its place. Nothing acknowledged is missing after that."""
+    library = bench.path("disturb.so")
+    source = str(TESTS / "front/disturb.c")
+    subprocess.run(["cc", "-O1", "-Wall", "-Wextra", "-Werror", "-shared", "-fPIC", "-o", library, source], check=True)
+    counts = Counter()
+    calls = MORE_CALLS if os.environ.get(LONG) else CALLS
+    for like, times in [("exit", 1), (errno.ENOSPC, 1), (errno.EIO, 1), (errno.EIO, 7)]:
+        front = Front(bench, "--record-base", "9", name=f"{like}-{times}")
+        front.environment = {
+            **os.environ, "LD_PRELOAD": library, "DISTURB_UNDER": f"{front.office}.record", "DISTURB_LIKE": str(like),
+            "DISTURB_TIMES": str(times), "DISTURB_COUNT": bench.path("count"),
+        }  # fmt: skip
+        story = Story(bench, front)
+        for number in range(1, calls + 1):
+            story.disturb(number, like == "exit")
+            counts[f"calls disturbed by {like}, {times} times"] += 1
+        bench.write("count", b"0\n")
+        with front:
+            bench.same("the end", front.end(), 0)
+        judge(bench, f"{like}, {times} times", front)
+        kept = {entry.reason: entry.answer for entry in entries(front.office)}
+        lost = [reason for reason, answer in story.acknowledged.items() if kept.get(reason) != answer]
+        bench.judge(f"{like}, {times} times: acknowledged commands", lost)
+        counts["acknowledged commands"] += len(story.acknowledged)
+    return {f"record: {name}": count for name, count in counts.items()}
+
+
+class Story:
+    """Commands of one client, one after another, while a call is disturbed."""
+
+    def __init__(self, bench, front):
+        self.bench, self.front = bench, front
+        self.acknowledged = {}
+        self.turn = 0
+
+    def ask(self):
+        """Asks for a command, and returns its status, or None if there is no answer."""
+        self.turn += 1
+        reason = f"turn {self.turn}"
+        try:
+            status, answer = self.front.ask(["addUser", "deleteUser"][self.turn % 2], {"user": "ann"}, Office_Reason=reason)
+        except OSError:
+            return None
+        if status != 503:
+            self.acknowledged[reason] = answer
+        return status
+
+    def disturb(self, number, ends):
+        """Disturbs the call of this number: during a start, and while commands are done."""
+        self.bench.write("count", b"0\n")
+        if self.turn % 3 == 0 or not os.path.exists(path_of(self.front.office)):
+            self.front.start()
+            self.bench.write("count", f"{number}\n".encode())
+        else:
+            self.bench.write("count", f"{number}\n".encode())
+            process = self.front.start_without_waiting()
+            self.front.process = process
+            if not self.started():
+                return
+        for _ in range(number + 6):
+            if self.ask() is None:
+                break
+        if ends:
+            # The call is reached sooner or later.
+            until(lambda: self.front.process.poll() is not None or self.ask() is None, "the front has ended")
+            self.front.process.wait()
+            return
+        self.bench.write("count", b"0\n")
+        until(lambda: self.ask() in (200, 409), "commands are done again")
+        if self.turn % 2:
+            self.front.kill()
+        else:
+            self.front.end()
+
+    def started(self):
+        """Whether a front, one of whose calls is disturbed, has started."""
+        try:
+            until(self.front.is_listening, "the front listens")
+            return True
+        except RuntimeError:
+            return False
