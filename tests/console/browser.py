@@ -117,7 +117,8 @@ class Browser:
     def go(self, *segments, query=""):
         """Shows another page without loading the console again."""
         self.mark()
-        self.run("location.hash = arguments[0]", self.hash_of(segments) + query)
+        script = "if (location.hash === arguments[0]) window.dispatchEvent(new Event('hashchange')); else location.hash = arguments[0];"
+        self.run(script, self.hash_of(segments) + query)
         self.settle()
 
     @staticmethod

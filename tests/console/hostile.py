@@ -56,7 +56,7 @@ def check_names(bench):
                 bench.same(f"{name!r} of {place}", (heading, page.run(MARKUP)), (shown or name, 0))
                 bench.same(f"{name!r} of {place} is there", "There is no such" in page.text(), False)
         page.go("explain", names[0], names[1], names[0])
-        bench.same("explained", page.text("#answer").startswith("Answer\nYes. <img src=x onerror=alert(1)> may do"), True)
+        bench.same("explained", "Yes. <img src=x onerror=alert(1)> may do" in page.text("#answer"), True)
         page.go("users", names[0])
         page.follow(names[0], "section")
         bench.same("a link", page.run("return decodeURIComponent(location.hash)"), f"#/roles/{names[0]}")

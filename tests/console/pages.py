@@ -33,7 +33,7 @@ def check_users(bench):
         bench.same("nothing was done", value(front, "assignedRoles", user="erin"), ["auditor"])
         page.go("users", "ann")
         bench.same("through a senior role", page.submit("Assign", "Assign a role", Role="auditor"),
-                   "ann can't become auditor: ann is teller through a senior role, and audit allows one of auditor, teller.")  # fmt: skip
+                   "ann can't become auditor: ann is teller through branch manager, and audit allows one of auditor, teller.")  # fmt: skip
         bench.same("no role", page.submit("Assign", "Assign a role", Role="queen"), "ann can't become queen: there is no such role as queen.")
         bench.same("again", page.submit("Assign", "Assign a role", Role="branch manager"),
                    "ann can't become branch manager: ann is assigned to branch manager already.")  # fmt: skip
@@ -80,7 +80,8 @@ def check_roles(bench):
     """The hierarchy and one role: inherit, grant, revoke, assign, add and delete, each with refusals in words."""
     with bank(bench) as front, Browser(bench, front) as page:
         page.open("roles")
-        bench.same("the tree", page.text().split("inherits from.\n")[1].split("\nAdd a role")[0].split("\n"),
+        tree = page.text().split("inherits from.")[1].split("Add a role")[0].split("\n")
+        bench.same("the tree", [line for line in tree if line],
                    ["auditor", "branch manager (1)", "teller", "cash supervisor", "cashier"])  # fmt: skip
         bench.same("a role", page.submit("Add", "Add a role", Name="chief"), "chief is a role now.")
         page.go("roles", "chief")
@@ -112,7 +113,7 @@ def check_roles(bench):
         page.go("roles", "branch manager")
         page.fill("Add a", "junior role", inherit)
         bench.same("a user would have both", page.submit("Add", inherit, Role="auditor"),
-                   "branch manager can't inherit from auditor: a user would be authorized for too many roles: audit allows one of auditor, teller.")  # fmt: skip
+                   "branch manager can't inherit from auditor: ann would be auditor and teller, carol would be auditor and teller, and audit allows one of auditor, teller.")  # fmt: skip
 
 
 def check_objects(bench):
@@ -129,8 +130,7 @@ def check_objects(bench):
         bench.same("a grant", page.submit("Grant", "Grant open", Grant_to_the_role="auditor"), "open on safe is granted to auditor.")
         page.settle()
         page.click("Who may do it, and why")
-        page.settle()
-        bench.same("who", "erin\tauthorized for auditor" in page.text(), True)
+        page.until(lambda: "erin\tauthorized for auditor" in page.text(), "who may do it")
         act(bench, page, "Delete the object safe", "Delete the object safe: yes", "safe can't be deleted: it has permissions; delete them first.")
         act(bench, page, "Revoke open from auditor", None, "open on safe is no longer granted to auditor.")
         act(bench, page, "Delete the permission for open", "Delete the permission for open: yes", "The permission for open on safe is deleted.")
@@ -145,13 +145,13 @@ def check_separation(bench):
         bench.same("static", "audit\tat most one of 2\tauditor and teller" in page.text(), True)
         form = "Add a static set of two roles, of which one is allowed"
         bench.same("a violated set", page.submit("Add a static set", form, Name="both", First_member="cashier", Second_member="cash supervisor"),
-                   "The static set both can't be made: a user would be authorized for too many roles: both allows one of cashier, cash supervisor.")  # fmt: skip
+                   "The static set both can't be made: dave would be cash supervisor and cashier, and both allows one of cash supervisor, cashier.")  # fmt: skip
         bench.same("a set", page.submit("Add a static set", form, Name="two", First_member="auditor", Second_member="cashier"),
                    "There is the static set two: at most one of auditor and cashier.")  # fmt: skip
         page.go("separation", "static", "two")
         bench.same("near", "erin\tauditor\tcan't become cashier" in page.text(), True)
         bench.same("a member", page.submit("Add", "Add a member", Role="cash supervisor"),
-                   "cash supervisor can't become a member of the static set two: a user would be authorized for too many roles: two allows one of auditor, cashier.")  # fmt: skip
+                   "cash supervisor can't become a member of the static set two: dave would be cash supervisor and cashier, and two allows one of auditor, cash supervisor, cashier.")  # fmt: skip
         bench.same("another", page.submit("Add", "Add a member", Role="teller"), "teller is a member of the static set two.")
         page.settle()
         bench.same("the cardinality", page.submit("Change", "Change the cardinality", Cardinality="3"), "The cardinality of the static set two is 3.")

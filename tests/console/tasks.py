@@ -18,9 +18,8 @@ def check_tasks(bench):
         page.follow("Objects")
         page.follow("vault")
         page.click("Who may do it, and why", "section:nth-of-type(2)")
-        page.settle()
-        bench.judge("who may open the vault", [line for line in ("ann\tauthorized for branch manager", "carol\tauthorized for branch manager")
-                                               if line not in page.text()])  # fmt: skip
+        page.until(lambda: "ann\tauthorized for branch manager" in page.text(), "who may open the vault")
+        bench.same("carol too", "carol\tauthorized for branch manager" in page.text(), True)
         clicks["who may open the vault"] = page.clicks
         begin()
         page.follow("Explain")

@@ -1,6 +1,6 @@
 /** Refusals and commands in words. A sentence is a list of texts and of names. */
 
-import { ask, may, rows } from "./api.js";
+import { explain, rows } from "./api.js";
 import { few, listed, name, object, role, set, user } from "./text.js";
 
 const permission = (v) => [name(v.operation), " on ", object(v.object)];
@@ -148,65 +148,67 @@ const REASONS = {
     67: () => ["somebody has changed the policy meanwhile"],
 };
 
-/** Returns the members of a set, and its cardinality, or nothing if the caller may not read them. */
-async function membersOf(kind, text) {
-    const fn = kind === "static" ? "ssdRoleSet" : "dsdRoleSet";
-    if (!may(`${fn}Roles`) || !may(`${fn}Cardinality`)) {
-        return null;
-    }
-    const [roles, cardinality] = await Promise.all([ask(`${fn}Roles`, { set: text }), ask(`${fn}Cardinality`, { set: text })]);
-    return { roles, cardinality };
-}
-
 /** Returns " allows one of auditor, teller". */
-export function allows(found) {
-    return [` allows ${few(found.cardinality - 1)} of `, found.roles.flatMap((one, i) => (i > 0 ? [", ", role(one)] : [role(one)]))];
+export function allows({ roles, cardinality }) {
+    return [` allows ${few(cardinality - 1)} of `, roles.flatMap((one, i) => (i > 0 ? [", ", role(one)] : [role(one)]))];
 }
 
-/** Which members of a set a user is authorized for, each with the assigned role that gives it. */
-async function membersHeld(text, roles) {
-    const [authorized, assigned] = await Promise.all([ask("authorizedRoles", { user: text }), ask("assignedRoles", { user: text })]);
-    return roles
-        .filter((one) => authorized.includes(one))
-        .map((one) => (assigned.includes(one) ? role(one) : [role(one), " through a senior role"]));
+// How many of the sets that a command would violate are named, and how many users of each.
+const MOST_SETS = 3;
+const MOST_HOLDERS = 3;
+
+/** "teller through branch manager" */
+function memberOf({ role: one, by }) {
+    return by.includes(one) ? role(one) : [role(one), " through ", listed(by.map(role))];
 }
 
-/** Why a separation of duty set refuses a command. */
-async function separated(values, refused, kind) {
-    const isNew = values.roles !== undefined && values.cardinality !== undefined;
-    const found = isNew ? values : await membersOf(kind, refused.set);
-    if (!found) {
-        return ["the ", kind, " separation of duty set ", name(refused.set), " forbids it"];
+/** "erin is auditor", or "ann would be auditor and teller". */
+function heldBy(values, { user: holder, members }) {
+    const has = members.filter(({ by }) => by.some((one) => one !== values.role));
+    if (holder !== undefined && holder === values.user && has.length > 0 && has.length < members.length) {
+        return [user(holder), " is ", listed(has.map(memberOf))];
     }
-    const rule = [isNew ? name(refused.set) : set(kind, refused.set), allows(found)];
-    if (kind === "dynamic") {
-        return [rule, " in one session"];
+    return [holder === undefined ? "a session" : user(holder), " would be ", listed(members.map(({ role: one }) => role(one)))];
+}
+
+function conflictOf(values, conflict, isNew) {
+    const { kind, set: setName, holders = [] } = conflict;
+    const rule = [isNew ? name(setName) : set(kind, setName), allows(conflict), kind === "dynamic" ? " in one session" : ""];
+    const nodes = holders.slice(0, MOST_HOLDERS).map((one) => heldBy(values, one));
+    if (nodes.length === 0) {
+        return rule;
     }
-    const has = values.user !== undefined && may("authorizedRoles", values) && may("assignedRoles", values);
-    const held = has ? await membersHeld(values.user, found.roles) : [];
-    if (held.length > 0) {
-        return [user(values.user), " is ", listed(held), ", and ", rule];
+    return [nodes.flatMap((one) => [one, ", "]), holders.length > nodes.length ? `so would ${holders.length - nodes.length} more, ` : "", "and ", rule];
+}
+
+/** Why separation of duty refuses a command: the front explains it with all sets and users, as far as the caller may know them. */
+async function separated(fn, values, refused, kind) {
+    const told = await explain({ command: { fn, ...values } }).catch(() => ({}));
+    const conflicts = (told.conflicts ?? []).slice(0, MOST_SETS);
+    if (conflicts.length === 0) {
+        return [`the ${kind} separation of duty set `, name(refused.set), " forbids it"];
     }
-    return ["a user would be authorized for too many roles: ", rule];
+    const isNew = fn.startsWith("create") && fn.endsWith("Set");
+    return conflicts.flatMap((one, i) => [i > 0 ? "; " : "", conflictOf(values, one, isNew)]);
 }
 
 /** Why a command was refused. */
-async function whyOf(values, refused) {
+async function whyOf(fn, values, refused) {
     const kind = { 24: "static", 25: "dynamic" }[refused.code];
     if (kind) {
-        return separated(values, refused, kind).catch(() => ["the set ", name(refused.set), " forbids it"]);
+        return separated(fn, values, refused, kind);
     }
     return REASONS[refused.code]?.(values, refused) ?? [`the front says ${refused.message}`];
 }
 
 /** Returns the sentence that says why a command is refused. */
 export async function refusal(fn, values, refused) {
-    return [...wanted(fn, values), ": ", await whyOf(values, refused), "."];
+    return [...wanted(fn, values), ": ", await whyOf(fn, values, refused), "."];
 }
 
 /** Returns why a question is refused. */
 export async function why(values, refused) {
-    return [await whyOf(values, refused), "."];
+    return [await whyOf("", values, refused), "."];
 }
 
 /** The refusal of an entry of the record, in a few words. */
