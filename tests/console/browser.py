@@ -191,7 +191,7 @@ class Browser:
     def picture(self, path):
         """Writes a picture of the whole page."""
         size = self.run("return [innerWidth, Math.min(document.documentElement.scrollHeight, 2400)]")
-        clip = {"x": 0, "y": 0, "width": size[0], "height": size[1], "scale": 1}
+        clip = {"x": 0, "y": 0, "width": size[0], "height": size[1], "scale": 0.75}
         words = {"format": "png", "captureBeyondViewport": True, "clip": clip, "optimizeForSpeed": False}
         shot = self.driver.execute_cdp_cmd("Page.captureScreenshot", words)
         with open(path, "wb") as file:

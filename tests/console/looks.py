@@ -99,6 +99,7 @@ def check_rules(bench):
 # What has the focus: its name, and whether that can be seen.
 FOCUS = """
 const one = document.activeElement, style = getComputedStyle(one);
+if (one === document.body) return ["", true];
 const box = one.getBoundingClientRect();
 return [one.labels?.[0]?.querySelector("span")?.textContent ?? one.getAttribute("aria-label") ?? one.textContent.trim(),
     style.outlineStyle !== "none" && parseFloat(style.outlineWidth) >= 2 && box.width > 0];
@@ -122,8 +123,6 @@ def check_keyboard(bench):
     with bank(bench) as front, Browser(bench, front) as page:
         page.open("")
         faults = []
-        page.run("document.activeElement.blur()")
-        page.driver.execute_script("window.focus()")
         for step, keys in (("Users", Keys.ENTER), ("frank", Keys.ENTER)):
             tab_to(page, step, faults)
             page.mark()
@@ -149,7 +148,6 @@ def check_keyboard(bench):
         )
         bench.same("the order", order, True)
         page.open("users")
-        page.run("document.activeElement.blur()")
         page.keys(Keys.TAB)
         bench.same("the first stop", page.run(FOCUS)[0], "Skip to the content")
         page.keys(Keys.ENTER)

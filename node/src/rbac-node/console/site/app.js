@@ -31,6 +31,8 @@ const main = () => document.getElementById("main");
 let isIn = false;
 // Counts what is shown: a page that was asked for earlier isn't shown any more.
 let shown = 0;
+// The first page leaves the focus where the browser has it, so that the tab key begins at the top.
+let isFirst = true;
 
 /** Returns the segments of the address, and what stands behind its question mark. */
 function addressOf(hash) {
@@ -76,7 +78,10 @@ async function show(isAnew = false) {
     const heading = main().querySelector("h1");
     title(heading.textContent);
     heading.tabIndex = -1;
-    heading.focus({ preventScroll: true });
+    if (!isFirst) {
+        heading.focus({ preventScroll: true });
+    }
+    isFirst = false;
     window.scrollTo(0, place);
 }
 
@@ -125,6 +130,7 @@ function leave() {
 /** Shows the form for a token. Neither the field nor the form has a name, so that no browser sends or keeps it. */
 function showLogin() {
     shown += 1;
+    isFirst = false;
     title("Log in");
     document.getElementById("pages").replaceChildren();
     document.getElementById("who").replaceChildren();
