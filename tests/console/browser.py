@@ -127,7 +127,9 @@ class Browser:
 
     def mark(self):
         """Marks the heading, so that it is seen when it is replaced."""
-        self.run("document.querySelector('main h1')?.setAttribute('data-old', ''); document.getElementById('notice').replaceChildren()")
+        self.run(
+            "document.querySelector('main h1')?.setAttribute('data-old', ''); document.getElementById('notice').replaceChildren()"
+        )
 
     def text(self, within="main"):
         """The text of a part of the page as it is shown."""

@@ -40,14 +40,19 @@ def check_names(bench):
             lines += [{"fn": "addPermission", "object": name, "operation": other},
                       {"fn": "grantPermission", "object": name, "operation": other, "role": name},
                       {"fn": "assignUser", "user": name, "role": name}]  # fmt: skip
-        lines += [{"fn": "createDsdSet", "set": name, "roles": [name, other], "cardinality": 2} for name, other in zip(names[::2], names[1::2])]
+        lines += [
+            {"fn": "createDsdSet", "set": name, "roles": [name, other], "cardinality": 2}
+            for name, other in zip(names[::2], names[1::2])
+        ]
         bench.same("the rest", {*batch(front, lines)[1]}, {'{"ok":true}'})
         page.open("")
         for segments in (("users",), ("roles",), ("objects",), ("separation",), ("record",)):
             page.go(*segments)
             text = page.run("return document.querySelector('main').textContent")
             missing = [name for name, shown in NAMES.items() if (shown or name) not in text]
-            bench.judge(f"names on {segments}", [f"{missing[:3]}"] if missing and segments[0] in ("users", "roles", "objects") else [])
+            bench.judge(
+                f"names on {segments}", [f"{missing[:3]}"] if missing and segments[0] in ("users", "roles", "objects") else []
+            )
             bench.same(f"markup on {segments}", page.run(MARKUP), 0)
         for name, shown in NAMES.items():
             for place in ("users", "roles", "objects"):
@@ -105,6 +110,8 @@ def check_foreign_page(bench):
         page.driver.get(f"http://localhost:{site.server_port}/")
         page.until(lambda: "done=yes" in site.said, "the foreign page has ended")
         bench.same("what it read", sorted({one for one in site.said if one.startswith("read=")} - {"read="}), ["read=-"])
-        bench.same("windows", [one for one in site.said if one.startswith(("opened", "framed"))], ["opened=nothing", "framed=nothing"])
+        bench.same(
+            "windows", [one for one in site.said if one.startswith(("opened", "framed"))], ["opened=nothing", "framed=nothing"]
+        )
         bench.same("the users", value_rows(front, "users"), ["own"])
         site.shutdown()

@@ -83,7 +83,12 @@ def check_rules(bench):
         page.open("")
         for width, dark in ((320, False), (320, True), (1920, True), (1920, False)):
             page.resize(width, dark=dark)
-            for segments in (*EVERYWHERE, ("explain", "ann", "post", "account 17"), ("users", "dave"), ("separation", "dynamic", "cash")):
+            for segments in (
+                *EVERYWHERE,
+                ("explain", "ann", "post", "account 17"),
+                ("users", "dave"),
+                ("separation", "dynamic", "cash"),
+            ):
                 page.go(*segments)
                 bench.judge(f"{'/'.join(segments)} at {width}, {'dark' if dark else 'light'}", page.run(RULES)[:5])
         page.resize(1920)
@@ -162,7 +167,9 @@ def check_print(bench):
         pdf = base64.b64decode(page.driver.print_page())
         bench.same("a PDF", (pdf[:5], len(pdf) > 5_000), (b"%PDF-", True))
         page.resize(1000, media="print")
-        shown = page.run("return [...document.querySelectorAll('header, form, button, #notice')].filter(one => one.checkVisibility()).length")
+        shown = page.run(
+            "return [...document.querySelectorAll('header, form, button, #notice')].filter(one => one.checkVisibility()).length"
+        )
         bench.same("what can be pressed", shown, 0)
         bench.same("what is on it", "auditor" in page.text() and "account 17" in page.text(), True)
         if shutil.which("pdftotext"):

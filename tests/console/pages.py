@@ -20,7 +20,9 @@ def check_users(bench):
     with bank(bench) as front, Browser(bench, front) as page:
         page.open("users")
         bench.same("the title", page.driver.title, "Users – Office console")
-        bench.same("the users", [page.find(name) is not None for name in ("ann", "carol", "dave", "erin", 'hall, "peg"')], [True] * 5)
+        bench.same(
+            "the users", [page.find(name) is not None for name in ("ann", "carol", "dave", "erin", 'hall, "peg"')], [True] * 5
+        )
         bench.same("dave is locked", "dave\tlocked" in page.text().replace("\n", "\t").replace("\t\t", "\t"), True)
         page.fill("Name contains", "an")
         page.follow("Search", 'form[aria-label="Search users"]')
@@ -34,7 +36,11 @@ def check_users(bench):
         page.go("users", "ann")
         bench.same("through a senior role", page.submit("Assign", "Assign a role", Role="auditor"),
                    "ann can't become auditor: ann is teller through branch manager, and audit allows one of auditor, teller.")  # fmt: skip
-        bench.same("no role", page.submit("Assign", "Assign a role", Role="queen"), "ann can't become queen: there is no such role as queen.")
+        bench.same(
+            "no role",
+            page.submit("Assign", "Assign a role", Role="queen"),
+            "ann can't become queen: there is no such role as queen.",
+        )
         bench.same("again", page.submit("Assign", "Assign a role", Role="branch manager"),
                    "ann can't become branch manager: ann is assigned to branch manager already.")  # fmt: skip
         bench.same("done", page.submit("Assign", "Assign a role", Role="cashier"), "ann is assigned to cashier.")
@@ -88,16 +94,32 @@ def check_roles(bench):
         inherit = "Add an inheritance"
         bench.same("inherit", page.submit("Add", inherit, Role="branch manager"), "chief inherits from branch manager.")
         page.settle()
-        bench.same("again", page.submit("Add", inherit, Role="branch manager"), "chief can't inherit from branch manager: it already does.")
+        bench.same(
+            "again",
+            page.submit("Add", inherit, Role="branch manager"),
+            "chief can't inherit from branch manager: it already does.",
+        )
         bench.same("itself", page.submit("Add", inherit, Role="chief"), "chief can't inherit from chief: chief is the same role.")
         page.fill("Add a", "senior role", inherit)
-        bench.same("a cycle", page.submit("Add", inherit, Role="teller"), "teller can't inherit from chief: chief already inherits from teller.")
-        bench.same("the edge", value_rows(front, "inheritances"), [{"asc": "branch manager", "desc": "teller"}, {"asc": "chief", "desc": "branch manager"}])
+        bench.same(
+            "a cycle",
+            page.submit("Add", inherit, Role="teller"),
+            "teller can't inherit from chief: chief already inherits from teller.",
+        )
+        bench.same(
+            "the edge",
+            value_rows(front, "inheritances"),
+            [{"asc": "branch manager", "desc": "teller"}, {"asc": "chief", "desc": "branch manager"}],
+        )
         bench.same("a user", page.submit("Assign", "Assign a user", User="erin"),
                    "erin can't become chief: erin is auditor, and audit allows one of auditor, teller.")  # fmt: skip
         bench.same("another", page.submit("Assign", "Assign a user", User="frank"), "frank is assigned to chief.")
         page.settle()
-        bench.same("a grant", page.submit("Grant", "Grant a permission", Operation="open", Object="vault"), "open on vault is granted to chief.")
+        bench.same(
+            "a grant",
+            page.submit("Grant", "Grant a permission", Operation="open", Object="vault"),
+            "open on vault is granted to chief.",
+        )
         page.settle()
         bench.same("no operation", page.submit("Grant", "Grant a permission", Operation="burn", Object="vault"),
                    "burn on vault can't be granted to chief: no permission allows burn on vault.")  # fmt: skip
@@ -120,20 +142,38 @@ def check_objects(bench):
     """The objects and one object: who may do it and why; operations, grants."""
     with bank(bench) as front, Browser(bench, front) as page:
         page.open("objects")
-        bench.same("the objects", [page.find(name) is not None for name in ("account 17", "account 42", "drawer", "vault")], [True] * 4)
+        bench.same(
+            "the objects", [page.find(name) is not None for name in ("account 17", "account 42", "drawer", "vault")], [True] * 4
+        )
         bench.same("an object", page.submit("Add", "Add an object", Name="safe"), "safe is an object now.")
         page.go("objects", "safe")
-        bench.same("an operation", page.submit("Add", "Add an operation", Operation="open"), "There is a permission for open on safe.")
+        bench.same(
+            "an operation", page.submit("Add", "Add an operation", Operation="open"), "There is a permission for open on safe."
+        )
         page.settle()
         bench.same("again", page.submit("Add", "Add an operation", Operation="open"),
                    "A permission for open on safe can't be added: there already is such a permission.")  # fmt: skip
-        bench.same("a grant", page.submit("Grant", "Grant open", Grant_to_the_role="auditor"), "open on safe is granted to auditor.")
+        bench.same(
+            "a grant", page.submit("Grant", "Grant open", Grant_to_the_role="auditor"), "open on safe is granted to auditor."
+        )
         page.settle()
         page.click("Who may do it, and why")
         page.until(lambda: "erin\tauthorized for auditor" in page.text(), "who may do it")
-        act(bench, page, "Delete the object safe", "Delete the object safe: yes", "safe can't be deleted: it has permissions; delete them first.")
+        act(
+            bench,
+            page,
+            "Delete the object safe",
+            "Delete the object safe: yes",
+            "safe can't be deleted: it has permissions; delete them first.",
+        )
         act(bench, page, "Revoke open from auditor", None, "open on safe is no longer granted to auditor.")
-        act(bench, page, "Delete the permission for open", "Delete the permission for open: yes", "The permission for open on safe is deleted.")
+        act(
+            bench,
+            page,
+            "Delete the permission for open",
+            "Delete the permission for open: yes",
+            "The permission for open on safe is deleted.",
+        )
         act(bench, page, "Delete the object safe", "Delete the object safe: yes", "The object safe is deleted.")
         bench.same("the objects now", value_rows(front, "objects"), ["account 17", "account 42", "drawer", "vault"])
 
@@ -154,7 +194,11 @@ def check_separation(bench):
                    "cash supervisor can't become a member of the static set two: dave would be cash supervisor and cashier, and two allows one of auditor, cash supervisor, cashier.")  # fmt: skip
         bench.same("another", page.submit("Add", "Add a member", Role="teller"), "teller is a member of the static set two.")
         page.settle()
-        bench.same("the cardinality", page.submit("Change", "Change the cardinality", Cardinality="3"), "The cardinality of the static set two is 3.")
+        bench.same(
+            "the cardinality",
+            page.submit("Change", "Change the cardinality", Cardinality="3"),
+            "The cardinality of the static set two is 3.",
+        )
         page.settle()
         bench.same("too many", page.submit("Change", "Change the cardinality", Cardinality="9"),
                    "The cardinality of the static set two can't become 9: a cardinality is from 2 to the number of members.")  # fmt: skip
@@ -180,6 +224,8 @@ def check_explain(bench):
              "ann is assigned to branch manager, which inherits from teller, to which it is granted."]),
             ("a user", "erin", "open", "vault", ["No. erin may not do open on vault.",
              "It is granted to all cash and branch manager, and erin is authorized for none of these roles."]),
+            ("a user", "erin", "open", "drawer", ["No. erin may not do open on drawer.",
+             "It is granted to cashier, and erin is not authorized for that role."]),
             ("a user", "dave", "open", "drawer", ["No. dave may not do open on drawer.", "dave is locked, and may do nothing. Without the lock:",
              "dave is assigned to cashier, to which it is granted."]),
             ("a user", "grace", "open", "vault", ["No. grace may not do open on vault.",
@@ -197,7 +243,10 @@ def check_explain(bench):
             page.click("Explain", f'form[aria-label="{form}"]')
             page.until(lambda: page.text("#answer"), "an answer")
             page.settle()
-            bench.judge(f"{who}: {operation} on {on}", [f"{line} isn't in {page.text('#answer')}" for line in wanted if line not in page.text("#answer")])
+            bench.judge(
+                f"{who}: {operation} on {on}",
+                [f"{line} isn't in {page.text('#answer')}" for line in wanted if line not in page.text("#answer")],
+            )
         bench.same("the way", page.run("document.getElementById('answer').replaceChildren()"), None)
         page.go("explain", "ann", "post", "account 17")
         bench.same("a picture of it", page.run("return document.querySelector('#answer .picture img')?.naturalWidth > 0"), True)
@@ -217,12 +266,18 @@ def check_record(bench):
         bench.judge("what is there", [f"{wanted} isn't in {rows}" for wanted in (
             "carol is assigned to cashier.\tGrüße, Ticket 4711", "refused carol can't become auditor: the set audit forbids it.\tGrüße, Ticket 4711",
             "The record begins.") if wanted not in page.text()])  # fmt: skip
-        done = subprocess.run([os.environ[PROGRAM], "record", "head", "--office", front.office], capture_output=True, text=True, check=True)
+        done = subprocess.run(
+            [os.environ[PROGRAM], "record", "head", "--office", front.office], capture_output=True, text=True, check=True
+        )
         bench.same("the head", page.text("#head"), done.stdout.strip())
         page.fill("User", "carol", "Filter the record")
         page.run("document.querySelector('[data-key=refused]').click()")
         page.follow("Filter", 'form[aria-label="Filter the record"]')
-        bench.same("only refused ones of carol", [one in page.text() for one in ("can't become auditor", "carol is assigned to cashier.")], [True, False])
+        bench.same(
+            "only refused ones of carol",
+            [one in page.text() for one in ("can't become auditor", "carol is assigned to cashier.")],
+            [True, False],
+        )
         for number in range(60):
             front.ask("addUser", {"user": f"u{number}"})
         page.go("record")

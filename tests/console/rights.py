@@ -71,12 +71,20 @@ def check_desk(bench):
         page.driver.get(page.url)
         page.login(DESK)
         page.settle()
-        bench.same("the pages", page.text("#pages").split("\n"), ["Overview", "Users", "Roles", "Objects", "Separation of duty", "Explain"])
+        bench.same(
+            "the pages",
+            page.text("#pages").split("\n"),
+            ["Overview", "Users", "Roles", "Objects", "Separation of duty", "Explain"],
+        )
         page.go("record")
         bench.same("the record", "you have no right to it" in page.text(), True)
         page.go("users", "frank")
         bench.same("no other action", page.run(BUTTONS), ["Assign"])
-        bench.same("not this role", page.submit("Assign", "Assign a role", Role="teller"), "frank can't become teller: you have no right to this.")
+        bench.same(
+            "not this role",
+            page.submit("Assign", "Assign a role", Role="teller"),
+            "frank can't become teller: you have no right to this.",
+        )
         bench.same("this role", page.submit("Assign", "Assign a role", Role="cashier"), "frank is assigned to cashier.")
         page.go("roles", "teller")
         bench.same("no action for teller", page.run(BUTTONS), [])

@@ -5,8 +5,8 @@ import json
 import re
 import shutil
 import sqlite3
-import subprocess
 import urllib.parse
+from xml.etree import ElementTree
 
 from front.batches import batch
 from front.identities import bearer, secured
@@ -49,7 +49,13 @@ def check_files(bench):
             bench.same(f"the type of {path.name}", fields["Content-Type"].split(";")[0], TYPES[path.suffix])
         bench.same("the document", get(front, "/console/")[2], (SITE / "index.html").read_bytes())
         bench.same("without the slash", (get(front, "/console")[0], get(front, "/console")[1]["Location"]), (301, "/console/"))
-        for path in ("/console/x", "/console/../console.go", "/console/%2e%2e/console.go", "/console/site", "/console//index.html"):
+        for path in (
+            "/console/x",
+            "/console/../console.go",
+            "/console/%2e%2e/console.go",
+            "/console/site",
+            "/console//index.html",
+        ):
             bench.same(path, get(front, path)[0] in (400, 404), True)
         for method in ("POST", "PUT", "DELETE"):
             bench.same(method, get(front, "/console/", method)[0], 405)
@@ -65,7 +71,9 @@ def check_size(bench):
     size = sum(path.stat().st_size for path in SITE.iterdir())
     bench.judge("bytes", [f"{size} bytes"] if size >= MOST_BYTES else [])
     foreign = r"https?://(?!www\.w3\.org/2000/svg)|innerHTML|outerHTML|insertAdjacentHTML|document\.write|eval\(|localStorage|sessionStorage|cookie"
-    bench.judge("what no file may have", [f"{name}: {found[0]}" for name, text in texts.items() if (found := re.findall(foreign, text))])
+    bench.judge(
+        "what no file may have", [f"{name}: {found[0]}" for name, text in texts.items() if (found := re.findall(foreign, text))]
+    )
     return {"lines of HTML, CSS and JavaScript": sum(lines.values()), "bytes of the console": size}
 
 
@@ -153,10 +161,14 @@ def check_picture(bench):
         status, fields, body = get(front, "/picture")
         bench.same("the whole", (status, fields["Content-Type"], b"<script" in body), (200, "image/svg+xml", False))
         texts = [text.replace("\u00a0", " ") for text in texts_of(body)]
-        bench.judge("names in it", [f"{name} isn't in {texts}" for name in ["boss", *odd[:5], "[U+202E]evil", "a&b"] if name not in texts])
+        bench.judge(
+            "names in it", [f"{name} isn't in {texts}" for name in ["boss", *odd[:5], "[U+202E]evil", "a&b"] if name not in texts]
+        )
         bench.same("around clerk", sorted(texts_of(get(front, "/picture?role=clerk")[2])), sorted(["boss", "clerk", odd[0]]))
         way = urllib.parse.urlencode({"role": odd[0], "from": "boss", "user": "ann", "operation": "o", "object": "x"})
-        bench.same("a way", sorted(texts_of(get(front, f"/picture?{way}")[2])), sorted(["boss", "clerk", odd[0], "ann", "o", "x"]))
+        bench.same(
+            "a way", sorted(texts_of(get(front, f"/picture?{way}")[2])), sorted(["boss", "clerk", odd[0], "ann", "o", "x"])
+        )
         bench.same("no role", value_of(front, "/picture?role=nobody"), (409, {"code": 4, "error": "NoRole"}))
         for query in ("x=y", "role=a&role=b", "role=%zz"):
             bench.same(query, get(front, f"/picture?{query}")[0], 400)
@@ -174,11 +186,7 @@ def check_picture(bench):
 
 def texts_of(svg):
     """The texts of a picture."""
-    done = subprocess.run(
-        ["python3", "-c", "import sys, xml.etree.ElementTree as t\nfor one in t.parse(sys.stdin.buffer).iter('{http://www.w3.org/2000/svg}text'): print(one.text)"],
-        input=svg, capture_output=True, check=True,
-    )  # fmt: skip
-    return done.stdout.decode().splitlines()
+    return [one.text for one in ElementTree.fromstring(svg).iter("{http://www.w3.org/2000/svg}text")]
 
 
 def check_origins(bench):
@@ -197,4 +205,8 @@ def check_origins(bench):
         name = {"Origin": "http://office.example", "Host": "office.example"}
         bench.same("a name with a token", front.ask("addUser", {"user": "a"}, **name, **bearer("secret"))[0], 200)
         bench.same("a name without a token", front.ask("addUser", {"user": "b"}, **name)[0], 403)
-        bench.same("another name", front.ask("addUser", {"user": "b"}, Origin="http://evil.example", Host="office.example", **bearer("secret"))[0], 403)
+        bench.same(
+            "another name",
+            front.ask("addUser", {"user": "b"}, Origin="http://evil.example", Host="office.example", **bearer("secret"))[0],
+            403,
+        )

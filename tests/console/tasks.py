@@ -33,7 +33,9 @@ def check_tasks(bench):
         page.follow("Users")
         page.follow("erin")
         notice = page.submit("Assign", "Assign a role", Role="teller")
-        bench.same("erin as teller", notice, "erin can't become teller: erin is auditor, and audit allows one of auditor, teller.")
+        bench.same(
+            "erin as teller", notice, "erin can't become teller: erin is auditor, and audit allows one of auditor, teller."
+        )
         clicks["make erin a teller"] = page.clicks
         front.ask("revokePermission", {"object": "vault", "operation": "open", "role": "branch manager"})
         front.ask("grantPermission", {"object": "vault", "operation": "open", "role": "branch manager"}, Office_Reason="ticket 7")

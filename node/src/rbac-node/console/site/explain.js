@@ -107,7 +107,7 @@ async function lackOf(query) {
         return ["No role has this permission."];
     }
     return ["It is granted to ", listed(grants.slice(0, 20).map((row) => role(row.role))), grants.length > 20 ? " and more roles" : "", ", and ",
-        user(query.user), " is authorized for none of ", grants.length === 1 ? "them: that role is missing" : "these roles", "."];
+        user(query.user), grants.length === 1 ? " is not authorized for that role." : " is authorized for none of these roles."];
 }
 
 function reasonsOfSession(told) {

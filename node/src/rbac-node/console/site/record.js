@@ -7,7 +7,7 @@ import { done, short, wanted } from "./words.js";
 
 /** Returns a table of entries. In a short one there are no reasons and numbers. */
 export function entriesTable(caption, entries, isShort = false) {
-    const heads = isShort ? ["When (UTC)", "Who", "What"] : ["Number", "When (UTC)", "Who", "What", "Why"];
+    const heads = isShort ? ["When (UTC)", "Who", "What"] : [{ class: "number", child: "Number" }, "When (UTC)", "Who", "What", "Why"];
     const rows = entries.map((entry) => {
         const cells = [{ class: "time", child: time(entry.at) }, name(entry.caller), whatOf(entry)];
         const why = entry.reason ? name(entry.reason) : h("span", { class: "quiet" }, "–");
