@@ -3,9 +3,10 @@
 
     front.py [--times] [--long] [WORD]
 
-With WORD, only the checks with WORD in their names run; `--times` prints how long each took. With `--long` there are 500 kills
-instead of a few dozen. The checks are in the folder front. If Go is not installed, only the sources and the page are checked,
-and a line reports it; `bin/setup node` installs Go. Checks that need a library or a program that is missing are left out.
+With WORD, only the checks with WORD in their names run; `--times` prints how long each took. With `--long` there are 1,500 kills
+instead of a few dozen, and wrong fronts are built and run. The checks are in the folder front. If Go or its library for SQLite is
+not installed, only the sources and the page are checked, and a line reports it; `bin/setup node` installs them. Checks that need
+another library or a program that is missing are left out.
 """
 
 import sys

@@ -17,6 +17,7 @@ from .explained import forget
 from .identities import bearer, secured
 from .kills import ROLES, Client, kill_at_random
 from .program import Front, children, refused_start, until
+from .recorded import verified
 from .running import LONG
 from .sessions import digest_of
 from .watching import Watch, request_of, snapshot
@@ -349,3 +350,24 @@ def check_kills(bench):
             same_lists(bench, front, f"after kill {number}")
         bench.same("the end", front.end(), 0)
     return {f"lists: {name}": count for name, count in counts.items()}
+
+
+def check_recorded(bench):
+    """Commands of batches, with questions among them and behind them, and those of new sessions are in the record: it verifies."""
+    draws = Draws(random.randrange(1_000_000_000))
+    with Front(bench) as front:
+        kept, lines = front.connection(), []
+        while len(lines) < 600:
+            _, line, answer = draws.draw()
+            if answer.startswith(b'{"ok"'):
+                lines.append((line, answer.decode()))
+        for start in range(0, len(lines), 60):
+            some = lines[start : start + 60]
+            given = batch(front, b"\n".join(line for line, _ in some), draws.random.choice(["", "?stop=first"]), kept)
+            bench.same(f"the batch at {start}", given, (200, [answer for _, answer in some]))
+        for user in sorted(draws.state.users):
+            front.exchange("POST", "/sessions", json.dumps({"user": user}), kept)
+        same_lists(bench, front, "after the batches", connection=kept)
+        kept.close()
+        bench.same("the end", front.end(), 0)
+    verified(bench, "after the batches", front.office)

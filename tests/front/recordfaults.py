@@ -16,7 +16,7 @@ from .running import LONG
 OK = '{"ok":true}'
 
 # How many calls of SQLite each kind of disturbance goes through, and with `--long`.
-CALLS, MORE_CALLS = 14, 400
+CALLS, MORE_CALLS = 14, 120
 
 
 class Mounted:

@@ -40,10 +40,10 @@ def features():
 def main(words):
     modules = list(OF_SOURCES)
     with tempfile.TemporaryDirectory() as folder:
-        if shutil.which("go"):
+        if shutil.which("go") and "sqlite" in features():
             modules = OF_FRONTS + modules
             os.environ[PROGRAM] = build(folder)
             os.environ[LONG] = "yes" if is_long(words) else ""
         else:
-            print("skipped: the checks that need the front, since there is no go: bin/setup node")
+            print("skipped: the checks that need the front, since Go or SQLite's library for it is missing: bin/setup node")
         return run_all(checks_of("front", modules), words, workers=WORKERS)

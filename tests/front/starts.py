@@ -84,6 +84,7 @@ def check_without_libraries(bench):
         (["serve", "--etcd", "http://127.0.0.1:1", "--listen", "127.0.0.1:0"], "built without etcd"),
         (["serve", "--office", bench.path("office"), "--program", RBAC], "built without SQLite"),
         (["record", "head", "--office", bench.path("office")], "built without SQLite"),
+        (["serve", "--office", bench.path("office"), "--no-record", "--session-age", "1h"], "built without SQLite"),
         (["adopt", "x"], "built without etcd"),
         (["callers", "--check", "--program", RBAC, "--callers", bench.path("callers"), "--oidc-keys", "k"], "built without JWTs"),
     ]:
@@ -94,6 +95,13 @@ def check_without_libraries(bench):
     try:
         with Front(bench, "--no-record") as front:
             bench.same("a command", front.ask("addUser", {"user": "ann"}), (200, OK))
+            bench.same("a batch", front.ask("batch", '{"fn":"assignedRoles","user":"ann"}'), (200, '{"ok":true,"value":[]}\n'))
+            for path in ("/lists/users", "/snapshot", "/watch?after=1"):
+                bench.same(path, front.exchange("GET", path)[0], 404)
+            asked = '{"user":"ann","operation":"open","object":"safe"}'
+            for path in ("/v1/decideByUser", "/explain"):
+                bench.same(path, front.exchange("POST", path, asked)[0], 404)
+            bench.same("a condition", front.ask("addUser", {"user": "bob"}, If_Policy_Revision="1")[0], 400)
         bench.same("no record was made", os.path.exists(bench.path("office.record")), False)
     finally:
         os.environ["RBAC_FRONT"] = old

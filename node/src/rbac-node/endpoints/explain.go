@@ -119,7 +119,7 @@ func (e *Endpoints) explainedSession(r *request, q query, base *api.Call) (told 
 	if err != nil {
 		return nil, nil, err
 	}
-	has, err := api.NewCall("sessionRoles", "session", q.session)
+	roles, err := api.NewCall("sessionRoles", "session", q.session)
 	if err != nil {
 		return nil, nil, err
 	}
@@ -130,7 +130,7 @@ func (e *Endpoints) explainedSession(r *request, q query, base *api.Call) (told 
 		graph = e.office.State().Graph()
 		session, _ = e.office.State().Session(q.session)
 		assigned = e.office.State().AssignedRoles(session.User)
-	}, base, granted, has)
+	}, base, granted, roles)
 	if err != nil {
 		return nil, nil, err
 	}

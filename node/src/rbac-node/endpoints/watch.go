@@ -21,6 +21,9 @@ const (
 	watchInterval = time.Second
 )
 
+// watchHead is the head of the answer. Its end is that of the connection.
+const watchHead = "HTTP/1.1 200 OK\r\nContent-Type: text/event-stream\r\nCache-Control: no-store\r\nConnection: close\r\n\r\n"
+
 // outdated is the refusal of a number after which not all commands are known.
 var outdated = api.Refusal{Status: http.StatusGone, Code: api.Outdated.Code, Name: api.Outdated.Name}
 
@@ -125,7 +128,7 @@ func (w *watch) run(from *bufio.Reader) {
 		defer close(w.gone)
 		_, _ = from.ReadByte() // A client sends nothing more: whatever comes ends the watch.
 	}()
-	_, _ = w.lines.WriteString("HTTP/1.1 200 OK\r\nContent-Type: text/event-stream\r\nCache-Control: no-store\r\nConnection: close\r\n\r\n")
+	_, _ = w.lines.WriteString(watchHead)
 	ticker := time.NewTicker(watchInterval)
 	defer ticker.Stop()
 	for w.write() {

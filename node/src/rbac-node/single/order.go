@@ -260,6 +260,11 @@ func (o *Office) Turn(ctx context.Context, do func(endpoints.Turn) error) error 
 	case err := <-done:
 		return err
 	case <-within.Done():
+	}
+	select {
+	case err := <-done: // It was done before.
+		return err
+	default:
 		return api.Unavailable
 	}
 }

@@ -1,6 +1,7 @@
 package state
 
 import (
+	"math/bits"
 	"sort"
 
 	"rbac-node/api"
@@ -128,10 +129,13 @@ func (g *Graph) conflicts(isStatic bool, sets map[string]Set, holders []holding)
 	below := map[string]map[string]bool{}
 	for _, name := range namesOf(sets) {
 		one := Conflict{NamedSet: NamedSet{name, sets[name].members(), sets[name].Cardinality}, IsStatic: isStatic}
+		counted := counting{members: one.Roles, below: below, masks: map[string]uint64{}}
 		for _, holder := range holders {
-			members := g.held(one.Roles, holder.roles, below)
-			if int64(len(members)) >= one.Cardinality && one.Cardinality > 0 && len(one.Holders) < mostHolders {
-				one.Holders = append(one.Holders, Holder{holder.user, holder.digest, members})
+			if one.Cardinality < 1 || len(one.Holders) == mostHolders {
+				break
+			}
+			if counted.count(g, holder.roles) >= one.Cardinality {
+				one.Holders = append(one.Holders, Holder{holder.user, holder.digest, g.held(one.Roles, holder.roles, below)})
 			}
 		}
 		if len(one.Holders) > 0 {
@@ -139,6 +143,35 @@ func (g *Graph) conflicts(isStatic bool, sets map[string]Set, holders []holding)
 		}
 	}
 	return found
+}
+
+// A counting counts members of a set, of which there are at most 32. below keeps what is below a role, and masks which of the members
+// are, a bit for each.
+type counting struct {
+	members []string
+	below   map[string]map[string]bool
+	masks   map[string]uint64
+}
+
+// count returns how many of the members are among roles and their juniors.
+func (c *counting) count(g *Graph, roles []string) int64 {
+	all := uint64(0)
+	for _, role := range roles {
+		mask, isKept := c.masks[role]
+		if !isKept {
+			if c.below[role] == nil {
+				c.below[role] = g.Below(role)
+			}
+			for i, member := range c.members {
+				if c.below[role][member] {
+					mask |= 1 << i
+				}
+			}
+			c.masks[role] = mask
+		}
+		all |= mask
+	}
+	return int64(bits.OnesCount64(all))
 }
 
 // held returns which of some members are among roles and their juniors, and by which of the roles. What is below a role is kept.

@@ -21,7 +21,8 @@ func told(t *testing.T, s *State, lines ...string) {
 
 // Sessions expire by a clock that only runs forward, whatever time the machine has.
 func TestExpired(t *testing.T) {
-	const s1, s2 = `{"fn":"createSession","user":"ann","roles":[],"session":"s1"}`, `{"fn":"createSession","user":"bob","roles":[],"session":"s2"}`
+	const s1 = `{"fn":"createSession","user":"ann","roles":[],"session":"s1"}`
+	const s2 = `{"fn":"createSession","user":"bob","roles":[],"session":"s2"}`
 	for _, test := range []struct {
 		name      string
 		jump      time.Duration

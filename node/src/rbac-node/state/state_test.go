@@ -64,8 +64,8 @@ func TestViolated(t *testing.T) {
 // What is asked behind commands is about exactly the sessions that they may have ended.
 func TestReview(t *testing.T) {
 	s := New(Numbers{})
-	told(t, s, `{"fn":"createSession","user":"ann","roles":[],"session":"s1"}`, `{"fn":"createSession","user":"bob","roles":[],"session":"s2"}`,
-		`{"fn":"addRole","role":"clerk"}`)
+	told(t, s, `{"fn":"createSession","user":"ann","roles":[],"session":"s1"}`,
+		`{"fn":"createSession","user":"bob","roles":[],"session":"s2"}`, `{"fn":"addRole","role":"clerk"}`)
 	for _, test := range []struct {
 		line  string
 		needs bool
