@@ -18,7 +18,7 @@ import (
 
 // ServeHTTP answers a request, unless it comes from a foreign page or nobody knows who asks.
 func (f *Front) ServeHTTP(w http.ResponseWriter, r *http.Request) {
-	if origins, has := r.Header["Origin"]; has && !f.areOwn(origins) && !isOwnPage(r, origins) {
+	if origins, has := r.Header["Origin"]; has && !f.areOwn(origins) && !(f.endpoints != nil && isOwnPage(r, origins)) {
 		w.Header().Set("Connection", "close") // Nothing more is read from it.
 		f.refuse(w, r, "", errors.New("a page of "+strings.Join(origins, ", ")), api.ForeignOrigin)
 		return
