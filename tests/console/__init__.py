@@ -1,6 +1,7 @@
 """The console of the front, as people use it in Chromium.
 
-    serving     the files of the console, their headers and their size; the parts of the front that only the console asks for
+    sources     the size of the files of the console, and what they may not name
+    serving     the files of the console and their headers; the parts of the front that only the console asks for
     pages       each page with its actions and refusals, on the bank
     tasks       what administrators and auditors want to do, with the number of clicks
     rights      callers who may not do everything, and a token that is nowhere

@@ -29,13 +29,10 @@ def main(words: list[str]) -> int:
     """Runs the checks that have these words in their names, and returns the exit status."""
     if not find_spec("selenium") and os.access(DEBIAN_PYTHON, os.X_OK) and sys.executable != DEBIAN_PYTHON:
         os.execv(DEBIAN_PYTHON, [DEBIAN_PYTHON, *sys.argv])
-    if not shutil.which("go"):
-        print("left out: the console, since there is no go: bin/setup console\n1 passed, 0 failed")
-        return 0
-    if "sqlite" not in features():
-        print("left out: the console, since the front can't read offices without SQLite: bin/setup console\n1 passed, 0 failed")
-        return 0
-    modules = ["serving"]
+    if not shutil.which("go") or "sqlite" not in features():
+        print("left out: what needs a front, since there is no Go or no library of SQLite for it: bin/setup console")
+        return run_all(checks_of("console", ["sources"]), words)
+    modules = ["serving", "sources"]
     if without := missing():
         print(f"left out: the console in a browser, since there is no {', '.join(without)}: bin/setup console")
     else:

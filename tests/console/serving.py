@@ -2,7 +2,6 @@
 
 import http.client
 import json
-import re
 import shutil
 import sqlite3
 import urllib.parse
@@ -11,15 +10,14 @@ from xml.etree import ElementTree
 from front.batches import batch
 from front.identities import bearer, secured
 from front.program import HOST, Front
-from program.bench import TESTS
 
-SITE = TESTS.parent / "node/src/rbac-node/console/site"
+from .sources import SITE
+
 FIELDS = {
     "Content-Security-Policy": "default-src 'self'; frame-ancestors 'none'; base-uri 'none'; form-action 'self'; img-src 'self' blob:",
     "X-Content-Type-Options": "nosniff", "Cache-Control": "no-store", "Referrer-Policy": "no-referrer",
 }  # fmt: skip
 TYPES = {".html": "text/html", ".css": "text/css", ".js": "text/javascript", ".svg": "image/svg+xml"}
-MOST_LINES, MOST_BYTES, LONGEST_FILE = 3_000, 200_000, 800
 
 
 def get(front, path, method="GET", **fields):
@@ -60,21 +58,6 @@ def check_files(bench):
         for method in ("POST", "PUT", "DELETE"):
             bench.same(method, get(front, "/console/", method)[0], 405)
         bench.same("a page of elsewhere", get(front, "/console/", Origin="https://elsewhere.example")[0], 403)
-
-
-def check_size(bench):
-    """The files are few and small, and name nothing from elsewhere."""
-    texts = {path.name: path.read_text(encoding="utf-8") for path in SITE.iterdir()}
-    lines = {name: text.count("\n") for name, text in texts.items()}
-    bench.judge("lines", [f"{sum(lines.values())} lines"] if sum(lines.values()) >= MOST_LINES else [])
-    bench.judge("lines of one file", [f"{name}: {count}" for name, count in lines.items() if count >= LONGEST_FILE])
-    size = sum(path.stat().st_size for path in SITE.iterdir())
-    bench.judge("bytes", [f"{size} bytes"] if size >= MOST_BYTES else [])
-    foreign = r"https?://(?!www\.w3\.org/2000/svg)|innerHTML|outerHTML|insertAdjacentHTML|document\.write|eval\(|localStorage|sessionStorage|cookie"
-    bench.judge(
-        "what no file may have", [f"{name}: {found[0]}" for name, text in texts.items() if (found := re.findall(foreign, text))]
-    )
-    return {"lines of HTML, CSS and JavaScript": sum(lines.values()), "bytes of the console": size}
 
 
 RIGHTS = {
