@@ -2,6 +2,7 @@
 
     sources     the size of the files of the console, and what they may not name
     serving     the files of the console and their headers; the parts of the front that only the console asks for
+    page        the commands and the pictures of docs/CONSOLE.md
     pages       each page with its actions and refusals, on the bank
     tasks       what administrators and auditors want to do, with the number of clicks
     rights      callers who may not do everything, and a token that is nowhere
