@@ -136,9 +136,8 @@ def same_refusal(bench, what, front, says):
     before = [entry for entry in entries(front.office)] if os.path.exists(path_of(front.office)) else None
     status, out, said = refused_start(*front.words())
     after = [entry for entry in entries(front.office)] if os.path.exists(path_of(front.office)) else None
-    lines = [line for line in said.splitlines() if not line.startswith("{")]
-    bench.same(f"{what}: status, output, lines", (status, out, len(lines)), (1, "", 1))
-    bench.judge(f"{what}: {says}", [] if lines and says in lines[0] else [said])
+    bench.same(f"{what}: status, output, lines", (status, out, said.count("\n")), (1, "", 1))
+    bench.judge(f"{what}: {says}", [] if says in said else [said])
     bench.same(f"{what}: the record", after == before, True)
 
 

@@ -68,6 +68,8 @@ type Record struct {
 	failing string
 	stop    context.CancelFunc
 	life    context.Context
+	// announces starts the announcements of the head, once it is known that the office is what the record gives.
+	announces sync.Once
 }
 
 // DirOf returns the folder of the record of an office.
@@ -136,7 +138,6 @@ func Open(ctx context.Context, options Options) (*Record, error) {
 		return nil, fmt.Errorf("record: %w", err)
 	}
 	r.addMetrics()
-	go r.announce()
 	return r, nil
 }
 
@@ -367,6 +368,12 @@ func (r *Record) Close(isInOrder bool) error {
 	if isInOrder && err == nil && len(r.open) == 0 && r.head.n > r.newestBase() {
 		err = r.makeLastBase()
 	}
+	// After a start that was refused nothing is said about the head.
+	r.announces.Do(func() {
+		r.mutex.Lock()
+		defer r.mutex.Unlock()
+		r.announced = r.head
+	})
 	r.logHead()
 	if closing := r.close(); err == nil {
 		err = closing
