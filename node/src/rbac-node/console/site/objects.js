@@ -1,6 +1,6 @@
 /** The objects, and one object: its operations, who may do each, and why. */
 
-import { ask, askAll, list, may, maySome, rows } from "./api.js";
+import { askAll, list, may, maySome, rows } from "./api.js";
 import { action, button, command, deliberate, field, form, later, pager, section, table } from "./parts.js";
 import { counted, h, hashOf, link, listed, name, object, plain, role, user } from "./text.js";
 
@@ -81,9 +81,9 @@ function holdersOf(text, operation, granted) {
         const place = h("div", {});
         holder.append(place);
         place.replaceChildren(later("Users", async () => {
-            const users = await Promise.all(granted.map((one) => ask("authorizedUsers", { role: one })));
+            const answers = await askAll(granted.map((one) => ({ fn: "authorizedUsers", role: one })));
             const by = new Map();
-            users.forEach((found, i) => found.forEach((one) => by.set(one, [...(by.get(one) ?? []), granted[i]])));
+            answers.forEach((answer, i) => (answer.value ?? []).forEach((one) => by.set(one, [...(by.get(one) ?? []), granted[i]])));
             const all = [...by.keys()].sort();
             const found = all.slice(0, SHOWN).map((one) => [user(one), ["authorized for ", listed(by.get(one).map(role))],
                 action(link(["explain", one, operation, text], "Why"))]);

@@ -109,7 +109,7 @@ export function form(label, inputs, submit, perform, more = {}) {
 }
 
 /** Returns what a form's fields have. */
-export function valuesOf(element) {
+function valuesOf(element) {
     const values = {};
     for (const input of element.querySelectorAll("[data-key]")) {
         if (input.type === "radio" ? input.checked : true) {

@@ -17,7 +17,7 @@ export function entriesTable(caption, entries, isShort = false) {
 }
 
 /** What an entry says, in a sentence. */
-export function whatOf({ request, answer, found }) {
+function whatOf({ request, answer, found }) {
     if (request.record !== undefined) {
         return h("span", { class: "quiet" }, `The record ${request.record}.`);
     }

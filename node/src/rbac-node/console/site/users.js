@@ -8,8 +8,9 @@ const SHOWN = 100;
 
 export async function usersPage({ query, anew }) {
     const { contains = "", after } = query;
-    const part = await list("users", { contains, after, limit: SHOWN });
-    const isLocked = await lockedAmong(part.value);
+    // The locked users of this part are the first ones of the same part of their list.
+    const [part, locked] = await Promise.all(["users", "locked"].map((one) => list(one, { contains, after, limit: SHOWN })));
+    const isLocked = new Set(locked.value);
     const search = form("Search users", [field("Name contains", "contains", { value: contains, type: "search" })], "Search",
         (values) => { location.hash = `${hashOf(["users"])}?${new URLSearchParams(values)}`; }, { class: "search" });
     const next = part.next ? { ...(contains ? { contains } : {}), after: part.next } : null;
@@ -23,19 +24,6 @@ export async function usersPage({ query, anew }) {
             (values) => command("addUser", values, anew))));
     }
     return nodes;
-}
-
-/** Which of some users, in their order, are locked. */
-async function lockedAmong(users) {
-    if (users.length === 0) {
-        return new Set();
-    }
-    const locked = await rows("locked");
-    if (locked.length < 1000) {
-        return new Set(locked);
-    }
-    const more = await Promise.all(users.map((one) => rows("locked", { user: one })));
-    return new Set(more.flat());
 }
 
 export async function userPage([text], { query, anew }) {

@@ -149,7 +149,7 @@ const REASONS = {
 };
 
 /** Returns " allows one of auditor, teller". */
-export function allows({ roles, cardinality }) {
+function allows({ roles, cardinality }) {
     return [` allows ${few(cardinality - 1)} of `, roles.flatMap((one, i) => (i > 0 ? [", ", role(one)] : [role(one)]))];
 }
 
