@@ -54,7 +54,9 @@ async function answerTo(query) {
         subject, told.allowed ? " may do " : " may not do ", name(query.operation), " on ", object(query.object), ".");
     const reasons = query.user !== undefined ? await reasonsOfUser(query, told) : reasonsOfSession(told);
     const nodes = [section("Answer", verdict, reasons.map((line) => h("p", {}, line)),
-        h("p", { class: "quiet" }, "The proved program has answered this, from its review functions; the request was POST /explain with ",
+        h("p", { class: "quiet" }, query.user !== undefined
+            ? "The front concludes this from review functions of the proved program, from locks and from dynamic sets. "
+            : "The proved program has decided this by checkAccess; the reasons come from its review functions. ", "The request was POST /explain with ",
             h("bdi", { class: "mono" }, JSON.stringify(query.session === undefined ? query : { ...query, session: "…" })), "."))];
     const way = (told.by ?? told.inactive ?? [])[0];
     if (way && may("lists")) {
