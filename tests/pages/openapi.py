@@ -62,6 +62,9 @@ PATHS_OF_FRONT = {
     "/lists/{list}": ["get"],
     "/snapshot": ["get"],
     "/watch": ["get"],
+    "/record": ["get"],
+    "/room": ["get"],
+    "/picture": ["get"],
 }
 
 # The statuses of a conflict, and of a target or a method that no path here has.

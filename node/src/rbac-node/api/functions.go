@@ -17,10 +17,12 @@ const (
 	DecideByUser = "decideByUser"
 	// Lists, Snapshot and Watch read what no function lists.
 	Lists, Snapshot, Watch = "lists", "snapshot", "watch"
+	// Record reads who has asked for which command.
+	Record = "record"
 )
 
 // others has the keys of these operations.
-var others = map[string][]string{DecideByUser: {"user", "operation", "object"}, Lists: nil, Snapshot: nil, Watch: nil}
+var others = map[string][]string{DecideByUser: {"user", "operation", "object"}, Lists: nil, Snapshot: nil, Watch: nil, Record: nil}
 
 // IsOther reports whether an operation is one of these.
 func IsOther(name string) bool {

@@ -106,6 +106,9 @@ func (e *Endpoints) add() {
 		"/snapshot":              {"list", get, e.snapshot},
 		"/watch":                 {"watch", get, e.watch},
 		"/caller":                {"question", get, e.caller},
+		"/record":                {"list", get, e.record},
+		"/room":                  {"list", get, e.room},
+		"/picture":               {"picture", get, e.picture},
 	}
 }
 

@@ -9,14 +9,16 @@ import (
 	"net/http"
 	"strings"
 	"sync/atomic"
+	"time"
 
 	"rbac-node/api"
 	"rbac-node/callers"
+	"rbac-node/console"
 )
 
 // ServeHTTP answers a request, unless it comes from a foreign page or nobody knows who asks.
 func (f *Front) ServeHTTP(w http.ResponseWriter, r *http.Request) {
-	if origins, has := r.Header["Origin"]; has && !f.areOwn(origins) {
+	if origins, has := r.Header["Origin"]; has && !f.areOwn(origins) && !(f.endpoints != nil && isOwnPage(r, origins)) {
 		w.Header().Set("Connection", "close") // Nothing more is read from it.
 		f.refuse(w, r, "", errors.New("a page of "+strings.Join(origins, ", ")), api.ForeignOrigin)
 		return
@@ -31,6 +33,11 @@ func (f *Front) ServeHTTP(w http.ResponseWriter, r *http.Request) {
 		return
 	}
 	if f.endpoints != nil && f.endpoints.ServeConfiguration(w, r) {
+		return
+	}
+	if f.endpoints != nil && console.Has(r) {
+		start := time.Now()
+		f.handler.Note("page", console.Serve(w, r), start)
 		return
 	}
 	if f.guard == nil {
@@ -110,6 +117,20 @@ func (f *Front) areOwn(origins []string) bool {
 		}
 	}
 	return len(origins) > 0
+}
+
+// isOwnPage reports whether a page of the front itself has sent a request: its origin is where the request was sent to, and no other
+// site can have made that name mean this machine. Either the name belongs to the machine, or the certificate vouches for it, or the
+// request has a token, which a browser doesn't send by itself.
+func isOwnPage(r *http.Request, origins []string) bool {
+	scheme := "http://"
+	if r.TLS != nil {
+		scheme = "https://"
+	}
+	if len(origins) != 1 || r.Host == "" || !strings.EqualFold(origins[0], scheme+r.Host) {
+		return false
+	}
+	return r.TLS != nil || isLocalHost(r.Host) || len(r.Header["Authorization"]) > 0
 }
 
 // isLocalHost reports whether a Host is a name of this machine that no other name can be made to mean. A request without one

@@ -7,13 +7,12 @@ import (
 	"context"
 	"strconv"
 	"strings"
+
+	"rbac-node/recorded"
 )
 
-// A Filter chooses entries. An empty text chooses all.
-type Filter struct {
-	User, Role, Object, Function, Caller, Since, Until string
-	IsRefused                                          bool
-}
+// A Filter chooses entries.
+type Filter recorded.Filter
 
 // where returns the condition of a filter, and its values. An import is chosen if its text has the name.
 func (f *Filter) where() (string, []any) {

@@ -1,0 +1,184 @@
+/** The console: who is logged in, and which page is shown. A page is chosen by the fragment of the address. */
+
+import { login, logout, Lost, may, maySome, Refused, setReason, who } from "./api.js";
+import { fail, field, form, hush, LOST, say, section } from "./parts.js";
+import { h, name } from "./text.js";
+import { why } from "./words.js";
+import { explainAddress, explainPage } from "./explain.js";
+import { objectPage, objectsPage } from "./objects.js";
+import { overviewPage } from "./overview.js";
+import { recordPage } from "./record.js";
+import { rolePage, rolesPage } from "./roles.js";
+import { separationPage, setPage } from "./separation.js";
+import { userPage, usersPage } from "./users.js";
+
+/** The pages: a segment, a title, what the caller needs, the page of all, and the page of one. */
+const PAGES = [
+    ["", "Overview", () => true, overviewPage],
+    ["users", "Users", () => may("lists"), usersPage, userPage],
+    ["roles", "Roles", () => may("lists"), rolesPage, rolePage],
+    ["objects", "Objects", () => may("lists"), objectsPage, objectPage],
+    ["separation", "Separation of duty", () => may("lists"), separationPage, setPage],
+    ["explain", "Explain", () => maySome("decideByUser") || maySome("checkAccess"), explainPage, explainAddress],
+    ["record", "Record", () => may("record"), recordPage],
+];
+
+const COMMANDS = ["addUser", "deleteUser", "lockUserAccount", "unlockUserAccount", "addRole", "deleteRole", "assignUser", "deassignUser",
+    "addInheritance", "deleteInheritance", "addPermObj", "deletePermObj", "addPermission", "deletePermission", "grantPermission",
+    "revokePermission", "createSsdSet", "createDsdSet", "deleteSession"];
+
+const main = () => document.getElementById("main");
+let isIn = false;
+// Counts what is shown: a page that was asked for earlier isn't shown any more.
+let shown = 0;
+// The first page leaves the focus where the browser has it, so that the tab key begins at the top.
+let isFirst = true;
+
+/** Returns the segments of the address, and what stands behind its question mark. */
+function addressOf(hash) {
+    const [path, query = ""] = hash.replace(/^#\/?/, "").split(/\?(.*)/s);
+    try {
+        return { segments: path.split("/").map(decodeURIComponent), query: Object.fromEntries(new URLSearchParams(query)) };
+    } catch {
+        return { segments: ["?"], query: {} };
+    }
+}
+
+function showPages(current) {
+    const links = PAGES.filter(([, , isShown]) => isShown()).map(([segment, title]) =>
+        h("li", {}, h("a", { href: `#/${segment}`, "aria-current": segment === current ? "page" : null }, title)));
+    document.getElementById("pages").replaceChildren(h("ul", {}, links));
+}
+
+function title(text) {
+    document.title = `${text} – Office console`;
+}
+
+/** Shows the page of the address. Its heading gets the focus, unless the page is only shown anew. */
+async function show(isAnew = false) {
+    if (!isIn) {
+        return showLogin();
+    }
+    shown += 1;
+    const mine = shown;
+    const { segments, query } = addressOf(location.hash);
+    const page = PAGES.find(([segment, , isShown]) => segment === segments[0] && isShown());
+    showPages(page?.[0]);
+    let nodes;
+    try {
+        nodes = await nodesOf(page, segments, query);
+    } catch (error) {
+        nodes = [h("h1", {}, page?.[1] ?? "No such page"), await troubleOf(error)];
+    }
+    if (mine !== shown) {
+        return;
+    }
+    const place = isAnew ? window.scrollY : 0;
+    main().replaceChildren(...nodes.flat(Infinity).filter(Boolean));
+    const heading = main().querySelector("h1");
+    title(heading.textContent);
+    heading.tabIndex = -1;
+    if (!isFirst) {
+        heading.focus({ preventScroll: true });
+    }
+    isFirst = false;
+    window.scrollTo(0, place);
+}
+
+async function nodesOf(page, segments, query) {
+    if (!page || (segments.length > 1 && !page[4])) {
+        return [h("h1", {}, "No such page"), h("p", {}, "There is no such page, or you have no right to it.")];
+    }
+    const anew = () => show(true);
+    return segments.length > 1 ? page[4](segments.slice(1), { query, anew }) : page[3]({ query, anew });
+}
+
+async function troubleOf(error) {
+    if (error instanceof Lost) {
+        return h("p", { class: "warning" }, LOST, " ", h("button", { type: "button", onclick: () => show() }, "Try again"));
+    }
+    if (error instanceof Refused) {
+        return h("p", { class: "warning" }, await why({}, error));
+    }
+    throw error;
+}
+
+/** Shows who is logged in, and a field for the reason of changes. */
+function showWho() {
+    const caller = who();
+    const parts = [];
+    if (COMMANDS.some(maySome)) {
+        const reason = h("input", { id: "reason", autocomplete: "off", maxlength: "120", placeholder: "kept in the record" });
+        reason.addEventListener("input", () => setReason(reason.value));
+        parts.push(h("label", { for: "reason", class: "check" }, "Reason ", reason));
+    }
+    parts.push(h("span", {}, caller.open ? "open to everybody" : name(caller.caller)));
+    if (!caller.open) {
+        parts.push(h("button", { type: "button", class: "plain", onclick: leave }, "Log out"));
+    }
+    document.getElementById("who").replaceChildren(...parts);
+}
+
+function leave() {
+    logout();
+    isIn = false;
+    setReason("");
+    hush();
+    showLogin();
+}
+
+/** Shows the form for a token. Neither the field nor the form has a name, so that no browser sends or keeps it. */
+function showLogin() {
+    shown += 1;
+    isFirst = false;
+    title("Log in");
+    document.getElementById("pages").replaceChildren();
+    document.getElementById("who").replaceChildren();
+    const token = field("Token", "token", { type: "password", required: true });
+    const enter = form("Log in", [token], "Log in", async (values) => {
+        try {
+            await begin(values.token.trim());
+        } catch (error) {
+            if (error instanceof Refused && error.status === 401) {
+                return say("refused", ["The front doesn't know this token."]);
+            }
+            return fail(error);
+        }
+    });
+    main().replaceChildren(h("h1", { tabindex: "-1" }, "Log in"), section("Who are you?",
+        h("p", {}, "Type the token that you got for the office. This page keeps it until you close or reload it, and nowhere else."), enter));
+    token.querySelector("input").focus();
+}
+
+async function begin(token) {
+    await login(token);
+    isIn = true;
+    hush();
+    showWho();
+    await show();
+}
+
+document.getElementById("skip").addEventListener("click", (event) => {
+    event.preventDefault(); // The fragment chooses the page.
+    main().querySelector("h1").focus();
+});
+window.addEventListener("hashchange", () => {
+    if (isIn) {
+        show();
+    }
+});
+document.addEventListener("click", (event) => {
+    if (event.target.closest("a")) {
+        hush();
+    }
+});
+
+// Without a token the front may know its user by a certificate, or may be open.
+begin("").catch((error) => {
+    if (error instanceof Lost) {
+        main().replaceChildren(h("h1", {}, "No answer"), h("p", { class: "warning" }, "The front doesn't answer. ",
+            h("button", { type: "button", onclick: () => location.reload() }, "Try again")));
+    } else {
+        showLogin();
+    }
+});

@@ -1,0 +1,190 @@
+/** Parts that several pages have: sections, tables, forms, pictures. */
+
+import { ask, Lost, maySome, picture, Refused } from "./api.js";
+import { done, refusal, suggestions, why } from "./words.js";
+import { h, hashOf, plain } from "./text.js";
+
+export function section(title, ...children) {
+    return h("section", {}, h("h2", {}, title), children);
+}
+
+/** Returns a table. Each row is a list of cells: a node, or { class, child }. */
+export function table(caption, heads, rows, empty = "None.") {
+    if (rows.length === 0) {
+        return h("p", { class: "quiet" }, empty);
+    }
+    const cells = (row) => row.map((cell) => (cell?.child !== undefined ? h("td", { class: cell.class }, cell.child) : h("td", {}, cell)));
+    const head = (text) => (text === "" ? h("td", { class: "action" }) : h("th", { scope: "col", class: text.class }, text.child ?? text));
+    return h("div", { class: "scroll", tabindex: "0", role: "group", "aria-label": caption },
+        h("table", {},
+            h("caption", {}, caption),
+            h("thead", {}, h("tr", {}, heads.map(head))),
+            h("tbody", {}, rows.map((row) => h("tr", {}, cells(row))))));
+}
+
+export const number = (value) => ({ class: "number", child: value.toLocaleString("en") });
+export const action = (child) => ({ class: "action", child: child ?? "" });
+
+const notice = () => document.getElementById("notice");
+
+/** Shows what has happened, above the page. */
+export function say(kind, nodes) {
+    notice().replaceChildren(h("p", { class: kind }, nodes));
+}
+
+export function hush() {
+    notice().replaceChildren();
+}
+
+export const LOST = "The front doesn't answer. What you asked for may or may not have been done: look again when it answers.";
+
+/** Says why something failed. */
+export async function fail(error, values = {}) {
+    if (error instanceof Lost) {
+        say("refused", [LOST]);
+    } else if (error instanceof Refused) {
+        say("refused", ["Refused: ", await why(values, error)]);
+    } else {
+        throw error;
+    }
+}
+
+/** Asks for a command, says what came of it, and shows the page anew if it was done. */
+export async function command(fn, values, after) {
+    try {
+        await ask(fn, values);
+    } catch (error) {
+        if (!(error instanceof Refused)) {
+            return fail(error);
+        }
+        return say("refused", await refusal(fn, values, error).catch(() => [error.message]));
+    }
+    say("done", done(fn, values));
+    if (typeof after === "string") {
+        location.hash = after;
+    } else {
+        await after?.();
+    }
+}
+
+let fields = 0;
+
+/** Returns a field with a label. With `from`, it suggests the names of a list. */
+export function field(label, key, more = {}) {
+    const { from, ...attributes } = more;
+    const id = `field-${(fields += 1)}`;
+    const input = h("input", { id, "data-key": key, autocomplete: "off", spellcheck: "false", ...attributes });
+    const parts = [h("span", {}, label), input];
+    if (from && maySome("lists")) {
+        const options = h("datalist", { id: `${id}-list` });
+        input.setAttribute("list", options.id);
+        let waiting = 0;
+        const fill = async () => {
+            const found = await suggestions(from, input.value).catch(() => []);
+            options.replaceChildren(...found.map((one) => h("option", { value: one })));
+        };
+        input.addEventListener("focus", fill, { once: true });
+        input.addEventListener("input", () => {
+            clearTimeout(waiting);
+            waiting = setTimeout(fill, 200);
+        });
+        parts.push(options);
+    }
+    return h("label", { for: id }, parts);
+}
+
+/** Returns a form whose fields become an object of texts for a function. */
+export function form(label, inputs, submit, perform, more = {}) {
+    const button = h("button", { type: "submit" }, submit);
+    const element = h("form", { "aria-label": label, method: "post", ...more }, inputs, button);
+    element.addEventListener("submit", async (event) => {
+        event.preventDefault();
+        if (button.disabled) {
+            return;
+        }
+        button.disabled = true;
+        await Promise.resolve(perform(valuesOf(element))).catch((error) => fail(error)).finally(() => { button.disabled = false; });
+    });
+    return element;
+}
+
+/** Returns what a form's fields have. */
+function valuesOf(element) {
+    const values = {};
+    for (const input of element.querySelectorAll("[data-key]")) {
+        if (input.type === "radio" ? input.checked : true) {
+            values[input.dataset.key] = input.type === "checkbox" ? input.checked : input.value;
+        }
+    }
+    return values;
+}
+
+/** Returns a button that asks for a command, with a label that says about what. */
+export function button(text, label, perform, kind = "plain") {
+    const element = h("button", { type: "button", class: kind, "aria-label": plain(label) });
+    element.append(text);
+    element.addEventListener("click", async () => {
+        element.disabled = true;
+        await Promise.resolve(perform()).catch((error) => fail(error)).finally(() => { element.disabled = false; });
+    });
+    return element;
+}
+
+/** Returns a button that asks whether something is meant before it is done. */
+export function deliberate(text, label, question, perform) {
+    const holder = h("span", {});
+    const first = button(text, label, () => {
+        const yes = button("Yes", `${label}: yes`, perform, "bad");
+        const no = button("No", `${label}: no`, () => {
+            holder.replaceChildren(first);
+            first.focus();
+        });
+        holder.replaceChildren(h("span", { class: "quiet" }, question, " "), yes, " ", no);
+        no.focus();
+    }, "bad");
+    holder.append(first);
+    return holder;
+}
+
+/** Returns links to the parts of a list. */
+export function pager(segments, next, isFirst) {
+    if (!next && isFirst) {
+        return null;
+    }
+    return h("p", { class: "pager" },
+        isFirst ? null : h("a", { href: hashOf(segments) }, "First page"), isFirst || !next ? null : " · ",
+        next ? h("a", { href: `${hashOf(segments)}?${new URLSearchParams(next)}` }, "Next page") : null);
+}
+
+/** Returns a picture that the front draws, or a line that says why there is none. */
+export function drawn(query, about) {
+    const holder = h("div", { class: "picture" }, h("p", { class: "quiet" }, "The picture is being drawn."));
+    const without = (text) => holder.replaceWith(h("p", { class: "quiet" }, text));
+    picture(query).then((blob) => {
+        const image = h("img", { alt: about, src: URL.createObjectURL(blob) });
+        image.addEventListener("load", () => URL.revokeObjectURL(image.src));
+        holder.replaceChildren(image);
+    }, (error) => {
+        if (error instanceof Refused && error.status === 404) {
+            without("There is no picture, since Graphviz isn't installed where the front runs.");
+        } else if (error instanceof Refused && error.status === 413) {
+            without("There are too many roles for a picture. The page of a role shows its neighbours.");
+        } else {
+            without("The picture couldn't be drawn in time.");
+        }
+    });
+    return holder;
+}
+
+/** Returns a section whose content comes later. What fails is said in it. */
+export function later(title, load) {
+    const element = section(title, h("p", { class: "quiet" }, "…"));
+    load().then(
+        (children) => element.replaceChildren(h("h2", {}, title), ...[children].flat(Infinity).filter(Boolean)),
+        async (error) => {
+            const text = error instanceof Refused ? await why({}, error) : [LOST];
+            element.replaceChildren(h("h2", {}, title), h("p", {}, text));
+        },
+    );
+    return element;
+}

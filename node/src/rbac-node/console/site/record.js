@@ -1,0 +1,71 @@
+/** The record: who asked for which command, when and why, and what the office answered. */
+
+import { record } from "./api.js";
+import { field, form, section, table } from "./parts.js";
+import { counted, h, hashOf, name, time } from "./text.js";
+import { done, short, wanted } from "./words.js";
+
+/** Returns a table of entries. In a short one there are no reasons and numbers. */
+export function entriesTable(caption, entries, isShort = false) {
+    const heads = isShort ? ["When (UTC)", "Who", "What"] : [{ class: "number", child: "Number" }, "When (UTC)", "Who", "What", "Why"];
+    const rows = entries.map((entry) => {
+        const cells = [{ class: "time", child: time(entry.at) }, name(entry.caller), whatOf(entry)];
+        const why = entry.reason ? name(entry.reason) : h("span", { class: "quiet" }, "–");
+        return isShort ? cells : [{ class: "number", child: String(entry.number) }, ...cells, why];
+    });
+    return table(caption, heads, rows, "There is no such entry.");
+}
+
+/** What an entry says, in a sentence. */
+function whatOf({ request, answer, found }) {
+    if (request.record !== undefined) {
+        return h("span", { class: "quiet" }, `The record ${request.record}.`);
+    }
+    const note = found ? h("span", { class: "quiet" }, " (found out at a start)") : null;
+    if (!answer) {
+        return [...wanted(request.fn, request), ": no answer is known yet."];
+    }
+    if (answer.unknown) {
+        return [request.fn, ": whether it was done isn't known."];
+    }
+    if (answer.error !== undefined) {
+        return [h("span", { class: "mark no" }, "refused"), " ", wanted(request.fn, request), ": ", short(answer, request), ".", note];
+    }
+    return [done(request.fn, request), note];
+}
+
+const FILTERS = ["user", "role", "object", "function", "caller", "since", "until", "refused", "before"];
+
+export async function recordPage({ query }) {
+    const wantedQuery = Object.fromEntries(Object.entries(query).filter(([key]) => FILTERS.includes(key)));
+    const { entries, head, next } = await record({ limit: 50, ...wantedQuery });
+    const [last, chain] = head.split(":");
+    const older = { ...wantedQuery, before: next };
+    return [
+        h("h1", {}, "Record"),
+        section("Entries", filterForm(query),
+            entriesTable(`The newest first${Object.keys(wantedQuery).length ? ", chosen by the filter" : ""}: ${counted(entries.length, "entry").replace("entrys", "entries")}`, entries),
+            h("p", { class: "pager" },
+                query.before ? h("a", { href: hashOf(["record"]) }, "Newest entries") : null, query.before && next ? " · " : null,
+                next ? h("a", { href: `${hashOf(["record"])}?${new URLSearchParams(older)}` }, "Older entries") : null)),
+        section("Head of the chain",
+            h("p", {}, "Each entry has a digest of itself and of all entries before it. Write this head down elsewhere: ",
+                h("span", { class: "mono" }, "rbac-node record verify --head"), " then finds whether somebody has changed what came before."),
+            h("p", { class: "mono", id: "head" }, `${last}:${chain}`)),
+    ];
+}
+
+function filterForm(query) {
+    const text = (label, key, more = {}) => field(label, key, { value: query[key] ?? "", ...more });
+    const refused = field("Only refused", "refused", { type: "checkbox", checked: query.refused === "true" });
+    refused.className = "check";
+    const inputs = [
+        text("User", "user", { from: "users" }), text("Role", "role", { from: "roles" }), text("Object", "object", { from: "objects" }),
+        text("Function", "function"), text("Caller", "caller"), text("Since", "since", { placeholder: "2026-11-27" }),
+        text("Before", "until", { placeholder: "2026-11-28T12:00" }), refused,
+    ];
+    return form("Filter the record", inputs, "Filter", (values) => {
+        const chosen = Object.entries(values).filter(([, value]) => value !== "" && value !== false);
+        location.hash = `${hashOf(["record"])}?${new URLSearchParams(chosen)}`;
+    }, { class: "search" });
+}

@@ -1,0 +1,57 @@
+//go:build sqlite
+
+package record
+
+import (
+	"context"
+
+	"rbac-node/recorded"
+)
+
+// Recorded returns the newest entries that a query chooses, also from earlier parts.
+func (r *Record) Recorded(ctx context.Context, query recorded.Query) (page recorded.Page, err error) {
+	files, err := filesOf(r.Office)
+	if err != nil {
+		return page, err
+	}
+	page.Head = r.Head().String()
+	for i := len(files) - 1; i >= 0 && len(page.Entries) <= query.Limit; i-- {
+		if err := addNewest(ctx, &page, files[i], query); err != nil {
+			return page, err
+		}
+	}
+	if len(page.Entries) > query.Limit {
+		page.Entries, page.HasMore = page.Entries[:query.Limit], true
+	}
+	return page, nil
+}
+
+// addNewest adds the entries of a file, up to one more than are wanted.
+func addNewest(ctx context.Context, page *recorded.Page, path string, query recorded.Query) error {
+	v, err := openView(ctx, path)
+	if err != nil {
+		return err
+	}
+	defer v.Close()
+	filter := Filter(query.Filter)
+	where, values := filter.where()
+	if query.Before > 0 {
+		where, values = where+" AND n < ?", append(values, query.Before)
+	}
+	values = append(values, query.Limit+1-len(page.Entries))
+	rows, err := v.tx.QueryContext(ctx, "SELECT "+columns+" FROM entry WHERE "+where+" ORDER BY n DESC LIMIT ?", values...)
+	if err != nil {
+		return err
+	}
+	defer rows.Close()
+	for rows.Next() {
+		e, err := entryOf(rows)
+		if err != nil {
+			return err
+		}
+		page.Entries = append(page.Entries, recorded.Entry{
+			N: e.n, At: e.at, Caller: e.caller, Reason: e.reason, Request: e.request, Answer: e.answer, IsFound: e.found,
+		})
+	}
+	return rows.Err()
+}

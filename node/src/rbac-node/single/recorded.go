@@ -1,0 +1,22 @@
+package single
+
+import (
+	"context"
+
+	"rbac-node/recorded"
+)
+
+// A reader is a record that can be asked for its entries.
+type reader interface {
+	Recorded(ctx context.Context, query recorded.Query) (recorded.Page, error)
+}
+
+// Recorded returns entries of the record. It returns false if nothing is recorded.
+func (o *Office) Recorded(ctx context.Context, query recorded.Query) (page recorded.Page, is bool, err error) {
+	r, can := o.record.(reader)
+	if !can {
+		return page, false, nil
+	}
+	page, err = r.Recorded(ctx, query)
+	return page, true, err
+}

@@ -1,0 +1,14 @@
+"""The console of the front, as people use it in Chromium.
+
+    sources     the size of the files of the console, and what they may not name
+    serving     the files of the console and their headers; the parts of the front that only the console asks for
+    page        the commands and the pictures of docs/CONSOLE.md
+    pages       each page with its actions and refusals, on the bank
+    tasks       what administrators and auditors want to do, with the number of clicks
+    rights      callers who may not do everything, and a token that is nowhere
+    hostile     names that are markup or can't be seen; pages of another origin
+    lost        a front that goes away and comes back
+    looks       the keyboard alone, widths, dark, print, rules of accessibility, and the pictures of docs/CONSOLE.md
+    limits      an office that is full, with --long
+    browser     runs Chromium and looks at its pages
+"""

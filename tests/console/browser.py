@@ -1,0 +1,207 @@
+"""A browser without a window, and what it shows."""
+
+import base64
+import json
+import os
+import shutil
+import subprocess
+import time
+import urllib.parse
+
+from front.program import HOST, Front
+from program.bench import PROGRAM as RBAC
+from program.bench import TESTS
+from selenium import webdriver
+from selenium.common.exceptions import StaleElementReferenceException, WebDriverException
+from selenium.webdriver.chrome.service import Service
+from selenium.webdriver.common.by import By
+from selenium.webdriver.common.keys import Keys
+
+# How long anything may take on a machine that does other work too.
+SECONDS = 120
+BANK = TESTS.parent / "examples/bank.jsonl"
+
+# Whether the page is as the last action has left it: nothing is being loaded, drawn or asked for.
+SETTLED = """
+const main = document.getElementById("main");
+const heading = main?.querySelector("h1");
+return document.readyState === "complete" && heading && !heading.hasAttribute("data-old")
+    && !main.querySelector("button:disabled")
+    && ![...main.querySelectorAll("p.quiet")].some(p => p.textContent === "…" || p.textContent === "The picture is being drawn.");
+"""
+
+# The elements that a user can press, with a name: what a screen reader reads.
+PRESSED = """
+const wanted = arguments[0], within = arguments[1] ? document.querySelector(arguments[1]) : document;
+const all = [...within.querySelectorAll("a[href], button, summary")].filter(one => one.checkVisibility());
+return all.find(one => (one.getAttribute("aria-label") ?? one.textContent).trim() === wanted)
+    ?? all.find(one => one.textContent.trim() === wanted) ?? null;
+"""
+
+# The field with a label in a form.
+FIELD = """
+const forms = [...document.querySelectorAll("form")].filter(one => !arguments[1] || one.getAttribute("aria-label") === arguments[1]);
+for (const form of forms) {
+    for (const label of form.querySelectorAll("label")) {
+        if (label.querySelector("span")?.textContent === arguments[0]) return label.querySelector("input, select");
+    }
+}
+return null;
+"""
+
+
+def bank(bench, *more, name="office"):
+    """A front, not yet started, over the office of the bank."""
+    front = Front(bench, *more, name=name)
+    for words, given in ((["init", front.office], b""), (["replay", front.office], BANK.read_bytes())):
+        subprocess.run([RBAC, *words], input=given, capture_output=True, check=True)
+    return front
+
+
+class Browser:
+    """A browser at the console of a front. It counts the clicks."""
+
+    def __init__(self, bench, front, *, width=1280, height=900):
+        options = webdriver.ChromeOptions()
+        options.binary_location = shutil.which("chromium") or ""
+        for word in ("--headless=new", "--no-sandbox", "--disable-gpu", "--disable-dev-shm-usage", "--no-first-run",
+                     "--disable-background-networking", f"--user-data-dir={bench.path('profile')}",
+                     f"--window-size={width},{height}"):  # fmt: skip
+            options.add_argument(word)
+        options.set_capability("goog:loggingPrefs", {"browser": "ALL"})
+        os.environ["HOME"] = str(bench.folder)
+        service = Service(shutil.which("chromedriver") or "", log_path=bench.path("driver.log"))
+        self.driver = webdriver.Chrome(service=service, options=options)
+        self.driver.set_page_load_timeout(SECONDS)
+        self.driver.set_script_timeout(SECONDS)
+        self.front, self.clicks = front, 0
+        self.url = f"http://{HOST}:{front.port}/console/"
+
+    def __enter__(self):
+        return self
+
+    def __exit__(self, *_):
+        try:
+            self.driver.quit()
+        except WebDriverException:
+            pass
+
+    def run(self, script, *values):
+        """What a script returns."""
+        return self.driver.execute_script(script, *values)
+
+    def until(self, holds, what):
+        """Waits until something holds, and returns it."""
+        deadline = time.monotonic() + SECONDS
+        while True:
+            try:
+                if found := holds():
+                    return found
+            except (StaleElementReferenceException, WebDriverException) as error:
+                if time.monotonic() > deadline:
+                    raise error
+            if time.monotonic() > deadline:
+                raise TimeoutError(f"not in {SECONDS} seconds: {what}; the page has: {self.text()[:1000]}")
+            time.sleep(0.05)
+
+    def settle(self):
+        """Waits until the page shows what it is to show."""
+        self.until(lambda: self.run(SETTLED), "the page is there")
+
+    def open(self, *segments, query=""):
+        """Opens the console anew, at a page."""
+        self.driver.get("about:blank")
+        self.driver.get(self.url + self.hash_of(segments) + query)
+        self.settle()
+
+    def go(self, *segments, query=""):
+        """Shows another page without loading the console again."""
+        self.mark()
+        script = "if (location.hash === arguments[0]) window.dispatchEvent(new Event('hashchange')); else location.hash = arguments[0];"
+        self.run(script, self.hash_of(segments) + query)
+        self.settle()
+
+    @staticmethod
+    def hash_of(segments):
+        return "#/" + "/".join(urllib.parse.quote(one, safe="") for one in segments)
+
+    def mark(self):
+        """Marks the heading, so that it is seen when it is replaced."""
+        self.run(
+            "document.querySelector('main h1')?.setAttribute('data-old', ''); document.getElementById('notice').replaceChildren()"
+        )
+
+    def text(self, within="main"):
+        """The text of a part of the page as it is shown."""
+        return self.run("return document.querySelector(arguments[0])?.innerText ?? ''", within)
+
+    def notice(self):
+        """Waits for a notice, and returns it."""
+        self.until(lambda: self.text("#notice"), "a notice")
+        self.until(lambda: self.run("return !document.querySelector('main button:disabled')"), "the end of an action")
+        return self.text("#notice")
+
+    def find(self, name, within=None):
+        """What can be pressed and has this name, or None."""
+        return self.run(PRESSED, name, within)
+
+    def click(self, name, within=None):
+        """Presses something by the mouse."""
+        element = self.until(lambda: self.find(name, within), f"there is {name}")
+        self.clicks += 1
+        self.run("arguments[0].scrollIntoView({block: 'center'})", element)
+        element.click()
+
+    def follow(self, name, within=None):
+        """Follows a link to a page."""
+        self.mark()
+        self.click(name, within)
+        self.settle()
+
+    def fill(self, label, text, form=""):
+        """Types a text into the field with a label."""
+        element = self.until(lambda: self.run(FIELD, label, form), f"there is a field {label}")
+        element.clear() if element.tag_name == "input" else None
+        element.send_keys(text)
+
+    def submit(self, button, form, **texts):
+        """Fills in a form, and sends it off; returns the notice. Names of fields have `_` for a space."""
+        for label, text in texts.items():
+            self.fill(label.replace("_", " "), text, form)
+        self.run("document.getElementById('notice').replaceChildren()")
+        self.click(button, f"form[aria-label={json.dumps(form)}]")
+        return self.notice()
+
+    def keys(self, *keys):
+        """Types keys wherever the focus is."""
+        webdriver.ActionChains(self.driver).send_keys(*keys).perform()
+
+    def login(self, token):
+        """Logs in with a token."""
+        self.until(lambda: self.run(FIELD, "Token", "Log in"), "the form to log in").send_keys(token)
+        self.mark()
+        self.keys(Keys.ENTER)
+        self.until(lambda: self.text("#notice") or self.run(SETTLED), "an answer to the token")
+
+    def resize(self, width, height=900, dark=False, media=""):
+        """Gives the page a width, and a scheme of colours."""
+        metrics = {"width": width, "height": height, "deviceScaleFactor": 1, "mobile": False}
+        self.driver.execute_cdp_cmd("Emulation.setDeviceMetricsOverride", metrics)
+        features = [{"name": "prefers-color-scheme", "value": "dark" if dark else "light"}]
+        self.driver.execute_cdp_cmd("Emulation.setEmulatedMedia", {"media": media, "features": features})
+
+    def picture(self, path):
+        """Writes a picture of the whole page."""
+        size = self.run("return [innerWidth, Math.min(document.documentElement.scrollHeight, 2400)]")
+        clip = {"x": 0, "y": 0, "width": size[0], "height": size[1], "scale": 0.75}
+        words = {"format": "png", "captureBeyondViewport": True, "clip": clip, "optimizeForSpeed": False}
+        shot = self.driver.execute_cdp_cmd("Page.captureScreenshot", words)
+        with open(path, "wb") as file:
+            file.write(base64.b64decode(shot["data"]))
+
+    def complaints(self):
+        """What the browser complains about: errors of scripts, and what the policy of the page has forbidden."""
+        return [one["message"] for one in self.driver.get_log("browser") if one["level"] == "SEVERE"]
+
+    def elements(self, selector):
+        return self.driver.find_elements(By.CSS_SELECTOR, selector)

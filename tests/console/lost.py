@@ -1,0 +1,22 @@
+"""A front that goes away and comes back while somebody uses the console."""
+
+from .browser import Browser, bank
+from .pages import value_rows
+
+LOST = "The front doesn't answer. What you asked for may or may not have been done: look again when it answers."
+
+
+def check_lost(bench):
+    """An action and a page say that nothing answers; when the front is back, both can be tried again without a new page."""
+    with bank(bench) as front, Browser(bench, front) as page:
+        page.open("users", "frank")
+        front.kill()
+        bench.same("an action", page.submit("Assign", "Assign a role", Role="cashier"), LOST)
+        page.go("roles")
+        bench.same("a page", LOST in page.text(), True)
+        front.start()
+        page.follow("Try again")
+        bench.same("the page again", "Hierarchy" in page.text(), True)
+        page.go("users", "frank")
+        bench.same("the action again", page.submit("Assign", "Assign a role", Role="cashier"), "frank is assigned to cashier.")
+        bench.same("the office", {"user": "frank", "role": "cashier"} in value_rows(front, "assignments"), True)

@@ -1,0 +1,301 @@
+"""Each page with its actions and its refusals, on the bank. What the office has afterwards is asked of the front."""
+
+import json
+import subprocess
+import os
+
+from front.lists import listed
+from front.running import PROGRAM
+
+from .browser import Browser, bank
+
+
+def value(front, function, **values):
+    """What the office answers to a question."""
+    return json.loads(front.ask(function, values)[1]).get("value")
+
+
+def check_users(bench):
+    """The users and one user: search, assign with a refusal in words, remove, lock, unlock, sessions, add and delete."""
+    with bank(bench) as front, Browser(bench, front) as page:
+        page.open("users")
+        bench.same("the title", page.driver.title, "Users – Office console")
+        bench.same(
+            "the users", [page.find(name) is not None for name in ("ann", "carol", "dave", "erin", 'hall, "peg"')], [True] * 5
+        )
+        bench.same("dave is locked", "dave\tlocked" in page.text().replace("\n", "\t").replace("\t\t", "\t"), True)
+        page.fill("Name contains", "an")
+        page.follow("Search", 'form[aria-label="Search users"]')
+        bench.same("found", [page.find(name) is not None for name in ("ann", "frank", "carol")], [True, True, False])
+        page.go("users", "erin")
+        bench.same("nearness", "audit (static): has auditor. Can't become teller." in page.text(), True)
+        bench.same("given by", "vault\tcount\tauditor" in page.text(), True)
+        bench.same("the refusal", page.submit("Assign", "Assign a role", Role="teller"),
+                   "erin can't become teller: erin is auditor, and audit allows one of auditor, teller.")  # fmt: skip
+        bench.same("nothing was done", value(front, "assignedRoles", user="erin"), ["auditor"])
+        page.go("users", "ann")
+        bench.same("through a senior role", page.submit("Assign", "Assign a role", Role="auditor"),
+                   "ann can't become auditor: ann is teller through branch manager, and audit allows one of auditor, teller.")  # fmt: skip
+        bench.same(
+            "no role",
+            page.submit("Assign", "Assign a role", Role="queen"),
+            "ann can't become queen: there is no such role as queen.",
+        )
+        bench.same("again", page.submit("Assign", "Assign a role", Role="branch manager"),
+                   "ann can't become branch manager: ann is assigned to branch manager already.")  # fmt: skip
+        bench.same("done", page.submit("Assign", "Assign a role", Role="cashier"), "ann is assigned to cashier.")
+        page.settle()
+        bench.same("it is done", value(front, "assignedRoles", user="ann"), ["branch manager", "cashier"])
+        bench.same("it is shown", page.find("Remove the assignment to cashier") is not None, True)
+        act(bench, page, "Remove the assignment to cashier", None, "ann is no longer assigned to cashier.")
+        bench.same("a session", len(value_rows(front, "sessions", user="ann")), 1)
+        digest = value_rows(front, "sessions", user="ann")[0]["session"]
+        act(bench, page, f"End the session {digest[:8]}", None, "A session of ann has ended.")
+        bench.same("no session", value_rows(front, "sessions", user="ann"), [])
+        act(bench, page, "Lock ann", "Lock ann: yes", "ann is locked, without sessions.")
+        bench.same("locked", value_rows(front, "locked"), ["ann", "dave"])
+        act(bench, page, "Unlock ann", None, "ann is unlocked.")
+        act(bench, page, "Delete ann", "Delete ann: yes", "ann is deleted.")
+        page.until(lambda: page.find("carol"), "the users again")
+        bench.same("the user exists", page.submit("Add", "Add a user", Name="carol"),
+                   "carol can't become a user: there already is a user carol.")  # fmt: skip
+        bench.same("a name without letters", page.submit("Add", "Add a user", Name="x" * 65).endswith(
+            "a name has 1 to 64 bytes and no control characters."), True)  # fmt: skip
+        bench.same("a new user", page.submit("Add", "Add a user", Name="zoe"), "zoe is a user now.")
+        bench.same("the users now", [name in value_rows(front, "users") for name in ("ann", "zoe")], [False, True])
+        page.go("users", "nobody")
+        bench.same("nobody", "There is no such user." in page.text(), True)
+        bench.same("complaints", [one for one in page.complaints() if "409" not in one and "400" not in one], [])
+
+
+def value_rows(front, name, **query):
+    return listed(front, name, **query)[1]["value"]
+
+
+def act(bench, page, name, confirmed, notice):
+    """Presses a button, and the one that says that it is meant, and compares what is said."""
+    page.run("document.getElementById('notice').replaceChildren()")
+    page.click(name)
+    if confirmed:
+        page.click(confirmed)
+    bench.same(name, page.notice(), notice)
+    page.settle()
+
+
+def check_roles(bench):
+    """The hierarchy and one role: inherit, grant, revoke, assign, add and delete, each with refusals in words."""
+    with bank(bench) as front, Browser(bench, front) as page:
+        page.open("roles")
+        tree = page.text().split("inherits from.")[1].split("Add a role")[0].split("\n")
+        bench.same("the tree", [line for line in tree if line],
+                   ["auditor", "branch manager (1)", "teller", "cash supervisor", "cashier"])  # fmt: skip
+        bench.same("a role", page.submit("Add", "Add a role", Name="chief"), "chief is a role now.")
+        page.go("roles", "chief")
+        inherit = "Add an inheritance"
+        bench.same("inherit", page.submit("Add", inherit, Role="branch manager"), "chief inherits from branch manager.")
+        page.settle()
+        bench.same(
+            "again",
+            page.submit("Add", inherit, Role="branch manager"),
+            "chief can't inherit from branch manager: it already does.",
+        )
+        bench.same("itself", page.submit("Add", inherit, Role="chief"), "chief can't inherit from chief: chief is the same role.")
+        page.fill("Add a", "senior role", inherit)
+        bench.same(
+            "a cycle",
+            page.submit("Add", inherit, Role="teller"),
+            "teller can't inherit from chief: chief already inherits from teller.",
+        )
+        bench.same(
+            "the edge",
+            value_rows(front, "inheritances"),
+            [{"asc": "branch manager", "desc": "teller"}, {"asc": "chief", "desc": "branch manager"}],
+        )
+        bench.same("a user", page.submit("Assign", "Assign a user", User="erin"),
+                   "erin can't become chief: erin is auditor, and audit allows one of auditor, teller.")  # fmt: skip
+        bench.same("another", page.submit("Assign", "Assign a user", User="frank"), "frank is assigned to chief.")
+        page.settle()
+        bench.same(
+            "a grant",
+            page.submit("Grant", "Grant a permission", Operation="open", Object="vault"),
+            "open on vault is granted to chief.",
+        )
+        page.settle()
+        bench.same("no operation", page.submit("Grant", "Grant a permission", Operation="burn", Object="vault"),
+                   "burn on vault can't be granted to chief: no permission allows burn on vault.")  # fmt: skip
+        bench.same("the neighbours", page.run("return document.querySelector('.picture img')?.naturalWidth > 0"), True)
+        bench.same("inherited", "account 17\tpost" in page.text(), True)
+        act(bench, page, "Revoke open on vault", None, "open on vault is no longer granted to chief.")
+        act(bench, page, "Delete the role chief", "Delete the role chief: yes",
+            "The role chief can't be deleted: it has an inheritance or is in a separation of duty set; remove that first.")  # fmt: skip
+        act(bench, page, "Remove the inheritance from branch manager", None, "chief no longer inherits from branch manager.")
+        act(bench, page, "Remove the assignment of frank", None, "frank is no longer assigned to chief.")
+        act(bench, page, "Delete the role chief", "Delete the role chief: yes", "The role chief is deleted.")
+        bench.same("the roles", value_rows(front, "roles"), ["auditor", "branch manager", "cash supervisor", "cashier", "teller"])
+        page.go("roles", "branch manager")
+        page.fill("Add a", "junior role", inherit)
+        bench.same("a user would have both", page.submit("Add", inherit, Role="auditor"),
+                   "branch manager can't inherit from auditor: ann would be auditor and teller, carol would be auditor and teller, and audit allows one of auditor, teller.")  # fmt: skip
+
+
+def check_objects(bench):
+    """The objects and one object: who may do it and why; operations, grants."""
+    with bank(bench) as front, Browser(bench, front) as page:
+        page.open("objects")
+        bench.same(
+            "the objects", [page.find(name) is not None for name in ("account 17", "account 42", "drawer", "vault")], [True] * 4
+        )
+        bench.same("an object", page.submit("Add", "Add an object", Name="safe"), "safe is an object now.")
+        page.go("objects", "safe")
+        bench.same(
+            "an operation", page.submit("Add", "Add an operation", Operation="open"), "There is a permission for open on safe."
+        )
+        page.settle()
+        bench.same("again", page.submit("Add", "Add an operation", Operation="open"),
+                   "A permission for open on safe can't be added: there already is such a permission.")  # fmt: skip
+        bench.same(
+            "a grant", page.submit("Grant", "Grant open", Grant_to_the_role="auditor"), "open on safe is granted to auditor."
+        )
+        page.settle()
+        page.click("Who may do it, and why")
+        page.until(lambda: "erin\tauthorized for auditor" in page.text(), "who may do it")
+        act(
+            bench,
+            page,
+            "Delete the object safe",
+            "Delete the object safe: yes",
+            "safe can't be deleted: it has permissions; delete them first.",
+        )
+        act(bench, page, "Revoke open from auditor", None, "open on safe is no longer granted to auditor.")
+        act(
+            bench,
+            page,
+            "Delete the permission for open",
+            "Delete the permission for open: yes",
+            "The permission for open on safe is deleted.",
+        )
+        act(bench, page, "Delete the object safe", "Delete the object safe: yes", "The object safe is deleted.")
+        bench.same("the objects now", value_rows(front, "objects"), ["account 17", "account 42", "drawer", "vault"])
+
+
+def check_separation(bench):
+    """The sets and one set: members, cardinality, who is near, and refusals."""
+    with bank(bench) as front, Browser(bench, front) as page:
+        page.open("separation")
+        bench.same("static", "audit\tat most one of 2\tauditor and teller" in page.text(), True)
+        form = "Add a static set of two roles, of which one is allowed"
+        bench.same("a violated set", page.submit("Add a static set", form, Name="both", First_member="cashier", Second_member="cash supervisor"),
+                   "The static set both can't be made: dave would be cash supervisor and cashier, and both allows one of cash supervisor, cashier.")  # fmt: skip
+        bench.same("a set", page.submit("Add a static set", form, Name="two", First_member="auditor", Second_member="cashier"),
+                   "There is the static set two: at most one of auditor and cashier.")  # fmt: skip
+        page.go("separation", "static", "two")
+        bench.same("near", "erin\tauditor\tcan't become cashier" in page.text(), True)
+        bench.same("a member", page.submit("Add", "Add a member", Role="cash supervisor"),
+                   "cash supervisor can't become a member of the static set two: dave would be cash supervisor and cashier, and two allows one of auditor, cash supervisor, cashier.")  # fmt: skip
+        bench.same("another", page.submit("Add", "Add a member", Role="teller"), "teller is a member of the static set two.")
+        page.settle()
+        bench.same(
+            "the cardinality",
+            page.submit("Change", "Change the cardinality", Cardinality="3"),
+            "The cardinality of the static set two is 3.",
+        )
+        page.settle()
+        bench.same("too many", page.submit("Change", "Change the cardinality", Cardinality="9"),
+                   "The cardinality of the static set two can't become 9: a cardinality is from 2 to the number of members.")  # fmt: skip
+        act(bench, page, "Remove the member teller", None,
+            "teller can't leave the static set two: a cardinality is from 2 to the number of members.")  # fmt: skip
+        act(bench, page, "Delete the set two", "Delete the set two: yes", "The static set two is deleted.")
+        page.go("separation", "dynamic", "cash")
+        bench.same("by activation", "dave\tcash supervisor and cashier\tnot all in one session" in page.text(), True)
+
+
+def check_explain(bench):
+    """Yes and no, each with its reason in a sentence, for users and sessions."""
+    with bank(bench) as front, Browser(bench, front) as page:
+        for line in [("addRole", {"role": "all cash"}), ("addInheritance", {"asc": "all cash", "desc": "cashier"}),
+                     ("addInheritance", {"asc": "all cash", "desc": "cash supervisor"}), ("assignUser", {"user": "grace", "role": "all cash"}),
+                     ("grantPermission", {"object": "vault", "operation": "open", "role": "all cash"})]:  # fmt: skip
+            bench.same(f"{line}", front.ask(*line)[0], 200)
+        page.open("explain")
+        form = "Ask whether something is allowed"
+        for kind, who, operation, on, wanted in [
+            ("a user", "ann", "open", "vault", ["Yes. ann may do open on vault.", "ann is assigned to branch manager, to which it is granted."]),
+            ("a user", "ann", "post", "account 17", ["Yes. ann may do post on account 17.",
+             "ann is assigned to branch manager, which inherits from teller, to which it is granted."]),
+            ("a user", "erin", "open", "vault", ["No. erin may not do open on vault.",
+             "It is granted to all cash and branch manager, and erin is authorized for none of these roles."]),
+            ("a user", "erin", "open", "drawer", ["No. erin may not do open on drawer.",
+             "It is granted to cashier, and erin is not authorized for that role."]),
+            ("a user", "dave", "open", "drawer", ["No. dave may not do open on drawer.", "dave is locked, and may do nothing. Without the lock:",
+             "dave is assigned to cashier, to which it is granted."]),
+            ("a user", "grace", "open", "vault", ["No. grace may not do open on vault.",
+             "The permission is granted to all cash, but no session can have that role: it includes cash supervisor and cashier, too many roles of cash."]),
+            ("a user", "nobody", "open", "vault", ["No answer: there is no user nobody."]),
+            ("a user", "ann", "burn", "vault", ["No answer: no permission has the operation burn."]),
+            ("a session", "ann 1", "open", "vault", ["Yes. The session may do open on vault.",
+             "The session has activated branch manager, to which it is granted."]),
+            ("a session", "ann 9", "open", "vault", ["No answer: there is no such session; it may have ended."]),
+        ]:  # fmt: skip
+            page.fill("May", kind, form)
+            for label, text in (("Name", who), ("do the operation", operation), ("on the object", on)):
+                page.fill(label, text, form)
+            page.run("document.getElementById('answer').replaceChildren()")
+            page.click("Explain", f'form[aria-label="{form}"]')
+            page.until(lambda: page.text("#answer"), "an answer")
+            page.settle()
+            bench.judge(
+                f"{who}: {operation} on {on}",
+                [f"{line} isn't in {page.text('#answer')}" for line in wanted if line not in page.text("#answer")],
+            )
+        bench.same("the way", page.run("document.getElementById('answer').replaceChildren()"), None)
+        page.go("explain", "ann", "post", "account 17")
+        bench.same("a picture of it", page.run("return document.querySelector('#answer .picture img')?.naturalWidth > 0"), True)
+
+
+def check_record(bench):
+    """The record in words: who, what, why, refusals, filters, and the head that the command line prints."""
+    with bank(bench) as front, Browser(bench, front) as page:
+        page.open("users", "carol")
+        page.run("document.getElementById('reason').focus()")
+        page.keys("Grüße, Ticket 4711")
+        bench.same("assign", page.submit("Assign", "Assign a role", Role="cashier"), "carol is assigned to cashier.")
+        page.settle()
+        page.submit("Assign", "Assign a role", Role="auditor")
+        page.follow("Record")
+        rows = page.text().split("\n")
+        bench.judge("what is there", [f"{wanted} isn't in {rows}" for wanted in (
+            "carol is assigned to cashier.\tGrüße, Ticket 4711", "refused carol can't become auditor: the set audit forbids it.\tGrüße, Ticket 4711",
+            "The record begins.") if wanted not in page.text()])  # fmt: skip
+        done = subprocess.run(
+            [os.environ[PROGRAM], "record", "head", "--office", front.office], capture_output=True, text=True, check=True
+        )
+        bench.same("the head", page.text("#head"), done.stdout.strip())
+        page.fill("User", "carol", "Filter the record")
+        page.run("document.querySelector('[data-key=refused]').click()")
+        page.follow("Filter", 'form[aria-label="Filter the record"]')
+        bench.same(
+            "only refused ones of carol",
+            [one in page.text() for one in ("can't become auditor", "carol is assigned to cashier.")],
+            [True, False],
+        )
+        for number in range(60):
+            front.ask("addUser", {"user": f"u{number}"})
+        page.go("record")
+        page.follow("Older entries")
+        bench.same("older ones", [one in page.text() for one in ("u0 is a user now.", "u59 is a user now.")], [True, False])
+        page.follow("Newest entries")
+        bench.same("newest ones", "u59 is a user now." in page.text(), True)
+
+
+def check_overview(bench):
+    """The overview: whether the office answers, its room, the last changes, and the picture."""
+    with bank(bench) as front, Browser(bench, front) as page:
+        page.open("")
+        text = page.text()
+        bench.judge("the overview", [f"{wanted} isn't in {text}" for wanted in (
+            "The office answers.", "The front is open: everybody", "Users\t7\t20,000\t19,993", "Roles\t5\t1,024\t1,019", "The record begins.")
+            if wanted not in text])  # fmt: skip
+        bench.same("the picture", page.run("return document.querySelector('.picture img')?.naturalWidth > 0"), True)
+        bench.same("complaints", page.complaints(), [])
+        page.go("nothing")
+        bench.same("no such page", "There is no such page" in page.text(), True)

@@ -1,0 +1,47 @@
+"""Runs the checks of the console, if there is what they need."""
+
+import os
+import shutil
+import sys
+import tempfile
+from importlib.util import find_spec
+
+from front.running import PROGRAM, build, features
+from stopped.running import checks_of, is_long, run_all
+
+# Debian's Python has Debian's Selenium.
+DEBIAN_PYTHON = "/usr/bin/python3"
+NEEDED = ["chromium", "chromedriver"]
+MODULES = ["looks", "pages", "hostile", "rights", "tasks", "lost"]
+WORKERS = 2
+
+# The variable that says where the pictures of the pages are written.
+PICTURES = "RBAC_CONSOLE_PICTURES"
+
+
+def missing() -> list[str]:
+    """The programs and the library that are missing for a browser."""
+    found = [name for name in NEEDED if not shutil.which(name)]
+    return found + ([] if find_spec("selenium") else ["python3-selenium"])
+
+
+def main(words: list[str]) -> int:
+    """Runs the checks that have these words in their names, and returns the exit status."""
+    if not find_spec("selenium") and os.access(DEBIAN_PYTHON, os.X_OK) and sys.executable != DEBIAN_PYTHON:
+        os.execv(DEBIAN_PYTHON, [DEBIAN_PYTHON, *sys.argv])
+    if not shutil.which("go") or "sqlite" not in features():
+        print("left out: what needs a front, since there is no Go or no library of SQLite for it: bin/setup console")
+        return run_all(checks_of("console", ["sources"]), words)
+    modules = ["serving", "page", "sources"]
+    if without := missing():
+        print(f"left out: the console in a browser, since there is no {', '.join(without)}: bin/setup console")
+    else:
+        modules = MODULES + modules + (["limits"] if is_long(words) else [])
+    if words[:1] == ["--pictures"]:
+        os.environ[PICTURES] = words[1]
+        words = ["check_pictures"]
+    with tempfile.TemporaryDirectory() as folder:
+        os.environ.setdefault(PROGRAM, "")
+        if not os.environ[PROGRAM]:
+            os.environ[PROGRAM] = build(folder)
+        return run_all(checks_of("console", modules), words, workers=WORKERS)
