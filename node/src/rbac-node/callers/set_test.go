@@ -14,21 +14,13 @@ import (
 	"rbac-node/api"
 	"rbac-node/logs"
 	"rbac-node/metrics"
+	"rbac-node/programtest"
 )
-
-// program returns the proved program, which the environment names.
-func program(t *testing.T) string {
-	path := os.Getenv("RBAC_PROGRAM")
-	if path == "" {
-		t.Skip("RBAC_PROGRAM is not set")
-	}
-	return path
-}
 
 // optionsOf returns the options of a file of callers with these lines.
 func optionsOf(t *testing.T, lines ...string) Options {
 	return Options{
-		Files: Files{Callers: write(t, "callers.jsonl", strings.Join(lines, "\n")+"\n")}, Program: program(t), AnswerTimeout: time.Minute,
+		Files: Files{Callers: write(t, "callers.jsonl", strings.Join(lines, "\n")+"\n")}, Program: programtest.Path(t), AnswerTimeout: time.Minute,
 		HangTimeout: time.Minute, Reads: 1 << 40, Log: logs.New(&bytes.Buffer{}), Starts: (&metrics.Registry{}).Counter("starts", "", "replay"),
 	}
 }

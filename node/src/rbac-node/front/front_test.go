@@ -18,6 +18,7 @@ import (
 	"rbac-node/callers"
 	"rbac-node/logs"
 	"rbac-node/metrics"
+	"rbac-node/programtest"
 )
 
 // An echo is an office that answers each call with its line, and the opening question with nothing special.
@@ -58,7 +59,7 @@ func newFront(t *testing.T, rules string, change func(*Options)) (*Front, *echo,
 	if rules != "" {
 		options.Callers = callers.Options{
 			Files:   callers.Files{Callers: write(t, folder, "callers", rules), Tokens: write(t, folder, "tokens", sumOf("secret")+" desk\n")},
-			Program: program(t), AnswerTimeout: time.Minute, HangTimeout: time.Minute, Reads: 1 << 40, Log: options.Log,
+			Program: programtest.Path(t), AnswerTimeout: time.Minute, HangTimeout: time.Minute, Reads: 1 << 40, Log: options.Log,
 			Starts: options.Metrics.Counter("starts", "", "replay"),
 		}
 		options.Refused = filepath.Join(folder, "refused")
@@ -86,15 +87,6 @@ func write(t *testing.T, folder, name, text string) string {
 }
 
 func sumOf(token string) string { return fmt.Sprintf("%x", sha256.Sum256([]byte(token))) }
-
-// program returns the proved program, which the environment names.
-func program(t *testing.T) string {
-	path := os.Getenv("RBAC_PROGRAM")
-	if path == "" {
-		t.Skip("RBAC_PROGRAM is not set")
-	}
-	return path
-}
 
 const (
 	clerk  = `{"user":"ann","role":"clerk"}`

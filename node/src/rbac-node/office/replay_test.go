@@ -9,23 +9,16 @@ import (
 	"syscall"
 	"testing"
 	"time"
-)
 
-// program returns the proved program, which the environment names.
-func program(t *testing.T) string {
-	path := os.Getenv("RBAC_PROGRAM")
-	if path == "" {
-		t.Skip("RBAC_PROGRAM is not set")
-	}
-	return path
-}
+	"rbac-node/programtest"
+)
 
 func start(t *testing.T) (*Replay, string) {
 	file := filepath.Join(t.TempDir(), "office")
-	if err := Run(context.Background(), program(t), "init", file); err != nil {
+	if err := Run(context.Background(), programtest.Path(t), "init", file); err != nil {
 		t.Fatal(err)
 	}
-	r, err := Start(program(t), file, time.Minute)
+	r, err := Start(programtest.Path(t), file, time.Minute)
 	if err != nil {
 		t.Fatal(err)
 	}
@@ -51,7 +44,7 @@ func TestReplayAnswersInOrder(t *testing.T) {
 	if left, _ := filepath.Glob(file + "?*"); len(left) > 0 {
 		t.Errorf("%v is left beside the file", left)
 	}
-	if err := Run(context.Background(), program(t), "check", file); err != nil {
+	if err := Run(context.Background(), programtest.Path(t), "check", file); err != nil {
 		t.Errorf("the file: %v", err)
 	}
 }

@@ -7,10 +7,12 @@ import (
 	"net/http/httptest"
 	"path/filepath"
 	"testing"
+
+	"rbac-node/programtest"
 )
 
 func newStore(t *testing.T) *Store {
-	s, err := Open(filepath.Join(t.TempDir(), "a folder?"), program(t))
+	s, err := Open(filepath.Join(t.TempDir(), "a folder?"), programtest.Path(t))
 	if err != nil {
 		t.Fatal(err)
 	}

@@ -16,16 +16,8 @@ import (
 	"rbac-node/api"
 	"rbac-node/feed"
 	"rbac-node/logs"
+	"rbac-node/programtest"
 )
-
-// program returns the proved program, which the environment names.
-func program(t *testing.T) string {
-	path := os.Getenv("RBAC_PROGRAM")
-	if path == "" {
-		t.Skip("RBAC_PROGRAM is not set")
-	}
-	return path
-}
 
 // A bench is an office with its record, and no front.
 type bench struct {
@@ -38,7 +30,7 @@ func open(t *testing.T) *bench {
 	t.Helper()
 	b := &bench{T: t}
 	file := filepath.Join(t.TempDir(), "office")
-	if said, err := exec.Command(program(t), "init", file).CombinedOutput(); err != nil {
+	if said, err := exec.Command(programtest.Path(t), "init", file).CombinedOutput(); err != nil {
 		t.Fatalf("%s", said)
 	}
 	b.reopen(file)
@@ -50,7 +42,7 @@ func (b *bench) reopen(file string) {
 	b.Helper()
 	var err error
 	b.Record, err = Open(context.Background(), Options{
-		Office: file, Program: program(b.T), HangTimeout: time.Minute, Every: 1000, Log: logs.New(&b.log),
+		Office: file, Program: programtest.Path(b.T), HangTimeout: time.Minute, Every: 1000, Log: logs.New(&b.log),
 	})
 	if err != nil {
 		b.Fatal(err)

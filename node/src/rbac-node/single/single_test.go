@@ -14,20 +14,12 @@ import (
 	"rbac-node/api"
 	"rbac-node/logs"
 	"rbac-node/metrics"
+	"rbac-node/programtest"
 )
-
-// program returns the proved program, which the environment names.
-func program(t *testing.T) string {
-	path := os.Getenv("RBAC_PROGRAM")
-	if path == "" {
-		t.Skip("RBAC_PROGRAM is not set")
-	}
-	return path
-}
 
 func optionsOf(t *testing.T, file string) Options {
 	return Options{
-		File: file, Program: program(t), AnswerTimeout: 20 * time.Second, HangTimeout: time.Minute, Reads: MostReads, Log: logs.New(&bytes.Buffer{}),
+		File: file, Program: programtest.Path(t), AnswerTimeout: 20 * time.Second, HangTimeout: time.Minute, Reads: MostReads, Log: logs.New(&bytes.Buffer{}),
 		Starts: (&metrics.Registry{}).Counter("starts", "", "replay"),
 	}
 }
