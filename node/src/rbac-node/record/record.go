@@ -147,23 +147,12 @@ func (r *Record) begin(ctx context.Context) error {
 	if err := os.Mkdir(r.dir, 0o700); err != nil && !errors.Is(err, os.ErrExist) {
 		return err
 	}
-	scratch, err := newScratch(r.Office, r.dir, forPart)
-	if err != nil {
-		return err
-	}
-	defer os.RemoveAll(scratch)
-	copied := filepath.Join(scratch, "office")
-	if err := copyOffice(r.Office, copied); err != nil {
-		return err
-	}
-	rows, err := mapped(ctx, r.Program, copied)
-	if err != nil {
-		return err
-	}
-	if err := makeFile(r.dir, 1, "", beginning, rows.all, copied); err != nil {
-		return err
-	}
-	return addBase(r.dir, copied, base{1, rows.all})
+	return r.withCopy(ctx, func(copied, rows string) error {
+		if err := makeFile(r.dir, 1, "", beginning, rows, copied); err != nil {
+			return err
+		}
+		return addBase(r.dir, copied, base{1, rows})
+	})
 }
 
 // load opens the file and reads where it ends.
