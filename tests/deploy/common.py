@@ -50,8 +50,9 @@ def is_root():
 def run(words, **more):
     """Runs a command with the program that is tested."""
     more.setdefault("env", {**os.environ, "RBAC_PROGRAM": PROGRAM})
+    more.setdefault("timeout", SECONDS)
     words = [str(word) for word in words]
-    done = subprocess.run(words, stdin=subprocess.DEVNULL, capture_output=True, timeout=SECONDS, check=False, **more)
+    done = subprocess.run(words, stdin=subprocess.DEVNULL, capture_output=True, check=False, **more)
     return Done(done.stdout, done.stderr, done.returncode)
 
 

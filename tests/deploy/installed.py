@@ -40,6 +40,9 @@ chmod 755 "$root/usr/local/sbin/systemctl"
 chroot "$root" sh /mnt/script
 """
 
+# The most time that a script takes on a busy machine, with systemd booted for it.
+BOOTED_SECONDS = 330
+
 # systemd is booted, runs the script, and ends. What systemd-nspawn leaves in /run is gone with the layer.
 BOOTED = """
 mkdir -p /run/systemd
@@ -56,7 +59,7 @@ ExecStart=/bin/sh /mnt/script
 StandardOutput=truncate:/mnt/said
 StandardError=truncate:/mnt/errors
 END
-timeout 50 systemd-nspawn -q -D "$root" --machine="rbac-$$" --register=no --keep-unit --private-network \
+timeout 300 systemd-nspawn -q -D "$root" --machine="rbac-$$" --register=no --keep-unit --private-network \
     --boot -- --unit=script.service > "$root/mnt/console" 2>&1 < /dev/null || test -s "$root/mnt/said" || exit 9
 cat "$root/mnt/said"; cat "$root/mnt/errors" >&2
 """
@@ -201,7 +204,7 @@ def on_layer(bench, how, script, *more):
     for one in more:
         shutil.copy(one, copied)
     path = bench.write("script", script.encode())
-    done = run(["unshare", "-m", "sh", "-c", LAYER + how, "sh", layer, copied, path])
+    done = run(["unshare", "-m", "sh", "-c", LAYER + how, "sh", layer, copied, path], timeout=BOOTED_SECONDS)
     if done.status == 9 or (b"mount" in done.err and not done.out):
         return None
     return done

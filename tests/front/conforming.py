@@ -1,6 +1,7 @@
 """What the front's own requests answer has the status, the sort of content and the form that docs/openapi.json says."""
 
 import json
+from shutil import which
 
 from pages.openapi import PATHS_OF_FRONT, SPEC, faults_of, media_of, resolved
 
@@ -56,6 +57,9 @@ REQUESTS = [
     ("get", "/lists/{list}", "/lists/planets", None, {}, 404), ("get", "/lists/{list}", "/lists/users?limit=0", None, {}, 400),
     ("get", "/lists/{list}", "/lists/permissions?role=x", None, {}, 409), ("get", "/snapshot", "/snapshot", None, {}, 200),
     ("get", "/watch", "/watch?after=0", None, {}, 410), ("get", "/watch", "/watch", None, {}, 400),
+    ("get", "/record", "/record?limit=2", None, {}, 200), ("get", "/record", "/record?limit=0", None, {}, 400),
+    ("get", "/room", "/room", None, {}, 200), ("get", "/picture", "/picture", None, {}, 200 if which("dot") else 404),
+    ("get", "/picture", "/picture?role=x", None, {}, 409 if which("dot") else 404),
     ("delete", "/sessions/{digest}", f"/sessions/{digest_of('s1')}", None, {}, 200),
     ("delete", "/sessions/{digest}", f"/sessions/{digest_of('s1')}", None, {}, 409),
 ]  # fmt: skip

@@ -13,7 +13,7 @@ from program.bench import PROGRAM as RBAC
 from program.bench import TESTS
 
 from .identities import CERTIFICATES, openssl, secured
-from .program import Front, Unix, refused_start
+from .program import Front, Unix, refused_start, until
 
 from .recorded import (
     Model, chain_again, change, digest, entries, files_with, left_in_memory, link, path_of, refuted, rows_of, tool, verified
@@ -254,6 +254,7 @@ def check_backup_under_load(bench):
         try:
             pairs = []
             for turn in range(8):
+                until(lambda most=turn + 2: len(entries(front.office)) > most, "commands are done meanwhile")
                 if turn % 2:
                     words = [TESTS.parent / "deploy/backup", front.office, bench.path("backups")]
                     environment = {**os.environ, "RBAC_PROGRAM": RBAC}
