@@ -90,9 +90,9 @@ class Browser:
         """What a script returns."""
         return self.driver.execute_script(script, *values)
 
-    def until(self, holds, what):
+    def until(self, holds, what, seconds=SECONDS):
         """Waits until something holds, and returns it."""
-        deadline = time.monotonic() + SECONDS
+        deadline = time.monotonic() + seconds
         while True:
             try:
                 if found := holds():
@@ -101,8 +101,16 @@ class Browser:
                 if time.monotonic() > deadline:
                     raise error
             if time.monotonic() > deadline:
-                raise TimeoutError(f"not in {SECONDS} seconds: {what}; the page has: {self.text()[:1000]}")
+                raise TimeoutError(f"not in {seconds} seconds: {what}; the page has: {self.text()[:1000]}")
             time.sleep(0.05)
+
+    def until_loaded(self, holds, what):
+        """Waits for it, and loads the page once more if it does not come: a busy machine can cut off a part of the page."""
+        try:
+            return self.until(holds, what, SECONDS / 3)
+        except TimeoutError:
+            self.driver.refresh()
+            return self.until(holds, what)
 
     def settle(self):
         """Waits until the page shows what it is to show."""
@@ -112,7 +120,7 @@ class Browser:
         """Opens the console anew, at a page."""
         self.driver.get("about:blank")
         self.driver.get(self.url + self.hash_of(segments) + query)
-        self.settle()
+        self.until_loaded(lambda: self.run(SETTLED), "the page is there")
 
     def go(self, *segments, query=""):
         """Shows another page without loading the console again."""
@@ -178,7 +186,7 @@ class Browser:
 
     def login(self, token):
         """Logs in with a token."""
-        self.until(lambda: self.run(FIELD, "Token", "Log in"), "the form to log in").send_keys(token)
+        self.until_loaded(lambda: self.run(FIELD, "Token", "Log in"), "the form to log in").send_keys(token)
         self.mark()
         self.keys(Keys.ENTER)
         self.until(lambda: self.text("#notice") or self.run(SETTLED), "an answer to the token")
