@@ -68,7 +68,9 @@ def runs(lines):
     return re.findall(r"^([abc])\$ (.*)\n((?:(?![abc]\$ ).*\n)*)", text, re.M)
 
 
-# Waits until a node is ready, and prints nothing.
+# These wait until a member of etcd and until a node are ready, and print nothing. A node ends if etcd doesn't answer for 5 seconds
+# when it starts; systemd starts it again, and a shell doesn't.
+MEMBER_READY = "until curl -f http://$ME:2379/health > /dev/null; do sleep 0.1; done"
 READY = "until curl -f http://$ME:8080/healthz > /dev/null; do sleep 0.1; done"
 
 
@@ -88,8 +90,7 @@ def check_commands(bench):
 
     def start(command):
         everywhere(command)
-        if command == node:
-            everywhere(READY)
+        everywhere(READY if command == node else MEMBER_READY)
 
     try:
         start(member)
