@@ -95,7 +95,7 @@ class Policy(NamedTuple):
             yield "granted", [f"o{thing}", "read", f"r{self.granted_to(thing)}"]
 
     def sql(self, end: str = "") -> str:
-        """Returns the script that makes the tables. `end` stands behind each table's columns."""
+        """Returns the script that makes the tables. `end` follows the columns of each table."""
         script = ["BEGIN;"]
         for name, columns in TABLES.items():
             typed = ", ".join(f"{it} text NOT NULL" for it in columns)
