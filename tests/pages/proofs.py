@@ -1,4 +1,4 @@
-"""The page of the proofs: it names each lemma file, and the files that a new command touches are those that name every command."""
+"""The page of the proofs: the files that a new command touches are those that name every command."""
 
 import re
 import subprocess
@@ -9,9 +9,6 @@ ADDING = markdown.section(markdown.page("PROOFS.md"), "## How to add a command")
 
 # What is never written by hand for one command, or has commands in rows of their own.
 BESIDE = ("release/", "tests/rows/", "tests/edits/", "docs/PROOFS.md")
-
-# The proofs of one function, and lists of modules.
-OF_FUNCTIONS = {"Answers", "Invariants", "Lib"}
 
 
 def words_of(path):
@@ -49,18 +46,3 @@ def check_adding(bench):
     for path in [*listed, *files_in(second)]:
         if "SUBJECT" not in path:
             bench.same(f"{path} exists", (sources.ROOT / path).is_file(), True)
-
-
-def check_lemma_files(bench):
-    """Each lemma file is named, and each file that the tables of lemma files name exists."""
-    page = markdown.page("PROOFS.md")
-    paths = [path for path in (sources.ROOT / "crates").glob("*/proofs/**/*.antt") if path.stem not in OF_FUNCTIONS]
-    left = {str(path.relative_to(sources.ROOT)) for path in paths if not re.search(rf"\b{path.stem}\b", page)}
-    bench.same("lemma files that are not named", sorted(left), [])
-    text = markdown.section(page, "## The lemma files")
-    parts = re.findall(r"\*\*proofs/(\w+)\*\*.*?\n\n(\|.*?)\n\n", text, re.S)
-    bench.same("folders with a table", len(parts), 5)
-    for folder, rows in parts:
-        named = [name for row in rows.splitlines()[2:] for name in row.split("|")[1].strip().split(", ")]
-        there = [path.stem for path in (sources.ROOT / "crates/admin_mgr/proofs" / folder).glob("*.antt")]
-        bench.same(f"the files of {folder}", sorted(named), sorted(there))
