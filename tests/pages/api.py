@@ -190,7 +190,11 @@ def ending():
     """The commands whose plans end sessions."""
     names = {re.sub("([A-Z])", r"_\1", name).lower(): name for name in sources.command_keys()}
     paths = sorted((sources.ROOT / "crates/admin_mgr/src/planning").glob("*.rt"))
-    bodies = [body for path in paths for body in re.findall(r"^pub\(\w+\) fn plan_(\w+)(.*?)^\}", path.read_text(encoding="utf-8"), re.M | re.S)]
+    bodies = [
+        body
+        for path in paths
+        for body in re.findall(r"^pub\(\w+\) fn plan_(\w+)(.*?)^\}", path.read_text(encoding="utf-8"), re.M | re.S)
+    ]
     return {names[name] for name, body in bodies if "Loss::" in body}
 
 

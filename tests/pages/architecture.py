@@ -57,4 +57,6 @@ def check_bytes(bench):
     """No page is longer than one reads at a time, except those that are known to be."""
     for path in sorted((ROOT / "docs").glob("*.md")):
         size = path.stat().st_size
-        bench.same(f"{path.name} has at most {MOST_BYTES:,} bytes, and not {size:,}", size <= MOST_BYTES or path.name in LONGER, True)
+        bench.same(
+            f"{path.name} has at most {MOST_BYTES:,} bytes, and not {size:,}", size <= MOST_BYTES or path.name in LONGER, True
+        )

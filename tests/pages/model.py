@@ -132,7 +132,6 @@ def answers(path, function):
             yield "ok" if "ok" in answer else ":".join([str(answer["code"]), *([answer["kind"]] if "kind" in answer else [])])
 
 
-
 def check_closed(bench):
     """The closed office has its row, by the code of its refusal."""
     (code,) = [code for code, (name, _) in sources.refusals().items() if name == "Closed"]
@@ -143,8 +142,13 @@ def check_closed(bench):
 def check_versions(bench):
     """The page has each limit in which the versions differ."""
     text = markdown.in_one_line(markdown.section(PAGE, "## Limits"))
-    for which, words in (1, "version 1 has at most {user:,} users, {role:,} roles and {edge:,} edges"), (0, "version 2 {user:,}, {role:,} and {edge:,}"):
-        bench.same(f"version {2 - which}", words.format(**{kind: both[which] for kind, both in sources.limits().items()}) in text, True)
+    for which, words in (1, "version 1 has at most {user:,} users, {role:,} roles and {edge:,} edges"), (
+        0,
+        "version 2 {user:,}, {role:,} and {edge:,}",
+    ):
+        bench.same(
+            f"version {2 - which}", words.format(**{kind: both[which] for kind, both in sources.limits().items()}) in text, True
+        )
     differing = {kind for kind, (new, old) in sources.limits().items() if new != old}
     bench.same("the kinds in which the versions differ", differing, {"user", "role", "edge"})
 

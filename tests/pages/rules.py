@@ -250,7 +250,10 @@ def descriptions():
     """What docs/API.md says of each function, and its name in the standard, which the description begins with."""
     paths = json.loads((ROOT / "docs/openapi.json").read_text(encoding="utf-8"))["paths"]
     posts = [methods["post"] for methods in paths.values() if "post" in methods]
-    return {post.get("operationId"): f"{post.get('description', '')} {post['responses'].get('409', {}).get('description', '')}" for post in posts}
+    return {
+        post.get("operationId"): f"{post.get('description', '')} {post['responses'].get('409', {}).get('description', '')}"
+        for post in posts
+    }
 
 
 def described(name):
