@@ -12,6 +12,9 @@ from .rules import rows_of, rules, text_of
 PAGE = markdown.page("MODEL.md")
 CRATES = sources.ROOT / "crates"
 
+# The pages that name refusals beside their codes.
+REFUSING = [f"{name}.md" for name in "MODEL TABLES LAWS RULES CONTRACTS DECISIONS PROOFS EXTENDING ARCHITECTURE API".split()]
+
 # The tests that meet each limit of the commands.
 LIMITS = "office/commands/limits.rt.test"
 
@@ -156,7 +159,7 @@ def check_versions(bench):
 def check_names(bench):
     """Each refusal that a page names beside its code has this name."""
     names = {code: name for code, (name, _) in sources.refusals().items()}
-    for page in ("MODEL.md", "CONTRACTS.md", "DECISIONS.md", "PROOFS.md", "ARCHITECTURE.md"):
+    for page in REFUSING:
         named = re.findall(rf"\b(\d+) ({'|'.join(names.values())})\b", markdown.page(page))
         for code, name in named:
             bench.same(f"the refusal {code} in {page}", name, names.get(int(code)))
@@ -170,7 +173,7 @@ def codes_of(cell):
 
 def check_checks(bench):
     """The tables of rows and of an opening have each check by which an office is damaged."""
-    text = markdown.section(PAGE, "## A state from its rows") + markdown.section(PAGE, "## The tables")
+    text = markdown.page("TABLES.md")
     cells = [row[0] for table in markdown.tables(text) for row in table]
     named = [checks for cell in cells for checks in re.findall(r"52 with check (\d+(?: (?:to|or) \d+)?)", cell)]
     listed = set().union(*(codes_of(checks) for checks in named))
