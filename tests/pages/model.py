@@ -7,7 +7,7 @@ import re
 import subprocess
 
 from . import markdown, sources, verdicts
-from .rules import rows_of, rules, text_of
+from .rules import BY_NAME, OF_LAWS, rows_of, rules, text_of
 
 PAGE = markdown.page("MODEL.md")
 CRATES = sources.ROOT / "crates"
@@ -17,6 +17,9 @@ REFUSING = [f"{name}.md" for name in "MODEL TABLES LAWS RULES CONTRACTS DECISION
 
 # The tests that meet each limit of the commands.
 LIMITS = "office/commands/limits.rt.test"
+
+# The rules whose definition the contract of the function writes out.
+UNFOLDED = {"names are ordered byte by byte"}
 
 # What refuses an import is judged as its text is read: tests of the texts meet it.
 OF_TEXTS = {"1", "36", "32:byte"}
@@ -34,6 +37,28 @@ def check_folders(bench):
         folders = {place.path.split("/")[2] for place in rule.definitions}
         bench.same(f"the folders of definitions of {rule.text}", folders <= {"specs"}, True)
         bench.same(f"the folders of functions of {rule.text}", {place.path.split("/")[2] for place in rule.functions}, {"src"})
+
+
+def contract_of(place):
+    """The text of a function from its name to its body."""
+    lines = text_of(place.path).split("\n")[place.line - 1 :]
+    if lines[0].endswith("{"):
+        return lines[0]
+    return "\n".join(lines[: [line.strip() for line in lines].index("{")])
+
+
+def check_contracts(bench):
+    """The contract of a function of each rule has one of the definitions of the rule, so that no step on the way is left out."""
+    found = 0
+    for rule in rules():
+        names = {place.name.split()[0] for place in rule.definitions}
+        if rule.table in (*BY_NAME, OF_LAWS) or rule.text in UNFOLDED or not names:
+            continue
+        found += 1
+        contracts = "".join(contract_of(place) for place in rule.functions)
+        cited = [name for name in names if re.search(rf"\b{name}\b", contracts)]
+        bench.same(f"a contract for {rule.text} has one of {sorted(names)}", bool(cited), True)
+    bench.same("contracts are read", found > 70, True)
 
 
 def check_lines(bench):
