@@ -188,6 +188,7 @@ func (o *Office) Run(ctx context.Context) error {
 	defer o.lock.Close()
 	go o.expire(ctx)
 	err := o.feed.Run(ctx)
+	o.trying <- struct{}{} // Whoever has tried commands has removed the copy.
 	if o.record == nil {
 		return err
 	}
