@@ -85,14 +85,14 @@ function linesOf(text) {
 }
 
 /** Tries commands, and returns what would come of them, with a button that does them. `perform` does them in another way. */
-export async function trial(lines, { place, perform, why }) {
+export async function trial(lines, { place, perform }) {
     const result = await whatIf(lines.map((line) => JSON.stringify(line))).catch((error) => { throw unfitOf(error); });
     const accepted = lines.filter((_, i) => result.answers[i].ok);
     const nodes = [section("Answers", answersTable("What the office would answer", lines, result.answers)), ...effects(result)];
     nodes.push(section("Where this comes from",
         h("p", {}, "The proved program has answered this on a copy of the office, of policy revision ", String(result.revision),
             ". Nothing in the office has changed. What users could do is concluded from its answers, from locks and from dynamic sets."),
-        requests(lines), actionOf(accepted, result, perform ?? ((revision) => real(accepted, revision, place, why)))));
+        actionOf(accepted, result, perform ?? ((revision) => real(accepted, revision, place))), requests(lines)));
     return nodes;
 }
 
@@ -123,8 +123,8 @@ function actionOf(accepted, result, perform) {
 }
 
 /** Does commands in the office itself, and shows its answers in a place. */
-async function real(lines, revision, place, why) {
-    const answers = await performed(lines, revision, why);
+async function real(lines, revision, place) {
+    const answers = await performed(lines, revision);
     if (answers) {
         place.replaceChildren(section("Done", answersTable("What the office has answered", lines, answers)));
     }
