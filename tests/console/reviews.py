@@ -431,8 +431,6 @@ def check_looks(bench):
         begin(page, "Q4 2026", people=write(bench, "people.csv", PEOPLE.replace("=1+1", "peg hall").replace("<b>Erin</b>", "Erin Moore")))
         decide(page, "branch manager of ann", "remove", "has left the branch")
         decide(page, "branch manager of carol", "keep")
-        page.click("Try the removals on a copy")
-        page.until(lambda: page.find("Do 1 command in the office"), "what they would do")
         page.run("document.activeElement.blur()")
         page.picture(f"{folder}/console-review.png")
         bench.same("the picture", os.path.getsize(f"{folder}/console-review.png") > 5_000, True)

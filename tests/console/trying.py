@@ -192,6 +192,7 @@ def check_looks(bench):
             bench.judge(f"at {width}, {'dark' if dark else 'light'}", page.run(RULES)[:5])
         page.resize(1000, 700)
         page.go("what-if")
-        attempt(page, *lines)
+        attempt(page, line("revokePermission", operation="open", object="vault", role="branch manager"), lines[1],
+                line("lockUserAccount", user="erin"))  # fmt: skip
         page.picture(f"{folder}/console-whatif.png")
         bench.same("the picture", os.path.getsize(f"{folder}/console-whatif.png") > 5_000, True)

@@ -57,8 +57,8 @@ def drawn(draws):
     lines = []
     while len(lines) < draws.random.randint(1, MOST_COMMANDS):
         _, text, answer = draws.draw()
-        code = json.loads(answer).get("code")
-        if code in (34, 35) or json.loads(text)["fn"] not in COMMANDS:
+        # A line without text is no request, and has no answer.
+        if not answer or json.loads(answer).get("code") in (34, 35) or json.loads(text)["fn"] not in COMMANDS:
             continue
         lines.append((text, json.loads(answer)))
     return lines
