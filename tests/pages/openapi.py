@@ -65,6 +65,8 @@ PATHS_OF_FRONT = {
     "/record": ["get"],
     "/room": ["get"],
     "/picture": ["get"],
+    "/what-if": ["post"],
+    "/reviews": ["post"],
 }
 
 # The statuses of a conflict, and of a target or a method that no path here has.

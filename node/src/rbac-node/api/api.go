@@ -24,6 +24,8 @@ const (
 	Command  Kind = "command"
 	Question Kind = "question"
 	Local    Kind = "local"
+	// Entry is what is recorded in the one order and changes nothing.
+	Entry Kind = "entry"
 )
 
 // An Answer is what the program answered. On several machines Revision is that of the command's entry in the log, in which it has a

@@ -109,6 +109,8 @@ func (e *Endpoints) add() {
 		"/record":                {"list", get, e.record},
 		"/room":                  {"list", get, e.room},
 		"/picture":               {"picture", get, e.picture},
+		"/what-if":               {"trial", post, e.whatIf},
+		"/reviews":               {"command", post, e.endReview},
 	}
 }
 

@@ -16,6 +16,8 @@ import (
 	"time"
 
 	sqlite3 "github.com/mattn/go-sqlite3"
+
+	"rbac-node/recorded"
 )
 
 // schema makes the tables of a file. A part begins with a copy of the office, in which sessions have the digests of their names:
@@ -47,6 +49,12 @@ type entry struct {
 
 // isCommand reports whether the replay gets the entry.
 func (e *entry) isCommand() bool { return strings.HasPrefix(e.request, `{"fn":`) }
+
+// isReview reports whether the entry says that somebody has ended a review of who has what. The replay doesn't get it.
+func (e *entry) isReview() bool { return strings.HasPrefix(e.request, recorded.ReviewPrefix) }
+
+// accepted is the answer of an entry that is no command.
+const accepted = `{"ok":true}`
 
 // chained returns the link of an entry: a digest of the link before it and of each of its fields.
 func chained(before string, e *entry) string {

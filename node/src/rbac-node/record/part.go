@@ -21,7 +21,7 @@ const (
 
 // firstEntry returns the entry that says how a part begins.
 func firstEntry(n int64, before, why, rows string) entry {
-	e := entry{n: n, at: now(), caller: Front, request: fmt.Sprintf(`{"record":"%s","rows":"%s"}`, why, rows), answer: `{"ok":true}`}
+	e := entry{n: n, at: now(), caller: Front, request: fmt.Sprintf(`{"record":"%s","rows":"%s"}`, why, rows), answer: accepted}
 	e.ch = chained(before, &e)
 	return e
 }
