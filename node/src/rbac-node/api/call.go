@@ -79,6 +79,8 @@ type Call struct {
 	Line  []byte
 	// Caller is who asks, and Reason why, if it has said so.
 	Caller, Reason string
+	// Seen is called when the call has been answered, at its place in the order. It must not wait. It may be nil.
+	Seen func()
 }
 
 // ParseLine reads a line that names its function.

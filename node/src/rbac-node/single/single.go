@@ -183,7 +183,11 @@ func syncFolder(path string) error {
 // Run answers until the context ends, and then those that have asked before.
 func (o *Office) Run(ctx context.Context) error {
 	defer o.lock.Close()
-	go o.expire(ctx)
+	if o.state != nil && o.SessionAge+o.SessionIdle > 0 {
+		go o.state.Expire(ctx, o.SessionAge, o.SessionIdle, func() int { return 0 }, func(ctx context.Context, call *api.Call) {
+			_, _ = o.Do(ctx, api.NewBatch(api.Question, call)) // It is tried again.
+		})
+	}
 	err := o.feed.Run(ctx)
 	if o.record == nil {
 		return err
@@ -199,15 +203,6 @@ func (o *Office) Close() error {
 	ended, end := context.WithCancel(context.Background())
 	end()
 	return o.Run(ended)
-}
-
-// Ask answers a call. All kinds are answered from the newest state.
-func (o *Office) Ask(ctx context.Context, _ api.Kind, call *api.Call) (api.Answer, error) {
-	answers, numbers, err := o.AskAll(ctx, call)
-	if err != nil {
-		return api.Answer{}, err
-	}
-	return api.Answer{Text: answers[0], Policy: numbers.Policy}, nil
 }
 
 // IsAlive tells whether the goroutine that feeds the replay goes on, before the context ends.
