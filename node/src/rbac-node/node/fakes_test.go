@@ -32,14 +32,14 @@ func newFakeLog() *fakeLog { return &fakeLog{entries: make(chan ledger.Entry, 10
 
 var errFull = errors.New("no space")
 
-func (l *fakeLog) Append(_ context.Context, id string, lines [][]byte) (revision, before int64, err error) {
+func (l *fakeLog) Append(_ context.Context, id string, units []ledger.Unit) (entry ledger.Entry, before int64, err error) {
 	l.mutex.Lock()
 	defer l.mutex.Unlock()
 	if l.isFull {
-		return 0, 0, errFull
+		return entry, 0, errFull
 	}
 	l.revision++
-	return l.revision, l.revision - 1, nil
+	return ledger.Entry{Revision: l.revision, ID: id, Units: units, Form: ledger.Form}, l.revision - 1, nil
 }
 
 func (l *fakeLog) Head(context.Context) (int64, error) {
@@ -68,6 +68,8 @@ func (l *fakeLog) State(context.Context) (ledger.State, error) {
 }
 
 func (l *fakeLog) Trim(context.Context, ledger.State, int64) (int64, error) { return 0, nil }
+
+func (l *fakeLog) Raise(context.Context, ledger.State) (bool, error) { return false, nil }
 
 func (l *fakeLog) Register(_ context.Context, member ledger.Member) error {
 	l.mutex.Lock()
@@ -200,11 +202,11 @@ func eventually(t *testing.T, what string, holds func() bool) {
 }
 
 func entry(revision int64, lines ...string) ledger.Entry {
-	e := ledger.Entry{Revision: revision, ID: fmt.Sprint(revision)}
+	u := ledger.Unit{}
 	for _, line := range lines {
-		e.Lines = append(e.Lines, []byte(line))
+		u.Lines = append(u.Lines, []byte(line))
 	}
-	return e
+	return ledger.Entry{Revision: revision, ID: fmt.Sprint(revision), Units: []ledger.Unit{u}}
 }
 
 func call(line string) *api.Call { return &api.Call{Line: []byte(line)} }

@@ -112,6 +112,13 @@ func (n *Node) look(ctx context.Context) error {
 	if err := n.judge(state.Members); err != nil {
 		return err
 	}
+	raised, err := n.shared.Raise(ctx, state)
+	if err != nil {
+		return err
+	}
+	if raised {
+		n.log.Info("all nodes read the newest form of entries, so it is written from now on", "form", ledger.Form)
+	}
 	floor, err := n.shared.Trim(ctx, state, needless(state.Members))
 	if floor > 0 {
 		n.log.Info("trimmed the log", "floor", floor)

@@ -37,11 +37,12 @@ const (
 // A Log has the commands of an office in the order in which all nodes apply them, and what nodes report about
 // themselves.
 type Log interface {
-	Append(ctx context.Context, id string, lines [][]byte) (revision, before int64, err error)
+	Append(ctx context.Context, id string, units []ledger.Unit) (entry ledger.Entry, before int64, err error)
 	Head(ctx context.Context) (int64, error)
 	Follow(ctx context.Context, after int64, deliver func(ledger.Entry) error) error
 	State(ctx context.Context) (ledger.State, error)
 	Trim(ctx context.Context, state ledger.State, needless int64) (floor int64, err error)
+	Raise(ctx context.Context, state ledger.State) (bool, error)
 	Register(ctx context.Context, member ledger.Member) error
 	UseLeader(ctx context.Context)
 }
@@ -263,10 +264,10 @@ func (n *Node) apply(entry ledger.Entry) {
 	}
 	found, _ := n.pending.LoadAndDelete(entry.ID)
 	own, _ := found.(*batch)
-	before := n.count
-	n.revision, n.count = entry.Revision, n.count+int64(len(entry.Lines))
+	before, lines := n.count, entry.Lines()
+	n.revision, n.count = entry.Revision, n.count+int64(len(lines))
 	reached := &place{n.revision, n.count}
-	for number, line := range entry.Lines {
+	for number, line := range lines {
 		n.bytes += int64(len(line))
 		if len(line) > office.MaxLineBytes || len(bytes.TrimSpace(line)) == 0 {
 			n.log.Error("a line of the log is no command", "revision", entry.Revision, "place", number)
@@ -277,7 +278,7 @@ func (n *Node) apply(entry ledger.Entry) {
 			if own != nil {
 				own.answer(api.Answer{Text: text, Revision: entry.Revision, Place: number})
 			}
-			if number == len(entry.Lines)-1 {
+			if number == len(lines)-1 {
 				n.applied.Store(reached)
 			}
 		})
@@ -304,7 +305,7 @@ func (n *Node) pose(questions ...*request) {
 			continue
 		}
 		reply := q.reply
-		n.send(q.line, func(text []byte) {
+		n.send(q.call.Line, func(text []byte) {
 			reply <- api.Answer{Text: text, Revision: revision, Newest: n.newest()}
 		})
 	}

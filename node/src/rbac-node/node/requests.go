@@ -7,6 +7,7 @@ import (
 
 	"rbac-node/api"
 	"rbac-node/ledger"
+	"rbac-node/recorded"
 )
 
 // probe is a question that costs the office little.
@@ -16,7 +17,7 @@ const probe = `{"fn":"sessionRoles","session":"-"}`
 // log.
 type request struct {
 	over  <-chan struct{}
-	line  []byte
+	call  *api.Call
 	reply chan api.Answer
 }
 
@@ -40,7 +41,7 @@ func (n *Node) Ask(ctx context.Context, kind api.Kind, call *api.Call) (api.Answ
 	}
 	within, cancel := context.WithTimeout(ctx, n.options.AnswerTimeout)
 	defer cancel()
-	r := &request{within.Done(), call.Line, make(chan api.Answer, 1)}
+	r := &request{within.Done(), call, make(chan api.Answer, 1)}
 	select {
 	case n.asked[kind] <- r:
 	case <-within.Done():
@@ -82,7 +83,7 @@ func gather(ctx context.Context, from <-chan *request, least int, late <-chan ti
 			}
 		}
 		if r.isWaiting() {
-			found, size = append(found, r), size+len(r.line)
+			found, size = append(found, r), size+len(r.call.Line)
 		}
 	}
 	return found
@@ -130,14 +131,13 @@ func (n *Node) appendCommands(ctx context.Context) error {
 
 // appendBatch appends a batch and feeds it. It needn't be read from the log if the entries before it are fed.
 func (n *Node) appendBatch(ctx context.Context, id string, b *batch) error {
-	entry := ledger.Entry{ID: id}
-	for _, r := range b.requests {
-		entry.Lines = append(entry.Lines, r.line)
+	units, at := make([]ledger.Unit, len(b.requests)), time.Now().UTC().Format(recorded.TimeLayout)
+	for i, r := range b.requests {
+		units[i] = ledger.Unit{Caller: r.call.Caller, At: at, Reason: r.call.Reason, Lines: [][]byte{r.call.Line}}
 	}
 	n.pending.Store(id, b)
-	revision, before, err := n.shared.Append(ctx, id, entry.Lines)
-	if err == nil && revision > 0 {
-		entry.Revision = revision
+	entry, before, err := n.shared.Append(ctx, id, units)
+	if err == nil && entry.Revision > 0 {
 		err = n.submit(ctx, task{before, func() { n.apply(entry) }})
 	}
 	if err == nil {

@@ -16,6 +16,8 @@ import (
 	"time"
 
 	sqlite3 "github.com/mattn/go-sqlite3"
+
+	"rbac-node/recorded"
 )
 
 // schema makes the tables of a file. A part begins with a copy of the office, in which sessions have the digests of their names:
@@ -62,7 +64,7 @@ func chained(before string, e *entry) string {
 	return hex.EncodeToString(h.Sum(nil))
 }
 
-func now() string { return time.Now().UTC().Format("2006-01-02T15:04:05.000Z") }
+func now() string { return time.Now().UTC().Format(recorded.TimeLayout) }
 
 // driver is SQLite with a function that maps the names of sessions.
 const driver = "sqlite3-record"

@@ -1,6 +1,9 @@
 // Package recorded has what is asked of the record of an office, and what it answers.
 package recorded
 
+// TimeLayout is how the time of an entry is written, in UTC.
+const TimeLayout = "2006-01-02T15:04:05.000Z"
+
 // A Filter chooses entries. An empty text chooses all.
 type Filter struct {
 	User, Role, Object, Function, Caller, Since, Until string
