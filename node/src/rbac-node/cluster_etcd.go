@@ -164,7 +164,7 @@ func (s *clusterSettings) serveNode(ctx context.Context, log *ledger.Ledger, eve
 		return err
 	}
 	defer f.Close()
-	s.IsOpen = s.common.callers.Callers == ""
+	s.IsOpen, s.SessionAge = s.common.callers.Callers == "", s.common.sessionAge
 	n, err := node.New(s.Options, log, events, registry)
 	if err != nil {
 		return err

@@ -20,6 +20,16 @@ func (n *Node) resume(ctx context.Context) error {
 	if err := n.makeOffice(ctx, base); err != nil {
 		return err
 	}
+	first, err := n.shared.First(ctx)
+	if err != nil {
+		return err
+	}
+	n.begin(base, first)
+	if n.state != nil {
+		if err := n.state.Load(ctx, n.file()); err != nil {
+			return err
+		}
+	}
 	if err := n.reopen(); err != nil {
 		return err
 	}
@@ -30,7 +40,7 @@ func (n *Node) resume(ctx context.Context) error {
 	if err != nil {
 		return err
 	}
-	return n.judge(state.Members)
+	return n.judgeSnapshots(state.Members)
 }
 
 // makeOffice makes the office in use from a snapshot, or an empty one.
@@ -122,7 +132,7 @@ func (n *Node) accept(ctx context.Context, name string, offered office.Snapshot)
 		if !isThere {
 			continue
 		}
-		if s.Digest != offered.Digest {
+		if !s.IsSame(offered) {
 			return fmt.Errorf("the snapshot at revision %d differs from that of %s", offered.Revision, member.Name)
 		}
 		if member.Name != name {

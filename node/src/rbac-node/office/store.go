@@ -13,6 +13,7 @@ import (
 	"os/exec"
 	"path/filepath"
 	"sort"
+	"strconv"
 	"strings"
 )
 
@@ -21,6 +22,8 @@ const (
 	maxSnapshots = 3
 	// unfinishedPrefix is the prefix of the name of an unfinished snapshot.
 	unfinishedPrefix = "making-"
+	// policyMark is before the revision of the policy in the name of a snapshot.
+	policyMark = "-policy"
 	// copiedSuffix ends the name of a snapshot that another node has made.
 	copiedSuffix = "-copied"
 	// nameField is the field in the head of a reply that names the snapshot.
@@ -69,8 +72,15 @@ type Snapshot struct {
 	Revision int64  `json:"revision"`
 	Count    int64  `json:"commands"`
 	Digest   string `json:"digest"`
+	// Policy is the revision of the policy, or 0 if the nodes may not agree on it yet.
+	Policy int64 `json:"policy,omitempty"`
 	// Copied says that another node has made it, so that it is no second witness for its rows.
 	Copied bool `json:"copied,omitempty"`
+}
+
+// IsSame reports whether two snapshots of one revision have the same rows and the same revision of the policy, if both know it.
+func (s Snapshot) IsSame(other Snapshot) bool {
+	return s.Digest == other.Digest && (s.Policy == other.Policy || s.Policy == 0 || other.Policy == 0)
 }
 
 // A Store is a folder of snapshots. Each is the file of an office, and its name has what is known about it.
@@ -101,6 +111,9 @@ func Open(data, program string) (*Store, error) {
 // nameOf and parse write and read the name of a snapshot.
 func nameOf(s Snapshot) string {
 	name := fmt.Sprintf("%d-%d-%s", s.Revision, s.Count, s.Digest)
+	if s.Policy > 0 {
+		name += policyMark + strconv.FormatInt(s.Policy, 10)
+	}
 	if s.Copied {
 		name += copiedSuffix
 	}
@@ -113,6 +126,13 @@ func parse(name string) (s Snapshot, err error) {
 		return s, fmt.Errorf("%q is not the name of a snapshot: %w", name, err)
 	}
 	s.Copied = plain != name
+	var policy string
+	if s.Digest, policy, _ = strings.Cut(s.Digest, policyMark); policy == "" {
+		return s, nil
+	}
+	if s.Policy, err = strconv.ParseInt(policy, 10, 64); err != nil {
+		return s, fmt.Errorf("%q is not the name of a snapshot: %w", name, err)
+	}
 	return s, nil
 }
 
