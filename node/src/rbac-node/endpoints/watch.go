@@ -158,7 +158,7 @@ var always = func() <-chan struct{} {
 	return closed
 }()
 
-// write writes the next commands, and once in a while the newest number. It returns false if the watch has ended. While the office
+// write writes the next commands, and once in a while the newest number, if there are no more. It returns false if the watch has ended. While the office
 // doesn't answer it writes nothing, so that clients notice.
 func (w *watch) write() bool {
 	if !w.endpoints.office.IsReady() {
@@ -177,9 +177,10 @@ func (w *watch) write() bool {
 		_, _ = w.lines.Write(one.Line)
 		_, _ = w.lines.WriteString("\n\n")
 	}
-	if len(found.Events) < mostAtOnce {
-		w.after = found.Newest // There are no commands between, on several machines, but numbers may be.
+	if len(found.Events) == mostAtOnce {
+		return w.lines.Flush() == nil
 	}
+	w.after = found.Newest // On several machines refused commands have numbers too.
 	if now := time.Now(); now.Sub(w.told) >= watchInterval {
 		w.told = now
 		_, _ = w.lines.WriteString("event: newest\ndata: " + strconv.FormatInt(found.Newest, 10) + "\n\n")
