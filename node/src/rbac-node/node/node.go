@@ -23,6 +23,7 @@ import (
 	"rbac-node/logs"
 	"rbac-node/metrics"
 	"rbac-node/office"
+	"rbac-node/recorded"
 )
 
 const (
@@ -77,7 +78,12 @@ type Options struct {
 	Fetch *http.Client
 	// IsOpen says that everybody who can connect may do everything.
 	IsOpen bool
+	// Record is nil if the node keeps none.
+	Record recorded.Follower
 }
+
+// File returns the path of the office in use.
+func (o *Options) File() string { return filepath.Join(o.Scratch, "office", "office") }
 
 // A Node is one copy of the office.
 type Node struct {
@@ -105,6 +111,8 @@ type Node struct {
 	revision, count int64
 	bytes, reads    int64
 	err             error
+	// isRecorded says that the log has begun to say who asks.
+	isRecorded bool
 
 	// isFed is set when that goroutine runs.
 	isFed atomic.Bool
@@ -166,7 +174,11 @@ func (n *Node) Run(life context.Context) error {
 		group.Go(func() error { return part(ctx) })
 	}
 	err := group.Wait()
-	if closed := n.replay.Close(); life.Err() != nil {
+	closed := n.replay.Close()
+	if failed := n.closeRecord(); closed == nil {
+		closed = failed
+	}
+	if life.Err() != nil {
 		return closed
 	}
 	return err
@@ -204,6 +216,8 @@ func (n *Node) feed(ctx context.Context) error {
 				return err
 			}
 			return errors.New("the replay has ended")
+		case <-n.recordFailed():
+			return n.options.Record.Failure()
 		case <-ctx.Done():
 			return nil
 		}
@@ -262,26 +276,33 @@ func (n *Node) apply(entry ledger.Entry) {
 	if entry.Revision <= n.revision {
 		return
 	}
+	if n.err = n.beginRecord(entry); n.err != nil {
+		return
+	}
 	found, _ := n.pending.LoadAndDelete(entry.ID)
 	own, _ := found.(*batch)
-	before, lines := n.count, entry.Lines()
-	n.revision, n.count = entry.Revision, n.count+int64(len(lines))
-	reached := &place{n.revision, n.count}
-	for number, line := range lines {
-		n.bytes += int64(len(line))
-		if len(line) > office.MaxLineBytes || len(bytes.TrimSpace(line)) == 0 {
-			n.log.Error("a line of the log is no command", "revision", entry.Revision, "place", number)
-			continue // All nodes skip it. No node has written it.
+	before, lines := n.count, int64(len(entry.Lines()))
+	n.revision, n.count = entry.Revision, n.count+lines
+	reached, number := &place{n.revision, n.count}, 0
+	for _, unit := range entry.Units {
+		for _, line := range unit.Lines {
+			n.bytes += int64(len(line))
+			place, record := number, n.recording(unit, line)
+			number++
+			if len(line) > office.MaxLineBytes || len(bytes.TrimSpace(line)) == 0 {
+				n.log.Error("a line of the log is no command", "revision", entry.Revision, "place", place)
+				continue // All nodes skip it. No node has written it.
+			}
+			n.send(line, func(text []byte) {
+				record(text)
+				if own != nil {
+					own.answer(api.Answer{Text: text, Revision: entry.Revision, Place: place})
+				}
+				if place == int(lines)-1 {
+					n.applied.Store(reached)
+				}
+			})
 		}
-		number := number
-		n.send(line, func(text []byte) {
-			if own != nil {
-				own.answer(api.Answer{Text: text, Revision: entry.Revision, Place: number})
-			}
-			if number == len(lines)-1 {
-				n.applied.Store(reached)
-			}
-		})
 	}
 	// All nodes come to the same places: each place is reached from the one before it, and snapshots are only of
 	// places.
@@ -315,4 +336,4 @@ func (n *Node) pose(questions ...*request) {
 func (n *Node) newest() time.Time { return n.start.Add(time.Duration(n.heard.Load())) }
 
 // file is the office in use.
-func (n *Node) file() string { return filepath.Join(n.options.Scratch, "office", "office") }
+func (n *Node) file() string { return n.options.File() }

@@ -20,6 +20,9 @@ func (n *Node) resume(ctx context.Context) error {
 	if err := n.makeOffice(ctx, base); err != nil {
 		return err
 	}
+	if err := n.resumeRecord(ctx, base); err != nil {
+		return err
+	}
 	if err := n.reopen(); err != nil {
 		return err
 	}
@@ -68,10 +71,14 @@ func (n *Node) base(ctx context.Context) (newest office.Snapshot, err error) {
 		return newest, fmt.Errorf("the snapshot is at revision %d and etcd only at %d: etcd was restored to an earlier time, "+
 			"so move the snapshots of all nodes that are newer away", newest.Revision, state.Revision)
 	}
-	if newest.Revision >= state.Floor {
+	switch {
+	case newest.Record == office.NoRecord && n.options.Record != nil:
+		n.log.Info("this node was without a record, which it can't go on with")
+	case newest.Revision >= state.Floor:
 		return newest, nil
+	default:
+		n.log.Info("the log no longer has what this node lacks", "floor", state.Floor)
 	}
-	n.log.Info("the log no longer has what this node lacks", "floor", state.Floor)
 	return n.fetch(ctx)
 }
 
@@ -113,6 +120,9 @@ func (n *Node) accept(ctx context.Context, name string, offered office.Snapshot)
 	if err != nil {
 		return err
 	}
+	if offered.Record == office.NoRecord && n.options.Record != nil {
+		return errNotRecorded
+	}
 	if offered.Revision < state.Floor {
 		return fmt.Errorf("the snapshot is at revision %d, and the log begins after %d", offered.Revision, state.Floor)
 	}
@@ -122,7 +132,7 @@ func (n *Node) accept(ctx context.Context, name string, offered office.Snapshot)
 		if !isThere {
 			continue
 		}
-		if s.Digest != offered.Digest {
+		if !s.IsAs(offered) {
 			return fmt.Errorf("the snapshot at revision %d differs from that of %s", offered.Revision, member.Name)
 		}
 		if member.Name != name {

@@ -39,6 +39,9 @@ func (n *Node) Ask(ctx context.Context, kind api.Kind, call *api.Call) (api.Answ
 	if kind == api.Local && n.heard.Load() < 0 {
 		return api.Answer{}, api.Unavailable
 	}
+	if err := n.admit(kind, call); err != nil {
+		return api.Answer{}, err
+	}
 	within, cancel := context.WithTimeout(ctx, n.options.AnswerTimeout)
 	defer cancel()
 	r := &request{within.Done(), call, make(chan api.Answer, 1)}
