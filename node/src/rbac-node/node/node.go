@@ -121,8 +121,9 @@ type Node struct {
 	// heard is when the newest read of the log began whose entries all have their answers, in nanoseconds since the
 	// start, or -1.
 	heard atomic.Int64
-	// snapshot is the revision of the newest snapshot.
-	snapshot atomic.Int64
+	// snapshot is the revision of the newest snapshot, and seen that of the newest entry that is known. stage says what a start does.
+	snapshot, seen atomic.Int64
+	stage          atomic.Value
 	// differs is the text that describes where this node differs from most others, or empty.
 	differs atomic.Value
 }
@@ -155,6 +156,7 @@ func New(options Options, shared Log, log *logs.Logger, registry *metrics.Regist
 	n.heard.Store(-1)
 	n.applied.Store(&place{})
 	n.differs.Store("")
+	n.stage.Store("etcd is asked")
 	n.addMetrics(registry)
 	return n, nil
 }

@@ -17,6 +17,7 @@ func (n *Node) resume(ctx context.Context) error {
 	if err != nil {
 		return err
 	}
+	n.stage.Store(fmt.Sprintf("the office is made from the snapshot at revision %d", base.Revision))
 	if err := n.makeOffice(ctx, base); err != nil {
 		return err
 	}
@@ -29,6 +30,7 @@ func (n *Node) resume(ctx context.Context) error {
 	n.revision, n.count = base.Revision, base.Count
 	n.applied.Store(&place{base.Revision, base.Count})
 	n.log.Info("recovered", "revision", base.Revision, "commands", base.Count)
+	n.stage.Store("not all of the log is applied yet")
 	state, err := n.shared.State(ctx)
 	if err != nil {
 		return err
@@ -85,6 +87,7 @@ func (n *Node) base(ctx context.Context) (newest office.Snapshot, err error) {
 // fetch returns a snapshot that it has fetched from another node. It asks all nodes until one has a snapshot that will
 // do.
 func (n *Node) fetch(ctx context.Context) (office.Snapshot, error) {
+	n.stage.Store("a snapshot of another node is fetched")
 	for {
 		state, err := n.shared.State(ctx)
 		if err != nil {

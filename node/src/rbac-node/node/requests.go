@@ -166,6 +166,7 @@ func (n *Node) confirm(ctx context.Context) error {
 		read := time.Since(n.start)
 		within, cancel := context.WithTimeout(ctx, n.options.AnswerTimeout)
 		if head, err := n.shared.Head(within); err == nil { // Otherwise the askers have waited long enough.
+			n.seen.Store(head)
 			_ = n.submit(within, task{head, func() {
 				n.send([]byte(probe), func([]byte) { n.hear(read) })
 				n.pose(questions...)

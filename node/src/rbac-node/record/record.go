@@ -201,7 +201,10 @@ func (r *Record) load() (err error) {
 	if len(bases) > 0 {
 		r.based = bases[0].n
 	}
-	r.head, _, err = lastOf(r.db)
+	head, _, err := lastOf(r.db)
+	r.mutex.Lock()
+	defer r.mutex.Unlock()
+	r.head = head
 	return err
 }
 

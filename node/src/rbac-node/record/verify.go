@@ -93,7 +93,7 @@ func (v *verifier) look(ctx context.Context, path string) (*view, error) {
 func (v *verifier) lookAtNode(ctx context.Context, path string) (*view, error) {
 	folder := office.FolderIn(v.Data)
 	snapshots, err := office.List(folder)
-	if err != nil {
+	if err != nil && !errors.Is(err, os.ErrNotExist) {
 		return nil, err
 	}
 	for _, s := range snapshots {
