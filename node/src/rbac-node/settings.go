@@ -84,7 +84,7 @@ func (s *settings) define(flags *flag.FlagSet) {
 	flags.StringVar(&s.publicURL, "public-url", "", "where clients find the front: https://HOST:PORT, for AuthZEN's metadata")
 	flags.StringVar(&s.origins, "origin", "", "origins of pages whose requests are answered, separated by commas")
 	flags.StringVar(&s.refused, "refused", "", "file for requests that are refused with 401, 403 or 421 (default: OFFICE.refused)")
-	flags.BoolVar(&s.record.isOff, "no-record", false, "don't record commands, for one machine")
+	flags.BoolVar(&s.record.isOff, "no-record", false, "don't record commands")
 	flags.Int64Var(&s.record.every, "record-base", 10_000, "commands between two copies of the office, from which a start does them again")
 	flags.BoolVar(&s.isCheck, "check", false, "with callers: only check the files of the callers")
 }

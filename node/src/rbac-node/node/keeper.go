@@ -39,7 +39,7 @@ func (n *Node) takeSnapshot() error {
 	if err := n.reopen(); err != nil {
 		return err
 	}
-	made := office.Snapshot{Revision: n.revision, Count: n.count}
+	made := office.Snapshot{Revision: n.revision, Count: n.count, Record: n.head()}
 	if n.order.isExact {
 		made.Policy = n.order.numbers.Policy
 	}
@@ -85,12 +85,17 @@ func (n *Node) attempt(ctx context.Context, otherwise string, do func(context.Co
 func (n *Node) finish(ctx context.Context, one copied) error {
 	within, cancel := context.WithTimeout(ctx, checkTimeout)
 	defer cancel()
+	if n.options.Record != nil && one.snapshot.Record != "" {
+		if err := n.options.Record.Keep(within, one.snapshot.Record); err != nil {
+			return err
+		}
+	}
 	s, err := n.store.Finish(within, one.file, one.snapshot)
 	if err != nil {
 		return err
 	}
 	n.log.Info("snapshot", "revision", s.Revision, "commands", s.Count,
-		"digest", s.Digest)
+		"digest", s.Digest, "record", s.Record)
 	return nil
 }
 
@@ -160,7 +165,7 @@ func difference(name string, own []office.Snapshot, members []ledger.Member) str
 			witness, isThere := snapshotAt(member, s.Revision)
 			switch {
 			case member.Name == name || !isThere:
-			case !witness.IsSame(s):
+			case !witness.IsAs(s):
 				other = member.Name
 				if !witness.Copied {
 					differ++

@@ -21,6 +21,7 @@ import (
 	"rbac-node/logs"
 	"rbac-node/metrics"
 	"rbac-node/office"
+	"rbac-node/recorded"
 	"rbac-node/state"
 )
 
@@ -80,7 +81,12 @@ type Options struct {
 	IsOpen bool
 	// SessionAge is after how much time a session ends. Zero is never.
 	SessionAge time.Duration
+	// Record is nil if the node keeps none.
+	Record recorded.Follower
 }
+
+// File returns the path of the office in use.
+func (o *Options) File() string { return filepath.Join(o.Scratch, "office", "office") }
 
 // A Node is one copy of the office.
 type Node struct {
@@ -113,6 +119,8 @@ type Node struct {
 	revision, count int64
 	bytes, reads    int64
 	err             error
+	// isRecorded says that the log has begun to say who asks.
+	isRecorded bool
 
 	// isFed is set when that goroutine runs.
 	isFed atomic.Bool
@@ -121,10 +129,10 @@ type Node struct {
 	// heard is when the newest read of the log began whose entries all have their answers, in nanoseconds since the
 	// start, or -1.
 	heard atomic.Int64
-	// snapshot is the revision of the newest snapshot.
-	snapshot atomic.Int64
-	// rank is how many nodes come before this one in the order of their names.
-	rank atomic.Int64
+	// snapshot is the revision of the newest snapshot, seen that of the newest entry that is known, and rank how many nodes come before
+	// this one in the order of their names. stage says what a start does.
+	snapshot, seen, rank atomic.Int64
+	stage                atomic.Value
 	// differs is the text that describes where this node differs from most others, or empty.
 	differs atomic.Value
 }
@@ -160,6 +168,7 @@ func New(options Options, shared Log, log *logs.Logger, registry *metrics.Regist
 	n.heard.Store(-1)
 	n.applied.Store(&place{})
 	n.differs.Store("")
+	n.stage.Store("etcd is asked")
 	n.addMetrics(registry)
 	return n, nil
 }
@@ -181,7 +190,11 @@ func (n *Node) Run(life context.Context) error {
 		group.Go(func() error { return part(ctx) })
 	}
 	err := group.Wait()
-	if closed := n.replay.Close(); life.Err() != nil {
+	closed := n.replay.Close()
+	if failed := n.closeRecord(); closed == nil {
+		closed = failed
+	}
+	if life.Err() != nil {
 		return closed
 	}
 	return err
@@ -219,6 +232,8 @@ func (n *Node) feed(ctx context.Context) error {
 				return err
 			}
 			return errReplayEnded
+		case <-n.recordFailed():
+			return n.options.Record.Failure()
 		case <-ctx.Done():
 			return nil
 		}
@@ -301,4 +316,4 @@ func (n *Node) pose(questions ...*request) {
 func (n *Node) newest() time.Time { return n.start.Add(time.Duration(n.heard.Load())) }
 
 // file is the office in use.
-func (n *Node) file() string { return filepath.Join(n.options.Scratch, "office", "office") }
+func (n *Node) file() string { return n.options.File() }

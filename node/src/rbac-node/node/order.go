@@ -19,6 +19,8 @@ type part struct {
 	rule  *api.Rule
 	// places has the place in the entry of each call, or -1 for a question that is asked here only.
 	places []int
+	// unit says who has asked for them and when, if the entry says so.
+	unit ledger.Unit
 	// own is the request of this node, or nil.
 	own *request
 }
@@ -27,8 +29,11 @@ type part struct {
 func (n *Node) partsOf(entry ledger.Entry, own *batch) (parts []part) {
 	place := 0
 	if own != nil {
-		for _, r := range own.requests {
+		for i, r := range own.requests {
 			p := part{calls: r.batch.Calls, rule: ruleOf(r.batch), own: r}
+			if entry.Form > 1 {
+				p.unit = entry.Units[i]
+			}
 			for _, call := range p.calls {
 				if p.rule == nil && call.Kind == api.Question {
 					p.places = append(p.places, -1)
@@ -42,7 +47,7 @@ func (n *Node) partsOf(entry ledger.Entry, own *batch) (parts []part) {
 		return parts
 	}
 	for _, u := range entry.Units {
-		p := part{rule: u.Rule}
+		p := part{rule: u.Rule, unit: u}
 		for _, line := range u.Lines {
 			if len(line) > office.MaxLineBytes || len(bytes.TrimSpace(line)) == 0 {
 				n.log.Error("a line of the log is no command", "revision", entry.Revision, "place", place)
@@ -88,6 +93,9 @@ func logged(b api.Batch) (calls []*api.Call) {
 // reached from the one before it, and snapshots are only of places.
 func (n *Node) apply(entry ledger.Entry) {
 	if entry.Revision <= n.revision {
+		return
+	}
+	if n.err = n.beginRecord(entry); n.err != nil {
 		return
 	}
 	found, _ := n.pending.LoadAndDelete(entry.ID)
@@ -145,7 +153,7 @@ func (n *Node) pass(p part, before, revision int64) {
 		if p.places[i] < 0 {
 			n.ask(call, answered)
 		} else {
-			n.do(call, before+int64(p.places[i])+1, answered)
+			n.do(p.unit, call, before+int64(p.places[i])+1, answered)
 		}
 	}
 }
@@ -167,7 +175,7 @@ func (n *Node) judge(p part, before, revision int64) error {
 		for i, call := range calls {
 			i := i
 			number++
-			n.do(call, number, func(text []byte) { texts[i] = text })
+			n.do(p.unit, call, number, func(text []byte) { texts[i] = text })
 		}
 		if !n.settle() {
 			return nil, errReplayEnded
@@ -261,18 +269,19 @@ func (n *Node) ask(call *api.Call, answered func(text []byte)) {
 	})
 }
 
-// do sends a call of the log, which has a number in it. Behind a command comes what has to be asked to know what it has done.
-func (n *Node) do(call *api.Call, number int64, answered func(text []byte)) {
+// do sends a call of a unit, which has a number in the log. Behind a command comes what has to be asked to know what it has done.
+func (n *Node) do(unit ledger.Unit, call *api.Call, number int64, answered func(text []byte)) {
 	if call.Kind == api.Question {
 		n.ask(call, answered)
 		return
 	}
-	calls := append([]*api.Call{call}, n.review(call)...)
+	calls, record := append([]*api.Call{call}, n.review(call)...), n.recording(unit, call)
 	texts := make([][]byte, len(calls))
 	for i, one := range calls {
 		i := i
 		n.send(one.Line, func(text []byte) {
 			if texts[i] = text; i == len(texts)-1 {
+				record(texts[0])
 				n.follow(number, calls, texts)
 				answered(texts[0])
 			}

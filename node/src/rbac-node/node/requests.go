@@ -54,6 +54,9 @@ func (n *Node) Do(ctx context.Context, b api.Batch) (api.Answers, error) {
 	case sizeOf(b) > maxUnitBytes:
 		return api.Answers{}, api.BadRequest(http.StatusRequestEntityTooLarge)
 	}
+	if err := n.admit(b); err != nil {
+		return api.Answers{}, err
+	}
 	n.touch(b.Calls)
 	within, cancel := context.WithTimeout(ctx, n.options.AnswerTimeout)
 	defer cancel()
@@ -226,6 +229,7 @@ func (n *Node) confirm(ctx context.Context) error {
 		read := time.Since(n.start)
 		within, cancel := context.WithTimeout(ctx, n.options.AnswerTimeout)
 		if head, err := n.shared.Head(within); err == nil { // Otherwise the askers have waited long enough.
+			n.seen.Store(head)
 			_ = n.submit(within, task{head, func() {
 				n.send([]byte(probe), func([]byte) { n.hear(read) })
 				n.pose(questions...)

@@ -47,6 +47,14 @@ type entry struct {
 	found                                   bool
 }
 
+// addEntry adds an entry with an answer.
+const addEntry = "INSERT INTO entry VALUES (?, ?, ?, ?, ?, ?, ?, ?)"
+
+// values returns the values of the columns.
+func (e *entry) values() []any {
+	return []any{e.n, e.at, e.caller, e.reason, e.request, e.answer, e.found, e.ch}
+}
+
 // isCommand reports whether the replay gets the entry.
 func (e *entry) isCommand() bool { return strings.HasPrefix(e.request, `{"fn":`) }
 
@@ -111,14 +119,21 @@ type querier interface {
 	QueryRow(query string, values ...any) *sql.Row
 }
 
-// lastOf returns the last entry that has an answer, and the last entry. Without any the entries are zero.
+// lastOf returns the last entry that has an answer, and the last entry. If there is none, it is what the last part says of the one
+// before.
 func lastOf(db querier) (answered, last entry, err error) {
-	answered, err = entryOf(db.QueryRow("SELECT " + columns + " FROM entry WHERE answer IS NOT NULL ORDER BY n DESC LIMIT 1"))
-	if err == nil || errors.Is(err, sql.ErrNoRows) {
-		last, err = entryOf(db.QueryRow("SELECT " + columns + " FROM entry ORDER BY n DESC LIMIT 1"))
-	}
-	if errors.Is(err, sql.ErrNoRows) {
-		err = nil
+	var before entry
+	err = db.QueryRow("SELECT first - 1, before FROM part ORDER BY first DESC LIMIT 1").Scan(&before.n, &before.ch)
+	for _, one := range []struct {
+		found *entry
+		where string
+	}{{&answered, "WHERE answer IS NOT NULL"}, {&last, ""}} {
+		if err == nil {
+			*one.found, err = entryOf(db.QueryRow("SELECT " + columns + " FROM entry " + one.where + " ORDER BY n DESC LIMIT 1"))
+		}
+		if errors.Is(err, sql.ErrNoRows) {
+			*one.found, err = before, nil
+		}
 	}
 	return answered, last, err
 }
