@@ -121,11 +121,11 @@ func Open(data, program string) (*Store, error) {
 // nameOf and parse write and read the name of a snapshot.
 func nameOf(s Snapshot) string {
 	name := fmt.Sprintf("%d-%d-%s", s.Revision, s.Count, s.Digest)
-	if s.Record != "" {
-		name += "-" + s.Record
-	}
 	if s.Policy > 0 {
 		name += policyMark + strconv.FormatInt(s.Policy, 10)
+	}
+	if s.Record != "" {
+		name += "-" + s.Record
 	}
 	if s.Copied {
 		name += copiedSuffix
@@ -139,12 +139,13 @@ func parse(name string) (s Snapshot, err error) {
 		return s, fmt.Errorf("%q is not the name of a snapshot: %w", name, err)
 	}
 	s.Copied = plain != name
-	var policy string
-	s.Digest, policy, _ = strings.Cut(s.Digest, policyMark)
-	s.Digest, s.Record, _ = strings.Cut(s.Digest, "-")
-	if policy == "" {
+	digest, more, hasPolicy := strings.Cut(s.Digest, policyMark)
+	if !hasPolicy {
+		s.Digest, s.Record, _ = strings.Cut(s.Digest, "-")
 		return s, nil
 	}
+	policy, head, _ := strings.Cut(more, "-")
+	s.Digest, s.Record = digest, head
 	if s.Policy, err = strconv.ParseInt(policy, 10, 64); err != nil {
 		return s, fmt.Errorf("%q is not the name of a snapshot: %w", name, err)
 	}
