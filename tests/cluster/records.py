@@ -272,9 +272,9 @@ def judge_written(bench, cluster, asker):
         Path(data, "record/record.db").write_bytes(kept)
     # Whoever computes all links anew may give the snapshots other names, too.
     entries = {entry.n: entry for entry in write(data, "UPDATE entry SET caller = 'token:desk' WHERE n IN (8, 9)", True)}
-    for _, path in snapshots_of(cluster, 2).values():
-        name, _, head = path.name.rpartition("-")
-        path.rename(path.with_name(f"{name}-{head.split(':')[0]}:{entries[int(head.split(':')[0])].chain}"))
+    for says, path in snapshots_of(cluster, 2).values():
+        number = int(says["record"].split(":")[0])
+        path.rename(path.with_name(path.name.replace(says["record"], f"{number}:{entries[number].chain}")))
     cluster.nodes[2].start()
     cluster.until(lambda: "differs" in cluster.status(2).get("why", ""), "the node is outvoted")
     asker.cluster.nodes[2].stop()

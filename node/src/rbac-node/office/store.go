@@ -21,6 +21,8 @@ const (
 	maxSnapshots = 3
 	// unfinishedPrefix is the prefix of the name of an unfinished snapshot.
 	unfinishedPrefix = "making-"
+	// recordMark is before the head of the record in the name of a snapshot.
+	recordMark = "-record"
 	// copiedSuffix ends the name of a snapshot that another node has made.
 	copiedSuffix = "-copied"
 	// nameField is the field in the head of a reply that names the snapshot.
@@ -79,8 +81,8 @@ type Snapshot struct {
 // NoRecord is in place of the head of a record that a node doesn't keep.
 const NoRecord = "none"
 
-// IsAs reports whether two snapshots of one place agree.
-func (s *Snapshot) IsAs(other Snapshot) bool {
+// IsSame reports whether two snapshots of one revision have the same rows and the same record, if both have one.
+func (s Snapshot) IsSame(other Snapshot) bool {
 	return s.Digest == other.Digest && (s.Record == other.Record || s.Record == NoRecord || other.Record == NoRecord)
 }
 
@@ -116,7 +118,7 @@ func Open(data, program string) (*Store, error) {
 func nameOf(s Snapshot) string {
 	name := fmt.Sprintf("%d-%d-%s", s.Revision, s.Count, s.Digest)
 	if s.Record != "" {
-		name += "-" + s.Record
+		name += recordMark + s.Record
 	}
 	if s.Copied {
 		name += copiedSuffix
@@ -130,7 +132,7 @@ func parse(name string) (s Snapshot, err error) {
 		return s, fmt.Errorf("%q is not the name of a snapshot: %w", name, err)
 	}
 	s.Copied = plain != name
-	s.Digest, s.Record, _ = strings.Cut(s.Digest, "-")
+	s.Digest, s.Record, _ = strings.Cut(s.Digest, recordMark)
 	return s, nil
 }
 
