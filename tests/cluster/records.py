@@ -242,9 +242,9 @@ def judge_joined(bench, cluster, asker):
 
 # What is done to the record of a node, whether the links are computed anew, and what the node says then.
 WRITTEN = [
-    ("an entry is edited", "UPDATE entry SET reason = 'ticket 1' WHERE n = 9", False, "the chain breaks at entry 9"),
+    ("an entry is edited", "UPDATE entry SET reason = 'another' WHERE n = 9", False, "the chain breaks at entry 9"),
     ("an entry is left out", "DELETE FROM entry WHERE n = 9", False, "the chain breaks at entry 9"),
-    ("the links are computed anew", "UPDATE entry SET caller = 'token:desk' WHERE n = 9", True, "is not the one that the snapshot has"),
+    ("the links are computed anew", "UPDATE entry SET caller = 'token:other' WHERE n = 9", True, "is not the one that the snapshot has"),
     ("the end is cut off", "DELETE FROM entry WHERE n > 9", False, "it ends at entry 9"),
 ]
 
@@ -279,7 +279,7 @@ def judge_written(bench, cluster, asker):
         bench.judge(f"{what}: it is not ready", [] if not cluster.status(2).get("ready") else ["it is"])
         Path(data, "record/record.db").write_bytes(kept)
     # Whoever computes all links anew may give the snapshots other names, too.
-    entries = {entry.n: entry for entry in write(data, "UPDATE entry SET caller = 'token:desk' WHERE n IN (8, 9)", True)}
+    entries = {entry.n: entry for entry in write(data, "UPDATE entry SET caller = 'token:other' WHERE n IN (8, 9)", True)}
     for says, path in snapshots_of(cluster, 2).values():
         number = int(says["record"].split(":")[0])
         path.rename(path.with_name(path.name.replace(says["record"], f"{number}:{entries[number].chain}")))
