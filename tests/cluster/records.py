@@ -6,6 +6,7 @@ import random
 import signal
 import sqlite3
 import subprocess
+import time
 from contextlib import closing
 from pathlib import Path
 
@@ -99,14 +100,19 @@ def faults_of(cluster, judge):
     print(f"{len(commands):9,}  commands in the records, of {len(wanted):,} since they began", flush=True)
     if len(commands) == len(entries) - 1 and len(commands) != len(wanted):
         faults.append(f"the records have {len(commands)} commands, and the log {len(wanted)} since they began")
+    by_reason = {one.reason: one for one in judge.asked}
     # If all have lost their beginning, they have the last commands.
     for entry, (revision, place, line) in zip(reversed(commands), reversed(wanted)):
         asked = judge.asked_at.get((revision, place))
+        if asked is None or not asked.is_answered:  # Of several that are the same and were not answered it may be any.
+            asked = by_reason.get(entry.reason)
         if entry.request != recorded_text(line):
             faults.append(f"{entry} is not the command at {revision}, {place}: {line}")
-        elif asked and (entry.caller, entry.reason) != (asked.caller, asked.reason):
+        elif not asked or (entry.caller, entry.reason, recorded_text(json.dumps(asked.line))) != (
+            asked.caller, asked.reason, entry.request
+        ):  # fmt: skip
             faults.append(f"{entry} was asked for by {asked}")
-        elif asked and asked.is_answered and entry.answer.encode() != asked.answer:
+        elif asked.is_answered and entry.answer.encode() != asked.answer:
             faults.append(f"{entry} has another answer than {asked}")
     for i in range(MACHINES):
         status, out, said = tool(cluster.node, "verify", "--data", cluster.data(f"node{i}"))
@@ -135,8 +141,10 @@ class Asker:
 
     def ask(self, count):
         """Sends commands until so many are answered."""
-        wanted = len(self.answered) + count
+        wanted, deadline = len(self.answered) + count, time.monotonic() + 5 * SECONDS
         while len(self.answered) < wanted:
+            if time.monotonic() > deadline:
+                raise TimeoutError(f"{count} commands are not answered")
             self.number += 1
             line, caller, reason = self.drawn(), self.random.choice(sorted(CALLERS)), f"ticket {self.number} \u00e9"
             fields = {**bearer(CALLERS[caller]), "Office-Reason": reason.encode()}
@@ -234,7 +242,7 @@ def judge_joined(bench, cluster, asker):
 
 # What is done to the record of a node, whether the links are computed anew, and what the node says then.
 WRITTEN = [
-    ("an entry is edited", "UPDATE entry SET reason = 'ticket 1' WHERE n = 9", False, "the chain breaks at entry 9"),
+    ("an entry is edited", "UPDATE entry SET reason = 'another' WHERE n = 9", False, "the chain breaks at entry 9"),
     ("an entry is left out", "DELETE FROM entry WHERE n = 9", False, "the chain breaks at entry 9"),
     ("the links are computed anew", "UPDATE entry SET caller = 'token:other' WHERE n = 9", True, "is not the one that the snapshot has"),
     ("the end is cut off", "DELETE FROM entry WHERE n > 9", False, "it ends at entry 9"),
@@ -272,9 +280,9 @@ def judge_written(bench, cluster, asker):
         Path(data, "record/record.db").write_bytes(kept)
     # Whoever computes all links anew may give the snapshots other names, too.
     entries = {entry.n: entry for entry in write(data, "UPDATE entry SET caller = 'token:other' WHERE n IN (8, 9)", True)}
-    for _, path in snapshots_of(cluster, 2).values():
-        name, _, head = path.name.rpartition("-")
-        path.rename(path.with_name(f"{name}-{head.split(':')[0]}:{entries[int(head.split(':')[0])].chain}"))
+    for says, path in snapshots_of(cluster, 2).values():
+        number = int(says["record"].split(":")[0])
+        path.rename(path.with_name(path.name.replace(says["record"], f"{number}:{entries[number].chain}")))
     cluster.nodes[2].start()
     cluster.until(lambda: "differs" in cluster.status(2).get("why", ""), "the node is outvoted")
     asker.cluster.nodes[2].stop()

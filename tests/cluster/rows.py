@@ -36,7 +36,8 @@ def snapshots_of(cluster, i):
     found = {}
     for path in Path(cluster.data(f"node{i}")).glob("snapshots/[0-9]*"):
         revision, commands, digest, *head = path.name.removesuffix("-copied").split("-")
-        about = {"revision": int(revision), "commands": int(commands), "digest": digest, **({"record": head[0]} if head else {})}
+        about = {"revision": int(revision), "commands": int(commands), "digest": digest}
+        about.update({"record": one.removeprefix("record") for one in head})
         found[int(revision)] = (about, path)
     return found
 

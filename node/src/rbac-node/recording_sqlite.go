@@ -26,6 +26,7 @@ func (withRecord) add(s *settings, office *single.Options, registry *metrics.Reg
 	office.OpenRecord = func(ctx context.Context) (single.Recorder, error) {
 		r, err := record.Open(ctx, record.Options{
 			Office: s.office, Program: s.program, HangTimeout: s.hangTimeout, Every: s.record.every, Log: office.Log, Metrics: registry,
+			Say: office.Say,
 		})
 		if err != nil {
 			return nil, err // Not a Recorder that is there and nil.

@@ -165,7 +165,7 @@ func difference(name string, own []office.Snapshot, members []ledger.Member) str
 			witness, isThere := snapshotAt(member, s.Revision)
 			switch {
 			case member.Name == name || !isThere:
-			case !witness.IsAs(s):
+			case !witness.IsSame(s):
 				other = member.Name
 				if !witness.Copied {
 					differ++

@@ -145,7 +145,7 @@ func (n *Node) accept(ctx context.Context, name string, offered office.Snapshot)
 		if !isThere {
 			continue
 		}
-		if !s.IsAs(offered) {
+		if !s.IsSame(offered) {
 			return fmt.Errorf("the snapshot at revision %d differs from that of %s", offered.Revision, member.Name)
 		}
 		if member.Name != name {

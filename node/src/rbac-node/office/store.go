@@ -24,6 +24,8 @@ const (
 	unfinishedPrefix = "making-"
 	// policyMark is before the revision of the policy in the name of a snapshot.
 	policyMark = "-policy"
+	// recordMark is before the head of the record in the name of a snapshot.
+	recordMark = "-record"
 	// copiedSuffix ends the name of a snapshot that another node has made.
 	copiedSuffix = "-copied"
 	// nameField is the field in the head of a reply that names the snapshot.
@@ -84,8 +86,9 @@ type Snapshot struct {
 // NoRecord is in place of the head of a record that a node doesn't keep.
 const NoRecord = "none"
 
-// IsAs reports whether two snapshots of one place agree.
-func (s *Snapshot) IsAs(other Snapshot) bool {
+// IsSame reports whether two snapshots of one revision have the same rows, the same revision of the policy, and the same record if both
+// have one.
+func (s Snapshot) IsSame(other Snapshot) bool {
 	return s.Digest == other.Digest && s.Policy == other.Policy &&
 		(s.Record == other.Record || s.Record == NoRecord || other.Record == NoRecord)
 }
@@ -125,7 +128,7 @@ func nameOf(s Snapshot) string {
 		name += policyMark + strconv.FormatInt(s.Policy, 10)
 	}
 	if s.Record != "" {
-		name += "-" + s.Record
+		name += recordMark + s.Record
 	}
 	if s.Copied {
 		name += copiedSuffix
@@ -139,13 +142,11 @@ func parse(name string) (s Snapshot, err error) {
 		return s, fmt.Errorf("%q is not the name of a snapshot: %w", name, err)
 	}
 	s.Copied = plain != name
-	digest, more, hasPolicy := strings.Cut(s.Digest, policyMark)
-	if !hasPolicy {
-		s.Digest, s.Record, _ = strings.Cut(s.Digest, "-")
+	var policy string
+	s.Digest, s.Record, _ = strings.Cut(s.Digest, recordMark)
+	if s.Digest, policy, _ = strings.Cut(s.Digest, policyMark); policy == "" {
 		return s, nil
 	}
-	policy, head, _ := strings.Cut(more, "-")
-	s.Digest, s.Record = digest, head
 	if s.Policy, err = strconv.ParseInt(policy, 10, 64); err != nil {
 		return s, fmt.Errorf("%q is not the name of a snapshot: %w", name, err)
 	}

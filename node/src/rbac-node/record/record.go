@@ -46,6 +46,8 @@ type Options struct {
 	Every   int64
 	Log     *logs.Logger
 	Metrics *metrics.Registry
+	// Say is told what a start does. It may be nil.
+	Say func(stage string)
 }
 
 // A Record is that of an office which a front has open. Keep, IsDue and Rest are for the goroutine of a feed's keeper.
@@ -122,6 +124,12 @@ func CheckOffice(office string) error {
 	return err
 }
 
+func (r *Record) say(stage string) {
+	if r.Say != nil {
+		r.Say(stage)
+	}
+}
+
 // newRecord returns a record that isn't open yet, and removes what a crash has left of copies.
 func newRecord(options Options) *Record {
 	r := &Record{Options: options, dir: options.Dir}
@@ -153,6 +161,7 @@ func Open(ctx context.Context, options Options) (*Record, error) {
 
 // begin makes a record that begins with the office as it is. After a crash there is a whole record or none.
 func (r *Record) begin(ctx context.Context) error {
+	r.say("the office is copied, since its record begins")
 	return r.beginWith(ctx, part{1, beginning, "", ""}, now(), func(copied, rows string) error {
 		return addBase(r.dir, copied, base{1, rows})
 	})

@@ -79,6 +79,7 @@ func (o *Office) before(ctx context.Context) error {
 			return err
 		}
 	}
+	o.Say("the rows of the office are read")
 	if o.state == nil {
 		return nil
 	}

@@ -40,6 +40,9 @@ type Options struct {
 	IsOpen bool
 	// SessionAge is after how much time a session ends, and SessionIdle after how much in which it isn't named. Zero is never.
 	SessionAge, SessionIdle time.Duration
+	// Locked is called when the office belongs to this front, and is there. Say is told what the start does from then on.
+	Locked func() error
+	Say    func(stage string)
 	// CheckRecord refuses what the record can't be that of, before the office is made, and OpenRecord opens the record. Without them
 	// nothing is recorded.
 	CheckRecord func() error
@@ -97,6 +100,10 @@ func (o *Office) open(ctx context.Context) error {
 		return err
 	}
 	if err := o.count(); err != nil {
+		return err
+	}
+	o.Say("the record is opened")
+	if err := o.Locked(); err != nil {
 		return err
 	}
 	options := feed.Options{

@@ -19,6 +19,7 @@ import (
 
 func optionsOf(t *testing.T, file string) Options {
 	return Options{
+		Locked: func() error { return nil }, Say: func(string) {},
 		File: file, Program: programtest.Path(t), AnswerTimeout: 20 * time.Second, HangTimeout: time.Minute, Reads: MostReads, Log: logs.New(&bytes.Buffer{}),
 		Starts: (&metrics.Registry{}).Counter("starts", "", "replay"),
 	}
