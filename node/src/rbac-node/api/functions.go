@@ -76,15 +76,5 @@ func NewCall(name string, pairs ...string) (*Call, error) {
 	return call, call.write(nil)
 }
 
-// NewCallOfRoles is NewCall for a function that has a list of roles as well.
-func NewCallOfRoles(name string, roles []string, pairs ...string) (*Call, error) {
-	call, err := NewCall(name, pairs...)
-	if err != nil {
-		return nil, err
-	}
-	call.Roles = roles
-	return call, call.write(nil)
-}
-
 // AppendQuoted appends a text as JSON.
 func AppendQuoted(line []byte, text string) []byte { return appendQuoted(line, text) }

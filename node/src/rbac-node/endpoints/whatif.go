@@ -28,7 +28,7 @@ func (e *Endpoints) whatIf(r *request) (int, error) {
 	if !can || e.office.State() == nil {
 		return 0, errNoState
 	}
-	if _, err := e.known(); err != nil {
+	if _, err := e.known(r); err != nil {
 		return 0, err
 	}
 	commands, err := readTried(r)
@@ -39,7 +39,7 @@ func (e *Endpoints) whatIf(r *request) (int, error) {
 	if err != nil {
 		return 0, err
 	}
-	api.SetPolicy(r.w.Header(), result.Revision)
+	api.Point{Policy: result.Revision}.SetHead(r.w.Header())
 	return r.replyValue(result)
 }
 

@@ -47,6 +47,14 @@ type entry struct {
 	found                                   bool
 }
 
+// addEntry adds an entry with an answer.
+const addEntry = "INSERT INTO entry VALUES (?, ?, ?, ?, ?, ?, ?, ?)"
+
+// values returns the values of the columns.
+func (e *entry) values() []any {
+	return []any{e.n, e.at, e.caller, e.reason, e.request, e.answer, e.found, e.ch}
+}
+
 // isCommand reports whether the replay gets the entry.
 func (e *entry) isCommand() bool { return strings.HasPrefix(e.request, `{"fn":`) }
 
@@ -70,7 +78,7 @@ func chained(before string, e *entry) string {
 	return hex.EncodeToString(h.Sum(nil))
 }
 
-func now() string { return time.Now().UTC().Format("2006-01-02T15:04:05.000Z") }
+func now() string { return time.Now().UTC().Format(recorded.TimeLayout) }
 
 // driver is SQLite with a function that maps the names of sessions.
 const driver = "sqlite3-record"
@@ -117,14 +125,21 @@ type querier interface {
 	QueryRow(query string, values ...any) *sql.Row
 }
 
-// lastOf returns the last entry that has an answer, and the last entry. Without any the entries are zero.
+// lastOf returns the last entry that has an answer, and the last entry. If there is none, it is what the last part says of the one
+// before.
 func lastOf(db querier) (answered, last entry, err error) {
-	answered, err = entryOf(db.QueryRow("SELECT " + columns + " FROM entry WHERE answer IS NOT NULL ORDER BY n DESC LIMIT 1"))
-	if err == nil || errors.Is(err, sql.ErrNoRows) {
-		last, err = entryOf(db.QueryRow("SELECT " + columns + " FROM entry ORDER BY n DESC LIMIT 1"))
-	}
-	if errors.Is(err, sql.ErrNoRows) {
-		err = nil
+	var before entry
+	err = db.QueryRow("SELECT first - 1, before FROM part ORDER BY first DESC LIMIT 1").Scan(&before.n, &before.ch)
+	for _, one := range []struct {
+		found *entry
+		where string
+	}{{&answered, "WHERE answer IS NOT NULL"}, {&last, ""}} {
+		if err == nil {
+			*one.found, err = entryOf(db.QueryRow("SELECT " + columns + " FROM entry " + one.where + " ORDER BY n DESC LIMIT 1"))
+		}
+		if errors.Is(err, sql.ErrNoRows) {
+			*one.found, err = before, nil
+		}
 	}
 	return answered, last, err
 }

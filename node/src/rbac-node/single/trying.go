@@ -9,7 +9,6 @@ import (
 	"time"
 
 	"rbac-node/api"
-	"rbac-node/endpoints"
 	"rbac-node/state"
 	"rbac-node/trial"
 )
@@ -58,9 +57,9 @@ func (o *Office) copyTo(ctx context.Context, file string) (*state.State, error) 
 		return nil, err
 	}
 	found := make(chan *state.State, 1) // The function may outlive the request.
-	err = o.Turn(ctx, func(t endpoints.Turn) error {
+	err = o.inTurn(ctx, func(t *turn) error {
 		// A replay that answers has done all that it was asked for, and the state has followed.
-		if _, err := t.Ask(marker); err != nil {
+		if _, err := t.ask(marker); err != nil {
 			return err
 		}
 		return o.feed.Quietly(func() error {

@@ -8,10 +8,10 @@ import (
 	"time"
 )
 
-func TestFlatFields(t *testing.T) {
+func TestPlainFields(t *testing.T) {
 	for _, test := range []struct {
 		name, text string
-		isFlat     bool
+		isPlain    bool
 	}{
 		{"an object", `{"user":"ann","role":"clerk"}`, true},
 		{"spaces everywhere", " \t{ \"user\"\r\n:\n\"ann\" , \"role\" : \"clerk\" } \n", true},
@@ -22,8 +22,19 @@ func TestFlatFields(t *testing.T) {
 		{"an escape", `{"user":"a\u0062"}`, false},
 		{"an escaped key", `{"us\u0065r":"ann"}`, false},
 		{"a number", `{"user":7}`, false},
-		{"a list", `{"roles":["a"]}`, false},
-		{"an object in it", `{"user":{}}`, false},
+		{"a list", `{"roles":["a", "b" ]}`, true},
+		{"an empty list", `{"roles":[ ]}`, true},
+		{"an object in it", `{"user":{}}`, true},
+		{"objects in a list", `{"a":[{"b":{"c":"d"}},{"b":["e"]}],"f":"g"}`, true},
+		{"an escape in a list", `{"roles":["\u0061"]}`, false},
+		{"a number in an object", `{"a":{"b":1}}`, false},
+		{"a key in a list", `{"a":["b":"c"]}`, false},
+		{"no key in an object", `{"a":{"b"}}`, false},
+		{"a comma at the end of a list", `{"a":["b",]}`, false},
+		{"a list without an end", `{"a":["b"}`, false},
+		{"a list that ends an object", `{"a":["b"}]`, false},
+		{"what is deep", `{"a":[[[[[[["b"]]]]]]]}`, true},
+		{"what is deeper", `{"a":[[[[[[[["b"]]]]]]]]}`, false},
 		{"a comma at the end", `{"user":"ann",}`, false},
 		{"a comma alone", `{,}`, false},
 		{"no comma", `{"user":"ann" "role":"clerk"}`, false},
@@ -42,36 +53,45 @@ func TestFlatFields(t *testing.T) {
 		{"a brace alone", `{`, false},
 	} {
 		t.Run(test.name, func(t *testing.T) {
-			if _, isFlat := flatFields([]byte(test.text)); isFlat != test.isFlat {
-				t.Error(isFlat)
+			if _, isPlain := plainFields([]byte(test.text)); isPlain != test.isPlain {
+				t.Error(isPlain)
 			}
 		})
 	}
 }
 
-// TestFlatFieldsLikeLibrary compares what is read of random texts with what the library reads.
-func TestFlatFieldsLikeLibrary(t *testing.T) {
+// TestPlainLikeLibrary compares what is read of random texts with what the library reads.
+func TestPlainLikeLibrary(t *testing.T) {
 	seed := time.Now().UnixNano()
 	t.Logf("seed %d", seed)
-	rng, flat := rand.New(rand.NewSource(seed)), 0
-	pieces := []string{"{", "}", `"`, `"a"`, `"b"`, `"a":"b"`, ":", ",", " ", "\n", `\`, "é", "\xff", "1", "[", "\x00", `"a":"b",`}
+	rng, plain, lists := rand.New(rand.NewSource(seed)), 0, 0
+	pieces := []string{
+		"{", "}", `"`, `"a"`, `"b"`, `"a":"b"`, ":", ",", " ", "\n", `\`, "é", "\xff", "1", "[", "]", "\x00", `"a":"b",`, `"c":{`, `"d":[`, `["a"`,
+	}
 	for i := 0; i < 200_000; i++ {
-		text := "{"
-		for k := rng.Intn(7); k > 0; k-- {
+		text := ""
+		for k := rng.Intn(9); k > 0; k-- {
 			text += pieces[rng.Intn(len(pieces))]
 		}
-		text += "}"
-		given, isFlat := flatFields([]byte(text))
-		if !isFlat {
+		if items, isPlain := plainItems([]byte("[" + text + "]")); isPlain {
+			lists++
+			var wanted []json.RawMessage
+			if err := json.Unmarshal([]byte("["+text+"]"), &wanted); err != nil || fmt.Sprint(items) != fmt.Sprint(wanted) {
+				t.Fatalf("[%q]: %v and not %v, %v", text, items, wanted, err)
+			}
+		}
+		text = "{" + text + "}"
+		given, isPlain := plainFields([]byte(text))
+		if !isPlain {
 			continue
 		}
-		flat++
+		plain++
 		var wanted map[string]json.RawMessage
 		if err := json.Unmarshal([]byte(text), &wanted); err != nil || !isStrict([]byte(text)) || fmt.Sprint(given) != fmt.Sprint(wanted) {
 			t.Fatalf("%q: %v and not %v, %v", text, given, wanted, err)
 		}
 	}
-	if flat < 1000 {
-		t.Errorf("only %d were read", flat)
+	if plain < 1000 || lists < 1000 {
+		t.Errorf("only %d and %d were read", plain, lists)
 	}
 }
