@@ -19,10 +19,14 @@ const (
 	Lists, Snapshot, Watch = "lists", "snapshot", "watch"
 	// Record reads who has asked for which command.
 	Record = "record"
+	// Reports reads reports as files.
+	Reports = "reports"
 )
 
 // others has the keys of these operations.
-var others = map[string][]string{DecideByUser: {"user", "operation", "object"}, Lists: nil, Snapshot: nil, Watch: nil, Record: nil}
+var others = map[string][]string{
+	DecideByUser: {"user", "operation", "object"}, Lists: nil, Snapshot: nil, Watch: nil, Record: nil, Reports: nil,
+}
 
 // IsOther reports whether an operation is one of these.
 func IsOther(name string) bool {

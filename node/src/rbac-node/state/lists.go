@@ -130,12 +130,5 @@ func (s *State) Sets(isStatic bool) (found []NamedSet, numbers Numbers) {
 	s.mutex.RLock()
 	graph, numbers := s.graph, s.numbers
 	s.mutex.RUnlock()
-	sets := graph.dynamic
-	if isStatic {
-		sets = graph.static
-	}
-	for _, name := range namesOf(sets) {
-		found = append(found, NamedSet{name, sets[name].members(), sets[name].Cardinality})
-	}
-	return found, numbers
+	return graph.Sets(isStatic), numbers
 }
