@@ -9,22 +9,39 @@ from program.bench import PROGRAM as RBAC
 
 from .browser import Browser
 
-USERS, ROLES, OBJECTS, SEED = 20_000, 1_024, 1_000, 7
+USERS, ROLES, OBJECTS, SETS, MEMBERS, SESSIONS, SEED = 20_000, 1_024, 1_000, 64, 32, 1_000, 7
+OPERATIONS = ["read", "write", "print", "sign", "burn"]
+GRANTS_OF_EACH, STEP = 4, 257
+
+
+def role_of(number):
+    """The role that a user is assigned to."""
+    return number * SEED % ROLES
 
 
 def lines():
-    """The commands that fill an office: a tree of roles in which each has four juniors, and a grant for each role."""
+    """The commands that fill an office: a tree of roles in which each has four juniors, and 20 grants for each role."""
     for number in range(ROLES):
         yield {"fn": "addRole", "role": f"role {number:04}"}
     for number in range(1, ROLES):
         yield {"fn": "addInheritance", "asc": f"role {(number - 1) // 4:04}", "desc": f"role {number:04}"}
     for number in range(OBJECTS):
         yield {"fn": "addPermObj", "object": f"object {number:04}"}
-        yield {"fn": "addPermission", "object": f"object {number:04}", "operation": "read"}
-        yield {"fn": "grantPermission", "object": f"object {number:04}", "operation": "read", "role": f"role {number:04}"}
+        for i, operation in enumerate(OPERATIONS):
+            permission = {"object": f"object {number:04}", "operation": operation}
+            yield {"fn": "addPermission", **permission}
+            for j in range(GRANTS_OF_EACH):
+                yield {"fn": "grantPermission", **permission, "role": f"role {(number + i + j * STEP) % ROLES:04}"}
+    for number in range(SETS):
+        members = [f"role {(number + i * 31) % ROLES:04}" for i in range(MEMBERS)]
+        yield {"fn": "createDsdSet", "set": f"set {number:02}", "roles": members, "cardinality": MEMBERS}
     for number in range(USERS):
         yield {"fn": "addUser", "user": f"user {number:05}"}
-        yield {"fn": "assignUser", "user": f"user {number:05}", "role": f"role {number * SEED % ROLES:04}"}
+        yield {"fn": "assignUser", "user": f"user {number:05}", "role": f"role {role_of(number):04}"}
+    leaves = [number for number in range(USERS) if role_of(number) > ROLES // 4]
+    for number in leaves[:SESSIONS]:
+        roles = [f"role {role_of(number):04}"]
+        yield {"fn": "createSession", "user": f"user {number:05}", "roles": roles, "session": f"session {number}"}
 
 
 def check_limits(bench):

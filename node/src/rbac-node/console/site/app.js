@@ -8,6 +8,7 @@ import { explainAddress, explainPage } from "./explain.js";
 import { objectPage, objectsPage } from "./objects.js";
 import { overviewPage } from "./overview.js";
 import { recordPage } from "./record.js";
+import { reportPage, reportsPage } from "./reports.js";
 import { rolePage, rolesPage } from "./roles.js";
 import { separationPage, setPage } from "./separation.js";
 import { userPage, usersPage } from "./users.js";
@@ -21,6 +22,7 @@ const PAGES = [
     ["separation", "Separation of duty", () => may("lists"), separationPage, setPage],
     ["explain", "Explain", () => maySome("decideByUser") || maySome("checkAccess"), explainPage, explainAddress],
     ["record", "Record", () => may("record"), recordPage],
+    ["reports", "Reports", () => may("reports"), reportsPage, reportPage],
 ];
 
 const COMMANDS = ["addUser", "deleteUser", "lockUserAccount", "unlockUserAccount", "addRole", "deleteRole", "assignUser", "deassignUser",

@@ -24,8 +24,14 @@ function codeOf(letter) {
     return `U+${letter.codePointAt(0).toString(16).toUpperCase().padStart(4, "0")}`;
 }
 
+// Most names have nothing that can't be seen.
+const USUAL = /^[!-~]+( [!-~]+)*$/;
+
 /** Returns the parts of a name: texts, and codes in place of what can't be seen, also of spaces at its ends. */
 function partsOf(text) {
+    if (USUAL.test(text)) {
+        return [{ text }];
+    }
     const letters = [...text];
     const parts = [];
     letters.forEach((letter, i) => {
@@ -73,6 +79,12 @@ export function listed(nodes, last = "and") {
         }
         return [i < nodes.length - 1 ? ", " : ` ${last} `, node];
     });
+}
+
+/** Returns `listed` of the first few names, and how many more there are. */
+export function some(names, show, last = "and", most = 5) {
+    const left = names.length - most;
+    return left > 1 ? [names.slice(0, most).map((one) => [show(one), ", "]), `${last} ${left} more`] : listed(names.map(show), last);
 }
 
 /** Returns a number with a noun: "1 user", "1,000 users". */
