@@ -180,7 +180,7 @@ def check_print(bench):
 # The pages whose pictures are in docs/CONSOLE.md.
 SHOTS = {
     "overview": ("",), "users": ("users",), "user": ("users", "erin"), "roles": ("roles",), "role": ("roles", "teller"), "object": ("objects", "vault"),
-    "separation": ("separation", "static", "audit"), "explain": ("explain", "ann", "post", "account 17"), "record": ("record",),
+    "separation": ("separation", "static", "audit"), "explain": ("explain", "ann", "post", "account 17"), "record": ("record",), "reports": ("reports", "permissions"),
 }  # fmt: skip
 
 

@@ -60,6 +60,9 @@ REQUESTS = [
     ("get", "/record", "/record?limit=2", None, {}, 200), ("get", "/record", "/record?limit=0", None, {}, 400),
     ("get", "/room", "/room", None, {}, 200), ("get", "/picture", "/picture", None, {}, 200 if which("dot") else 404),
     ("get", "/picture", "/picture?role=x", None, {}, 409 if which("dot") else 404),
+    ("post", "/reports/{report}", "/reports/permissions", {"user": "ann"}, {}, 200), ("post", "/reports/{report}", "/reports/dump", "", {}, 200),
+    ("post", "/reports/{report}", "/reports/near", {"user": 1}, {}, 400), ("post", "/reports/{report}", "/reports/x", {}, {}, 404),
+    ("post", "/reports/{report}", "/reports/room", " " * 4097, {}, 413), ("get", "/reports/{report}", f"/reports/{'0' * 64}", None, {}, 404),
     ("delete", "/sessions/{digest}", f"/sessions/{digest_of('s1')}", None, {}, 200),
     ("delete", "/sessions/{digest}", f"/sessions/{digest_of('s1')}", None, {}, 409),
 ]  # fmt: skip

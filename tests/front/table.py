@@ -13,7 +13,7 @@ from .program import Front
 from .sources import keys_of_functions
 
 # The operations for what is read by GET. Their own checks try them.
-READ = ("metrics", "lists", "snapshot", "watch", "record")
+READ = ("metrics", "lists", "snapshot", "watch", "record", "reports")
 
 # The keys of what is asked like a function and is none.
 OTHERS_KEYS = {"decideByUser": ["user", "operation", "object"]}

@@ -65,6 +65,7 @@ PATHS_OF_FRONT = {
     "/record": ["get"],
     "/room": ["get"],
     "/picture": ["get"],
+    "/reports/{report}": ["post", "get"],
 }
 
 # The statuses of a conflict, and of a target or a method that no path here has.
