@@ -4,7 +4,6 @@ import csv
 import http.client
 import io
 import json
-import os
 import shutil
 import signal
 import socket
@@ -293,7 +292,3 @@ def memory_of(process):
     with open(f"/proc/{process}/clear_refs", "w", encoding="ascii") as file:
         file.write("5")
     return found * 1024
-
-
-def is_root():
-    return os.geteuid() == 0

@@ -2,7 +2,7 @@
 
 import { linesOf, Refused, report, who } from "./api.js";
 import { button, fail, field, form, say, section, table } from "./parts.js";
-import { counted, h, hashOf, link, name, time } from "./text.js";
+import { brief, counted, h, hashOf, link, name, time } from "./text.js";
 import { differencePage } from "./difference.js";
 import { KINDS } from "./overview.js";
 
@@ -37,7 +37,7 @@ const REPORTS = {
 };
 
 // How many lines a page shows at first, and at most.
-const SHOWN = 1000;
+const SHOWN = 500;
 const MOST_SHOWN = 10_000;
 
 export async function reportsPage() {
@@ -91,8 +91,8 @@ async function shown(segment, told, chosen, query) {
     const most = query.all ? MOST_SHOWN : SHOWN;
     const made = await report(segment, { ...chosen, format: "lines", limit: most });
     const lines = await linesOf(made.ticket);
-    const cells = (line) => JSON.parse(line).map((cell) => name(segment === "room" ? KINDS[cell] ?? cell : cell));
-    const rows = lines.map((line) => (made.columns ? cells(line) : [h("span", { class: "mono" }, name(line))]));
+    const cells = (line) => JSON.parse(line).map((cell) => brief(segment === "room" ? KINDS[cell] ?? cell : cell));
+    const rows = lines.map((line) => (made.columns ? cells(line) : [h("span", { class: "mono" }, brief(line))]));
     const more = { ...chosen, all: "yes" };
     const filters = told.fields.filter(([, key]) => key in chosen).map(([label, key]) => [", ", label.toLowerCase(), " ", name(String(chosen[key]))]);
     const about = [counted(made.lines, "line"), " of ", time(made.at), ` UTC, revision ${made.policy} of the policy`, filters,

@@ -52,6 +52,11 @@ export function name(text) {
     return h("bdi", {}, partsOf(text).map((part) => part.text ?? h("span", { class: "code" }, part.code)));
 }
 
+/** Returns a name for a cell or a link: as a text if it has nothing that would need isolation, since pages have many of them. */
+export function brief(text) {
+    return USUAL.test(text) || text === "" ? text : name(text);
+}
+
 /** Returns a name as a text, for titles and labels. */
 export function plain(text) {
     return partsOf(text).map((part) => part.text ?? `[${part.code}]`).join("");
@@ -66,10 +71,10 @@ export function hashOf(segments) {
     return `#/${segments.map(encodeURIComponent).join("/")}`;
 }
 
-export const user = (text) => link(["users", text], name(text));
-export const role = (text) => link(["roles", text], name(text));
-export const object = (text) => link(["objects", text], name(text));
-export const set = (kind, text) => link(["separation", kind, text], name(text));
+export const user = (text) => link(["users", text], brief(text));
+export const role = (text) => link(["roles", text], brief(text));
+export const object = (text) => link(["objects", text], brief(text));
+export const set = (kind, text) => link(["separation", kind, text], brief(text));
 
 /** Returns nodes with commas between them, and `last` before the last one. */
 export function listed(nodes, last = "and") {

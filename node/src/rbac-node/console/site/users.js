@@ -2,7 +2,7 @@
 
 import { ask, askAll, endSession, everything, list, may, maySome, Refused, rows } from "./api.js";
 import { action, button, command, deliberate, fail, field, form, later, pager, say, section, table } from "./parts.js";
-import { counted, h, hashOf, link, listed, name, object, plain, role, set, some, time, user } from "./text.js";
+import { brief, counted, h, hashOf, link, listed, name, object, plain, role, set, some, time, user } from "./text.js";
 
 const SHOWN = 100;
 const SHOWN_OF_USER = 50;
@@ -107,7 +107,7 @@ function rolesSection(text, assigned, authorized, anew) {
 }
 
 // How many sets are shown: the nearest ones.
-const MOST_SETS = 20;
+const MOST_SETS = 10;
 
 /** How near a user is to each set of which the user has a member, the nearest first. */
 function nearness(text, authorized, [fixed, dynamic]) {
@@ -146,7 +146,7 @@ async function permitted(text, after) {
 function permissionsOf(text, authorized, after, { part, givers }) {
     const has = new Set(authorized ?? []);
     const found = part.value.map((row, i) => [
-        object(row.object), name(row.operation), some((givers[i]?.value ?? []).filter((one) => has.has(one)), role),
+        object(row.object), brief(row.operation), some((givers[i]?.value ?? []).filter((one) => has.has(one)), role, "and", 3),
         action(link(["explain", text, row.operation, row.object], "Why")),
     ]);
     return [table(`Permissions through all roles`, ["Object", "Operation", "Given by", ""], found, "No permission."),
