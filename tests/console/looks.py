@@ -194,7 +194,7 @@ def check_pictures(bench):
         page.open("")
         page.resize(1000, 700)
         for name, segments in SHOTS.items():
-            page.go(*segments)
+            page.go(*segments, query="?role=teller" if name == "reports" else "")
             if name == "user":
                 page.submit("Assign", "Assign a role", Role="teller")
             path = f"{folder}/console-{name}.png"
