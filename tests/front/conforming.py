@@ -66,6 +66,9 @@ REQUESTS = [
     ("post", "/what-if", "/what-if", '{"fn":"ssdRoleSets"}', {}, 400), ("post", "/what-if", "/what-if", '{"fn":"fly"}', {}, 404),
     ("post", "/what-if", "/what-if", " " * 262_145, {}, 413), ("post", "/reviews", "/reviews", REVIEW, {}, 200),
     ("post", "/reviews", "/reviews", {**REVIEW, "sha256": "x"}, {}, 400), ("post", "/reviews", "/reviews", " " * 4_097, {}, 413),
+    ("post", "/reports/{report}", "/reports/permissions", {"user": "ann"}, {}, 200), ("post", "/reports/{report}", "/reports/dump", "", {}, 200),
+    ("post", "/reports/{report}", "/reports/near", {"user": 1}, {}, 400), ("post", "/reports/{report}", "/reports/x", {}, {}, 404),
+    ("post", "/reports/{report}", "/reports/room", " " * 4097, {}, 413), ("get", "/reports/{report}", f"/reports/{'0' * 64}", None, {}, 404),
     ("delete", "/sessions/{digest}", f"/sessions/{digest_of('s1')}", None, {}, 200),
     ("delete", "/sessions/{digest}", f"/sessions/{digest_of('s1')}", None, {}, 409),
 ]  # fmt: skip

@@ -67,6 +67,7 @@ PATHS_OF_FRONT = {
     "/picture": ["get"],
     "/what-if": ["post"],
     "/reviews": ["post"],
+    "/reports/{report}": ["post", "get"],
 }
 
 # The statuses of a conflict, and of a target or a method that no path here has.

@@ -21,11 +21,14 @@ const (
 	Record = "record"
 	// WhatIf tries commands over a copy of the office, and Review ends a review of who has what.
 	WhatIf, Review = "whatIf", "review"
+	// Reports reads reports as files.
+	Reports = "reports"
 )
 
 // others has the keys of these operations.
 var others = map[string][]string{
 	DecideByUser: {"user", "operation", "object"}, Lists: nil, Snapshot: nil, Watch: nil, Record: nil, WhatIf: nil, Review: nil,
+	Reports: nil,
 }
 
 // IsOther reports whether an operation is one of these.

@@ -8,7 +8,7 @@ let reason = "";
 export class Refused extends Error {
     constructor(status, answer) {
         super(answer.error ?? `status ${status}`);
-        Object.assign(this, { status, code: answer.code ?? 0, set: answer.set, kind: answer.kind, line: answer.line });
+        Object.assign(this, { status, code: answer.code ?? 0, set: answer.set, kind: answer.kind, line: answer.line, lines: answer.lines });
     }
 }
 
@@ -182,6 +182,21 @@ export async function health() {
 export async function picture(query) {
     const reply = await send("GET", pathOf("picture", query));
     return reply.ok ? reply.blob() : answerOf(reply);
+}
+
+/** Asks for a report: a ticket for one download of it, how many lines it has, and of which revision of the policy and when it is. */
+export async function report(name, values = {}) {
+    return (await answerOf(await send("POST", `reports/${name}`, JSON.stringify(values)))).value;
+}
+
+/** Returns the lines of a report that was asked for as lines, each as it is written. */
+export async function linesOf(ticket) {
+    const reply = await send("GET", `reports/${ticket}`);
+    if (!reply.ok) {
+        await answerOf(reply);
+    }
+    const text = await reply.text().catch(() => { throw new Lost("the end is missing"); });
+    return text.split("\n").slice(0, -1);
 }
 
 // The keys of each function that scopes are about: roles, objects, users.

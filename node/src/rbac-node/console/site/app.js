@@ -8,6 +8,7 @@ import { explainAddress, explainPage } from "./explain.js";
 import { objectPage, objectsPage } from "./objects.js";
 import { overviewPage } from "./overview.js";
 import { recordPage } from "./record.js";
+import { reportPage, reportsPage } from "./reports.js";
 import { rolePage, rolesPage } from "./roles.js";
 import { separationPage, setPage } from "./separation.js";
 import { forgetReview, reviewPage } from "./review.js";
@@ -25,6 +26,7 @@ const PAGES = [
     ["what-if", "What if", () => may("whatIf"), whatIfPage],
     ["review", "Review", () => may("lists") && may("review"), reviewPage],
     ["record", "Record", () => may("record"), recordPage],
+    ["reports", "Reports", () => may("reports"), reportsPage, reportPage],
 ];
 
 const COMMANDS = ["addUser", "deleteUser", "lockUserAccount", "unlockUserAccount", "addRole", "deleteRole", "assignUser", "deassignUser",
