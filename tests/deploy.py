@@ -10,7 +10,7 @@ are not tested without it. `bin/setup deploy` installs these programs.
 
 import sys
 
-from deploy import backups, healths, installed, proxies, queues, units
+from deploy import backups, healths, installed, proxies, queues, units, whys
 from deploy.common import untested
 from stopped.running import run_all
 
@@ -18,7 +18,7 @@ from stopped.running import run_all
 def main(words):
     for line in untested():
         print(line, flush=True)
-    modules = [backups, queues, installed, proxies, units, healths]
+    modules = [backups, queues, installed, proxies, units, healths, whys]
     return run_all([job for module in modules for job in module.JOBS], words)
 
 
