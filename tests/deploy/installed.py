@@ -29,7 +29,7 @@ chroot "$root" sh /mnt/script
 """
 
 # The most time that a script takes on a busy machine, with systemd booted for it.
-BOOTED_SECONDS = 930
+BOOTED_SECONDS = 1830
 
 # systemd is booted, runs the script, and ends. What systemd-nspawn leaves in /run is gone with the layer.
 BOOTED = """
@@ -47,7 +47,7 @@ ExecStart=/bin/sh /mnt/script
 StandardOutput=truncate:/mnt/said
 StandardError=truncate:/mnt/errors
 END
-timeout 900 systemd-nspawn -q -D "$root" --machine="rbac-$$" --register=no --keep-unit --private-network \
+timeout 1800 systemd-nspawn -q -D "$root" --machine="rbac-$$" --register=no --keep-unit --private-network \
     --boot -- --unit=script.service > "$root/mnt/console" 2>&1 < /dev/null || test -s "$root/mnt/said" || exit 9
 cat "$root/mnt/said"; cat "$root/mnt/errors" >&2
 """
