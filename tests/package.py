@@ -3,8 +3,9 @@
 
     package.py [--times] [WORD]
 
-tests/installed.py has them installed, with the package of the front. With WORD, only the checks with WORD in their names run; `--times` prints how long each took. The package is made
-with the program that is checked. What needs a missing program is left out and not counted, and a line reports it.
+tests/installed.py has it installed, with the package of the front. With WORD, only the checks with WORD in their names run;
+`--times` prints how long each took. The package is made with the program that is checked. What needs a missing program is left
+out and not counted, and a line reports it.
 """
 
 import gzip

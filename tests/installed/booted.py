@@ -16,10 +16,11 @@ PAGE, FRONT = markdown.page("OPERATING.md"), markdown.page("FRONT.md")
 
 # What all steps use. apt asks nothing, rebuilds no list of manual pages, and prints only if it fails.
 PREPARING = f"""
+older={OLDER}
 echo 'APT::Get::Assume-Yes "true";' > /etc/apt/apt.conf.d/99-assume-yes
 rm -f /var/lib/man-db/auto-update /usr/sbin/policy-rc.d
 mkdir /mnt/old /mnt/new
-cd /mnt/repository; mv *_{OLDER}_*.deb /mnt/old; mv *.deb /mnt/new; cd /mnt/new
+cd /mnt/repository; mv *_"$older"_*.deb /mnt/old; mv *.deb /mnt/new; cd /mnt/new
 export DEBIAN_FRONTEND=noninteractive LC_ALL=C.UTF-8
 quietly() {{ "$@" > /mnt/quiet 2>&1 || {{ echo "failed: $*"; tail -n 20 /mnt/quiet; }}; }}
 at() {{ curl -s -m 20 -w ' %{{http_code}}\\n' --unix-socket "/run/rbac/$1.sock" -d "{{\\"user\\":\\"$3\\"}}" "http://localhost/v1/$2"; }}
@@ -32,7 +33,8 @@ runs() {{
         for process in $main $(pgrep -P "$main"); do
             name=$(cat "/proc/$process/comm")
             state=stale; ! cmp -s "/proc/$process/exe" "/usr/bin/$name" || state=installed
-            echo "$unit $name $state $(tail -c 6 "/proc/$process/exe" | grep -a -x '{OLDER}')"
+            ! tail -c 6 "/proc/$process/exe" | grep -a -q -x "$older" || state="$state, $older"
+            echo "$unit $name $state"
         done
     done
 }}
@@ -43,7 +45,7 @@ EARLIER = """
 useradd --system --home-dir /var/lib/rbac --shell /usr/sbin/nologin rbac
 install -d -m 700 -o rbac -g rbac /var/lib/rbac
 install -m 755 /mnt/repository/release/rbac /usr/bin/rbac
-echo '%s' >> /usr/bin/rbac
+echo "$older" >> /usr/bin/rbac
 (umask 077; runuser -u rbac -- rbac init /var/lib/rbac/office)
 cat > /etc/systemd/system/rbac.service << 'END'
 [Service]
@@ -61,7 +63,7 @@ health() { curl -s http://127.0.0.1:8080/v1/ssdRoleSets -d '' > /dev/null; }
 for turn in $(seq 300); do ! health || break; sleep 0.1; done
 port 8080 addUser ann
 runs rbac.service
-""" % OLDER
+"""
 
 # The files of the package, which work from there.
 FILES = """
@@ -227,7 +229,7 @@ def steps():
     upgrading = block_with("systemctl start rbac-backup@office")
     (sessions,) = re.findall(r'^\$ sqlite3 office "(DELETE [^"]*)"$', PAGE, re.M)
     alone = quoted("systemctl enable --now rbac-serve@NAME").replace("NAME", "alone")
-    downgrading = f"cd /mnt/old; quietly {quoted('apt install --allow-downgrades').split(' ', 1)[1]} ./rbac_*.deb ./rbac-node_*.deb; cd /mnt/new"
+    downgrading = f"cd /mnt/old; {quoted('apt install --allow-downgrades')} ./rbac_*.deb ./rbac-node_*.deb; cd /mnt/new"
     client = "asking & client=$!; sleep 0.3"
     return {
         "earlier": [EARLIER],
@@ -250,15 +252,15 @@ def steps():
     }
 
 
-RUN = "".join(f"rbac-node@{name} {program} installed \n" for name in ("office", "second", "main") for program in ("rbac-node", "rbac"))
+RUN = "".join(f"rbac-node@{name} {one} installed\n" for name in ("office", "second", "main") for one in ("rbac-node", "rbac"))
 NOTHING = '{"ok":true,"value":[]} 200\n'
 FORBIDDEN = '{"code":63,"error":"Forbidden"} 403\n'
 ANSWERED = f"{RUN}{NOTHING}{NOTHING}answered: yes\n"
 OFFICES = "".join(f"/var/lib/rbac/{name}/office\n" for name in ("alone", "main", "office.before", "office", "second"))
 
 SAID = {
-    "earlier": f'{{"ok":true}} 200\nrbac.service rbac installed {OLDER}\n',
-    "installed": f"rbac.service rbac installed \n{NOTHING}",
+    "earlier": f'{{"ok":true}} 200\nrbac.service rbac installed, {OLDER}\n',
+    "installed": f"rbac.service rbac installed\n{NOTHING}",
     "moved": f"{NOTHING}inactive\n",
     "office": """{"ok":true}
 healthy
@@ -322,15 +324,17 @@ root 700
 no office, no backup
 """,
     "restored": f"office: OK\noffice.record/BASE: OK\noffice.record/record.db: OK\n{NOTHING}{NOTHING}verified: 0\nalone\nmain\noffice\noffice.before\nsecond\n",
-    "ended": f'{{"ok":true}}\n' + f"success\ngood\nthe record is that of another office\n{NOTHING}",
-    "downgraded": RUN.replace("installed ", f"installed {OLDER}") + NOTHING,
+    "ended": f'{{"ok":true}}\nsuccess\ngood\nthe record is that of another office\n{NOTHING}',
+    "downgraded": RUN.replace("installed", f"installed, {OLDER}") + NOTHING,
     "upgraded": ANSWERED,
     "reinstalled": ANSWERED,
     "removed": f"/etc/rbac/default.conf\n{OFFICES}",
-    "again": "active\nactive\nactive\nactive\n" + RUN[: RUN.index("rbac-node@second")] + NOTHING + "/var/lib/rbac root:rbac 750\n",
-    "purged": f"""rbac: /var/lib/rbac is kept with: alone main office office.before second 
-rbac: /var/backups/rbac is kept with: alone office second 
-rbac: /etc/rbac is kept with: alone.conf second.conf 
+    "again": f"{'active' * 4}{RUN[: RUN.index('rbac-node@second')]}{NOTHING}/var/lib/rbac root:rbac 750\n".replace(
+        "active", "active\n"
+    ),
+    "purged": f"""rbac: /var/lib/rbac is kept with: alone main office office.before second
+rbac: /var/backups/rbac is kept with: alone office second
+rbac: /etc/rbac is kept with: alone.conf second.conf
 /etc/rbac/alone.conf
 /etc/rbac/second.conf
 {OFFICES}4
@@ -341,8 +345,8 @@ rbac: /etc/rbac is kept with: alone.conf second.conf
 
 def check_systemd(bench):
     """The commands of the pages install offices that systemd runs, keep them, replace the programs, and lose no office."""
-    needed = ["unshare", "mount", "systemd-nspawn", "apt", "useradd", "usermod", "runuser", "systemctl", "curl", "pgrep", "sqlite3", "man"]
-    if not (is_root() and has(*needed)):
+    needed = "unshare mount systemd-nspawn apt useradd usermod runuser systemctl curl pgrep sqlite3 man"
+    if not (is_root() and has(*needed.split())):
         return
     folder = Path(bench.path("older"))
     folder.mkdir()

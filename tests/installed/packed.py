@@ -14,7 +14,7 @@ def output(*words):
 
 
 def check_same_bytes(bench):
-    """Made again with another time, mask, language and folder, and not from what Go has kept, both packages have the same bytes."""
+    """Made again with another time, mask, language and folder, both packages have the same bytes."""
     again = bench.folder / "again"
     settings = {"TZ": "Asia/Tokyo", "LC_ALL": "C.UTF-8", "TMPDIR": bench.path("")}
     before = os.umask(0o077)
@@ -54,4 +54,5 @@ def check_node(bench):
     bench.same("what it depends on", {one.split()[0] for one in depends}, {"rbac", "libc6", "libsqlite3-0"})
     bench.same("the program that it needs", f"rbac (= {version})" in depends, True)
     text = (Path(root) / "usr/bin/rbac-node").read_bytes()
-    bench.same("paths of this machine in it", [path for path in (str(ROOT).encode(), str(bench.folder).encode()) if path in text], [])
+    here = [path for path in (ROOT, os.environ[MADE], bench.folder) if str(path).encode() in text]
+    bench.same("paths of this machine in it", here, [])

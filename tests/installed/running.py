@@ -39,7 +39,7 @@ def recorded(folder):
 
 
 def older(package, folder):
-    """Makes a package of an older version in a folder. All is as in a package, but each program has the version after its bytes."""
+    """Makes a package of an older version in a folder: as a package, but each program has the version after its bytes."""
     tree = folder / "tree"
     subprocess.run(["dpkg-deb", "-R", package, tree], check=True)
     control = tree / "DEBIAN/control"
@@ -59,8 +59,9 @@ def older(package, folder):
 def can_make():
     """Whether bin/package can make both packages here. A line says what is missing."""
     missing = [program for program in ("dh", "dh_installsysusers", "dpkg-buildpackage", "go") if not shutil.which(program)]
-    features = "" if missing else subprocess.run([ROOT / "bin/node", "--features"], capture_output=True, text=True, check=True).stdout
-    if missing or features.strip() != "one,etcd,jose,sqlite":
+    command = [ROOT / "bin/node", "--features"]
+    features = subprocess.run(command, capture_output=True, text=True, check=True).stdout.strip()
+    if missing or features != "one,etcd,jose,sqlite":
         what = ", ".join(missing) or "a library of Go"
         print(f"left out: what needs packages, since they can't be made without {what}: bin/setup package", flush=True)
         return False
