@@ -16,9 +16,8 @@ TESTED_BY = {
     "nginx": "deploy/nginx",
     "haproxy": "deploy/haproxy.cfg",
     "logrotate": "deploy/nginx/logrotate",
-    "systemd-analyze": "what systemd-analyze reports about deploy/rbac.service",
-    "systemd-nspawn": "deploy/rbac.service under systemd",
-    "strace": "the system calls that deploy/rbac.service allows",
+    "systemd-analyze": "what systemd-analyze reports about the units",
+    "strace": "the system calls that deploy/rbac-serve@.service allows",
     "curl": "deploy/health",
 }
 
@@ -29,7 +28,7 @@ def untested():
         if not shutil.which(program):
             yield f"not tested: {what}, since there is no {program} (bin/setup deploy installs it)"
     if os.geteuid() != 0:
-        yield "not tested: what only root can do, such as the commands of docs/OPERATING.md that install and upgrade"
+        yield "not tested: what only root can do, such as the commands of docs/NGINX.md"
 
 
 def has(*programs):

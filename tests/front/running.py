@@ -14,7 +14,7 @@ from stopped.running import checks_of, is_long, run_all
 OF_SOURCES = ["sources"]
 OF_FRONTS = [
     "recordkills", "kills", "recordfaults", "records", "recordorder", "wrongfronts", "building", "explained", "tried", "sessions", "lists",
-    "watching", "separated", "clients", "identities", "answers", "starts", "booted", "table", "page", "requests", "auditing",
+    "watching", "separated", "clients", "identities", "answers", "starts", "table", "page", "requests", "auditing",
     "described", "conforming", "browsers", "batches", "gateways", "revisions",
 ]  # fmt: skip
 
