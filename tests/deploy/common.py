@@ -11,7 +11,7 @@ from program.bench import PROGRAM, SECONDS, TESTS, Done
 
 DEPLOY = TESTS.parent / "deploy"
 
-# What is not tested if one of these programs is missing.
+# What is left out if one of these programs is missing.
 TESTED_BY = {
     "nginx": "deploy/nginx",
     "haproxy": "deploy/haproxy.cfg",
@@ -26,9 +26,9 @@ def untested():
     """A line for each setting that can't be tested here."""
     for program, what in TESTED_BY.items():
         if not shutil.which(program):
-            yield f"not tested: {what}, since there is no {program} (bin/setup deploy installs it)"
+            yield f"left out: {what}, since there is no {program} (bin/setup deploy installs it)"
     if os.geteuid() != 0:
-        yield "not tested: what only root can do, such as the commands of docs/NGINX.md"
+        yield "left out: what only root can do, such as the commands of docs/NGINX.md"
 
 
 def has(*programs):
