@@ -54,6 +54,8 @@ type Client struct {
 	log       *log.Logger
 	first     atomic.Int64 // the address that answered last
 	revision  atomic.Uint64
+	// createsUntil is until when sessions are made by createSession, in nanoseconds, since the server opens none.
+	createsUntil atomic.Int64
 
 	mu     sync.Mutex
 	counts map[Reason]uint64

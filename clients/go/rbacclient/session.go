@@ -6,6 +6,7 @@ import (
 	"encoding/hex"
 	"errors"
 	"sync"
+	"time"
 )
 
 // What only the front does: opening a session, and ending one that is known by its digest.
@@ -18,6 +19,9 @@ const (
 const (
 	noSession, sessionExists, noSuchPath = 26, 27, 35
 )
+
+// creates is for how long a server that opens no sessions isn't asked for one again.
+const creates = time.Minute
 
 // SessionConfig is what a session is made from.
 type SessionConfig struct {
@@ -149,8 +153,15 @@ func (s *Session) open(ctx context.Context) error {
 	var name string
 	var roles []string
 	var left []LeftOut
-	err := s.client.value(ctx, opensSession, arguments, func(r *reader) { name, roles, left = r.opened() })
-	if IsRefused(err, noSuchPath) {
+	var err error
+	isMissing := time.Now().UnixNano() < s.client.createsUntil.Load()
+	if !isMissing {
+		err = s.client.value(ctx, opensSession, arguments, func(r *reader) { name, roles, left = r.opened() })
+		if isMissing = IsRefused(err, noSuchPath); isMissing {
+			s.client.createsUntil.Store(time.Now().Add(creates).UnixNano())
+		}
+	}
+	if isMissing {
 		name, roles, err = s.create(ctx)
 	}
 	if err != nil {

@@ -1,6 +1,7 @@
 """The client whose methods are awaited."""
 
 import asyncio
+import math
 import re
 import select
 import ssl
@@ -22,6 +23,8 @@ class AsyncOffice(AsyncFunctions):
 
     def __init__(self) -> None:
         self._decisions = Decisions()
+        # Until then sessions are made by createSession, since the server opens none.
+        self._creates_until = -math.inf
 
     @property
     def counts(self) -> Dict[Reason, int]:

@@ -1,6 +1,7 @@
 """The client that waits for its answers."""
 
 import contextlib
+import math
 import os
 import re
 import socket
@@ -26,6 +27,8 @@ class Office(Functions):
 
     def __init__(self) -> None:
         self._decisions = Decisions()
+        # Until then sessions are made by createSession, since the server opens none.
+        self._creates_until = -math.inf
 
     @property
     def counts(self) -> Dict[Reason, int]:

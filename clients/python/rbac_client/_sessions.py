@@ -3,6 +3,7 @@
 import asyncio
 import secrets
 import threading
+import time
 from typing import TYPE_CHECKING, Any, Dict, List, Optional, Sequence
 
 from ._answers import OPENS
@@ -19,6 +20,9 @@ _ENDED = (2, 26)
 
 # What a server answers that opens no sessions, such as `rbac serve`.
 _NO_SUCH_PATH = 35
+
+# For how many seconds such a server isn't asked to open a session again.
+_CREATES = 60.0
 
 
 def session_name() -> str:
@@ -54,13 +58,15 @@ class Session(_Base):
 
     def open(self) -> None:
         """Makes the session, under a new name."""
-        try:
-            opened = self._office._call(OPENS, self._request())
-        except Refused as error:
-            if error.code != _NO_SUCH_PATH:
-                raise
-            opened = self._created()
-        self._became(opened)
+        if time.monotonic() >= self._office._creates_until:
+            try:
+                self._became(self._office._call(OPENS, self._request()))
+                return
+            except Refused as error:
+                if error.code != _NO_SUCH_PATH:
+                    raise
+                self._office._creates_until = time.monotonic() + _CREATES
+        self._became(self._created())
 
     def _created(self) -> OpenedSession:
         """Makes the session by createSession. If the answer is lost it is sent again: nobody else has that name."""
@@ -116,13 +122,15 @@ class AsyncSession(_Base):
 
     async def open(self) -> None:
         """Makes the session, under a new name."""
-        try:
-            opened = await self._office._call(OPENS, self._request())
-        except Refused as error:
-            if error.code != _NO_SUCH_PATH:
-                raise
-            opened = await self._created()
-        self._became(opened)
+        if time.monotonic() >= self._office._creates_until:
+            try:
+                self._became(await self._office._call(OPENS, self._request()))
+                return
+            except Refused as error:
+                if error.code != _NO_SUCH_PATH:
+                    raise
+                self._office._creates_until = time.monotonic() + _CREATES
+        self._became(await self._created())
 
     async def _created(self) -> OpenedSession:
         """Makes the session by createSession. If the answer is lost it is sent again: nobody else has that name."""

@@ -64,11 +64,24 @@ public final class Driver {
             case "login":
                 return result(
                     () -> {
+                        var user = text(line, "user");
+                        if (line.get("roles") == null) {
+                            session = client.openSession(user);
+                            return session.name();
+                        }
                         var roles = texts(line.get("roles"));
                         var isRenewed = line.get("renews").equals(true);
-                        var user = text(line, "user");
                         session = isRenewed ? client.openRenewedSession(user, roles) : client.openSession(user, roles);
                         return session.name();
+                    });
+            case "opened":
+                return opened();
+            case "end":
+                return result(
+                    () -> {
+                        var digest = line.get("digest") == null ? Session.digest(session.name()) : text(line, "digest");
+                        client.endSession(digest);
+                        return null;
                     });
             case "ask":
                 var found = shown(session.check(text(line, "operation"), text(line, "object")));
@@ -85,6 +98,18 @@ public final class Driver {
                 client.counts().forEach((reason, count) -> counts.put(reason.toString(), count));
                 return counts;
         }
+    }
+
+    private Map<String, Object> opened() {
+        var left = new ArrayList<List<Object>>();
+        for (var one : session.left()) {
+            var row = new ArrayList<Object>(List.of(one.role(), (long) one.code()));
+            if (!one.detail().isEmpty()) {
+                row.add(one.detail());
+            }
+            left.add(row);
+        }
+        return new LinkedHashMap<>(Map.of("roles", session.roles(), "left", left));
     }
 
     private Map<String, Object> open(Map<String, Object> line) throws Exception {

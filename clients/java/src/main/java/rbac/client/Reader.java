@@ -37,6 +37,8 @@ interface Reader<T> {
 
     Reader<ImportReport> IMPORT = (status, text) -> value(status, text, Reader::report);
 
+    Reader<Session.Opened> OPENED = (status, text) -> value(status, text, Reader::opened);
+
     /** What reads a value. */
     interface Value<T> {
         T read(Json json);
@@ -81,6 +83,30 @@ interface Reader<T> {
                 });
         json.need("}");
         return new ImportReport(already, assigned, refused);
+    }
+
+    private static Session.Opened opened(Json json) {
+        json.need("{\"left\":");
+        var left = json.list(() -> leftOut(json));
+        json.need(",\"roles\":");
+        var roles = json.list(json::text);
+        json.need(",\"session\":");
+        var name = json.text();
+        json.need(name.isEmpty() ? "a name" : "}");
+        return new Session.Opened(name, roles, left);
+    }
+
+    private static LeftOut leftOut(Json json) {
+        json.need("{\"code\":");
+        var code = (int) json.number();
+        json.need(",\"error\":");
+        var refusal = json.text();
+        var kind = json.skips(",\"kind\":") ? json.text() : "";
+        json.need(",\"role\":");
+        var role = json.text();
+        var set = kind.isEmpty() && json.skips(",\"set\":") ? json.text() : "";
+        json.need("}");
+        return new LeftOut(role, code, refusal, kind.isEmpty() ? set : kind);
     }
 
     /** The refusal that an answer is, or an error that says that it is none. */
