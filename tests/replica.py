@@ -19,7 +19,9 @@ from stopped.running import is_long, run_all
 
 def main(words):
     if not shutil.which("go") or "sqlite" not in front.features():
-        print("skipped: replicas need a front, and Go or SQLite's library for it is missing: bin/setup node\n0 passed, 0 failed")
+        print(
+            "skipped: replicas need a front, and Go or SQLite's library for it is missing: bin/setup node\n0 passed, 0 failed"
+        )
         return 0
     with tempfile.TemporaryDirectory(prefix="rbac-replica-") as folder:
         os.environ[front.PROGRAM] = front.build(folder)
@@ -27,9 +29,9 @@ def main(words):
 
         driving.build(folder)
         os.environ[driving.LONG] = "yes" if is_long(words) else ""
-        from replica import following
+        from replica import deciding, following, wrong
 
-        return run_all([*following.JOBS], words)
+        return run_all([*following.JOBS, *deciding.JOBS, *wrong.JOBS], words)
 
 
 if __name__ == "__main__":

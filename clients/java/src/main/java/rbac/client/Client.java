@@ -31,12 +31,11 @@ public final class Client extends Functions {
     volatile long createsUntil = System.nanoTime();
 
     private Client(Builder builder) {
-        var http =
-            HttpClient.newBuilder()
-                .version(HttpClient.Version.HTTP_1_1)
-                .followRedirects(HttpClient.Redirect.NEVER)
-                .proxy(HttpClient.Builder.NO_PROXY)
-                .connectTimeout(builder.timeout.dividedBy(2L * builder.addresses.size()));
+        var http = HttpClient.newBuilder()
+                       .version(HttpClient.Version.HTTP_1_1)
+                       .followRedirects(HttpClient.Redirect.NEVER)
+                       .proxy(HttpClient.Builder.NO_PROXY)
+                       .connectTimeout(builder.timeout.dividedBy(2L * builder.addresses.size()));
         if (builder.context != null) {
             http.sslContext(builder.context);
         }
@@ -219,10 +218,8 @@ public final class Client extends Functions {
     private <T> T answered(Course course, String function, String body, Reader<T> reader) {
         var address = addresses.get(course.place());
         var shown = token.get();
-        var answer =
-            course.isQuestion()
-                ? address.ask(function, body, shown, course.limit())
-                : address.send(function, body, shown, course.limit());
+        var answer = course.isQuestion() ? address.ask(function, body, shown, course.limit())
+                                         : address.send(function, body, shown, course.limit());
         return reader.read(answer.status, answer.text);
     }
 

@@ -136,7 +136,8 @@ final class Exchange {
     /** What reads the body of an answer. The answer has to state its length in exactly one way. */
     private static HttpResponse.BodySubscriber<byte[]> subscriber(HttpResponse.ResponseInfo head) {
         var lengths = head.headers().allValues("Content-Length");
-        var isRight = lengths.size() == 1 && lengths.get(0).matches("\\d{1,9}") && Integer.parseInt(lengths.get(0)) <= LONGEST_ANSWER;
+        var isRight =
+            lengths.size() == 1 && lengths.get(0).matches("\\d{1,9}") && Integer.parseInt(lengths.get(0)) <= LONGEST_ANSWER;
         if (!isRight || !head.headers().allValues("Transfer-Encoding").isEmpty()) {
             return new Refusing("the answer has a length of " + lengths);
         }

@@ -9,25 +9,23 @@ interface Reader<T> {
     T read(int status, String text);
 
     /** That of a command without a value. */
-    Reader<Void> DONE =
-        (status, text) -> {
-            if (status == 200 && text.equals("{\"ok\":true}")) {
-                return null;
-            }
-            throw refusal(status, text);
-        };
+    Reader<Void> DONE = (status, text) -> {
+        if (status == 200 && text.equals("{\"ok\":true}")) {
+            return null;
+        }
+        throw refusal(status, text);
+    };
 
     /** That of a decision: true only after the one answer that allows. */
-    Reader<Boolean> ACCESS =
-        (status, text) -> {
-            if (status == 200 && text.equals("{\"ok\":true,\"value\":true}")) {
-                return true;
-            }
-            if (status == 200 && text.equals("{\"ok\":true,\"value\":false}")) {
-                return false;
-            }
-            throw refusal(status, text);
-        };
+    Reader<Boolean> ACCESS = (status, text) -> {
+        if (status == 200 && text.equals("{\"ok\":true,\"value\":true}")) {
+            return true;
+        }
+        if (status == 200 && text.equals("{\"ok\":true,\"value\":false}")) {
+            return false;
+        }
+        throw refusal(status, text);
+    };
 
     Reader<List<String>> NAMES = (status, text) -> value(status, text, json -> json.list(json::text));
 
@@ -71,16 +69,14 @@ interface Reader<T> {
         json.need(",\"assigned\":");
         var assigned = json.number();
         json.need(",\"refused\":");
-        var refused =
-            json.list(
-                () -> {
-                    json.need("{\"code\":");
-                    var code = (int) json.number();
-                    json.need(",\"record\":");
-                    var record = json.number();
-                    json.need("}");
-                    return new ImportReport.RefusedRecord(record, code);
-                });
+        var refused = json.list(() -> {
+            json.need("{\"code\":");
+            var code = (int) json.number();
+            json.need(",\"record\":");
+            var record = json.number();
+            json.need("}");
+            return new ImportReport.RefusedRecord(record, code);
+        });
         json.need("}");
         return new ImportReport(already, assigned, refused);
     }
