@@ -29,9 +29,10 @@ def main(words):
 
         driving.build(folder)
         os.environ[driving.LONG] = "yes" if is_long(words) else ""
-        from replica import deciding, following, wrong
+        from replica import deciding, following, forms, page, wrong
 
-        return run_all([*following.JOBS, *deciding.JOBS, *wrong.JOBS], words)
+        modules = [following, deciding, wrong, page, forms]
+        return run_all([job for module in modules for job in module.JOBS], words)
 
 
 if __name__ == "__main__":

@@ -244,8 +244,9 @@ def faults_of_form(text):
     """What is wrong with the form of a text, by its lines: indents by two, short lines, double quotes, semicolons, no blanks at ends."""
     if not text.endswith("\n") or text.endswith("\n\n") or "\n\n\n" in text:
         yield 0, "empty lines, or no end of a line"
-    before = 0
-    for number, line in enumerate(text.splitlines(), 1):
+    before, lines = 0, text.splitlines()
+    for number, line in enumerate(lines, 1):
+        goes_on = "".join(lines[number : number + 1]).lstrip().startswith(("?", ".", "|", "&"))
         indent = len(line) - len(line.lstrip(" "))
         is_comment = line.lstrip().startswith(("*", "//", "/*"))
         if len(line) > MOST_COLUMNS or line != line.rstrip() or "\t" in line or "\r" in line:
@@ -254,7 +255,9 @@ def faults_of_form(text):
             yield number, f"an indent of {indent} after {before}"
         if not is_comment and re.search(r"^[^\"`/]*'[^\"']*'", line):
             yield number, "single quotes"
-        if re.search(r"^\s*(const|let|return|throw|import|break|continue)\b.*[\w)\]\"`]$", line.partition(" // ")[0]):
+        if not goes_on and re.search(
+            r"^\s*(const|let|return|throw|import|break|continue)\b.*[\w)\]\"`]$", line.partition(" // ")[0]
+        ):
             yield number, "no semicolon"
         if re.search(r"(?<!\.)\b(if|for|while|switch|catch)\(|\)\{|\belse\{|\bvar ", line) and not is_comment:
             yield number, "no blank before a parenthesis or a brace, or `var`"
