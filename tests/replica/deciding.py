@@ -37,7 +37,8 @@ def revisions(bench, language):
                 bench.same("a revision that is there", driver.reason(*asked, revision), "allowed")
                 start = time.monotonic()
                 bench.same(f"one that is not, {otherwise}", driver.reason(*asked, revision + 1), reason)
-                bench.same(f"it waited, {otherwise}", time.monotonic() - start >= 0.5, otherwise == "wait")
+                if otherwise == "wait":
+                    bench.same("it waited", time.monotonic() - start >= 0.5, True)
                 seen = driver.do("call", user=f"new {otherwise}")["revision"]
                 bench.same("the revision after a command", seen, revision + 1)
                 if otherwise == "wait":
