@@ -12,7 +12,7 @@ from stopped.running import checks_of, is_long, run_all
 # Debian's Python has Debian's Selenium.
 DEBIAN_PYTHON = "/usr/bin/python3"
 NEEDED = ["chromium", "chromedriver"]
-MODULES = ["looks", "pages", "hostile", "rights", "tasks", "lost"]
+MODULES = ["looks", "pages", "trying", "reviews", "hostile", "rights", "tasks", "lost"]
 WORKERS = 2
 
 # The variable that says where the pictures of the pages are written.

@@ -2,7 +2,7 @@
 
 import time
 
-from front.identities import bearer, reload, rules, secured, tls_words
+from front.identities import CERTIFICATES, bearer, openssl, reload, rules, secured, tls_words
 from front.program import Front, until
 from front.sessions import digest_of
 from program.bench import TESTS
@@ -82,6 +82,7 @@ def rights(bench, language):
     """Over TLS with a token: without its rights a replica denies, also if it may ask, and follows again when it has them back."""
     Office(bench).replay(BANK)
     asked = ("ann 1", "open", "vault")
+    openssl(bench, CERTIFICATES)
     with secured(bench, *tls_words(bench)[:4], rights=RIGHTS) as front:
         for otherwise in ("ask", "deny"):
             with Driven(bench, language) as driver:

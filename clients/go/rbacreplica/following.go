@@ -2,6 +2,7 @@ package rbacreplica
 
 import (
 	"context"
+	"encoding/json"
 	"errors"
 	"fmt"
 	"math/rand"
@@ -16,6 +17,8 @@ const (
 	longestWatch = 10 * time.Minute
 	// firstPause is that before the front is asked again after a second failure. Each further one is twice as long.
 	firstPause, longestPause = 50 * time.Millisecond, time.Second
+	// young is for how long the roles of a session that began without some may still be on their way; so many such are kept.
+	young, mostYoung = 2 * time.Second, 4_096
 )
 
 // aboutSessions are the beginnings of the commands that the revision of the policy doesn't count.
@@ -133,7 +136,10 @@ func (r *Replica) load(ctx context.Context, place int) error {
 		r.office.Close()
 	}
 	r.office, r.number, r.revision, r.place = office, snapshot.Number, snapshot.Revision, place
-	r.fresh, r.ahead = momentOf(snapshot.Asked), promise{}
+	r.fresh, r.young = momentOf(snapshot.Asked), nil
+	for _, line := range snapshot.Lines {
+		r.noteSession(line)
+	}
 	r.hasChanged()
 	return nil
 }
@@ -177,10 +183,10 @@ func (r *Replica) newest(event rbacclient.Event) error {
 	switch {
 	case event.Number < r.number:
 		return diverged("the newest number is %d, and the copy has %d", event.Number, r.number)
-	case event.Number == r.number:
+	default:
+		// All commands up to that number were sent. On several machines those that were refused have numbers too.
+		r.number = event.Number
 		r.isFresh(at)
-	case r.ahead.number <= r.number:
-		r.ahead = promise{event.Number, at}
 	}
 	return nil
 }
@@ -201,22 +207,33 @@ func (r *Replica) isFresh(at time.Time) {
 func (r *Replica) accepted(event rbacclient.Event) error {
 	r.mu.Lock()
 	defer r.mu.Unlock()
-	if event.Number != r.number+1 {
+	if event.Number <= r.number {
 		return diverged("the front has sent number %d after %d", event.Number, r.number)
 	}
 	if err := do(r.office, event.Line); err != nil {
 		r.forget() // Nobody may decide by what is left.
 		return err
 	}
-	r.number++
+	r.number = event.Number
 	if !isAboutSession(event.Line) {
 		r.revision++
 	}
-	if r.number == r.ahead.number {
-		r.isFresh(r.ahead.at)
-	}
+	r.noteSession(event.Line)
 	r.hasChanged()
 	return nil
+}
+
+// noteSession notes a session that begins without roles: the front makes it so, and activates one role after the other. The caller
+// holds the lock.
+func (r *Replica) noteSession(text []byte) {
+	var line snapshotLine
+	if !isAboutSession(text) || json.Unmarshal(text, &line) != nil || line.Fn != "createSession" || len(line.Roles) > 0 {
+		return
+	}
+	if r.young == nil || len(r.young) >= mostYoung {
+		r.young = map[string]time.Time{}
+	}
+	r.young[line.Session] = time.Now()
 }
 
 // isAboutSession reports whether a line is about one session.

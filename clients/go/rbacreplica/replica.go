@@ -78,17 +78,11 @@ type Replica struct {
 	revision uint64
 	place    int // the address that the copy is from; -1 if it is to be made anew
 	fresh    moment
-	ahead    promise
+	young    map[string]time.Time // when sessions came that may not have all of their roles yet
 	trouble  *rbacclient.Error
 	failures int
 	changed  chan struct{} // closed at the next change, if somebody waits for it
 	counts   map[rbacclient.Reason]uint64
-}
-
-// promise is what the front has said: all that was accepted at a moment is in the copy once it has a number.
-type promise struct {
-	number uint64
-	at     time.Time
 }
 
 // Open makes a replica, which begins to follow the front. Ready waits until it decides.
@@ -223,6 +217,10 @@ func (r *Replica) decide(revision uint64, name, operation, object string) (Decis
 	isAllowed, err := r.office.Check(name, operation, object)
 	decision := Decision{Decision: decisionOf(isAllowed, err), Age: r.fresh.age(now), Number: r.number}
 	if decision.Reason == rbacclient.EndedSession {
+		return decision, false
+	}
+	// A session that has just come may get its roles only now.
+	if came, isYoung := r.young[name]; isYoung && decision.Reason == rbacclient.Denied && now.Sub(came) < young {
 		return decision, false
 	}
 	r.counts[decision.Reason]++

@@ -6,6 +6,7 @@ needs the rights `snapshot` and `watch`, so it gets the whole policy. docs/INTEG
 
 import enum
 import functools
+import json
 import logging
 import math
 import os
@@ -38,6 +39,9 @@ _PAUSE, _LONGEST_PAUSE = 0.05, 1.0
 
 # The commands that the revision of the policy doesn't count.
 _ABOUT_SESSIONS = (b'{"fn":"createSession"', b'{"fn":"deleteSession"', b'{"fn":"addActiveRole"', b'{"fn":"dropActiveRole"')
+
+# For how many seconds the roles of a session that began without some may still be on their way, and how many such are kept.
+_YOUNG, _MOST_YOUNG = 2.0, 4_096
 
 # Why the front refuses to be followed at all.
 _NO_RIGHT = (Reason.UNAUTHENTICATED, Reason.FORBIDDEN)
@@ -112,8 +116,9 @@ class Replica(Office):
         self._lock = threading.Lock()
         self._changed = threading.Condition(self._lock)
         self._copy: Optional[_Copy] = None
-        # When the copy had all that was accepted, and the number that it has to reach before it has all of a later moment.
-        self._fresh, self._ahead = -math.inf, (0, -math.inf)
+        # When the copy had all that was accepted, and when it got the sessions that may not have all of their roles yet.
+        self._fresh = -math.inf
+        self._young: Dict[str, float] = {}
         self._trouble: Optional[Error] = Unexpected("nothing was loaded yet", Reason.UNAVAILABLE)
         self._failures = 0
         # How many decisions `may` has made by itself: those that deny, and those that allow.
@@ -172,8 +177,9 @@ class Replica(Office):
                 copy = self._copy
                 if copy is not None and now() - self._fresh <= self._oldest and copy.revision >= at_least:
                     is_allowed: bool = copy.office.check(name, operation, object)
-                    self._made[is_allowed] += 1
-                    return is_allowed
+                    if is_allowed or name not in self._young:
+                        self._made[is_allowed] += 1
+                        return is_allowed
         except Exception:  # The decision says what it is.
             pass
         return self.check(session, operation, object, at_least).allowed
@@ -213,7 +219,9 @@ class Replica(Office):
                 detail = f"{error.code} {error.name}"
                 return ReplicaDecision(reason, detail, error.code, age, copy.number), reason is not Reason.ENDED_SESSION
             number = copy.number
-        return ReplicaDecision(Reason.ALLOWED if is_allowed else Reason.DENIED, "", None, age, number), True
+            # A session that has just come may get its roles only now.
+            is_young = not is_allowed and now() - self._young.get(name, -math.inf) < _YOUNG
+        return ReplicaDecision(Reason.ALLOWED if is_allowed else Reason.DENIED, "", None, age, number), not is_young
 
     def _behind(self, at_least: int) -> Optional[ReplicaDecision]:
         """The decision if the copy may not decide. The caller has the lock."""
@@ -291,7 +299,10 @@ class Replica(Office):
         made = _Copy(office_of(snapshot.lines), snapshot.number, snapshot.revision, place)
         with self._changed:
             if not self._closing.is_set():
-                self._copy, self._fresh, self._ahead = made, snapshot.asked, (0, -math.inf)
+                self._copy, self._fresh = made, snapshot.asked
+                self._young.clear()
+                for line in snapshot.lines:
+                    self._note_session(line)
             self._changed.notify_all()
 
     def _follow(self, place: int) -> None:
@@ -320,10 +331,9 @@ class Replica(Office):
             moment = asked if event.moment is None else min(event.moment, now())
             if event.number < self._copy.number:
                 raise _Diverged(f"the newest number is {event.number}, and the copy has {self._copy.number}")
-            if event.number == self._copy.number:
-                self._is_fresh(moment)
-            elif self._ahead[0] <= self._copy.number:
-                self._ahead = event.number, moment
+            # All commands up to that number were sent. On several machines those that were refused have numbers too.
+            self._copy.number = event.number
+            self._is_fresh(moment)
 
     def _is_fresh(self, moment: float) -> None:
         """The copy had all that was accepted at a moment. The caller has the lock."""
@@ -338,18 +348,27 @@ class Replica(Office):
             copy = self._copy
             if copy is None:
                 return
-            if event.number != copy.number + 1:
+            if event.number <= copy.number:
                 raise _Diverged(f"the front has sent number {event.number} after {copy.number}")
             try:
                 answer_to(copy.office, line)
             except Exception as error:  # Nobody may decide by what is left.
                 self._copy, self._fresh = None, -math.inf
                 raise _Diverged(str(error) or repr(error)) from error
-            copy.number += 1
+            copy.number = event.number
             copy.revision += not line.startswith(_ABOUT_SESSIONS)
-            if copy.number == self._ahead[0]:
-                self._is_fresh(self._ahead[1])
+            self._note_session(line)
             self._changed.notify_all()
+
+    def _note_session(self, line: bytes) -> None:
+        """Notes a session that begins without roles: the front makes it so, and activates one role after the other."""
+        if not line.startswith(_ABOUT_SESSIONS[0]):
+            return
+        value = json.loads(line)
+        if not value["roles"]:
+            if len(self._young) >= _MOST_YOUNG:
+                self._young.clear()
+            self._young[value["session"]] = now()
 
     def _drop(self, error: Error) -> None:
         """Forgets the copy."""

@@ -82,7 +82,7 @@ func (q Query) of(columns []string, rows []Row) (found []Row, hasMore bool) {
 	}
 	if len(q.After) > 0 {
 		after := rowOf(q.After)
-		if i := sort.Search(len(rows), func(i int) bool { return after.isBefore(rows[i]) }); i > start {
+		if i := sort.Search(len(rows), func(i int) bool { return after.IsBefore(rows[i]) }); i > start {
 			start = i
 		}
 	}

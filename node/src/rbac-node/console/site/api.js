@@ -8,7 +8,7 @@ let reason = "";
 export class Refused extends Error {
     constructor(status, answer) {
         super(answer.error ?? `status ${status}`);
-        Object.assign(this, { status, code: answer.code ?? 0, set: answer.set, kind: answer.kind });
+        Object.assign(this, { status, code: answer.code ?? 0, set: answer.set, kind: answer.kind, line: answer.line });
     }
 }
 
@@ -45,7 +45,7 @@ async function answerOf(reply) {
         throw new Refused(reply.status, {});
     }
     if (!reply.ok) {
-        throw new Refused(reply.status, answer);
+        throw new Refused(reply.status, { ...answer, line: reply.headers.get("Office-Line") });
     }
     return answer;
 }
@@ -147,6 +147,26 @@ export async function record(query) {
 
 export async function endSession(digest) {
     return answerOf(await send("DELETE", `sessions/${digest}`, undefined, reasonField()));
+}
+
+/** Tries commands over a copy of the office, and returns what they would change. */
+export async function whatIf(lines) {
+    return (await answerOf(await send("POST", "what-if", lines.join("\n")))).value;
+}
+
+/** Does lines if the policy still has a revision, and returns their answers. */
+export async function doAll(lines, revision, why = reason) {
+    const fields = { "If-Policy-Revision": String(revision), ...(why ? { "Office-Reason": bytesOf(why) } : {}) };
+    const reply = await send("POST", "v1/batch", lines.join("\n"), fields);
+    if (!reply.ok) {
+        await answerOf(reply);
+    }
+    return (await reply.text()).trim().split("\n").map((line) => JSON.parse(line));
+}
+
+/** Records that a review has ended, and returns the number of its entry. */
+export async function endReview(values) {
+    return (await answerOf(await send("POST", "reviews", JSON.stringify(values)))).value.number;
 }
 
 /** Returns the condition of the front. It needs no identity. */

@@ -51,6 +51,12 @@ export function plain(text) {
     return partsOf(text).map((part) => part.text ?? `[${part.code}]`).join("");
 }
 
+/** Returns a value as JSON in which each character that can't be seen is written as a code. */
+export function json(value) {
+    const units = (letter) => [...letter.split("")].map((unit) => `\\u${unit.charCodeAt(0).toString(16).padStart(4, "0")}`).join("");
+    return JSON.stringify(value).replace(new RegExp(HIDDEN.source, "gu"), units);
+}
+
 /** Returns a link to a page by its segments. */
 export function link(segments, child) {
     return h("a", { href: hashOf(segments) }, child);
