@@ -176,5 +176,6 @@ def check_places(bench):
         links = re.findall(r"\]\(([^):#]+)\)", text)
         bench.same(f"links of {name} to nothing", [link for link in links if not (folder / link).exists()], [])
         paths = re.findall(rf"(?<![\w/.])(?:{'|'.join(FOLDERS)}|\.ci)/[\w./-]*", text)
-        paths = [path.rstrip(".") for path in paths if "NAME" not in path]
+        # What a command of a page builds is no file of the repository.
+        paths = [path.rstrip(".") for path in paths if "NAME" not in path and not path.endswith(".so")]
         bench.same(f"paths of {name} to nothing", [path for path in paths if not (ROOT / path).exists()], [])
