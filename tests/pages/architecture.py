@@ -73,7 +73,7 @@ def check_lines(bench):
         print("architecture: this is no working copy of git: the lines of files are not counted")
         return
     listed = subprocess.run(
-        ["git", "-C", str(ROOT), "ls-files", "-z", ":!crates"], capture_output=True, text=True, check=True
+        ["git", "-C", str(ROOT), "ls-files", "-z", ":!crates", ":!release"], capture_output=True, text=True, check=True
     ).stdout
     paths = [path for path in map(ROOT.joinpath, listed.split("\0")[:-1]) if path.is_file() and path.suffix in CODE]
     checked = 0
