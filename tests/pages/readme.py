@@ -22,7 +22,7 @@ PARTS_OF_STD = {"core", "libc", "std_alloc"}
 
 # The pages of which each path and each link has to lead somewhere.
 LINKED = ["README.md", "CHANGELOG.md", "CONTRIBUTING.md", "SECURITY.md"]
-LINKED += [f"docs/{name}.md" for name in ("API", "AUDITING", "CONTRACTS", "INTEGRATING", "OPERATING")]
+LINKED += [f"docs/{name}.md" for name in ("API", "AUDITING", "CONTRACTS", "INTEGRATING", "NGINX", "OPERATING")]
 
 # The folders of the repository that pages name.
 FOLDERS = "bench bin clients completions crates deploy docs examples tests tools".split()

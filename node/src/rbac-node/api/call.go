@@ -50,6 +50,8 @@ type Call struct {
 	Line  []byte
 	// Caller is who asks, and Reason why, if it has said so.
 	Caller, Reason string
+	// Seen is called when the call has been answered, at its place in the order. It must not wait. It may be nil.
+	Seen func()
 }
 
 // ParseLine reads a line that names its function.
@@ -141,7 +143,7 @@ func (c *Call) write(cardinality []byte) error {
 
 // fieldsOf reads an object of JSON, and refuses what the office refuses as no JSON, even at keys that it ignores.
 func fieldsOf(text []byte) (found map[string]json.RawMessage, err error) {
-	if found, isFlat := flatFields(text); isFlat {
+	if found, isPlain := plainFields(text); isPlain {
 		return found, nil
 	}
 	if !isStrict(text) || json.Unmarshal(text, &found) != nil || found == nil {
@@ -224,11 +226,22 @@ func textOf(value json.RawMessage) (text string, err error) {
 	return text, nil
 }
 
-// textsOf returns the texts of a list that is written as JSON.
-func textsOf(value json.RawMessage) ([]string, error) {
-	var list []json.RawMessage
+// itemsOf returns the values of a list that is written as JSON.
+func itemsOf(value json.RawMessage) (list []json.RawMessage, err error) {
+	if list, isPlain := plainItems(value); isPlain {
+		return list, nil
+	}
 	if json.Unmarshal(value, &list) != nil || list == nil {
 		return nil, badRequest(http.StatusBadRequest)
+	}
+	return list, nil
+}
+
+// textsOf returns the texts of a list that is written as JSON.
+func textsOf(value json.RawMessage) ([]string, error) {
+	list, err := itemsOf(value)
+	if err != nil {
+		return nil, err
 	}
 	texts := make([]string, len(list))
 	for i, one := range list {
