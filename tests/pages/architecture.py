@@ -10,7 +10,7 @@ PAGE = markdown.page("ARCHITECTURE.md")
 
 # The most bytes of a page that is read as a whole. These are longer: each is a reference, or is to be split.
 MOST_BYTES = 20 * 1024
-LONGER = {"API.md", "CLUSTER.md", "CONTRACTS.md", "DECISIONS.md", "FRONT.md", "OPERATING.md", "PROOFS.md"}
+LONGER = {"API.md", "CLUSTER.md", "CONTRACTS.md", "DECISIONS.md", "REQUESTS.md"}
 
 # What a build leaves.
 OUT = "out"
