@@ -67,13 +67,16 @@ func (f *Follower) Resume(ctx context.Context, head string, isFetched bool) erro
 
 func (f *Follower) resume(ctx context.Context, text string, isFetched bool) error {
 	has, err := hasRecord(f.dir)
-	if err != nil && !errors.Is(err, errNoFile) {
+	if errors.Is(err, errNoFile) {
+		has, err = false, nil // A crash has left earlier parts alone, or somebody has moved the file away.
+	}
+	if err != nil {
 		return err
 	}
+	if text == "" && has {
+		return f.openAt(ctx, Head{})
+	}
 	if text == "" {
-		if has && err == nil {
-			return f.openAt(ctx, Head{})
-		}
 		return nil
 	}
 	head, err := ParseHead(text)

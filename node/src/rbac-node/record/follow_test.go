@@ -231,6 +231,18 @@ func TestJoin(t *testing.T) {
 			if again := second.entries(); again != has || second.Failure() != nil {
 				t.Errorf("it has\n%s, %v", again, second.Failure())
 			}
+			// A crash has left nothing but an earlier part.
+			second.flush("NORMAL")
+			_ = second.Close()
+			if err := os.Rename(filepath.Join(second.dir, fileName), partPath(second.dir, 1, 2)); err != nil {
+				t.Fatal(err)
+			}
+			second.start(path)
+			second.resume(head, true)
+			second.do(rest...)
+			if second.Failure() != nil || strings.Count(second.entries(), "assignUser") == 0 {
+				t.Errorf("%v, it has\n%s", second.Failure(), second.entries())
+			}
 			third := newMachine(t, path)
 			third.resume(head, true)
 			third.do(rest...)
