@@ -43,7 +43,7 @@ WORDS |= {"minLength", "maxLength", "minItems", "maxItems", "uniqueItems", "mini
 PYTHON = {"object": dict, "array": list, "string": str, "boolean": bool, "integer": int}
 
 # What only the front answers: the refusals by the table of docs/FRONT.md and by its sources, and paths of no function.
-OF_FRONT = [row[:2] for table in markdown.tables(markdown.section(markdown.page("FRONT.md"), "## 7. What clients see"))
+OF_FRONT = [row[:2] for table in markdown.tables(markdown.section(markdown.page("FRONT.md"), "## 5. What clients see"))
             for row in table if re.fullmatch(r"\d{3} [\w ]+", row[0])]  # fmt: skip
 SOURCE = sources.ROOT / "node/src/rbac-node/api/api.go"
 PATHS_OF_FRONT = {
@@ -65,6 +65,9 @@ PATHS_OF_FRONT = {
     "/record": ["get"],
     "/room": ["get"],
     "/picture": ["get"],
+    "/what-if": ["post"],
+    "/reviews": ["post"],
+    "/reports/{report}": ["post", "get"],
 }
 
 # The statuses of a conflict, and of a target or a method that no path here has.

@@ -111,7 +111,7 @@ func readAddress(text string, config *tls.Config) (*address, error) {
 	parsed, err := url.Parse(text)
 	if err != nil || parsed.Scheme != "http" && parsed.Scheme != "https" || parsed.Hostname() == "" ||
 		parsed.User != nil || strings.Trim(parsed.Path, "/") != "" || parsed.RawQuery != "" || parsed.Fragment != "" {
-		return nil, fmt.Errorf("rbacclient: %q is not an address such as https://localhost:8080 or unix:/run/rbac-front/socket", text)
+		return nil, fmt.Errorf("rbacclient: %q is not an address such as https://localhost:8080 or unix:/run/rbac/office.sock", text)
 	}
 	base := parsed.Scheme + "://" + parsed.Host + "/v1/"
 	return &address{base, transport(config, "", true), transport(config, "", false)}, nil

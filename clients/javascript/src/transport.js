@@ -96,7 +96,7 @@ function urlOf(text) {
   }
   const isPlain = !url.username && !url.password && url.pathname === "/" && !url.search && !url.hash && url.hostname;
   if (!["http:", "https:"].includes(url.protocol) || !isPlain) {
-    throw new TypeError(`${JSON.stringify(text)} is not an address such as https://localhost:8080 or unix:/run/rbac-front/socket`);
+    throw new TypeError(`${JSON.stringify(text)} is not an address such as https://localhost:8080 or unix:/run/rbac/office.sock`);
   }
   return url;
 }

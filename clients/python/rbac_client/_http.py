@@ -29,7 +29,7 @@ class Address:
             return cls("localhost", path=text[5:])
         parts = re.fullmatch(r"(https?)://([^\s/:@?#\[\]]+|\[[0-9A-Fa-f:.]+\])(?::(\d{1,5}))?/?", text)
         if not parts or int(parts[3] or 0) > 65_535:
-            raise ValueError(f"{text!r} is not an address such as https://localhost:8080 or unix:/run/rbac-front/socket")
+            raise ValueError(f"{text!r} is not an address such as https://localhost:8080 or unix:/run/rbac/office.sock")
         is_tls = parts[1] == "https"
         return cls(parts[2].strip("[]"), int(parts[3] or (443 if is_tls else 80)), is_tls)
 

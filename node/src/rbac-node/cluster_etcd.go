@@ -164,7 +164,7 @@ func (s *clusterSettings) serveNode(ctx context.Context, log *ledger.Ledger, eve
 		return err
 	}
 	defer f.Close()
-	s.IsOpen = s.common.callers.Callers == ""
+	s.IsOpen, s.SessionAge = s.common.callers.Callers == "", s.common.sessionAge
 	if !s.common.record.isOff {
 		s.Record = records.follow(s.common, s.Data, s.Options.File(), events, registry)
 	}

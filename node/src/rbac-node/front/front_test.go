@@ -24,9 +24,9 @@ import (
 // An echo is an office that answers each call with its line, and the opening question with nothing special.
 type echo struct{ asked []string }
 
-func (e *echo) Ask(_ context.Context, _ api.Kind, call *api.Call) (api.Answer, error) {
-	e.asked = append(e.asked, string(call.Line))
-	return api.Answer{Text: []byte(`{"ok":true}`)}, nil
+func (e *echo) Do(_ context.Context, b api.Batch) (api.Answers, error) {
+	e.asked = append(e.asked, string(b.Calls[0].Line))
+	return api.Answers{Texts: [][]byte{[]byte(`{"ok":true}`)}}, nil
 }
 
 func (e *echo) ServeHealth(w http.ResponseWriter, _ *http.Request) {

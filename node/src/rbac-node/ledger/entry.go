@@ -4,8 +4,11 @@ import (
 	"bytes"
 	"context"
 	"encoding/json"
+	"errors"
 
 	"go.etcd.io/etcd/clientv3"
+
+	"rbac-node/api"
 )
 
 // Form is the newest form of entries that this program reads. An entry of form 1 has lines of commands alone. One of form 2 has
@@ -23,6 +26,8 @@ type Unit struct {
 	Caller string `json:"by"`
 	At     string `json:"at"`
 	Reason string `json:"why,omitempty"`
+	// Rule says which of the lines are done, if not all are. An entry of form 1 can't have one.
+	Rule *api.Rule `json:"rule,omitempty"`
 	// Lines are requests: each begins with `{"fn":`.
 	Lines [][]byte `json:"-"`
 }
@@ -51,6 +56,9 @@ var beginsUnit = []byte(`{"by":`)
 func textOf(units []Unit, form int) (string, error) {
 	var lines [][]byte
 	for _, u := range units {
+		if form == 1 && u.Rule != nil {
+			return "", errors.New("an entry of form 1 has no rules")
+		}
 		if form > 1 {
 			head, err := json.Marshal(u)
 			if err != nil {
@@ -107,3 +115,6 @@ func (l *Ledger) Raise(ctx context.Context, s State) (bool, error) {
 	l.form.Store(reply.Header.Revision)
 	return true, nil
 }
+
+// HasRules reports whether units may have rules: all nodes read them.
+func (l *Ledger) HasRules() bool { return l.form.Load() > 0 }

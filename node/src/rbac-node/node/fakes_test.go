@@ -69,6 +69,10 @@ func (l *fakeLog) State(context.Context) (ledger.State, error) {
 
 func (l *fakeLog) Trim(context.Context, ledger.State, int64) (int64, error) { return 0, nil }
 
+func (l *fakeLog) HasRules() bool { return true }
+
+func (l *fakeLog) First(context.Context) (int64, error) { return 1000, nil }
+
 func (l *fakeLog) Raise(context.Context, ledger.State) (bool, error) { return false, nil }
 
 func (l *fakeLog) Register(_ context.Context, member ledger.Member) error {
@@ -175,7 +179,7 @@ func newNode(t *testing.T) (*Node, *fakeLog, *fakeReplay) {
 	if err != nil {
 		t.Fatal(err)
 	}
-	n.replay = first
+	n.replay, n.state = first, nil // There are no rows to read.
 	n.open = func() (replay, error) { return newFakeReplay(), nil }
 	return n, log, first
 }
@@ -209,7 +213,14 @@ func entry(revision int64, lines ...string) ledger.Entry {
 	return ledger.Entry{Revision: revision, ID: fmt.Sprint(revision), Units: []ledger.Unit{u}}
 }
 
-func call(line string) *api.Call { return &api.Call{Line: []byte(line)} }
+// of returns a batch of one call.
+func of(kind api.Kind, line string) api.Batch {
+	call := &api.Call{Kind: kind, Line: []byte(line)}
+	if kind == api.Local {
+		call.Kind = api.Question
+	}
+	return api.NewBatch(kind, call)
+}
 
 func member(name string, snapshots ...office.Snapshot) ledger.Member {
 	return ledger.Member{Name: name, Snapshots: snapshots}

@@ -39,7 +39,11 @@ func (n *Node) takeSnapshot() error {
 	if err := n.reopen(); err != nil {
 		return err
 	}
-	n.copies <- copied{file, office.Snapshot{Revision: n.revision, Count: n.count, Record: n.head()}}
+	made := office.Snapshot{Revision: n.revision, Count: n.count, Record: n.head()}
+	if n.order.isExact {
+		made.Policy = n.order.numbers.Policy
+	}
+	n.copies <- copied{file, made}
 	return nil
 }
 
@@ -114,7 +118,12 @@ func (n *Node) look(ctx context.Context) error {
 	if err != nil {
 		return err
 	}
-	if err := n.judge(state.Members); err != nil {
+	for i, member := range state.Members { // They are in the order of their names.
+		if member.Name == n.options.Name {
+			n.rank.Store(int64(i))
+		}
+	}
+	if err := n.judgeSnapshots(state.Members); err != nil {
 		return err
 	}
 	raised, err := n.shared.Raise(ctx, state)
@@ -131,8 +140,8 @@ func (n *Node) look(ctx context.Context) error {
 	return err
 }
 
-// judge makes this node refuse to serve while most nodes do not have its snapshots.
-func (n *Node) judge(members []ledger.Member) error {
+// judgeSnapshots makes this node refuse to serve while most nodes do not have its snapshots.
+func (n *Node) judgeSnapshots(members []ledger.Member) error {
 	own, err := n.store.List()
 	if err != nil {
 		return err

@@ -6,9 +6,7 @@
 package node
 
 import (
-	"bytes"
 	"context"
-	"errors"
 	"fmt"
 	"net/http"
 	"path/filepath"
@@ -24,6 +22,7 @@ import (
 	"rbac-node/metrics"
 	"rbac-node/office"
 	"rbac-node/recorded"
+	"rbac-node/state"
 )
 
 const (
@@ -44,6 +43,8 @@ type Log interface {
 	State(ctx context.Context) (ledger.State, error)
 	Trim(ctx context.Context, state ledger.State, needless int64) (floor int64, err error)
 	Raise(ctx context.Context, state ledger.State) (bool, error)
+	HasRules() bool
+	First(ctx context.Context) (int64, error)
 	Register(ctx context.Context, member ledger.Member) error
 	UseLeader(ctx context.Context)
 }
@@ -78,6 +79,8 @@ type Options struct {
 	Fetch *http.Client
 	// IsOpen says that everybody who can connect may do everything.
 	IsOpen bool
+	// SessionAge is after how much time a session ends. Zero is never.
+	SessionAge time.Duration
 	// Record is nil if the node keeps none.
 	Record recorded.Follower
 }
@@ -100,6 +103,11 @@ type Node struct {
 	copies chan copied
 	// pending has the batches of this node that may come from the log, by their names.
 	pending sync.Map
+	// progress is that of the replay, order what its answers say, and state what they say about the office, or nil if this program can't
+	// read the rows of one.
+	progress progress
+	order    order
+	state    *state.State
 
 	// tasks has what the goroutine that feeds the replay has to do. The other fields belong to that goroutine: held has
 	// the tasks that wait until entries are fed. revision and count are those of what was fed, bytes counts since the
@@ -122,9 +130,10 @@ type Node struct {
 	// heard is when the newest read of the log began whose entries all have their answers, in nanoseconds since the
 	// start, or -1.
 	heard atomic.Int64
-	// snapshot is the revision of the newest snapshot, and seen that of the newest entry that is known. stage says what a start does.
-	snapshot, seen atomic.Int64
-	stage          atomic.Value
+	// snapshot is the revision of the newest snapshot, seen that of the newest entry that is known, and rank how many nodes come before
+	// this one in the order of their names. stage says what a start does.
+	snapshot, seen, rank atomic.Int64
+	stage                atomic.Value
 	// differs is the text that describes where this node differs from most others, or empty.
 	differs atomic.Value
 }
@@ -154,6 +163,9 @@ func New(options Options, shared Log, log *logs.Logger, registry *metrics.Regist
 		},
 	}
 	n.open = func() (replay, error) { return office.Start(options.Program, n.file(), options.HangTimeout) }
+	if state.IsAvailable {
+		n.state = state.New(state.Numbers{})
+	}
 	n.heard.Store(-1)
 	n.applied.Store(&place{})
 	n.differs.Store("")
@@ -172,7 +184,9 @@ func (n *Node) Run(life context.Context) error {
 		return fmt.Errorf("recovery: %w", err)
 	}
 	group, ctx := errgroup.WithContext(life)
-	for _, part := range []func(context.Context) error{n.feed, n.follow, n.appendCommands, n.confirm, n.confirm, n.keep} {
+	for _, part := range []func(context.Context) error{
+		n.feed, n.readLog, n.appendCommands, n.confirm, n.confirm, n.keep, n.expire,
+	} {
 		part := part
 		group.Go(func() error { return part(ctx) })
 	}
@@ -187,8 +201,8 @@ func (n *Node) Run(life context.Context) error {
 	return err
 }
 
-// follow feeds the entries of the log.
-func (n *Node) follow(ctx context.Context) error {
+// readLog feeds the entries of the log.
+func (n *Node) readLog(ctx context.Context) error {
 	return n.shared.Follow(ctx, n.applied.Load().revision, func(entry ledger.Entry) error {
 		return n.submit(ctx, task{0, func() { n.apply(entry) }})
 	})
@@ -218,7 +232,7 @@ func (n *Node) feed(ctx context.Context) error {
 			if err := n.replay.Close(); err != nil {
 				return err
 			}
-			return errors.New("the replay has ended")
+			return errReplayEnded
 		case <-n.recordFailed():
 			return n.options.Record.Failure()
 		case <-ctx.Done():
@@ -242,7 +256,11 @@ func (n *Node) feed(ctx context.Context) error {
 // send passes a line to the replay.
 func (n *Node) send(line []byte, answered func(answer []byte)) {
 	n.reads += office.ReadsOf(line)
-	n.replay.Send(line, answered)
+	n.progress.send()
+	n.replay.Send(line, func(text []byte) {
+		answered(text)
+		n.progress.answer()
+	})
 }
 
 // renew starts another replay when the one there is has answered everything.
@@ -274,52 +292,6 @@ func (n *Node) perform(one task) {
 	one.do()
 }
 
-// apply sends the commands of an entry to the replay, unless it already has them.
-func (n *Node) apply(entry ledger.Entry) {
-	if entry.Revision <= n.revision {
-		return
-	}
-	if n.err = n.beginRecord(entry); n.err != nil {
-		return
-	}
-	found, _ := n.pending.LoadAndDelete(entry.ID)
-	own, _ := found.(*batch)
-	before, lines := n.count, int64(len(entry.Lines()))
-	n.revision, n.count = entry.Revision, n.count+lines
-	reached, number := &place{n.revision, n.count}, 0
-	for _, unit := range entry.Units {
-		for _, line := range unit.Lines {
-			n.bytes += int64(len(line))
-			place, record := number, n.recording(unit, line)
-			number++
-			if len(line) > office.MaxLineBytes || len(bytes.TrimSpace(line)) == 0 {
-				n.log.Error("a line of the log is no command", "revision", entry.Revision, "place", place)
-				continue // All nodes skip it. No node has written it.
-			}
-			n.send(line, func(text []byte) {
-				record(text)
-				if own != nil {
-					own.answer(api.Answer{Text: text, Revision: entry.Revision, Place: place})
-				}
-				if place == int(lines)-1 {
-					n.applied.Store(reached)
-				}
-			})
-		}
-	}
-	// All nodes come to the same places: each place is reached from the one before it, and snapshots are only of
-	// places.
-	if before/n.options.SnapshotCommands != n.count/n.options.SnapshotCommands || n.bytes >= n.options.SnapshotBytes {
-		n.bytes = 0
-		n.err = n.takeSnapshot()
-	}
-	waiting := n.held
-	n.held = nil
-	for _, one := range waiting {
-		n.perform(one)
-	}
-}
-
 // pose sends questions to the replay. The age of an answer counts until the client gets it, however long the replay
 // takes.
 func (n *Node) pose(questions ...*request) {
@@ -328,10 +300,16 @@ func (n *Node) pose(questions ...*request) {
 		if !q.isWaiting() {
 			continue
 		}
-		reply := q.reply
-		n.send(q.call.Line, func(text []byte) {
-			reply <- api.Answer{Text: text, Revision: revision, Newest: n.newest()}
-		})
+		q, texts := q, make([][]byte, len(q.batch.Calls))
+		for i, call := range q.batch.Calls {
+			i := i
+			n.ask(call, func(text []byte) {
+				if texts[i] = text; i == len(texts)-1 {
+					at := api.Point{Revision: revision, Newest: n.newest(), Policy: n.order.numbers.Policy}
+					q.reply <- reply{answers: api.Answers{Texts: texts, Point: at}}
+				}
+			})
+		}
 	}
 }
 

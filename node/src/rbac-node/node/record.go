@@ -33,14 +33,10 @@ func (n *Node) beginRecord(entry ledger.Entry) error {
 	return n.reopen()
 }
 
-// recording returns what records the answer to a line of the log, if it is a command and there is a record.
-func (n *Node) recording(unit ledger.Unit, line []byte) func(answer []byte) {
+// recording returns what records the answer to a command of the log, if there is a record and a function.
+func (n *Node) recording(unit ledger.Unit, call *api.Call) func(answer []byte) {
 	record := n.options.Record
-	if record == nil || !n.isRecorded {
-		return func([]byte) {}
-	}
-	call, err := api.ParseLine(line)
-	if err != nil || call.Kind != api.Command {
+	if record == nil || !n.isRecorded || call.Function == "" {
 		return func([]byte) {}
 	}
 	record.Room()
@@ -82,12 +78,16 @@ func (n *Node) recordFailed() <-chan struct{} {
 	return n.options.Record.Failed()
 }
 
-// admit refuses a command that can't be recorded.
-func (n *Node) admit(kind api.Kind, call *api.Call) error {
-	if n.options.Record == nil || kind != api.Command {
-		return nil
+// admit refuses a batch with a command that can't be recorded.
+func (n *Node) admit(b api.Batch) error {
+	for _, call := range b.Calls {
+		if n.options.Record != nil && call.Kind == api.Command {
+			if err := n.options.Record.Admit(call); err != nil {
+				return err
+			}
+		}
 	}
-	return n.options.Record.Admit(call)
+	return nil
 }
 
 // Recorded returns entries of the record. It returns false if nothing is recorded.

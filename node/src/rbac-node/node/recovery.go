@@ -24,6 +24,16 @@ func (n *Node) resume(ctx context.Context) error {
 	if err := n.resumeRecord(ctx, base); err != nil {
 		return err
 	}
+	first, err := n.shared.First(ctx)
+	if err != nil {
+		return err
+	}
+	n.begin(base, first)
+	if n.state != nil {
+		if err := n.state.Load(ctx, n.file()); err != nil {
+			return err
+		}
+	}
 	if err := n.reopen(); err != nil {
 		return err
 	}
@@ -35,7 +45,7 @@ func (n *Node) resume(ctx context.Context) error {
 	if err != nil {
 		return err
 	}
-	return n.judge(state.Members)
+	return n.judgeSnapshots(state.Members)
 }
 
 // makeOffice makes the office in use from a snapshot, or an empty one.
