@@ -108,10 +108,10 @@ def faults_of(cluster, judge):
             asked = by_reason.get(entry.reason)
         if entry.request != recorded_text(line):
             faults.append(f"{entry} is not the command at {revision}, {place}: {line}")
-        elif not asked or (entry.caller, entry.reason, recorded_text(json.dumps(asked.line))) != (
-            asked.caller, asked.reason, entry.request
-        ):  # fmt: skip
+        elif not asked or (entry.caller, entry.reason) != (asked.caller, asked.reason):
             faults.append(f"{entry} was asked for by {asked}")
+        elif json.loads(entry.request) != json.loads(recorded_text(json.dumps(asked.line))):
+            faults.append(f"{entry} is not what was asked for: {asked}")
         elif asked.is_answered and entry.answer.encode() != asked.answer:
             faults.append(f"{entry} has another answer than {asked}")
     for i in range(MACHINES):

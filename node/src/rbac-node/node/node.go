@@ -119,8 +119,9 @@ type Node struct {
 	revision, count int64
 	bytes, reads    int64
 	err             error
-	// isRecorded says that the log has begun to say who asks.
+	// isRecorded says that the log has begun to say who asks, and resumed is the revision of the snapshot of the start.
 	isRecorded bool
+	resumed    int64
 
 	// isFed is set when that goroutine runs.
 	isFed atomic.Bool

@@ -19,12 +19,15 @@ func (n *Node) beginRecord(entry ledger.Entry) error {
 	if n.options.Record == nil || n.options.Record.HasBegun() {
 		return nil
 	}
+	within, cancel := context.WithTimeout(context.Background(), checkTimeout)
+	defer cancel()
+	if n.revision == n.resumed {
+		return n.options.Record.Begin(within, entry.Units[0].At, true)
+	}
 	if err := n.replay.Close(); err != nil {
 		return err
 	}
-	within, cancel := context.WithTimeout(context.Background(), checkTimeout)
-	defer cancel()
-	if err := n.options.Record.Begin(within, entry.Units[0].At); err != nil {
+	if err := n.options.Record.Begin(within, entry.Units[0].At, false); err != nil {
 		return err
 	}
 	return n.reopen()
@@ -53,7 +56,7 @@ func (n *Node) head() string {
 
 // resumeRecord goes on with the record after a snapshot, of which the office in use was made.
 func (n *Node) resumeRecord(ctx context.Context, base office.Snapshot) error {
-	n.isRecorded = base.Record != ""
+	n.isRecorded, n.resumed = base.Record != "", base.Revision
 	if n.options.Record == nil {
 		return nil
 	}

@@ -14,6 +14,9 @@ import (
 	"rbac-node/api"
 )
 
+// preparedName is the name of a mapped copy of the office with which the record may begin.
+const preparedName = "prepared"
+
 // mostQueued is how many entries may wait to be written.
 const mostQueued = 50_000
 
@@ -25,6 +28,8 @@ func DirIn(data string) string { return filepath.Join(data, "record") }
 // on a snapshot that has it: after a crash the commands since the snapshot come again, and have to give the entries that are there.
 type Follower struct {
 	*Record
+	// prepared is the part that begins with the office as it was at Resume.
+	prepared part
 	// writing is held by whoever writes entries. checked is the last entry up to which the file was read again.
 	writing sync.Mutex
 	checked entry
@@ -67,14 +72,17 @@ func (f *Follower) Resume(ctx context.Context, head string, isFetched bool) erro
 
 func (f *Follower) resume(ctx context.Context, text string, isFetched bool) error {
 	has, err := hasRecord(f.dir)
-	if err != nil && !errors.Is(err, errNoFile) {
+	if errors.Is(err, errNoFile) {
+		has, err = false, nil // A crash has left earlier parts alone, or somebody has moved the file away.
+	}
+	if err != nil {
 		return err
 	}
+	if text == "" && has {
+		return f.openAt(ctx, Head{})
+	}
 	if text == "" {
-		if has && err == nil {
-			return f.openAt(ctx, Head{})
-		}
-		return nil
+		return f.prepare(ctx)
 	}
 	head, err := ParseHead(text)
 	if err != nil {
@@ -164,15 +172,35 @@ func (f *Follower) HasBegun() bool {
 	return f.begun
 }
 
-// Begin begins the record with the office as it is now, which no program has open. If an earlier run has begun it, it has to have
-// begun in the same way.
-func (f *Follower) Begin(ctx context.Context, at string) error {
+// prepare makes the copy of the office with which the record begins if no command comes before, so that the first command that is
+// recorded doesn't wait for it.
+func (f *Follower) prepare(ctx context.Context) error {
+	if err := os.Mkdir(f.dir, 0o700); err != nil && !errors.Is(err, os.ErrExist) {
+		return err
+	}
+	return f.withCopy(ctx, func(copied, rows string) error {
+		f.prepared = part{1, beginning, "", rows}
+		return copyFile(copied, filepath.Join(f.dir, preparedName))
+	})
+}
+
+// Begin begins the record with the office as it is now, which no program has open unless it is as it was at Resume. If an earlier run
+// has begun it, it has to have begun in the same way.
+func (f *Follower) Begin(ctx context.Context, at string, isAsAtResume bool) error {
 	p := part{1, beginning, "", ""}
 	note := func(_, rows string) error { p.rows = rows; return nil }
 	var err error
-	if f.db != nil {
+	switch {
+	case f.db != nil:
 		err = f.withCopy(ctx, note)
-	} else if err = f.beginWith(ctx, p, at, note); err == nil {
+	case isAsAtResume:
+		p = f.prepared
+		err = makeFile(f.dir, p, at, filepath.Join(f.dir, preparedName))
+	default:
+		err = f.beginWith(ctx, p, at, note)
+	}
+	_ = os.Remove(filepath.Join(f.dir, preparedName)) // It may never have been there.
+	if err == nil && f.db == nil {
 		err = f.openAt(ctx, Head{})
 	}
 	if err != nil {

@@ -27,6 +27,8 @@ type machine struct {
 	*testing.T
 	*Follower
 	data string
+	// isPrepared says that the record has begun with the copy that was made before.
+	isPrepared bool
 }
 
 var _ recorded.Follower = (*Follower)(nil)
@@ -75,7 +77,9 @@ func (m *machine) resume(head string, isFetched bool) {
 // begin begins the record at a time that all machines have from the log.
 func (m *machine) begin() {
 	m.Helper()
-	if err := m.Begin(context.Background(), "2026-11-27T09:00:00.000Z"); err != nil {
+	// The office is as it was at the start: whether that is made use of makes no difference.
+	m.isPrepared = !m.isPrepared
+	if err := m.Begin(context.Background(), "2026-11-27T09:00:00.000Z", m.isPrepared); err != nil {
 		m.Fatal(err)
 	}
 }
@@ -143,6 +147,7 @@ func TestFollow(t *testing.T) {
 	first, second := newMachine(t, ""), newMachine(t, "")
 	before := []string{addAnn, `{"fn":"addUser","user":"bob"}`}
 	after := []string{addRole, login, assign, login, login}
+	second.isPrepared = true
 	for _, m := range []*machine{first, second} {
 		m.resume("", false)
 		if m.HasBegun() || m.Added() != "" {
@@ -230,6 +235,18 @@ func TestJoin(t *testing.T) {
 			second.do(rest...)
 			if again := second.entries(); again != has || second.Failure() != nil {
 				t.Errorf("it has\n%s, %v", again, second.Failure())
+			}
+			// A crash has left nothing but an earlier part.
+			second.flush("NORMAL")
+			_ = second.Close()
+			if err := os.Rename(filepath.Join(second.dir, fileName), partPath(second.dir, 1, 2)); err != nil {
+				t.Fatal(err)
+			}
+			second.start(path)
+			second.resume(head, true)
+			second.do(rest...)
+			if second.Failure() != nil || strings.Count(second.entries(), "assignUser") == 0 {
+				t.Errorf("%v, it has\n%s", second.Failure(), second.entries())
 			}
 			third := newMachine(t, path)
 			third.resume(head, true)
