@@ -1,5 +1,5 @@
 #!/usr/bin/env python3
-"""Tests the files of the folder deploy/: the backup, the health check, the unit, and the settings of nginx and HAProxy.
+"""Tests the files of the folder deploy/: the backup, the health check, the units, and the settings of nginx and HAProxy.
 
     deploy.py [--times] [WORD]
 
@@ -10,7 +10,7 @@ are not tested without it. `bin/setup deploy` installs these programs.
 
 import sys
 
-from deploy import backups, healths, installed, proxies, queues, units
+from deploy import backups, healths, installed, proxies, queues, units, whys
 from deploy.common import untested
 from stopped.running import run_all
 
@@ -18,7 +18,7 @@ from stopped.running import run_all
 def main(words):
     for line in untested():
         print(line, flush=True)
-    modules = [backups, queues, installed, proxies, units, healths]
+    modules = [backups, queues, installed, proxies, units, healths, whys]
     return run_all([job for module in modules for job in module.JOBS], words)
 
 

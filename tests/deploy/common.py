@@ -11,14 +11,13 @@ from program.bench import PROGRAM, SECONDS, TESTS, Done
 
 DEPLOY = TESTS.parent / "deploy"
 
-# What is not tested if one of these programs is missing.
+# What is left out if one of these programs is missing.
 TESTED_BY = {
     "nginx": "deploy/nginx",
     "haproxy": "deploy/haproxy.cfg",
     "logrotate": "deploy/nginx/logrotate",
-    "systemd-analyze": "what systemd-analyze reports about deploy/rbac.service",
-    "systemd-nspawn": "deploy/rbac.service under systemd",
-    "strace": "the system calls that deploy/rbac.service allows",
+    "systemd-analyze": "what systemd-analyze reports about the units",
+    "strace": "the system calls that deploy/rbac-serve@.service allows",
     "curl": "deploy/health",
 }
 
@@ -27,9 +26,9 @@ def untested():
     """A line for each setting that can't be tested here."""
     for program, what in TESTED_BY.items():
         if not shutil.which(program):
-            yield f"not tested: {what}, since there is no {program} (bin/setup deploy installs it)"
+            yield f"left out: {what}, since there is no {program} (bin/setup deploy installs it)"
     if os.geteuid() != 0:
-        yield "not tested: what only root can do, such as the commands of docs/OPERATING.md that install and upgrade"
+        yield "left out: what only root can do, such as the commands of docs/NGINX.md"
 
 
 def has(*programs):

@@ -87,9 +87,9 @@ def check_unit(bench):
     if not shutil.which("systemd-analyze"):
         print("left out: the unit, since systemd-analyze is not installed")
         return
-    unit = (TESTS.parent / "deploy/rbac-front.service").read_text(encoding="utf-8")
-    bench.same("what the unit starts", "ExecStart=/usr/local/bin/rbac-node serve" in unit, True)
-    path = bench.write("rbac-front.service", unit.replace("/usr/local/bin/rbac-node", os.environ[PROGRAM]).encode())
+    unit = (TESTS.parent / "deploy/rbac-node@.service").read_text(encoding="utf-8")
+    bench.same("what the unit starts", "ExecStart=/usr/bin/rbac-node serve" in unit, True)
+    path = bench.write("rbac-node@x.service", unit.replace("/usr/bin/rbac-node", os.environ[PROGRAM]).encode())
     done = subprocess.run(["systemd-analyze", "verify", path], capture_output=True, text=True, check=False)
     bench.same("what verify prints", (done.stdout + done.stderr, done.returncode), ("", 0))
     words = ["systemd-analyze", "security", "--offline=true", "--no-pager", "--threshold=20", path]

@@ -16,7 +16,7 @@ def text_of(*names):
 def keys_of_functions():
     """The keys of each function, by the table in the sources."""
     found = {}
-    for table in re.findall(r"(?:commands|questions) += `(.*?)`", text_of("api/call.go"), re.S):
+    for table in re.findall(r"(?:commands|questions) += `(.*?)`", text_of("api/table.go"), re.S):
         for row in table.strip().splitlines():
             keys, _, names = row.partition(":")
             found.update({name: keys.split() for name in names.split()})

@@ -12,8 +12,8 @@ from .identities import bearer, rules, tokens
 from .program import Front
 from .sources import keys_of_functions
 
-# The operations for what is read by GET. Their own checks try them.
-READ = ("metrics", "lists", "snapshot", "watch", "record")
+# The operations for other requests. Their own checks try them.
+READ = ("metrics", "lists", "snapshot", "watch", "record", "whatIf", "review", "reports")
 
 # The keys of what is asked like a function and is none.
 OTHERS_KEYS = {"decideByUser": ["user", "operation", "object"]}

@@ -65,6 +65,9 @@ PATHS_OF_FRONT = {
     "/record": ["get"],
     "/room": ["get"],
     "/picture": ["get"],
+    "/what-if": ["post"],
+    "/reviews": ["post"],
+    "/reports/{report}": ["post", "get"],
 }
 
 # The statuses of a conflict, and of a target or a method that no path here has.

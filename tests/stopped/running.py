@@ -4,6 +4,7 @@ A job is a function and its arguments after the bench. It may return counts, eac
 """
 
 import os
+import shutil
 import sys
 import tempfile
 import time
@@ -17,6 +18,9 @@ from program.bench import PROGRAM, Bench
 
 WORKERS = 4
 OPTIONS = ("--times", "--long")
+
+# The programs of Debian that a job may lack. It is left out then; bin/setup installs them.
+INSTALLABLE = {"c++", "cc", "curl", "dot", "gcc", "git", "mount", "sqlite3", "unshare"}
 
 # How many failures of one job are shown.
 SHOWN = 5
@@ -55,6 +59,19 @@ def folder_of(function):
     return None if is_on_disk or not os.access(IN_MEMORY, os.W_OK) else IN_MEMORY
 
 
+class LeftOut(Exception):
+    """Why a job, or the rest of it, can't be done here: a program or a right is missing."""
+
+
+def why_left_out(fault):
+    """Why a job is left out that has ended with an exception; None if it has failed."""
+    if isinstance(fault, LeftOut):
+        return str(fault)
+    program = os.path.basename(str(getattr(fault, "filename", "")))
+    is_missing = isinstance(fault, FileNotFoundError) and program in INSTALLABLE and not shutil.which(program)
+    return f"there is no {program}" if is_missing else None
+
+
 def run_job(job):
     """Runs a function of a bench, and returns its name, what passed and failed, what it counted, and the seconds."""
     function, *given = job
@@ -66,8 +83,12 @@ def run_job(job):
         bench = Bench(folder)
         try:
             counts.update(function(bench, *given) or {})
-        except Exception:
-            bench.faults.append(traceback.format_exc())
+        except Exception as fault:
+            why = why_left_out(fault)
+            if why:
+                counts[f"left out, since {why}: {name_of(job)}"] += 1
+            else:
+                bench.faults.append(traceback.format_exc())
     return name_of(job), bench.passed, bench.faults, counts, time.monotonic() - start
 
 
@@ -103,10 +124,13 @@ def run_all(jobs, words, judge=None, workers=WORKERS):
             show_faults(name, faults)
             if "--times" in words:
                 print(f"{seconds:6.1f} s  {name}", flush=True)
-    for name in sorted(counted):
+    left_out = [name for name in sorted(counted) if name.startswith("left out")]
+    for name in left_out:
+        print(name)
+    for name in sorted(set(counted) - set(left_out)):
         print(f"{counted[name]:9,}  {name}")
-    faults = judge(counted) if judge and not word else []
-    if passed + failed == 0:
+    faults = judge(counted) if judge and not word and not left_out else []
+    if passed + failed == 0 and not left_out:
         faults.append("nothing was checked")
     for fault in faults:
         print(f"FAILED: {fault}")

@@ -7,6 +7,7 @@
 //	rbac-node callers --check OPTION..
 //	rbac-node record verify|show|head|cut|adopt --office FILE
 //	rbac-node backup --office FILE FOLDER
+//	rbac-node health SOCKET
 //
 // See docs/FRONT.md, and docs/CLUSTER.md for several machines.
 package main
@@ -25,7 +26,7 @@ import (
 // mostMemory is from how much memory on garbage is collected more often.
 const mostMemory = 1 << 30
 
-var errUsage = errors.New("usage: rbac-node serve|adopt|callers|record|backup [options]; see rbac-node serve --help")
+var errUsage = errors.New("usage: rbac-node serve|adopt|callers|record|backup|health [options]; see rbac-node serve --help")
 
 func main() {
 	if os.Getenv("GOGC") == "" {
@@ -68,6 +69,8 @@ func run(words []string) error {
 	case words[0] == "callers" && flags.NArg() == 1 && !s.isCheck:
 		s.callers.Callers = flags.Arg(0)
 		return untilSignal(s.printGrants)
+	case words[0] == "health" && flags.NArg() == 1:
+		return askHealth(flags.Arg(0))
 	case words[0] == "callers" && flags.NArg() == 0 && s.isCheck:
 		return untilSignal(s.checkCallers)
 	}

@@ -24,6 +24,8 @@ const (
 	Command  Kind = "command"
 	Question Kind = "question"
 	Local    Kind = "local"
+	// Entry is what is recorded in the one order and changes nothing.
+	Entry Kind = "entry"
 )
 
 // Answers are what the program answered to the calls of a batch that were done, and where in the order.

@@ -11,39 +11,10 @@ import (
 	"rbac-node/office"
 )
 
-// The functions of an office with their keys. A command changes the office if it is accepted, a question changes
-// nothing. The value at roles is a list of texts, that at cardinality a number, and all others are texts.
-const (
-	commands = `
-	user: addUser deleteUser lockUserAccount unlockUserAccount
-	role: addRole deleteRole
-	object: addPermObj deletePermObj
-	object operation: addPermission deletePermission
-	object operation role: grantPermission revokePermission
-	user role: assignUser deassignUser
-	asc desc: addInheritance deleteInheritance addAscendant addDescendant
-	set roles cardinality: createSsdSet createDsdSet
-	set role: addSsdRoleMember deleteSsdRoleMember addDsdRoleMember deleteDsdRoleMember
-	set cardinality: setSsdSetCardinality setDsdSetCardinality
-	set: deleteSsdSet deleteDsdSet
-	user roles session: createSession
-	user session: deleteSession
-	user session role: addActiveRole dropActiveRole
-	csv: importAssignments
-`
-	questions = `
-	session operation object: checkAccess
-	role: assignedUsers authorizedUsers rolePermissions
-	user: assignedRoles authorizedRoles userPermissions
-	session: sessionRoles sessionPermissions
-	role object: roleOperationsOnObject
-	user object: userOperationsOnObject
-	object operation: permissionRoles
-	set: ssdRoleSetRoles ssdRoleSetCardinality dsdRoleSetRoles dsdRoleSetCardinality
-	: ssdRoleSets dsdRoleSets
-`
-	importer = "importAssignments"
-)
+// importer is the function whose body is CSV. bin/commands writes the tables of all functions in table.go: a command changes the office
+// if it is accepted, a question changes nothing. The value at roles is a list of texts, that at cardinality a number, and all others are
+// texts.
+const importer = "importAssignments"
 
 // A function is one of the office: how it is answered, and its keys.
 type function struct {

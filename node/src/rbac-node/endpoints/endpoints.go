@@ -56,11 +56,13 @@ type Endpoints struct {
 	life   context.Context
 	office Office
 	at     map[string]endpoint
+	// tickets let reports be read.
+	tickets *tickets
 }
 
 // New returns endpoints that answer until the context ends.
 func New(life context.Context, office Office, options Options) *Endpoints {
-	e := &Endpoints{Options: options, life: life, office: office}
+	e := &Endpoints{Options: options, life: life, office: office, tickets: newTickets()}
 	e.add()
 	return e
 }
@@ -100,6 +102,8 @@ func (e *Endpoints) add() {
 		"/record":                {"list", get, e.record},
 		"/room":                  {"list", get, e.room},
 		"/picture":               {"picture", get, e.picture},
+		"/what-if":               {"trial", post, e.whatIf},
+		"/reviews":               {"command", post, e.endReview},
 	}
 }
 
@@ -111,6 +115,9 @@ func (e *Endpoints) find(target string) (found endpoint, has bool) {
 	}
 	if strings.HasPrefix(path, listsPath) {
 		return endpoint{"list", get, e.list}, true
+	}
+	if strings.HasPrefix(path, reportsPath) {
+		return endpoint{"report", post, e.report}, true
 	}
 	found, has = e.at[path]
 	return found, has

@@ -36,7 +36,7 @@ func (f *Front) ServeHTTP(w http.ResponseWriter, r *http.Request) {
 		f.serveHealth(w, r)
 		return
 	}
-	if f.endpoints != nil && f.endpoints.ServeConfiguration(w, r) {
+	if f.endpoints != nil && (f.endpoints.ServeConfiguration(w, r) || f.endpoints.ServeTicket(w, r)) {
 		return
 	}
 	if f.endpoints != nil && console.Has(r) {

@@ -58,6 +58,12 @@ func (e *entry) values() []any {
 // isCommand reports whether the replay gets the entry.
 func (e *entry) isCommand() bool { return strings.HasPrefix(e.request, `{"fn":`) }
 
+// isReview reports whether the entry says that somebody has ended a review of who has what. The replay doesn't get it.
+func (e *entry) isReview() bool { return strings.HasPrefix(e.request, recorded.ReviewPrefix) }
+
+// accepted is the answer of an entry that is no command.
+const accepted = `{"ok":true}`
+
 // chained returns the link of an entry: a digest of the link before it and of each of its fields.
 func chained(before string, e *entry) string {
 	found := "0"

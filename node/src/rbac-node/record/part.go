@@ -33,7 +33,7 @@ func (p *part) entry(at string) *entry {
 		return nil
 	}
 	e := &entry{
-		n: p.first, at: at, caller: Front, request: fmt.Sprintf(`{"record":"%s","rows":"%s"}`, p.why, p.rows), answer: `{"ok":true}`,
+		n: p.first, at: at, caller: Front, request: fmt.Sprintf(`{"record":"%s","rows":"%s"}`, p.why, p.rows), answer: accepted,
 	}
 	e.ch = chained(p.before, e)
 	return e

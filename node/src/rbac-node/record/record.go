@@ -235,6 +235,9 @@ func (r *Record) Keep(answered, asked []*feed.Unit) error {
 		for _, i := range u.Commands() {
 			e := r.open[0] // Answers come in order.
 			r.open, e.answer = r.open[1:], string(u.Answers[i])
+			if e.isReview() {
+				e.answer = accepted // What the replay has answered was only about its place in the order.
+			}
 			r.late = append(r.late, e)
 		}
 	}
@@ -256,6 +259,7 @@ func (r *Record) entriesOf(asked []*feed.Unit) (next []entry) {
 		for _, i := range u.Commands() {
 			call := u.Calls[i]
 			n++
+			u.Numbers = append(u.Numbers, n)
 			next = append(next, entry{n: n, at: at, caller: call.Caller, reason: call.Reason, request: string(u.Recorded[i])})
 		}
 	}

@@ -292,7 +292,7 @@ func (v *verifier) checked(next func() (*entry, error), p part) func() (*entry, 
 			return nil, fmt.Errorf("the chain breaks at entry %d: it or the one before it was changed", e.n)
 		case v.head != nil && v.head.N == e.n && v.head.Chain != e.ch:
 			return nil, fmt.Errorf("entry %d has another link than the one that is known: the chain was computed anew", e.n)
-		case isFirst && e.request != begins.request || !isFirst && !e.isCommand():
+		case isFirst && e.request != begins.request || !isFirst && !e.isCommand() && !e.isReview():
 			return nil, fmt.Errorf("entry %d is not what its part says", e.n)
 		}
 		v.last = *e

@@ -10,6 +10,9 @@ import (
 // TimeLayout is how the time of an entry is written, in UTC.
 const TimeLayout = "2006-01-02T15:04:05.000Z"
 
+// ReviewPrefix is how the request of an entry begins that says that somebody has ended a review of who has what.
+const ReviewPrefix = `{"record":"reviewed",`
+
 // A Filter chooses entries. An empty text chooses all.
 type Filter struct {
 	User, Role, Object, Function, Caller, Since, Until string
@@ -24,7 +27,7 @@ type Query struct {
 	Limit  int
 }
 
-// An Entry is a command of the record, or says how a part of the record begins.
+// An Entry is a command of the record, or says how a part of the record begins, or that a review has ended.
 type Entry struct {
 	N                  int64
 	At, Caller, Reason string

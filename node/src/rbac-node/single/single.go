@@ -19,6 +19,7 @@ import (
 	"rbac-node/logs"
 	"rbac-node/metrics"
 	"rbac-node/office"
+	"rbac-node/trial"
 )
 
 const (
@@ -70,6 +71,7 @@ type Office struct {
 	lock *os.File
 	// record is nil if nothing is recorded.
 	record Recorder
+	trying trying
 }
 
 // Open opens the office of a file, and makes it if there is no file.
@@ -78,7 +80,8 @@ func Open(ctx context.Context, options Options) (*Office, error) {
 	if err != nil {
 		return nil, err
 	}
-	o := &Office{Options: options, lock: lock}
+	o := &Office{Options: options, lock: lock, trying: make(trying, 1)}
+	trial.RemoveFolders(o.File)
 	if err := o.open(ctx); err != nil {
 		if o.record != nil {
 			_ = o.record.Close(false) // What has failed before says more.
@@ -196,6 +199,7 @@ func (o *Office) Run(ctx context.Context) error {
 		})
 	}
 	err := o.feed.Run(ctx)
+	o.trying <- struct{}{} // Whoever has tried commands has removed the copy.
 	if o.record == nil {
 		return err
 	}

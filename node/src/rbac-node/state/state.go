@@ -142,6 +142,7 @@ func (s *State) Answered(calls []*api.Call, answers [][]byte) {
 		switch {
 		case call.Kind == api.Question:
 			s.reviewed(call, answers[i])
+		case call.Kind == api.Entry: // It has changed nothing.
 		case api.IsAccepted(answers[i]):
 			s.numbers.All++
 			if !isAboutSession(call.Function) {

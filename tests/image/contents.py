@@ -1,0 +1,133 @@
+"""What is in the image, and how it says that it is to be run."""
+
+import json
+import os
+import subprocess
+import tarfile
+from pathlib import Path
+
+from program.bench import PROGRAM
+
+from .running import IMAGE, ROOT, VERSION
+
+# All that is in the image besides the licences: folders end with `/`, and links have their targets.
+FILES = [
+    "dev/",
+    "etc/group",
+    "etc/passwd",
+    "etc/rbac/",
+    "lib -> usr/lib",
+    "lib64 -> usr/lib64",
+    "proc/",
+    "run/",
+    "sys/",
+    "tmp/",
+    "usr/bin/rbac",
+    "usr/bin/rbac-node",
+    "usr/lib/x86_64-linux-gnu/libc.so.6",
+    "usr/lib/x86_64-linux-gnu/libm.so.6",
+    "usr/lib/x86_64-linux-gnu/libsqlite3.so.0",
+    "usr/lib64/ld-linux-x86-64.so.2",
+    "usr/share/rbac/VERSION",
+    "usr/share/rbac/libraries",
+    "usr/share/rbac/release/manifest",
+    "var/lib/rbac/",
+]
+LICENCES = "usr/share/doc/"
+
+# The most bytes that the layer may have.
+MOST_BYTES = 20_000_000
+
+
+def opened():
+    """The archive of the image, its settings, and its one layer."""
+    archive = tarfile.open(Path(os.environ[IMAGE]) / "image.tar")
+    (manifest,) = json.load(archive.extractfile("manifest.json"))
+    (layer,) = manifest["Layers"]
+    return manifest, json.load(archive.extractfile(manifest["Config"])), archive.extractfile(layer)
+
+
+def members(layer):
+    """The entries of a layer by their paths."""
+    return {one.name.lstrip("./"): one for one in tarfile.open(fileobj=layer) if one.name.strip("./")}
+
+
+def shown(path, one, all_paths):
+    """How a list of files shows an entry: a folder only if it is empty."""
+    if one.issym():
+        return f"{path} -> {one.linkname}"
+    if not one.isdir():
+        return path
+    return None if any(other.startswith(f"{path}/") for other in all_paths) else f"{path}/"
+
+
+def check_files(bench):
+    """The image has exactly these files, no shell, nothing that changes its user, and the licence of each library that is in it."""
+    _, _, layer = opened()
+    found = members(layer)
+    listed = {shown(path, one, found) for path, one in found.items()} - {None}
+    bench.same("the files", sorted(one for one in listed if not one.startswith(LICENCES)), FILES)
+    bench.same("files that change their user", [path for path, one in found.items() if one.mode & 0o6000], [])
+    writable = [path for path, one in found.items() if not one.issym() and one.mode & 0o022]
+    bench.same("what others may write", writable, ["tmp"])
+    owners = {path: one.uid for path, one in found.items() if one.uid}
+    bench.same("what the user of the image owns", owners, {"var/lib/rbac": 10001})
+    archive = tarfile.open(fileobj=opened()[2])
+    names = {one.name.lstrip("./"): one for one in archive}
+    content = {path: archive.extractfile(names[path]).read() for path in ("usr/bin/rbac", "usr/share/rbac/libraries")}
+    bench.same("whether the program is the one", content["usr/bin/rbac"] == Path(PROGRAM).read_bytes(), True)
+    lines = [line.split("\t") for line in content["usr/share/rbac/libraries"].decode().splitlines()]
+    bench.same("columns of the list of libraries", {len(line) for line in lines}, {4})
+    bench.same("the programs in that list", {line[0] for line in lines}, {"rbac", "rbac-node"})
+    packages = {library for _, library, version, _ in lines if not version.startswith("rattle-kit")}
+    # What Go's own library may be copied under is in the package of its sources.
+    licences = {path.split("/")[3] for path in listed if path.startswith(LICENCES)}
+    bench.same("the licences", licences - {"rbac"}, packages)
+    bench.same("whether there are those of the kit", f"{LICENCES}rbac/NOTICES" in listed, True)
+    for package in ("libc6", "libsqlite3-0", "golang-github-mattn-go-sqlite3-dev"):
+        bench.same(f"{package} is listed", package in packages, True)
+
+
+def check_settings(bench):
+    """The image says as whom, with which volume, port, health check and signal it is run, and it is small."""
+    manifest, settings, layer = opened()
+    config = settings["config"]
+    bench.same("its name", manifest["RepoTags"], [f"localhost/rbac-node:{VERSION}"])
+    bench.same("the user", config["User"], "10001:10001")
+    bench.same("the volume", list(config["Volumes"]), ["/var/lib/rbac"])
+    bench.same("the port", list(config["ExposedPorts"]), ["8443/tcp"])
+    bench.same("the health check", config["Healthcheck"]["Test"], ["CMD", "/usr/bin/rbac-node", "health", "/tmp/rbac/socket"])
+    bench.same("the program", config["Entrypoint"][:2], ["/usr/bin/rbac-node", "serve"])
+    bench.same("its version", config["Labels"]["org.opencontainers.image.version"], VERSION)
+    size = len(layer.read())
+    bench.judge("the size", [] if size <= MOST_BYTES else [f"{size:,} bytes"])
+    return {"bytes in the layer of the image": size}
+
+
+def check_same(bench):
+    """Laid again, the files of the image have the same bytes."""
+    settings = {**os.environ, "RELEASE": str(Path(os.environ[IMAGE]) / "release")}
+    root = bench.folder / "root"
+    done = subprocess.run([ROOT / "bin/image", "--root", root], env=settings, capture_output=True, text=True, check=False)
+    bench.same("bin/image --root", (done.returncode, done.stdout, done.stderr), (0, "", ""))
+    archive = tarfile.open(fileobj=opened()[2])
+    first = {one.name.lstrip("./"): archive.extractfile(one).read() for one in archive if one.isfile()}
+    second = {
+        str(path.relative_to(root)): path.read_bytes() for path in root.rglob("*") if path.is_file() and not path.is_symlink()
+    }
+    second = {path: text for path, text in second.items() if not path.startswith(("lib/", "lib64/"))}
+    bench.same("the files", sorted(second), sorted(first))
+    bench.same("files that differ", [path for path in first if second.get(path) != first[path]], [])
+
+
+def check_refused(bench):
+    """A program of other sources is refused unless --anyway is given."""
+    other = bench.folder / "other"
+    subprocess.run([ROOT / "bin/release", "--record", PROGRAM, "0" * 64, other], check=True)
+    words = [ROOT / "bin/image", "--root", bench.folder / "root"]
+    done = subprocess.run(words, env={**os.environ, "RELEASE": str(other)}, capture_output=True, text=True, check=False)
+    bench.same("other sources: the status", done.returncode, 1)
+    bench.same("other sources: what it prints", done.stderr.startswith("image: the sources were changed"), True)
+    bench.same("other sources: a folder", (bench.folder / "root").exists(), False)
+    done = subprocess.run([ROOT / "bin/image", "--force"], capture_output=True, check=False)
+    bench.same("another argument", done.returncode, 2)
