@@ -19,7 +19,7 @@
     watching    snapshots, and followers that watch
     separated   which separation of duty sets refuse a command, beside the plain model
     conforming  the answers of what the front has besides the functions, beside docs/openapi.json
-    requests    the commands of docs/REQUESTS.md
+    requests    the commands of docs/REQUESTS.md and docs/LISTS.md
     browsers    a page of a foreign site in Chromium
     records     what the record has, which starts it refuses, and what is found in one that was changed
     recordkills     the front and its replay are killed under load: record, office and clients agree

@@ -1,4 +1,4 @@
-"""The commands of docs/REQUESTS.md print what it shows, from its top to its end; its lines for nginx are those that are tried."""
+"""The commands of docs/REQUESTS.md and docs/LISTS.md print what they show; the lines for nginx are those that are tried."""
 
 import os
 import re
@@ -13,20 +13,32 @@ from .page import runs
 from .running import PROGRAM
 
 PAGE = markdown.page("REQUESTS.md")
+LISTS = markdown.page("LISTS.md")
 
-# The most lines that the page may have.
+# The most lines that a page may have.
 MOST_LINES = 420
 
 
 def check_commands(bench):
-    """The commands of the page print what is shown below them."""
+    """The commands of REQUESTS.md print what is shown below them."""
+    type_all(bench, markdown.blocks(PAGE, "console"))
+
+
+def check_lists(bench):
+    """So do those of LISTS.md, after the first ones of REQUESTS.md, which start a front, and before its last ones."""
+    start, *_, end = markdown.blocks(PAGE, "console")
+    type_all(bench, [start, *markdown.blocks(LISTS, "console"), end])
+
+
+def type_all(bench, blocks):
+    """Types the commands of these blocks, and compares what they print."""
     if not shutil.which("curl"):
-        print("left out: the commands of docs/REQUESTS.md, since curl is not installed")
+        print("left out: the commands of docs/REQUESTS.md and docs/LISTS.md, since curl is not installed")
         return
     with Shell(bench) as reader:
         (bench.folder / "examples").symlink_to(TESTS.parent / "examples")
         (bench.folder / "bin/rbac-node").symlink_to(os.environ[PROGRAM])
-        for block in markdown.blocks(PAGE, "console"):
+        for block in blocks:
             for command, shown in joined(runs(block)):
                 bench.same(f"what {command} prints", reader.type(command), reader.here(shown))
 
@@ -41,10 +53,11 @@ def joined(shown):
 
 
 def check_form(bench):
-    """The page is not too long, its lines are short, and each block is of a language that is run or compared."""
-    bench.same("the page is short", len(PAGE.splitlines()) <= MOST_LINES, True)
-    bench.same("long lines", [line for line in PAGE.splitlines() if len(line) > 130 and not line.startswith("|")], [])
-    bench.same("the languages", set(re.findall(r"^```(\w+)$", PAGE, re.M)), {"console", "nginx"})
+    """The pages are not too long, their lines are short, and each block is of a language that is run or compared."""
+    for page, languages in ((PAGE, {"console", "nginx"}), (LISTS, {"console"})):
+        bench.same("the page is short", len(page.splitlines()) <= MOST_LINES, True)
+        bench.same("long lines", [line for line in page.splitlines() if len(line) > 130 and not line.startswith("|")], [])
+        bench.same("the languages", set(re.findall(r"^```(\w+)$", page, re.M)), languages)
 
 
 def check_nginx(bench):
