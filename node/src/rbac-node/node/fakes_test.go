@@ -23,6 +23,7 @@ type fakeLog struct {
 	revision   int64
 	state      ledger.State
 	isFull     bool
+	hasNoRules bool
 	refusals   atomic.Int64
 	registered []ledger.Member
 	entries    chan ledger.Entry
@@ -69,7 +70,7 @@ func (l *fakeLog) State(context.Context) (ledger.State, error) {
 
 func (l *fakeLog) Trim(context.Context, ledger.State, int64) (int64, error) { return 0, nil }
 
-func (l *fakeLog) HasRules() bool { return true }
+func (l *fakeLog) HasRules() bool { return !l.hasNoRules }
 
 func (l *fakeLog) First(context.Context) (int64, error) { return 1000, nil }
 
@@ -101,8 +102,9 @@ func (l *fakeLog) registrations() int {
 	return len(l.registered)
 }
 
-// A fakeReplay answers each line with its number, as soon as it is not paused. It ends after the most reads, if that is not 0.
+// A fakeReplay answers each line with its number, or what it is to say, as soon as it is not paused. It ends after the most reads, if that is not 0.
 type fakeReplay struct {
+	says        func(line string) string
 	most, reads int64
 	mutex       sync.Mutex
 	lines       []string
@@ -130,7 +132,12 @@ func (r *fakeReplay) Send(line []byte, answered func([]byte)) {
 // answer answers all that waits, unless the replay is paused.
 func (r *fakeReplay) answer() {
 	for !r.isPaused && len(r.waiting) > 0 {
-		r.waiting[0]([]byte(fmt.Sprint(len(r.lines) - len(r.waiting))))
+		number := len(r.lines) - len(r.waiting)
+		text := fmt.Sprint(number)
+		if r.says != nil {
+			text = r.says(r.lines[number])
+		}
+		r.waiting[0]([]byte(text))
 		r.waiting = r.waiting[1:]
 	}
 }
