@@ -11,7 +11,7 @@ from pages.shell import Shell
 from program.bench import TESTS
 
 PAGE = markdown.page("CONSOLE.md")
-MOST_BYTES, MOST_BYTES_OF_PICTURES = 20_000, 800_000
+MOST_BYTES, MOST_BYTES_OF_PICTURES = 20_000, 700_000
 
 
 def check_commands(bench):
