@@ -6,6 +6,8 @@
     pages       each page with its actions and refusals, on the bank
     downloads   reports as files: beside those of the tools, by tickets; who may have them
     reports     the page Reports, and the difference of two copies
+    trying      What if: answers, effects, the request, and what is done for real
+    reviews     Review: from the beginning to the entry in the record, files, paper
     tasks       what administrators and auditors want to do, with the number of clicks
     rights      callers who may not do everything, and a token that is nowhere
     hostile     names that are markup or can't be seen; pages of another origin

@@ -395,9 +395,7 @@ def check_print(bench):
 
 
 def check_looks(bench):
-    """The rules of accessibility at both widths, in light and dark; a review by the keyboard alone; and the picture."""
-    folder = os.environ.get(PICTURES) or bench.path("pictures")
-    os.makedirs(folder, exist_ok=True)
+    """The rules of accessibility at both widths, in light and dark; and a review by the keyboard alone."""
     with bank(bench) as front, Browser(bench, front) as page:
         page.open("review")
         faults = []
@@ -427,8 +425,17 @@ def check_looks(bench):
             page.until(lambda: page.find("Do 1 command in the office"), "what they would do")
             bench.judge(f"at {width}, {'dark' if dark else 'light'}", page.run(RULES)[:5])
             close(page)
+
+
+def check_pictures(bench):
+    """The picture of a review; with --pictures it is kept."""
+    folder = os.environ.get(PICTURES) or bench.path("pictures")
+    os.makedirs(folder, exist_ok=True)
+    people = PEOPLE.replace("=1+1", "peg hall").replace("<b>Erin</b>", "Erin Moore").replace("nobody,No One,,\n", "")
+    with bank(bench) as front, Browser(bench, front) as page:
+        page.open("review")
         page.resize(1000, 700)
-        begin(page, "Q4 2026", people=write(bench, "people.csv", PEOPLE.replace("=1+1", "peg hall").replace("<b>Erin</b>", "Erin Moore")))
+        begin(page, "Q4 2026", people=write(bench, "people.csv", people))
         decide(page, "branch manager of ann", "remove", "has left the branch")
         decide(page, "branch manager of carol", "keep")
         page.run("document.activeElement.blur()")

@@ -165,9 +165,7 @@ def check_names(bench):
 
 
 def check_looks(bench):
-    """The rules of accessibility at both widths, in light and dark; the keyboard alone; and the picture."""
-    folder = os.environ.get(PICTURES) or bench.path("pictures")
-    os.makedirs(folder, exist_ok=True)
+    """The rules of accessibility at both widths, in light and dark; and the keyboard alone."""
     lines = [line("deassignUser", user="ann", role="branch manager"), line("assignUser", user="erin", role="teller"),
              line("assignUser", user="frank", role="auditor")]  # fmt: skip
     with bank(bench) as front, Browser(bench, front) as page:
@@ -190,9 +188,16 @@ def check_looks(bench):
             page.go("what-if")
             attempt(page, *lines)
             bench.judge(f"at {width}, {'dark' if dark else 'light'}", page.run(RULES)[:5])
+
+
+def check_pictures(bench):
+    """The picture of the page; with --pictures it is kept."""
+    folder = os.environ.get(PICTURES) or bench.path("pictures")
+    os.makedirs(folder, exist_ok=True)
+    with bank(bench) as front, Browser(bench, front) as page:
+        page.open("what-if")
         page.resize(1000, 700)
-        page.go("what-if")
-        attempt(page, line("revokePermission", operation="open", object="vault", role="branch manager"), lines[1],
-                line("lockUserAccount", user="erin"))  # fmt: skip
+        attempt(page, line("revokePermission", operation="open", object="vault", role="branch manager"),
+                line("assignUser", user="erin", role="teller"), line("lockUserAccount", user="erin"))  # fmt: skip
         page.picture(f"{folder}/console-whatif.png")
         bench.same("the picture", os.path.getsize(f"{folder}/console-whatif.png") > 5_000, True)
