@@ -22,7 +22,7 @@ PRINTED = "allowed True\n"
 
 
 def block(language, number=0):
-    return markdown.blocks(SECTION, language)[number]
+    return "".join(f"{line}\n" for line in markdown.blocks(SECTION, language)[number])
 
 
 def sh(text, folder, **environ):
