@@ -32,15 +32,15 @@ func (e *Endpoints) snapshot(r *request) (int, error) {
 	if err := r.may(api.NewOther(api.Snapshot)); err != nil {
 		return 0, err
 	}
-	s, err := e.known()
+	s, err := e.known(r)
 	if err != nil {
 		return 0, err
 	}
 	text, numbers := s.Snapshot()
+	r.isAt(numbers)
 	r.done()
 	head := r.w.Header()
 	head.Set(numberField, strconv.FormatInt(numbers.All, 10))
-	api.SetPolicy(head, numbers.Policy)
 	head.Set("Content-Type", "application/jsonl")
 	head.Set("Content-Length", strconv.Itoa(len(text)))
 	r.w.WriteHeader(http.StatusOK)
@@ -70,7 +70,7 @@ func (e *Endpoints) watch(r *request) (int, error) {
 	if err := r.may(api.NewOther(api.Watch)); err != nil {
 		return 0, err
 	}
-	s, err := e.known()
+	s, err := e.known(r)
 	if err != nil {
 		return 0, err
 	}
@@ -137,6 +137,9 @@ func (w *watch) run(from *bufio.Reader) {
 		if !known || found.Newest > w.after {
 			changed = always
 		}
+		if !w.endpoints.office.IsReady() {
+			changed = nil
+		}
 		select {
 		case <-changed:
 		case <-ticker.C:
@@ -155,8 +158,12 @@ var always = func() <-chan struct{} {
 	return closed
 }()
 
-// write writes the next commands, and once in a while the newest number. It returns false if the watch has ended.
+// write writes the next commands, and once in a while the newest number, if there are no more. It returns false if the watch has ended. While the office
+// doesn't answer it writes nothing, so that clients notice.
 func (w *watch) write() bool {
+	if !w.endpoints.office.IsReady() {
+		return true
+	}
 	var found state.Watched
 	known := true
 	// The commands are read while the right holds, and no later change of the callers is in force.
@@ -170,6 +177,10 @@ func (w *watch) write() bool {
 		_, _ = w.lines.Write(one.Line)
 		_, _ = w.lines.WriteString("\n\n")
 	}
+	if len(found.Events) == mostAtOnce {
+		return w.lines.Flush() == nil
+	}
+	w.after = found.Newest // On several machines refused commands have numbers too.
 	if now := time.Now(); now.Sub(w.told) >= watchInterval {
 		w.told = now
 		_, _ = w.lines.WriteString("event: newest\ndata: " + strconv.FormatInt(found.Newest, 10) + "\n\n")
