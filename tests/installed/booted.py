@@ -30,6 +30,8 @@ of() {{ systemctl show "$1" -p "$2" --value; }}
 runs() {{
     for unit; do
         main=$(of "$unit" MainPID)
+        # A front ends its replay for a moment, and starts another one, when it makes a copy for its record.
+        case $unit in rbac-node@*) for turn in $(seq 600); do ! pgrep -x -P "$main" rbac > /dev/null || break; sleep 0.1; done ;; esac
         for process in $main $(pgrep -P "$main"); do
             name=$(cat "/proc/$process/comm")
             state=stale; ! cmp -s "/proc/$process/exe" "/usr/bin/$name" || state=installed
