@@ -19,6 +19,7 @@ import time
 from pathlib import Path
 
 from deploy import installed
+from deploy.common import can_mount
 from pages import command_line, markdown, sources
 from program.bench import PROGRAM
 from stopped.running import run_all
@@ -334,7 +335,11 @@ def is_installer(*programs):
     """Whether this is root, and has what it needs to install the package."""
     if os.geteuid() != 0:
         print("left out: an installation, for which one has to be root")
-    return os.geteuid() == 0 and there_is("unshare", "mount", "dpkg", "useradd", "runuser", *programs)
+    if os.geteuid() != 0 or not there_is("unshare", "mount", "dpkg", "useradd", "runuser", *programs):
+        return False
+    if not can_mount():
+        print("left out: an installation, since nothing can be mounted here")
+    return can_mount()
 
 
 def operating(bench):

@@ -8,6 +8,7 @@ import subprocess
 import tempfile
 from contextlib import contextmanager
 
+from deploy.common import can_mount
 from program import damaged
 from program.bench import PROGRAM, SECONDS
 from program.offices import change, changed, small_office
@@ -305,7 +306,7 @@ def check_causes(bench):
     bench.run(["init", bench.path("rbac.office")])
     os.chmod(bench.path("rbac.office"), 0o644)
     for (cause, command, good), making in zip(rows, CAUSES, strict=True):
-        if not shutil.which(command.split()[0]) or ("mount" in making or "zero" in making) and os.geteuid() != 0:
+        if not shutil.which(command.split()[0]) or ("mount" in making or "zero" in making) and not can_mount():
             print(f"left out, since it can't be tried here: {cause}")
             continue
         given = outcome(bench, program, "", command)
