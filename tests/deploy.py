@@ -1,5 +1,5 @@
 #!/usr/bin/env python3
-"""Tests the files of the folder deploy/: the backup, the health check, the unit, and the settings of nginx and HAProxy.
+"""Tests the files of the folder deploy/: the backup, the health check, the units, and the settings of nginx and HAProxy.
 
     deploy.py [--times] [WORD]
 

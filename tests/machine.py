@@ -7,13 +7,18 @@
 """
 
 import sys
+from itertools import combinations
 from pathlib import Path
 
 from machine.assignments import export
 from machine.replaying import Replay
+from machine.state import authorized_users, static_violation
 from machine.texts import json_text, report, rows
 
 TESTS = Path(__file__).resolve().parent
+
+# The most roles of a set of which all subsets are tried.
+MOST_ROLES = 8
 
 # The answers about the small office, whose commands are the first lines of this row.
 SMALL_OFFICE = (TESTS / "rows/reviewed.jsonl", 16)
@@ -78,6 +83,26 @@ def check_row(path):
     return True
 
 
+def check_subset_form():
+    """Whether static separation counted is that by subsets, as the standard has it: no user is authorized for all roles of a subset
+    that has as many roles as the cardinality. Small static sets are tried with each number of their roles, after each row."""
+    for path in sorted((TESTS / "rows").rglob("*.jsonl")):
+        if b"createSsdSet" not in path.read_bytes():
+            continue
+        replay = Replay(1 if path.parent.name == "version-1" else 2)
+        list(replay.answers(path.read_bytes()))
+        small = {name: roles for name, (roles, _) in replay.state.static_sets.items() if len(roles) <= MOST_ROLES}
+        for name, roles in small.items():
+            authorized = [authorized_users(replay.state, role) for role in roles]
+            for number in range(1, len(roles) + 1):
+                state = replay.state.but(static_sets={name: (roles, number)})
+                is_violated = any(set.intersection(*users) for users in combinations(authorized, number))
+                if (static_violation(state) == name) != is_violated:
+                    print(f"FAILED: {path.stem}: {number} roles of {name}: by subsets the set is violated: {is_violated}")
+                    return False
+    return True
+
+
 def check_told(name, given, wanted):
     """Whether the answers about the small office are right."""
     if given != wanted:
@@ -88,6 +113,7 @@ def check_told(name, given, wanted):
 def check():
     """Checks the model, and prints the count."""
     results = [check_row(path) for path in sorted((TESTS / "rows").rglob("*.jsonl"))]
+    results.append(check_subset_form())
     state = small_office(2)
     results.append(check_told("report", report(state), REPORT))
     results.append(check_told("export", export(state), EXPORT))

@@ -3,8 +3,9 @@
 
     package.py [--times] [WORD]
 
-With WORD, only the checks with WORD in their names run; `--times` prints how long each took. The package is made
-with the program that is checked. What needs a missing program is left out and not counted, and a line reports it.
+tests/installed.py has it installed, with the package of the front. With WORD, only the checks with WORD in their names run;
+`--times` prints how long each took. The package is made with the program that is checked. What needs a missing program is left
+out and not counted, and a line reports it.
 """
 
 import gzip
@@ -18,8 +19,6 @@ import tempfile
 import time
 from pathlib import Path
 
-from deploy import installed
-from deploy.common import can_mount
 from pages import command_line, markdown, sources
 from program.bench import PROGRAM
 from stopped.running import run_all
@@ -34,7 +33,20 @@ MOVED = {
     "usr/share/bash-completion/completions/rbac": "completions/rbac.bash",
     "usr/share/zsh/vendor-completions/_rbac": "completions/_rbac",
     "usr/share/fish/vendor_completions.d/rbac.fish": "completions/rbac.fish",
+    "usr/lib/sysusers.d/rbac.conf": "deploy/debian/rbac.sysusers",
+    "usr/lib/tmpfiles.d/rbac.conf": "deploy/debian/rbac.tmpfiles",
+    "etc/rbac/default.conf": "deploy/default.conf",
+    "lib/systemd/system/rbac-serve@.service": "deploy/rbac-serve@.service",
+    "lib/systemd/system/rbac-init@.service": "deploy/rbac-init@.service",
+    "lib/systemd/system/rbac-backup@.service": "deploy/rbac-backup@.service",
+    "lib/systemd/system/rbac-backup@.timer": "deploy/rbac-backup@.timer",
+    "usr/sbin/rbac-backup": "deploy/backup",
+    "usr/bin/rbac-health": "deploy/health",
+    "usr/bin/rbac-why": "deploy/why",
 }
+
+# The pages of man of the package.
+MANUALS = ["rbac.1", "rbac-backup.8", "rbac-health.1", "rbac-why.1"]
 
 # The options beside the commands: of each command the first, and of the program all.
 HELP, VERSION_OPTIONS = {"-h", "--help"}, set(command_line.VERSION_OPTION.split(", "))
@@ -86,7 +98,8 @@ class Packages:
     def make(self, out, *words, release=None, **settings):
         """Returns the status of bin/package as it makes a package in a folder, and what it prints."""
         places = {"RELEASE": str(release or self.release), "OUT": str(self.folder / out)}
-        return run([ROOT / "bin/package", *words], self.folder, **places, **settings)
+        sort = [] if "--library" in words else ["--program"]
+        return run([ROOT / "bin/package", *sort, *words], self.folder, **places, **settings)
 
     def deb(self, out):
         """The path of the package in a folder."""
@@ -143,11 +156,10 @@ def check_refused(bench, packages):
 
 
 def check_lint(bench, packages):
-    """lintian finds no error."""
+    """lintian finds no error, and warns of nothing."""
     if there_is("lintian"):
         allow = ["--allow-root"] if os.geteuid() == 0 else []
-        status, said, err = run(["lintian", *allow, "--fail-on", "error", packages.deb("out")])
-        bench.same("the errors that lintian finds", (status, re.findall(r"^E: .*", said + err, re.M)), (0, []))
+        bench.same("what lintian finds", run(["lintian", *allow, packages.deb("out")])[:2], (0, ""))
 
 
 def check_fields(bench, packages):
@@ -156,8 +168,11 @@ def check_fields(bench, packages):
     bench.same("the name and the version", (fields["Package"], fields["Version"]), ("rbac", VERSION))
     needed = re.findall(rb"GLIBC_(\d+)\.(\d+)\0", Path(PROGRAM).read_bytes())
     most = ".".join(map(str, max((int(major), int(minor)) for major, minor in needed)))
-    bench.same("what the package depends on", fields["Depends"], f"libc6 (>= {most})")
-    bench.same("what it suggests", fields["Suggests"], "sqlite3, python3, graphviz")
+    depends = fields["Depends"].split(", ")
+    bench.same("the C library", depends[0], f"libc6 (>= {most})")
+    bench.same("what else it depends on", [one.split()[0] for one in depends[1:]], ["python3", "systemd"])
+    bench.same("the Python", "python3 (>= 3.9)" in depends, True)
+    bench.same("what it suggests", fields["Suggests"], f"rbac-node (= {VERSION}), sqlite3, graphviz, psmisc")
     status, authors, _ = run(["git", "log", "--format=%an <%ae>"], ROOT) if shutil.which("git") else (1, "", "")
     if status == 0:
         bench.same("whether the maintainer has made a commit", fields["Maintainer"] in authors.splitlines(), True)
@@ -186,7 +201,8 @@ def kept_files():
     """The files that the package has from folders of the repository, as git has them, or as they are."""
     folders = [name for name in ("docs", "examples", "tools", "clients", "deploy") if (ROOT / name).is_dir()]
     paths = [path for name in folders for path in (ROOT / name).rglob("*") if path.is_file()]
-    return {str(path.relative_to(ROOT)) for path in paths if not {"__pycache__"} & set(path.parts) and path.name[0] != "."}
+    kept = {str(path.relative_to(ROOT)) for path in paths if not {"__pycache__"} & set(path.parts) and path.name[0] != "."}
+    return {path for path in kept if not path.startswith("deploy/debian/")}
 
 
 def check_files(bench, packages):
@@ -196,10 +212,12 @@ def check_files(bench, packages):
     """
     root = packages.root
     bench.same("whether the program is the one", (root / "usr/bin/rbac").read_bytes() == Path(PROGRAM).read_bytes(), True)
-    page = gzip.decompress((root / "usr/share/man/man1/rbac.1.gz").read_bytes())
-    bench.same("whether the man page is the one", page == (ROOT / "docs/rbac.1").read_bytes(), True)
+    for name in MANUALS:
+        page = gzip.decompress((root / f"usr/share/man/man{name[-1]}/{name}.gz").read_bytes())
+        bench.same(f"whether {name} is the one", page == (ROOT / "docs" / name).read_bytes(), True)
     for path, source in MOVED.items():
-        bench.same(f"whether {path} is {source}", (root / path).read_bytes() == (ROOT / source).read_bytes(), True)
+        content = (ROOT / source).read_bytes().replace(b"/usr/local/bin/rbac", b"/usr/bin/rbac")
+        bench.same(f"whether {path} is {source}", (root / path).read_bytes() == content, True)
     here = {str(path.relative_to(root / SHARE)): path for path in (root / SHARE).rglob("*") if path.is_file()}
     bench.same("files that are missing", kept_files() - set(here), set())
     for name in ("README.md", "SECURITY.md", "CHANGELOG.md", "VERSION", "LICENSE", "release/NOTICES", "release/manifest"):
@@ -221,10 +239,13 @@ def check_files(bench, packages):
 
 
 def check_sums(bench, packages):
-    """The sums of the package are those of its files."""
+    """The sums of the package are those of its files, except the settings, which may be changed."""
     run(["dpkg-deb", "-e", packages.deb("out"), packages.folder / "control"])
     listed = (packages.folder / "control/md5sums").read_text(encoding="utf-8")
     files = sorted(path for path in packages.root.rglob("*") if path.is_file() and not path.is_symlink())
+    files = [path for path in files if path != packages.root / "etc/rbac/default.conf"]
+    kept = (packages.folder / "control/conffiles").read_text(encoding="utf-8")
+    bench.same("the settings, which an upgrade keeps", kept, "/etc/rbac/default.conf\n")
     wanted = [f"{hashlib.md5(path.read_bytes()).hexdigest()}  {path.relative_to(packages.root)}" for path in files]
     bench.same("the sums", sorted(listed.splitlines()), sorted(wanted))
 
@@ -269,91 +290,13 @@ def check_example(bench, packages):
         bench.same("the digest of the program", hashlib.sha256(Path(PROGRAM).read_bytes()).hexdigest() in said, True)
 
 
-# Installs the package, uses it, runs the commands of docs/OPERATING.md for a package, and removes it. Without triggers no list of
-# manual pages is rebuilt.
-INSTALL = """
-cd /usr/share
-dpkg --no-triggers -i /mnt/repository/*.deb > /mnt/installing 2>&1 || cat /mnt/installing
-dpkg-query -W -f '${Status}\\n' rbac
-dpkg --verify rbac
-rbac() { /usr/bin/rbac "$@"; }
-rbac replay --memory < rbac/examples/first.jsonl | cmp - rbac/examples/first.answers
-cd rbac
-rbac init /mnt/office
-rbac replay /mnt/office < examples/bank.jsonl | cmp - examples/bank.answers
-sqlite3 -readonly 'file:/mnt/office?immutable=1' < tools/permissions.sql | grep -c ,vault,open,
-LC_ALL=C.UTF-8 man -w rbac
-(cd /mnt && cp -rL /usr/share/rbac . && cd rbac && release/rbac check /mnt/office)
-"""
-
-REMOVE = """
-runuser -u rbac -- /usr/bin/rbac check /var/lib/rbac/office
-grep ^ExecStart= /etc/systemd/system/rbac.service
-rbac-backup /var/lib/rbac/office /var/backups/rbac > /dev/null
-ls /var/backups/rbac | wc -l
-dpkg --no-triggers -r rbac > /mnt/removing 2>&1 || cat /mnt/removing
-ls -d /usr/bin/rbac /usr/share/rbac /usr/share/doc/rbac 2> /dev/null || true
-"""
-
-INSTALLED = """install ok installed
-2
-/usr/share/man/man1/rbac.1.gz
-good
-good
-ExecStart=/usr/bin/rbac serve /var/lib/rbac/office --port 8080 --limit 1000000
-1
-"""
-
-
-def check_installed(bench, packages):
-    """dpkg installs the package, which needs nothing that is missing, and removes all of it. It works as the pages use it."""
-    if not is_installer("chroot", "sqlite3", "man"):
-        return
-    script = "\n".join(["set -e", INSTALL, operating(bench), REMOVE])
-    done = installed.on_layer(bench, installed.CHANGED_ROOT, script, packages.deb("out"))
-    if not done:
-        print("left out: the installation on a layer above the files of this machine, which can't be mounted")
-        return
-    err = re.sub(r"Created symlink .*\n", "", done.err.decode())
-    bench.same("what is installed, works, and is removed", (done.status, done.out.decode(), err), (0, INSTALLED, ""))
-
-
-def check_by_systemd(bench, packages):
-    """systemd runs the unit of the package with the program of the package."""
-    if not is_installer("systemd-nspawn", "systemctl", "curl"):
-        return
-    install = "dpkg --no-triggers -i /mnt/repository/*.deb > /mnt/installing; cd /usr/share/rbac"
-    script = "\n".join(["set -e", install, operating(bench), installed.ASKING])
-    done = installed.on_layer(bench, installed.BOOTED, script, packages.deb("out"))
-    if not done:
-        print("left out: systemd, which can't be booted here")
-        return
-    bench.same("what the server answers", done.out.decode(), '{"ok":true}\n')
-
-
-def is_installer(*programs):
-    """Whether this is root, and has what it needs to install the package."""
-    if os.geteuid() != 0:
-        print("left out: an installation, for which one has to be root")
-    if os.geteuid() != 0 or not there_is("unshare", "mount", "dpkg", "useradd", "runuser", *programs):
-        return False
-    if not can_mount():
-        print("left out: an installation, since nothing can be mounted here")
-    return can_mount()
-
-
-def operating(bench):
-    """The commands of docs/OPERATING.md that install a server, as the page describes for a package."""
-    _, program, *others = installed.block_with("useradd ").splitlines()
-    bench.same("the command that is left out", program, "install -m 755 release/rbac /usr/local/bin/rbac")
-    return "\n".join(others).replace("/usr/local/bin/rbac ", "/usr/bin/rbac ")
-
-
 def check_man_page(bench, packages):
-    """man finds the page of the package by its name."""
-    if there_is("man"):
-        status, said, _ = run(["man", "-M", packages.root / "usr/share/man", "rbac"], LC_ALL="C.UTF-8", MANWIDTH="80")
-        bench.same("the page of rbac", (status, said.split("(")[0], f"Bitzolanu {VERSION}" in said), (0, "RBAC", True))
+    """man finds the pages of the package by their names."""
+    for name in MANUALS if there_is("man") else ():
+        command = ["man", "-M", packages.root / "usr/share/man", name[:-2]]
+        status, said, err = run(command, LC_ALL="C.UTF-8", MANWIDTH="80")
+        title = name[:-2].upper()
+        bench.same(f"the page {name}", (status, said.split("(")[0], f"Bitzolanu {VERSION}" in said, err), (0, title, True, ""))
 
 
 def known_commands():
@@ -488,13 +431,13 @@ def check_library(bench, packages):
 
 # The checks of a package, which is made once.
 OF_PACKAGE = [check_fields, check_versions, check_files, check_sums, check_places, check_example, check_man_page]
-OF_PACKAGE += [check_installed, check_by_systemd, check_same_bytes, check_refused, check_lint, check_library]
+OF_PACKAGE += [check_same_bytes, check_refused, check_lint, check_library]
 
 
 def jobs_in(folder):
     """The checks: those of the completions, and those of a package that is made in a folder."""
     yield from ((check,) for check in (check_bash, check_zsh, check_fish))
-    if there_is("dpkg-deb"):
+    if there_is("dpkg-buildpackage", "dh", "dh_installsysusers"):
         packages = Packages(folder)
         fault = packages.unpack()
         yield (check_made, fault)

@@ -22,7 +22,7 @@ MODULES = [
     "model",
     "counts",
     "times",
-    "proofs",
+    "commands",
     "specs",
     "paths",
     "architecture",

@@ -1,11 +1,14 @@
 #!/usr/bin/env python3
 """Makes all reports of an office in a new folder, with a text that identifies them: evidence.txt.
 
-    evidence.py [--with-sessions] DATE COPY FOLDER
+    evidence.py [--with-sessions] [--user U] [--role R] [--object O] [--operation P] DATE COPY FOLDER
 
 DATE, such as 2026-11-26, is only written into the text: it is your date and not that of a clock, so that the same copy gives the
 same bytes on another day. COPY is a copy of an office. It is read and not written: the program checks a further copy of its
 bytes, which is deleted at the end. FOLDER must not exist.
+
+With --user, --role, --object or --operation permissions.csv has only the lines of this user, of this role, at `assigned` or
+`granted`, of this object or operation; evidence.txt says so. One of them is needed if it would have above 1,000,000 lines.
 
 evidence.txt has a line with the SHA-256 of COPY, of the program and of each report. `sha256sum -c evidence.txt` in FOLDER
 compares them again. Its first lines have the date, what `rbac check` printed, the version of sqlite3, and how sessions are shown.
@@ -19,11 +22,14 @@ files beside this one. The status is 0 if all was made, 1 if COPY is refused or 
 
 import argparse
 import hashlib
+import json
 import os
 import shutil
+import sqlite3
 import subprocess
 import sys
 import tempfile
+from contextlib import closing
 from datetime import date
 from pathlib import Path
 from urllib.parse import quote
@@ -44,6 +50,22 @@ REPORTS = {
     "picture.sql": "roles.dot",
 }
 
+
+# The filters of permissions.csv, how many lines it may have, and how many it would have. Nothing is made to count them: each role
+# gives as many grants as there are to it and to its juniors, and each assignment to it has a line for each.
+FILTERS = ("user", "role", "object", "operation")
+MOST_LINES = 1_000_000
+COUNT = """
+WITH granted(role, n) AS (
+    SELECT role, count(*) FROM grant_row
+    WHERE (:object IS NULL OR ob = :object) AND (:operation IS NULL OR op = :operation) GROUP BY role
+), given(role, n) AS (
+    SELECT senior, sum(n)
+    FROM (SELECT a AS senior, b AS junior FROM pair_row WHERE kind = 4 UNION ALL SELECT a, a FROM name_row WHERE kind = 2)
+    JOIN granted ON role = junior WHERE :role IS NULL OR :role IN (senior, junior) GROUP BY senior
+)
+SELECT total(n) FROM pair_row JOIN given ON role = b WHERE kind = 2 AND (:user IS NULL OR a = :user)
+"""
 
 # How sqlite3 is told to show sessions by name, and what evidence.txt says of it.
 NAMED = ["-cmd", ".parameter set @with_sessions 1"]
@@ -73,10 +95,23 @@ def checked(copy):
         return run([str(PROGRAM), "check", str(further)]).decode().strip()
 
 
-def report(copy, tool, place, has_names):
+def count_permissions(copy, chosen):
+    """How many lines permissions.csv would have. A file that is no office has none: the tools say what is wrong with it."""
+    try:
+        with closing(sqlite3.connect(f"file:{quote(str(copy))}?immutable=1", uri=True)) as office:
+            return int(office.execute(COUNT, {key: chosen.get(key) for key in FILTERS}).fetchone()[0])
+    except sqlite3.Error:
+        return 0
+
+
+def parameter(key, value):
+    """How sqlite3 is told the value of a parameter, whatever it has."""
+    return ["-cmd", f".parameter set @{key} \"CAST(x'{value.encode().hex()}' AS TEXT)\""]
+
+
+def report(copy, tool, place, more):
     """Makes a file with what a tool reports of the copy. It may be too long for memory."""
     with open(TOOLS / tool, "rb") as statements, open(place, "wb") as made:
-        more = NAMED if has_names else []
         command = ["sqlite3", "-init", os.devnull, "-readonly", *more, f"file:{quote(str(copy))}?immutable=1"]
         run(command, statements, made, cwd=TOOLS.parent)
 
@@ -93,26 +128,33 @@ def digest(path, folder):
     return f"{total.hexdigest()}  {name}"
 
 
-def fill(folder, day, copy, has_names):
+def fill(folder, day, copy, has_names, chosen):
     """Makes the reports and the text in a folder."""
     before = digest(copy, folder)
     said = checked(copy)
+    count = count_permissions(copy, chosen)
+    if count > MOST_LINES:
+        most = f"permissions.csv would have {count:,} lines, above {MOST_LINES:,}"
+        raise Refused(f"{most}: choose by --user, --role, --object or --operation")
+    filters = [word for key, value in chosen.items() for word in parameter(key, value)]
     for tool, name in REPORTS.items():
-        report(copy, tool, folder / name, has_names)
+        report(copy, tool, folder / name, [*(NAMED if has_names else []), *(filters if tool == "permissions.sql" else [])])
     if digest(copy, folder) != before:
         raise Refused(f"{copy}: the file changed meanwhile")
     version = run(["sqlite3", "--version"]).decode().split()[0]
     lines = [f"# Reports of an office, dated {day}", f"# rbac check: {said}", f"# sqlite3: {version}"]
     lines.append(f"# sessions: {SHOWN[has_names]}")
+    if chosen:
+        lines.append(f"# permissions: only those of {', '.join(f'{key} {json.dumps(value)}' for key, value in chosen.items())}")
     lines += [digest(path, folder) for path in (copy, PROGRAM, *(folder / name for name in REPORTS.values()))]
     (folder / "evidence.txt").write_text("".join(f"{line}\n" for line in lines), encoding="utf-8")
 
 
-def make(folder, day, copy, has_names):
+def make(folder, day, copy, has_names, chosen):
     """Makes the folder with its reports and its text. If that fails, nothing is left of it."""
     folder.mkdir(0o700)
     try:
-        fill(folder, day, copy, has_names)
+        fill(folder, day, copy, has_names, chosen)
     except BaseException:
         shutil.rmtree(folder)
         raise
@@ -122,13 +164,17 @@ def main():
     """Makes the evidence, and returns the status."""
     parser = argparse.ArgumentParser(description=__doc__, formatter_class=argparse.RawDescriptionHelpFormatter)
     parser.add_argument("--with-sessions", action="store_true")
+    for key in FILTERS:
+        parser.add_argument(f"--{key}", metavar="NAME")
     parser.add_argument("day", metavar="DATE", type=date.fromisoformat)
     parser.add_argument("copy", metavar="COPY")
     parser.add_argument("folder", metavar="FOLDER")
     arguments = parser.parse_args()
     copy, folder = Path(arguments.copy).absolute(), Path(arguments.folder).absolute()
+    # argparse makes a list of nothing of the name of two dashes.
+    chosen = {key: "--" if value == [] else value for key in FILTERS if (value := getattr(arguments, key)) is not None}
     try:
-        make(folder, arguments.day, copy, arguments.with_sessions)
+        make(folder, arguments.day, copy, arguments.with_sessions, chosen)
     except (Refused, OSError) as fault:
         print(f"evidence.py: {fault}", file=sys.stderr)
         return 1

@@ -17,17 +17,15 @@ class Decide {
         var session = System.getenv("SESSION");
         var http = HttpClient.newBuilder().version(HttpClient.Version.HTTP_1_1).build();
         var office = Client.of(address).timeout(Duration.ofSeconds(60)).build();
-        Callable<Boolean> byHand =
-            () -> {
-                var body = String.format("{\"session\":\"%s\",\"operation\":\"%s\",\"object\":\"%s\"}", session, "open", "vault");
-                var request =
-                    HttpRequest.newBuilder(URI.create(address + "/v1/checkAccess"))
-                        .timeout(Duration.ofSeconds(60))
-                        .POST(HttpRequest.BodyPublishers.ofString(body))
-                        .build();
-                var answer = http.send(request, HttpResponse.BodyHandlers.ofString());
-                return answer.statusCode() == 200 && answer.body().equals("{\"ok\":true,\"value\":true}");
-            };
+        Callable<Boolean> byHand = () -> {
+            var body = String.format("{\"session\":\"%s\",\"operation\":\"%s\",\"object\":\"%s\"}", session, "open", "vault");
+            var request = HttpRequest.newBuilder(URI.create(address + "/v1/checkAccess"))
+                              .timeout(Duration.ofSeconds(60))
+                              .POST(HttpRequest.BodyPublishers.ofString(body))
+                              .build();
+            var answer = http.send(request, HttpResponse.BodyHandlers.ofString());
+            return answer.statusCode() == 200 && answer.body().equals("{\"ok\":true,\"value\":true}");
+        };
         Callable<Boolean> byClient = () -> office.may(session, "open", "vault");
         var times = new double[2][COUNT];
         for (var round = 0; round < WARM + COUNT; round++) {

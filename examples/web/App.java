@@ -9,7 +9,7 @@ import rbac.client.*;
 
 /** A bank's pages. RBAC is the address of the office, RBAC_TOKEN this application's token, and Java trusts its key store. */
 class App {
-    static final Map<String, String[]> NEEDS = Map.of("/vault", new String[] {"open", "vault"}, "/count", new String[] {"count", "vault"});
+    static final Map<String, Need> NEEDS = Map.of("/vault", Need.of("open", "vault"), "/count", Need.of("count", "vault"));
     static final Map<String, String> PASSWORDS = Map.of("ann", "apple", "erin", "elder"); // An application keeps digests of them.
     static final Map<String, Session> SESSIONS = new ConcurrentHashMap<>(); // by the cookie
     static final Client OFFICE = Client.of(System.getenv("RBAC")).token(System.getenv("RBAC_TOKEN")).build();
@@ -17,35 +17,35 @@ class App {
     public static void main(String[] arguments) throws IOException {
         var port = Integer.parseInt(System.getenv().getOrDefault("PORT", "0"));
         var server = HttpServer.create(new InetSocketAddress("127.0.0.1", port), 0);
-        server.createContext("/", App::page);
+        var guard = new GuardFilter(OFFICE, visit -> NEEDS.get(visit.getRequestURI().getPath()), App::session);
+        server.createContext("/", App::page).getFilters().add(guard);
         server.start();
         System.out.println("http://127.0.0.1:" + server.getAddress().getPort());
     }
 
+    static String cookie(HttpExchange visit) {
+        return String.valueOf(visit.getRequestHeaders().getFirst("Cookie")).replaceFirst("^login=", "");
+    }
+
+    static String session(HttpExchange visit) {
+        var session = SESSIONS.get(cookie(visit));
+        return session == null ? null : session.name();
+    }
+
     static void page(HttpExchange visit) throws IOException {
-        var status = 503;
+        var asked = visit.getRequestMethod() + " " + visit.getRequestURI().getPath();
+        var status = 200;
         try {
-            status = status(visit, visit.getRequestMethod() + " " + visit.getRequestURI().getPath());
+            if (asked.equals("POST /login")) {
+                status = logIn(visit, new String(visit.getRequestBody().readNBytes(1000), StandardCharsets.UTF_8).split("[=&]"));
+            } else if (asked.equals("POST /logout") && session(visit) != null) {
+                SESSIONS.remove(cookie(visit)).close();
+            }
         } catch (OfficeException error) {
+            status = 503;
             System.err.println(error);
         }
         visit.sendResponseHeaders(status, -1);
-    }
-
-    static int status(HttpExchange visit, String asked) throws IOException {
-        var cookie = String.valueOf(visit.getRequestHeaders().getFirst("Cookie")).replaceFirst("^login=", "");
-        var session = SESSIONS.get(cookie);
-        if (asked.equals("POST /login")) {
-            return logIn(visit, new String(visit.getRequestBody().readNBytes(1000), StandardCharsets.UTF_8).split("[=&]"));
-        } else if (asked.equals("POST /logout") && session != null) {
-            SESSIONS.remove(cookie).close();
-        }
-        var need = NEEDS.get(visit.getRequestURI().getPath());
-        var decision = need == null || session == null ? null : session.check(need[0], need[1]);
-        if (decision == null || decision.reason() == Reason.ENDED_SESSION) {
-            return need == null ? 200 : 401;
-        }
-        return decision.isAllowed() ? 200 : decision.isDecided() ? 403 : 503;
     }
 
     static int logIn(HttpExchange visit, String[] form) {
@@ -53,7 +53,7 @@ class App {
             return 401;
         }
         var cookie = Session.newName();
-        SESSIONS.put(cookie, OFFICE.openSession(form[1], OFFICE.assignedRoles(form[1])));
+        SESSIONS.put(cookie, OFFICE.openSession(form[1]));
         visit.getResponseHeaders().set("Set-Cookie", "login=" + cookie + "; HttpOnly; SameSite=Strict; Path=/");
         return 200;
     }

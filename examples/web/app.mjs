@@ -30,7 +30,7 @@ async function logIn(request, answer) {
     return 401;
   }
   const name = randomBytes(16).toString("hex");
-  sessions.set(name, await office.openSession(user, await office.assignedRoles(user)));
+  sessions.set(name, await office.openSession(user));
   answer.setHeader("Set-Cookie", `login=${name}; HttpOnly; SameSite=Strict; Path=/`);
   return 200;
 }

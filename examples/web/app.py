@@ -40,7 +40,7 @@ def pages(environ, start_response):
         user, password = form.get("user", [""])[0], form.get("password", [""])[0]
         if hmac.compare_digest(PASSWORDS.get(user, secrets.token_hex()).encode(), password.encode()):
             new = secrets.token_urlsafe()
-            sessions[new] = office.open_session(user, office.assigned_roles(user))
+            sessions[new] = office.open_session(user)
             fields.append(("Set-Cookie", f"login={new}; HttpOnly; SameSite=Strict; Path=/"))
         else:
             status = "401 Unauthorized"

@@ -24,8 +24,8 @@ JAVA = ROOT / "clients/java"
 # Where Debian keeps the libraries and plugins of Maven.
 MAVEN = Path("/usr/share/maven-repo")
 
-# The longest lines of sources in Python.
-WIDTH = "128"
+# The longest lines of sources in Python, and of those in JavaScript.
+WIDTH, MOST_COLUMNS = "128", 140
 
 # Programs that print what a decision is: of a session that may, and of one that doesn't exist.
 ASKING = {
@@ -225,6 +225,58 @@ def typescript_form(bench):
     bench.same("the declarations", present, {name: written[name] for name in reached})
 
 
+def javascript_form(bench):
+    """The sources in JavaScript have the form that the rest has, since Debian has no formatter that reads them."""
+    sources = [
+        *(NODE / "src").glob("*.js"),
+        ROOT / "examples/web/app.mjs",
+        DRIVERS / "driver.mjs",
+        ROOT / "bench/clients/decide.mjs",
+    ]
+    faults = []
+    for source in sources:
+        text = source.read_text(encoding="utf-8")
+        faults += [f"{source.name}:{number}: {fault}" for number, fault in faults_of_form(text)]
+    bench.judge("the form of the sources in JavaScript", faults[:5])
+
+
+def faults_of_form(text):
+    """What is wrong with the form of a text, by its lines: indents by two, short lines, double quotes, semicolons, no blanks at ends."""
+    if not text.endswith("\n") or text.endswith("\n\n") or "\n\n\n" in text:
+        yield 0, "empty lines, or no end of a line"
+    before, lines = 0, text.splitlines()
+    for number, line in enumerate(lines, 1):
+        goes_on = "".join(lines[number : number + 1]).lstrip().startswith(("?", ".", "|", "&"))
+        indent = len(line) - len(line.lstrip(" "))
+        is_comment = line.lstrip().startswith(("*", "//", "/*"))
+        if len(line) > MOST_COLUMNS or line != line.rstrip() or "\t" in line or "\r" in line:
+            yield number, "a long line, or a tab or a blank at its end"
+        if line and (indent % 2 != line.lstrip().startswith("*") or indent > before + 2 + is_comment):
+            yield number, f"an indent of {indent} after {before}"
+        if not is_comment and re.search(r"^[^\"`/]*'[^\"']*'", line):
+            yield number, "single quotes"
+        if not goes_on and re.search(
+            r"^\s*(const|let|return|throw|import|break|continue)\b.*[\w)\]\"`]$", line.partition(" // ")[0]
+        ):
+            yield number, "no semicolon"
+        if re.search(r"(?<!\.)\b(if|for|while|switch|catch)\(|\)\{|\belse\{|\bvar ", line) and not is_comment:
+            yield number, "no blank before a parenthesis or a brace, or `var`"
+        if line:
+            before = indent
+
+
+def java_form(bench):
+    """clang-format changes nothing in the sources in Java that were written by hand."""
+    if without("clang-format", "the form of the sources in Java"):
+        return
+    sources = [*(JAVA / "src/main/java/rbac/client").glob("*.java"), ROOT / "examples/web/App.java"]
+    sources += [DRIVERS / "Driver.java", ROOT / "bench/clients/Decide.java"]
+    sources = [source for source in sources if source.name != "Functions.java"]
+    style = f"--style=file:{JAVA}/.clang-format"
+    found = run("clang-format", style, "--dry-run", "--Werror", *sources)
+    bench.same("what clang-format would change", (found[0], found[1][:500]), (0, ""))
+
+
 def node_installed(bench):
     """npm packs the client, and installs it into a new folder without a network. TypeScript finds its types there."""
     if without("npm", "the installation of the client for Node"):
@@ -272,6 +324,8 @@ JOBS = [
     (python_form,),
     (go_form,),
     (typescript_form,),
+    (javascript_form,),
+    (java_form,),
     (python_installed,),
     (go_installed,),
     (node_installed,),

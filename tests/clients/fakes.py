@@ -32,11 +32,12 @@ class Kept:
 class Fake:
     """A server that answers each request by the next of its answers: bytes, or a list of bytes and of seconds to wait.
 
-    A request for a path of no function gets the right answer. With a context it speaks TLS.
+    A request for a path of no function gets the right answer. With a context it speaks TLS. It answers requests for sessions only if
+    it `opens` some.
     """
 
-    def __init__(self, answers, behind=None, context=None):
-        self.answers = list(answers)
+    def __init__(self, answers, behind=None, context=None, opens=False):
+        self.answers, self.opens = list(answers), opens
         self.behind, self.context = behind, context
         self.lock = threading.Lock()
         self.requests = []
@@ -82,10 +83,12 @@ class Fake:
                 pass
 
     def next(self, request):
-        """The next answer."""
+        """The next answer. It opens no sessions, as `rbac serve`, unless it has answers for that."""
+        if request.startswith(b"POST /sessions ") and not self.opens:
+            return answered(404, b'{"code":35,"error":"UnknownFunction"}')
         with self.lock:
             self.requests.append(request)
-            if request.startswith(b"POST /v1/"):
+            if request.startswith((b"POST /v1/", b"POST /sessions ")):
                 return self.answers.pop(0) if self.answers else b""
         return RIGHT
 

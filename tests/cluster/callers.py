@@ -28,7 +28,7 @@ def check_callers(bench):
     """Who asks and what a caller may do is judged on each node; the files are read again on each."""
     bench.write("callers.jsonl", rules(RIGHTS).encode())
     bench.write("tokens", tokens(desk="secret", admin="another").encode())
-    words = ("--callers", bench.path("callers.jsonl"), "--tokens", bench.path("tokens"))
+    words = ("--callers", bench.path("callers.jsonl"), "--tokens", bench.path("tokens"), "--etcd-open")
     with Cluster(bench.folder, build(bench.shared), more=words) as cluster:
         admin, desk = bearer("another"), bearer("secret")
         for function, arguments in [("addUser", {"user": "ann"}), ("addRole", {"role": "clerk"}), ("addRole", {"role": "boss"})]:

@@ -35,6 +35,8 @@ class Asked:
     revision: int = 0
     place: int = 0
     age: float = 0.0
+    caller: str = ""
+    reason: str = ""
 
     @property
     def is_answered(self):
@@ -54,6 +56,7 @@ class Client(threading.Thread):
         super().__init__(daemon=True)
         self.cluster, self.number, self.done = cluster, number, done
         self.fields = {"Authorization": f"Bearer {token}"} if token else {}
+        self.caller = f"token:client{number}" if token else "open"
         self.random = random.Random(seed * 1000 + number)
         self.connections, self.history, self.faults, self.tags = {}, [], [], 0
 
@@ -72,11 +75,12 @@ class Client(threading.Thread):
         node = self.random.choice([self.number % MACHINES] * 3 + list(range(MACHINES))) if node is None else node
         self.tags += 1
         line, body = written(line, f"{self.number}-{self.tags}")
-        asked = Asked(kind, node, line, time.monotonic())
+        asked = Asked(kind, node, line, time.monotonic(), caller=self.caller, reason=f"{self.number}-{self.tags}")
         try:
             connection = self.connection(node)
             local = {"Consistency": "local"} if kind == LOCAL else {}
-            connection.request("POST", f"/v1/{line['fn']}", body, {**self.fields, **local})
+            fields = {**self.fields, **local, "Office-Reason": asked.reason}
+            connection.request("POST", f"/v1/{line['fn']}", body, fields)
             reply = connection.getresponse()
             asked.answer, asked.status = reply.read(), reply.status
             asked.revision = int(reply.headers.get("Office-Revision", 0))

@@ -12,6 +12,7 @@ from .judging import Judge, Recorder, counts_of
 from .machines import SECONDS, Cluster
 from .networks import MACHINES
 from .outvoting import outvote
+from .records import faults_of as recorded_wrongly
 from .rights import faults_of as refused_wrongly
 from .rights import options, token
 from .rows import offices, rows_of, snapshots_of, sorted_rows
@@ -33,7 +34,8 @@ class Trial:
     def __init__(self, cluster, seed, clients=CLIENTS):
         self.cluster, self.done = cluster, threading.Event()
         self.recorder = Recorder(cluster)
-        self.clients = [Client(cluster, number, seed, self.done, token(number)) for number in range(clients)]
+        tokens = [token(number) if cluster.more else "" for number in range(clients)]
+        self.clients = [Client(cluster, number, seed, self.done, tokens[number]) for number in range(clients)]
         for thread in (self.recorder, *self.clients):
             thread.start()
 
@@ -68,7 +70,7 @@ class Trial:
             for revision, (_, path) in found.items():
                 if revision not in judge.snapshots or rows_of(path) != sorted_rows(judge.snapshots[revision]):
                     faults.append(f"the snapshot of node {i} at {revision} differs from the model")
-        return faults
+        return faults + recorded_wrongly(self.cluster, judge)
 
 
 def check_faults(bench):
@@ -113,16 +115,16 @@ kind = api.Local
 }
 if kind == api.Local &&"""),
     # It answers before the log has the command.
-    "early": ([Faults.pause_member], "node/requests.go", "r := &request{within.Done(), call.Line, make(chan api.Answer, 1)}", """
-r := &request{ctx.Done(), call.Line, make(chan api.Answer, 1)}
+    "early": ([Faults.pause_member], "node/requests.go", "r := &request{within.Done(), call, make(chan api.Answer, 1)}", """
+r := &request{ctx.Done(), call, make(chan api.Answer, 1)}
 if kind == api.Command {
 n.asked[kind] <- r
 return api.Answer{Text: []byte(`{"ok":true}`), Revision: n.applied.Load().revision + 1}, nil
 }"""),
     # It takes an answer to be as new as its question was.
-    "aged": ([Faults.pause_replay], "node/node.go", """		n.send(q.line, func(text []byte) {
+    "aged": ([Faults.pause_replay], "node/node.go", """		n.send(q.call.Line, func(text []byte) {
 			reply <- api.Answer{Text: text, Revision: revision, Newest: n.newest()}""", """		newest, posed := n.newest(), time.Now()
-		n.send(q.line, func(text []byte) {
+		n.send(q.call.Line, func(text []byte) {
 			reply <- api.Answer{Text: text, Revision: revision, Newest: newest.Add(time.Since(posed))}"""),
     # It keeps running after its replay has ended.
     "endless": ([Faults.kill_busy_replay], "node/node.go", """if err := n.replay.Close(); err != nil {

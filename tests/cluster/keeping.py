@@ -146,7 +146,8 @@ def judge_damaged(bench, cluster):
 def registered(cluster):
     """The revisions of the snapshots that each node has registered in etcd."""
     reply = cluster.etcd_call("/v3/kv/range", {"key": encoded(f"{PREFIX}/nodes/"), "range_end": encoded(f"{PREFIX}/nodes0")})
-    members = [json.loads(base64.b64decode(kv["value"])) for kv in (reply or {}).get("kvs", [])]
+    values = [json.loads(base64.b64decode(kv["value"])) for kv in (reply or {}).get("kvs", [])]
+    members = [one for one in values if isinstance(one, dict)]  # The form of entries is beside them.
     return {int(one["name"][1:]): {s["revision"] for s in one["snapshots"]} for one in members}
 
 
@@ -179,7 +180,7 @@ def make_wrong(cluster, i):
             path.unlink()
         if revision == wrong:
             tamper(path)
-            path.rename(path.with_name(f"{revision}-{says['commands']}-{digest_of(path)}"))
+            path.rename(path.with_name("-".join([str(revision), str(says["commands"]), digest_of(path), f"record{says['record']}"])))
     cluster.nodes[i].start()
 
 

@@ -205,8 +205,8 @@ class Cluster:
         return None
 
     def read_log(self, after=0):
-        """The entries of the log after a revision, each as its revision, its lines and the number of the node that has written
-        it, and the floor of the log."""
+        """The entries of the log after a revision, each as its revision, its requests and the number of the node that has
+        written it, and the floor of the log."""
         at, end = encoded(f"{PREFIX}/log/"), encoded(f"{PREFIX}/log0")
         reply = self.etcd_call("/v3/kv/txn", {"success": [
             {"requestRange": {"key": encoded(f"{PREFIX}/floor")}},
@@ -217,7 +217,7 @@ class Cluster:
             return None
         floors, entries = (one["response_range"].get("kvs", []) for one in reply["responses"])
         return (
-            [(int(kv["create_revision"]), base64.b64decode(kv["value"]).split(b"\n"), writer_of(kv["key"])) for kv in entries],
+            [(int(kv["create_revision"]), lines_of(base64.b64decode(kv["value"])), writer_of(kv["key"])) for kv in entries],
             max((int(base64.b64decode(kv["value"])) for kv in floors), default=0),
         )
 
@@ -284,6 +284,11 @@ def writer_of(key):
     """The number of the node that has written an entry, from its key."""
     name = base64.b64decode(key).rpartition(b"/")[2].partition(b"-")[0]
     return int(name[1:])
+
+
+def lines_of(value):
+    """The requests of an entry. A line that says who asks for the next ones, when and why, is none."""
+    return [line for line in value.split(b"\n") if not line.startswith(b'{"by":')]
 
 
 def encoded(text):

@@ -109,7 +109,7 @@ def check_commands(bench):
                 bench.same(f"what {command} prints", machines[name].type(command), machines[name].here(shown))
                 if "node/snapshots" in command:
                     start(member)
-                if "adopt" in command or "node/snapshots" in command:
+                if "adopt" in command or "del rbac/first" in command:
                     start(node)
     finally:
         for machine in machines.values():

@@ -35,7 +35,8 @@ def options(folder, clients):
     }
     for name, text in files.items():
         Path(folder, name).write_text(text, encoding="ascii")
-    return tuple(word for name in files for word in (f"--{name}", str(Path(folder, name))))
+    # Nobody else reaches etcd, which has no certificates here.
+    return ("--etcd-open", *(word for name in files for word in (f"--{name}", str(Path(folder, name)))))
 
 
 def faults_of(history, number):

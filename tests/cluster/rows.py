@@ -35,8 +35,10 @@ def snapshots_of(cluster, i):
     """The snapshots of a node by their revisions: what their names contain, and their files."""
     found = {}
     for path in Path(cluster.data(f"node{i}")).glob("snapshots/[0-9]*"):
-        revision, commands, digest = path.name.removesuffix("-copied").split("-")
-        found[int(revision)] = ({"revision": int(revision), "commands": int(commands), "digest": digest}, path)
+        revision, commands, digest, *head = path.name.removesuffix("-copied").split("-")
+        about = {"revision": int(revision), "commands": int(commands), "digest": digest}
+        about.update({"record": one.removeprefix("record") for one in head})
+        found[int(revision)] = (about, path)
     return found
 
 

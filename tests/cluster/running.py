@@ -14,7 +14,9 @@ from program.bench import PROGRAM, TESTS, Bench
 
 # What needs nothing but the sources, and what needs etcd and a built node.
 OF_SOURCES = ["sources"]
-OF_CLUSTERS = ["program", "page", "booted", "answers", "secured", "callers", "hung", "full", "keeping", "judged"]
+OF_CLUSTERS = [
+    "program", "page", "booted", "answers", "secured", "callers", "hung", "full", "keeping", "records", "upgrading", "stated", "judged",
+]  # fmt: skip
 
 NEEDED = ["go.etcd.io/etcd/clientv3", "go.uber.org/zap", "golang.org/x/sync/errgroup"]
 

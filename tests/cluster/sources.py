@@ -10,7 +10,7 @@ SOURCES = TESTS.parent / "node/src/rbac-node"
 
 def check_functions(bench):
     """The functions of the node are those of the pages, with commands and questions apart."""
-    text = (SOURCES / "api/call.go").read_text(encoding="utf-8")
+    text = (SOURCES / "api/table.go").read_text(encoding="utf-8")
     paths = json.loads((TESTS.parent / "docs/openapi.json").read_text(encoding="utf-8"))["paths"]
     for kind in ("commands", "questions"):
         table = re.search(rf"{kind} += `(.*?)`", text, re.S)[1]

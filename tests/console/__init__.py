@@ -4,6 +4,8 @@
     serving     the files of the console and their headers; the parts of the front that only the console asks for
     page        the commands and the pictures of docs/CONSOLE.md
     pages       each page with its actions and refusals, on the bank
+    downloads   reports as files: beside those of the tools, by tickets; who may have them
+    reports     the page Reports, and the difference of two copies
     tasks       what administrators and auditors want to do, with the number of clicks
     rights      callers who may not do everything, and a token that is nowhere
     hostile     names that are markup or can't be seen; pages of another origin

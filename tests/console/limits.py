@@ -1,54 +1,139 @@
 """An office at the limits: 20,000 users, 1,024 roles, 20,000 assignments. The seconds are reported, and not tested."""
 
 import json
+import statistics
 import subprocess
 import time
+import urllib.request
 
-from front.program import Front
+from front.program import HOST, Front
 from program.bench import PROGRAM as RBAC
 
-from .browser import Browser
+from .browser import SETTLED, Browser
+from .downloads import memory_of, ticket_for
 
-USERS, ROLES, OBJECTS, SEED = 20_000, 1_024, 1_000, 7
+USERS, ROLES, OBJECTS, SETS, MEMBERS, SESSIONS, SEED = 20_000, 1_024, 1_000, 64, 32, 1_000, 7
+# How many bytes of memory the front may have while it makes a report.
+MOST_MEMORY = 500_000_000
+OPERATIONS = ["read", "write", "print", "sign", "burn"]
+GRANTS_OF_EACH, STEP = 4, 257
+
+
+def role_of(number):
+    """The role that a user is assigned to."""
+    return number * SEED % ROLES
 
 
 def lines():
-    """The commands that fill an office: a tree of roles in which each has four juniors, and a grant for each role."""
+    """The commands that fill an office: a tree of roles in which each has four juniors, and 20 grants for each role."""
     for number in range(ROLES):
         yield {"fn": "addRole", "role": f"role {number:04}"}
     for number in range(1, ROLES):
         yield {"fn": "addInheritance", "asc": f"role {(number - 1) // 4:04}", "desc": f"role {number:04}"}
     for number in range(OBJECTS):
         yield {"fn": "addPermObj", "object": f"object {number:04}"}
-        yield {"fn": "addPermission", "object": f"object {number:04}", "operation": "read"}
-        yield {"fn": "grantPermission", "object": f"object {number:04}", "operation": "read", "role": f"role {number:04}"}
+        for i, operation in enumerate(OPERATIONS):
+            permission = {"object": f"object {number:04}", "operation": operation}
+            yield {"fn": "addPermission", **permission}
+            for j in range(GRANTS_OF_EACH):
+                yield {"fn": "grantPermission", **permission, "role": f"role {(number + i + j * STEP) % ROLES:04}"}
+    for number in range(SETS):
+        members = [f"role {(number + i * 31) % ROLES:04}" for i in range(MEMBERS)]
+        yield {"fn": "createDsdSet", "set": f"set {number:02}", "roles": members, "cardinality": MEMBERS}
     for number in range(USERS):
         yield {"fn": "addUser", "user": f"user {number:05}"}
-        yield {"fn": "assignUser", "user": f"user {number:05}", "role": f"role {number * SEED % ROLES:04}"}
+        yield {"fn": "assignUser", "user": f"user {number:05}", "role": f"role {role_of(number):04}"}
+    leaves = [number for number in range(USERS) if role_of(number) > ROLES // 4]
+    for number in leaves[:SESSIONS]:
+        roles = [f"role {role_of(number):04}"]
+        yield {"fn": "createSession", "user": f"user {number:05}", "roles": roles, "session": f"session {number}"}
 
 
-def check_limits(bench):
-    """The pages of a full office are there, and say how long they took."""
+# How long a page takes in the browser until it shows what it is to show, laid out and painted, in milliseconds; and what was asked for.
+MEASURED = """
+const [hash, done] = arguments, settled = () => { %s };
+performance.clearResourceTimings();
+document.querySelector('main h1').setAttribute('data-old', '');
+const from = performance.now();
+location.hash = hash;
+const look = () => {
+    if (!settled()) return setTimeout(look, 1);
+    requestAnimationFrame(() => setTimeout(() => {
+        const asked = performance.getEntriesByType('resource');
+        done([performance.now() - from, asked.length, asked.reduce((sum, one) => sum + one.transferSize, 0)]);
+    }));
+};
+look();
+""" % SETTLED
+TIMES = 7
+
+
+def full_front(bench):
+    """A front, not yet started, over an office that is full."""
     front = Front(bench, "--timeout", "60s", name="full")
     subprocess.run([RBAC, "init", front.office], capture_output=True, check=True)
     text = "".join(json.dumps(line) + "\n" for line in lines()).encode()
-    subprocess.run([RBAC, "replay", front.office], input=text, capture_output=True, check=True)
-    with front, Browser(bench, front) as page:
+    done = subprocess.run([RBAC, "replay", front.office], input=text, capture_output=True, check=True)
+    bench.same("the office is full", {*done.stdout.split()}, {b'{"ok":true}'})
+    return front
+
+
+def measured(page, segments, query):
+    """The median of how long a page takes, and of the bytes and the number of its requests."""
+    found = []
+    for _ in range(TIMES):
+        page.go("other")
+        found.append(page.driver.execute_async_script(MEASURED, page.hash_of(segments) + query))
+    return [statistics.median(column) for column in zip(*found)]
+
+
+def check_limits(bench):
+    """The pages of a full office are there, and say how long they took beside a page that shows nothing."""
+    with full_front(bench) as front, Browser(bench, front) as page:
         page.open("nothing")
+        nothing = None
         for what, segments, query, wanted in [
             ("a page that shows nothing", ("nothing",), "", "There is no such page"),
             ("the overview", ("",), "", "20,000"),
             ("the users", ("users",), "", "user 00099"),
             ("a search", ("users",), "?contains=9999", "user 19999"),
             ("one user", ("users", "user 00000"), "", "role 0000"),
+            ("another user", ("users", "user 00003"), "", "role 0021"),
             ("the roles", ("roles",), "", "1,024 roles"),
             ("one role", ("roles", "role 0000"), "", "role 0001"),
             ("one object", ("objects", "object 0000"), "", "Operation read"),
             ("the sets", ("separation",), "", "There is no static set."),
             ("the record", ("record",), "", "The record begins."),
+            ("the report of one user", ("reports", "permissions"), "?user=user+00003", "user 00003"),
+            ("the report of one set", ("reports", "near"), "?set=set+07&left=30", "set 07"),
         ]:
-            page.go("nothing")
-            start = time.monotonic()
-            page.go(*segments, query=query)
-            print(f"{time.monotonic() - start:6.2f} s  {what}, of a full office, in memory")
+            took, requests, size = measured(page, segments, query)
+            nothing = nothing or took
+            print(f"{took:6.0f} ms, {took / nothing:4.1f} times, {requests:2.0f} requests, {size:7,.0f} bytes: {what}, of a full office")
             bench.same(what, wanted in page.text(), True)
+        page.go("reports", "permissions")
+        bench.same("too many lines", "This would be 2,183,132 lines, and a report has at most 1,000,000. Choose a user" in page.text(), True)
+        bench.same("no file", (page.find("Download CSV"), page.find("Print")), (None, None))
+
+
+def check_reports(bench):
+    """Long reports of a full office: refused above a million lines, and otherwise made within a bounded memory, which is reported."""
+    with full_front(bench) as front:
+        status, refused = ticket_for(front, "permissions")
+        bench.same("too many lines", (status, refused["error"], refused["lines"]), (413, "BadRequest", 2_183_132))
+        before = memory_of(front.process.pid)
+        for name, values in (("near", {}), ("sessions", {}), ("dump", {}), ("permissions", {"operation": "read"})):
+            start = time.monotonic()
+            told = ticket_for(front, name, values)[1]
+            counted = time.monotonic() - start
+            lines_made, size = 0, 0
+            with urllib.request.urlopen(f"http://{HOST}:{front.port}/reports/{told['ticket']}", timeout=300) as reply:
+                while piece := reply.read(1 << 16):
+                    lines_made += piece.count(b"\n")
+                    size += len(piece)
+            took = time.monotonic() - start
+            bench.same(f"the lines of {name}", lines_made - (name != "dump"), told["lines"])
+            most = memory_of(front.process.pid)
+            print(f"{name} {values}: {told['lines']:,} lines counted in {counted:.2f} s, {size:,} bytes in {took:.1f} s, "
+                  f"{most / 1e6:.0f} MB of memory at most, {before / 1e6:.0f} MB before")  # fmt: skip
+            bench.judge(f"the memory of {name}", [f"{most:,} bytes"] if most > MOST_MEMORY else [])

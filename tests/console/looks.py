@@ -180,7 +180,7 @@ def check_print(bench):
 # The pages whose pictures are in docs/CONSOLE.md.
 SHOTS = {
     "overview": ("",), "users": ("users",), "user": ("users", "erin"), "roles": ("roles",), "role": ("roles", "teller"), "object": ("objects", "vault"),
-    "separation": ("separation", "static", "audit"), "explain": ("explain", "ann", "post", "account 17"), "record": ("record",),
+    "separation": ("separation", "static", "audit"), "explain": ("explain", "ann", "post", "account 17"), "record": ("record",), "reports": ("reports", "permissions"),
 }  # fmt: skip
 
 
@@ -194,7 +194,7 @@ def check_pictures(bench):
         page.open("")
         page.resize(1000, 700)
         for name, segments in SHOTS.items():
-            page.go(*segments)
+            page.go(*segments, query="?role=teller" if name == "reports" else "")
             if name == "user":
                 page.submit("Assign", "Assign a role", Role="teller")
             path = f"{folder}/console-{name}.png"

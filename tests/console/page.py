@@ -11,7 +11,7 @@ from pages.shell import Shell
 from program.bench import TESTS
 
 PAGE = markdown.page("CONSOLE.md")
-MOST_BYTES, MOST_BYTES_OF_PICTURES = 20_000, 500_000
+MOST_BYTES, MOST_BYTES_OF_PICTURES, MOST_BYTES_OF_FIRST = 20_000, 700_000, 100_000
 
 
 def check_commands(bench):
@@ -36,3 +36,6 @@ def check_form(bench):
     bench.same("the pictures", shown, found)
     size = sum((TESTS.parent / "docs" / name).stat().st_size for name in found)
     bench.judge("their size", [f"{size} bytes"] if size > MOST_BYTES_OF_PICTURES else [])
+    readme = (TESTS.parent / "README.md").read_text(encoding="utf-8")
+    (one,) = re.findall(r"\(docs/(console-\w+\.png)\)", readme)
+    bench.same("the one of the first page is small", (TESTS.parent / "docs" / one).stat().st_size < MOST_BYTES_OF_FIRST, True)

@@ -10,7 +10,7 @@ from .browser import BANK, Browser
 
 REVIEW = ["assignedRoles", "authorizedRoles", "userPermissions", "assignedUsers", "authorizedUsers", "rolePermissions",
           "permissionRoles", "ssdRoleSetRoles", "ssdRoleSetCardinality", "dsdRoleSetRoles", "dsdRoleSetCardinality"]  # fmt: skip
-READING = [(function, "office") for function in [*REVIEW, "lists", "record", "checkAccess", "decideByUser"]]
+READING = [(function, "office") for function in [*REVIEW, "lists", "record", "reports", "checkAccess", "decideByUser"]]
 
 # An auditor who may read everything and change nothing; a help desk that may do little; a monitor that may read nothing here.
 RIGHTS = {
@@ -22,11 +22,11 @@ AUDITOR, DESK = "another", "secret"
 
 # Every page and every page of one.
 EVERYWHERE = [("",), ("users",), ("users", "erin"), ("roles",), ("roles", "teller"), ("objects",), ("objects", "vault"), ("separation",),
-              ("separation", "static", "audit"), ("explain",), ("record",)]  # fmt: skip
+              ("separation", "static", "audit"), ("explain",), ("record",), ("reports",), ("reports", "permissions"), ("reports", "difference")]  # fmt: skip
 
 # The names of the buttons of a page, without those that change nothing.
 BUTTONS = """return [...document.querySelectorAll("main button")].map(one => one.getAttribute("aria-label") ?? one.textContent)
-    .filter(one => !["Search", "Filter", "Explain"].includes(one));"""
+    .filter(one => !["Search", "Filter", "Explain", "Show", "Compare"].includes(one) && !/^(Print|Download): /.test(one));"""
 
 # What a page asks the front for without its own buttons, with the token that it has: a status or the name of a refusal.
 ASKED = """

@@ -12,7 +12,7 @@ from stopped.running import checks_of, is_long, run_all
 # Debian's Python has Debian's Selenium.
 DEBIAN_PYTHON = "/usr/bin/python3"
 NEEDED = ["chromium", "chromedriver"]
-MODULES = ["looks", "pages", "hostile", "rights", "tasks", "lost"]
+MODULES = ["looks", "pages", "trying", "reviews", "reports", "hostile", "rights", "tasks", "lost"]
 WORKERS = 2
 
 # The variable that says where the pictures of the pages are written.
@@ -32,7 +32,7 @@ def main(words: list[str]) -> int:
     if not shutil.which("go") or "sqlite" not in features():
         print("left out: what needs a front, since there is no Go or no library of SQLite for it: bin/setup console")
         return run_all(checks_of("console", ["sources"]), words)
-    modules = ["serving", "page", "sources"]
+    modules = ["downloads", "serving", "page", "sources"]
     if without := missing():
         print(f"left out: the console in a browser, since there is no {', '.join(without)}: bin/setup console")
     else:

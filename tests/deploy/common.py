@@ -17,9 +17,8 @@ TESTED_BY = {
     "nginx": "deploy/nginx",
     "haproxy": "deploy/haproxy.cfg",
     "logrotate": "deploy/nginx/logrotate",
-    "systemd-analyze": "what systemd-analyze reports about deploy/rbac.service",
-    "systemd-nspawn": "deploy/rbac.service under systemd",
-    "strace": "the system calls that deploy/rbac.service allows",
+    "systemd-analyze": "what systemd-analyze reports about the units",
+    "strace": "the system calls that deploy/rbac-serve@.service allows",
     "curl": "deploy/health",
 }
 
@@ -30,7 +29,7 @@ def untested():
         if not shutil.which(program):
             yield f"left out: {what}, since there is no {program} (bin/setup deploy installs it)"
     if os.geteuid() != 0:
-        yield "left out: what only root can do, such as the commands of docs/OPERATING.md that install and upgrade"
+        yield "left out: what only root can do, such as the commands of docs/NGINX.md"
 
 
 @lru_cache

@@ -2,6 +2,8 @@
 
 import os
 import signal
+import socket
+import threading
 import time
 
 from clients.fakes import RESET, Fake
@@ -65,12 +67,51 @@ def wrong_answers(bench):
         bench.same("the right answer", said(fake.port, 1), (0, "", ""))
 
 
+# Answers at the socket of a front, each with whether they are good.
+OF_FRONTS = {
+    "a front": (reply(200, b'{"ready":true}'), True),
+    "a front without callers": (reply(200, b'{"ready":true,"open":true}'), True),
+    "a front whose office is not open": (reply(503, b'{"ready":false,"why":"x"}'), False),
+    "a good text with a bad status": (reply(503, b'{"ready":true}'), False),
+    "the program": (reply(200, GOOD), False),
+}
+
+
+def at_sockets(bench):
+    """The front of an office is asked at its socket, for /healthz."""
+    if not has("curl"):
+        return
+    path = bench.path("office.sock")
+    bench.same("nobody", said(path), (1, "", f"health: nobody listens on {path}\n"))
+    name = f"{os.getpid()}-none"
+    bench.same("a name", said(name), (1, "", f"health: nobody listens on /run/rbac/{name}.sock\n"))
+    with socket.socket(socket.AF_UNIX) as listener:
+        listener.bind(path)
+        listener.listen()
+        for what, (answer, is_good) in OF_FRONTS.items():
+            asked = []
+            thread = threading.Thread(target=answer_one, args=(listener, answer, asked))
+            thread.start()
+            status, out, err = said(path)
+            thread.join()
+            bench.same(what, (status, out, bool(err)), (0 if is_good else 1, "", not is_good))
+            bench.same(f"{what}: the request", asked[0].partition(b"\r\n")[0], b"GET /healthz HTTP/1.1")
+
+
+def answer_one(listener, answer, asked):
+    """Gives one client an answer, and keeps what it asked."""
+    client, _ = listener.accept()
+    with client:
+        asked.append(client.recv(65_536))
+        client.sendall(answer)
+
+
 def arguments(bench):
-    """Arguments that are no port and no seconds are refused with status 2."""
+    """Arguments that are no port, name or socket and no seconds are refused with status 2."""
     port = str(free_port())
-    for words in (["x"], ["0"], ["65536"], [port, "0"], [port, "-1"], [port, "1", "1"], [""], [port, "1.5"]):
+    for words in (["0"], ["65536"], [port, "0"], [port, "-1"], [port, "1", "1"], [""], [port, "1.5"]):
         done = run([HEALTH, *words], env=dict(os.environ))
         bench.same(f"the status for {words}", (done.status, done.out, done.err.startswith(b"usage: ")), (2, b"", True))
 
 
-JOBS = [(answering,), (wrong_answers,), (arguments,)]
+JOBS = [(answering,), (wrong_answers,), (at_sockets,), (arguments,)]

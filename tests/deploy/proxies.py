@@ -54,7 +54,7 @@ DISGUISED = [
 def sorts():
     """Returns the functions that each group may call, according to the page and the sources."""
     questions, commands = set(sources.question_keys()), set(sources.command_keys())
-    table, _ = markdown.tables(markdown.section(markdown.page("OPERATING.md"), "## 8. Behind a front or a proxy"))
+    table, _ = markdown.tables(markdown.page("NGINX.md"))
     said = {row[0]: set(re.findall(r"`(\w+)`", row[1])) for row in table}
     return {
         "applications": said["applications"],
@@ -288,7 +288,7 @@ def own_answers(bench):
     """The statuses that the page says nginx itself answers are those that it answers, and none is a decision."""
     if not has("nginx", "openssl"):
         return
-    table = markdown.tables(markdown.section(markdown.page("OPERATING.md"), "## 8. Behind a front or a proxy"))[1]
+    table = markdown.tables(markdown.page("NGINX.md"))[1]
     listed = [int(row[0]) for row in table]
     bench.same("the statuses of the page", listed, sorted({NO_SERVER, *(status for status, _ in OWN.values())}))
     hasty = "client_body_timeout 1s;\nproxy_read_timeout 1s;"

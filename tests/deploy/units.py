@@ -1,4 +1,4 @@
-"""The unit of systemd: what systemd-analyze reports about it, and whether the server has all that it needs under it."""
+"""The units of systemd: what systemd-analyze reports about them, and whether the program alone has all that it needs under its unit."""
 
 import re
 import shutil
@@ -11,13 +11,18 @@ from program.web import HOST, connect, free_port, post, read_all, reply
 
 from .common import DEPLOY, has, is_root, run
 
-UNIT = (DEPLOY / "rbac.service").read_text(encoding="utf-8")
+# The office of which the unit of the program alone is one.
+NAME = "x"
+UNIT = (DEPLOY / "rbac-serve@.service").read_text(encoding="utf-8").replace("%i", NAME)
 
 # The place of the program under the unit.
-PLACE = "/usr/local/bin/rbac"
+PLACE = "/usr/bin/rbac"
 
-# The greatest exposure that the unit may have, in tenths. It is 14 by systemd 252.
-MOST_EXPOSED = 15
+# The greatest exposure that each unit may have, in tenths. It is less by 1 by systemd 252.
+MOST_EXPOSED = {"rbac-serve@.service": 15, "rbac-init@.service": 9, "rbac-backup@.service": 20}
+
+# What the units start besides the program.
+OTHERS = {"/usr/sbin/rbac-backup": DEPLOY / "backup"}
 
 # Makes the files that the unit lets the server see in a new root, and becomes a user without rights in it.
 ROOM = """
@@ -26,8 +31,8 @@ root=$1; user=$2; program=$3; state=$4; shift 4
 mount -t tmpfs tmpfs "$root"
 for path in "$@"; do
     from=$path
-    [ "$path" != /usr/local/bin/rbac ] || from=$program
-    [ "$path" != /var/lib/rbac ] || from=$state
+    [ "$path" != /usr/bin/rbac ] || from=$program
+    [ "$path" != /var/lib/rbac/x ] || from=$state
     if [ -d "$from" ]; then mkdir -p "$root$path"; else mkdir -p "$root${path%/*}"; : >"$root$path"; fi
     mount --bind "$from" "$root$path"
 done
@@ -42,9 +47,9 @@ def values(name):
 
 
 def command():
-    """Returns the words with which the unit starts the server."""
-    (line,) = values("ExecStart")
-    return line.split()
+    """Returns the words with which the unit starts the server, unless the settings of the machine choose another port."""
+    (line,), (port,) = values("ExecStart"), re.findall(r"^Environment=PORT=(\d+)$", UNIT, re.M)
+    return line.replace("${PORT}", port).split()
 
 
 def words_taken(bench):
@@ -53,7 +58,9 @@ def words_taken(bench):
     given = dict(zip(options[::2], options[1::2]))
     bench.same("the program", (program, serve), (PLACE, "serve"))
     bench.same("the limit", given["--limit"], str(command_line.ranges()["limit"][1]))
-    bench.same("the port that it may bind", values("SocketBindAllow"), [f"ipv4:tcp:{given['--port']}"])
+    bench.same("what it may bind", values("SocketBindAllow"), ["ipv4:tcp"])
+    settings = (DEPLOY / "default.conf").read_text(encoding="utf-8")
+    bench.same("the port of the settings", re.findall(r"^PORT=(.*)$", settings, re.M), [given["--port"]])
     bench.same("the folder of the office", f"/var/lib/{values('StateDirectory')[0]}/office", path)
     office = small_office(bench)
     here = {PLACE: PROGRAM, path: office.path, given["--port"]: str(free_port())}
@@ -63,20 +70,30 @@ def words_taken(bench):
 
 
 def analyzed(bench):
-    """systemd-analyze finds no fault in the unit, and calls its exposure low."""
+    """systemd-analyze finds no fault in the units, and calls their exposure low."""
     if not has("systemd-analyze"):
         return
-    path = bench.write("rbac.service", UNIT.replace(PLACE, PROGRAM).encode())
-    done = run(["systemd-analyze", "verify", path])
-    bench.same("what verify prints", (done.status, done.out, done.err), (0, b"", b""))
-    threshold = f"--threshold={MOST_EXPOSED}"
-    done = run(["systemd-analyze", "security", "--offline=true", "--no-pager", threshold, path])
+    for timer in DEPLOY.glob("*.timer"):
+        bench.write(timer.name.replace("@", f"@{NAME}"), timer.read_bytes())
+    for name, most in MOST_EXPOSED.items():
+        text = (DEPLOY / name).read_text(encoding="utf-8").replace(PLACE + " ", f"{PROGRAM} ").replace("Documentation=man:", "# ")
+        for path, here in OTHERS.items():
+            text = text.replace(path, str(here))
+        path = bench.write(name.replace("@", f"@{NAME}"), text.encode())
+        done = run(["systemd-analyze", "verify", path])
+        bench.same(f"{name}: what verify prints", (done.status, done.out, done.err), (0, b"", b""))
+        exposed(bench, path, most)
+
+
+def exposed(bench, path, most):
+    """systemd-analyze calls the exposure of a unit at most this one, in tenths, and not one that is much lower."""
+    words = ["systemd-analyze", "security", "--offline=true", "--no-pager"]
+    done = run([*words, f"--threshold={most}", path])
     if b"unrecognized option" in done.err or b"Unknown" in done.err:
         print("left out: the exposure, since systemd-analyze is too old", flush=True)
         return
-    bench.same("its exposure is low", (done.status, done.err), (0, b""))
-    wrong = run(["systemd-analyze", "security", "--offline=true", "--no-pager", "--threshold=1", path])
-    bench.same("a lower one is not reached", wrong.status != 0, True)
+    bench.same(f"{path}: its exposure is low", (done.status, done.err), (0, b""))
+    bench.same(f"{path}: a lower one is not reached", run([*words, "--threshold=1", path]).status != 0, True)
 
 
 def allowed_calls():

@@ -13,6 +13,7 @@
     gateways    decisions by status alone, also through nginx, and AuthZEN
     revisions   the revision of the policy, conditions on it, and what a caller may do
     explained   users in some session, and explanations, beside the plain model
+    tried       commands over a copy, beside the plain model; the end of a review in the record
     sessions    sessions with random names, their end and their expiry
     lists       lists beside SQL
     watching    snapshots, and followers that watch

@@ -10,7 +10,7 @@ from .running import features
 
 ROOT = TESTS.parent / "node"
 PACKAGES = [
-    f"rbac-node/{name}" for name in ("api", "callers", "console", "endpoints", "feed", "front", "logs", "metrics", "single", "state", "web")
+    f"rbac-node/{name}" for name in ("api", "callers", "console", "endpoints", "feed", "front", "logs", "metrics", "single", "state", "trial", "web")
 ]
 # It needs the library of SQLite.
 RECORD = "rbac-node/record"

@@ -29,6 +29,8 @@ EVALUATION = {
 ASKED = {"user": "ann", "operation": "open", "object": "safe"}
 FIELDS = {"Office-Session": "s1", "Office-Operation": "open", "Office-Object": "safe"}
 
+REVIEW = {"review": "Q4 2026", "sha256": "0" * 64, "kept": 1, "removed": 0, "open": 0}
+
 # Requests with the statuses that they get: method, path of the description, target, body, fields and status.
 REQUESTS = [
     ("post", "/v1/batch", "/v1/batch", '{"fn":"ssdRoleSets"}\n{"fn":"dsdRoleSets"}', {}, 200),
@@ -60,6 +62,13 @@ REQUESTS = [
     ("get", "/record", "/record?limit=2", None, {}, 200), ("get", "/record", "/record?limit=0", None, {}, 400),
     ("get", "/room", "/room", None, {}, 200), ("get", "/picture", "/picture", None, {}, 200 if which("dot") else 404),
     ("get", "/picture", "/picture?role=x", None, {}, 409 if which("dot") else 404),
+    ("post", "/what-if", "/what-if", '{"fn":"deleteUser","user":"ann"}\n{"fn":"addUser","user":"ann"}', {}, 200),
+    ("post", "/what-if", "/what-if", '{"fn":"ssdRoleSets"}', {}, 400), ("post", "/what-if", "/what-if", '{"fn":"fly"}', {}, 404),
+    ("post", "/what-if", "/what-if", " " * 262_145, {}, 413), ("post", "/reviews", "/reviews", REVIEW, {}, 200),
+    ("post", "/reviews", "/reviews", {**REVIEW, "sha256": "x"}, {}, 400), ("post", "/reviews", "/reviews", " " * 4_097, {}, 413),
+    ("post", "/reports/{report}", "/reports/permissions", {"user": "ann"}, {}, 200), ("post", "/reports/{report}", "/reports/dump", "", {}, 200),
+    ("post", "/reports/{report}", "/reports/near", {"user": 1}, {}, 400), ("post", "/reports/{report}", "/reports/x", {}, {}, 404),
+    ("post", "/reports/{report}", "/reports/room", " " * 4097, {}, 413), ("get", "/reports/{report}", f"/reports/{'0' * 64}", None, {}, 404),
     ("delete", "/sessions/{digest}", f"/sessions/{digest_of('s1')}", None, {}, 200),
     ("delete", "/sessions/{digest}", f"/sessions/{digest_of('s1')}", None, {}, 409),
 ]  # fmt: skip

@@ -1,4 +1,4 @@
-"""The commands of docs/FRONT.md print what it shows, from its top to its end."""
+"""The commands of docs/FRONT.md and docs/CALLERS.md print what they show, each page from its top to its end."""
 
 import os
 import re
@@ -12,10 +12,10 @@ from program.bench import SECONDS, TESTS
 
 from .running import PROGRAM
 
-PAGE = markdown.page("FRONT.md")
+PAGE, CALLERS = markdown.page("FRONT.md"), markdown.page("CALLERS.md")
 
-# The most lines that the page may have.
-MOST_LINES = 440
+# The most bytes that each page may have.
+MOST_BYTES = 20_000
 
 # How long Go may take on a machine that is busy.
 BUILDING_SECONDS = 600
@@ -35,12 +35,28 @@ def check_commands(bench):
             (lines,) = markdown.blocks(PAGE, language)
             bench.write(name, reader.here("".join(f"{line}\n" for line in lines)).encode())
             bench.same(f"the page names {name}", f"as `{name}`" in PAGE, True)
-        for block in markdown.blocks(PAGE, "console"):
-            for command, shown in runs(block):
-                # What is started in the background prints nothing here.
-                wanted = reader.here(shown)
-                seconds = BUILDING_SECONDS if command.startswith("bin/node") else SECONDS
-                bench.same(f"what {command} prints", reader.type(command, seconds=seconds), wanted)
+        type_all(bench, reader, PAGE)
+
+
+def type_all(bench, reader, page):
+    """Types the commands of a page."""
+    for block in markdown.blocks(page, "console"):
+        for command, shown in runs(block):
+            # What is started in the background prints nothing here.
+            wanted = reader.here(shown)
+            seconds = BUILDING_SECONDS if command.startswith("bin/node") else SECONDS
+            bench.same(f"what {command} prints", reader.type(command, seconds=seconds), wanted)
+
+
+def check_callers(bench):
+    """The commands of the page of callers print what is shown below them."""
+    if not shutil.which("curl"):
+        print("left out: the commands of docs/CALLERS.md, since curl is not installed")
+        return
+    with Shell(bench) as reader:
+        (bench.folder / "deploy").symlink_to(TESTS.parent / "deploy")
+        (bench.folder / "bin/rbac-node").symlink_to(os.environ[PROGRAM])
+        type_all(bench, reader, CALLERS)
 
 
 def clone(bench):
@@ -58,9 +74,11 @@ def runs(lines):
 
 
 def check_form(bench):
-    """The page is short, its lines are too, and each block is of a language that is run or compared."""
-    bench.same("the page is short", len(PAGE.splitlines()) <= MOST_LINES, True)
-    bench.same("long lines", [line for line in PAGE.splitlines() if len(line) > 130 and not line.startswith("|")], [])
+    """The pages are short, their lines are too, and each block is of a language that is run or compared."""
+    for name, page in (("FRONT", PAGE), ("CALLERS", CALLERS)):
+        bench.same(f"{name} is short", len(page.encode()) <= MOST_BYTES, True)
+        bench.same(f"long lines of {name}", [line for line in page.splitlines() if len(line) > 130 and not line.startswith("|")], [])
+    bench.same("the languages of CALLERS", set(re.findall(r"^```(\w+)$", CALLERS, re.M)), {"console"})
     bench.same("the languages", set(re.findall(r"^```(\w+)$", PAGE, re.M)), {"console", "sh", *FILES.values()})
 
 
@@ -69,9 +87,9 @@ def check_unit(bench):
     if not shutil.which("systemd-analyze"):
         print("left out: the unit, since systemd-analyze is not installed")
         return
-    unit = (TESTS.parent / "deploy/rbac-front.service").read_text(encoding="utf-8")
-    bench.same("what the unit starts", "ExecStart=/usr/local/bin/rbac-node serve" in unit, True)
-    path = bench.write("rbac-front.service", unit.replace("/usr/local/bin/rbac-node", os.environ[PROGRAM]).encode())
+    unit = (TESTS.parent / "deploy/rbac-node@.service").read_text(encoding="utf-8")
+    bench.same("what the unit starts", "ExecStart=/usr/bin/rbac-node serve" in unit, True)
+    path = bench.write("rbac-node@x.service", unit.replace("/usr/bin/rbac-node", os.environ[PROGRAM]).encode())
     done = subprocess.run(["systemd-analyze", "verify", path], capture_output=True, text=True, check=False)
     bench.same("what verify prints", (done.stdout + done.stderr, done.returncode), ("", 0))
     words = ["systemd-analyze", "security", "--offline=true", "--no-pager", "--threshold=20", path]

@@ -33,7 +33,31 @@ class Unix(http.client.HTTPConnection):
         self.sock.connect(self.path)
 
 
-class Front:
+class Asking:
+    """Something that is asked over connections of its own."""
+
+    def connection(self):
+        """A connection, which is not made yet."""
+        raise NotImplementedError
+
+    def ask(self, function, arguments=None, connection=None, **fields):
+        """The status and the body of the answer to a request for a function."""
+        body = arguments if isinstance(arguments, (bytes, str)) else json.dumps(arguments or {})
+        return self.exchange("POST", f"/v1/{function}", body, connection, **fields)
+
+    def exchange(self, method, path, body=None, connection=None, **fields):
+        """The status and the body of an answer. Names of fields have `_` for `-`."""
+        own = connection or self.connection()
+        try:
+            own.request(method, path, body, {name.replace("_", "-"): value for name, value in fields.items()})
+            reply = own.getresponse()
+            return reply.status, reply.read().decode()
+        finally:
+            if connection is None:
+                own.close()
+
+
+class Front(Asking):
     """A front in the folder of a bench, at a port of this machine unless `listen` says something else."""
 
     def __init__(self, bench, *more, name="office", listen=None, environment=None):
@@ -122,22 +146,6 @@ class Front:
         if self.listen.startswith("unix:"):
             return Unix(self.listen[len("unix:") :])
         return http.client.HTTPConnection(HOST, self.port, timeout=SECONDS)
-
-    def ask(self, function, arguments=None, connection=None, **fields):
-        """The status and the body of the answer to a request for a function."""
-        body = arguments if isinstance(arguments, (bytes, str)) else json.dumps(arguments or {})
-        return self.exchange("POST", f"/v1/{function}", body, connection, **fields)
-
-    def exchange(self, method, path, body=None, connection=None, **fields):
-        """The status and the body of an answer. Names of fields have `_` for `-`."""
-        own = connection or self.connection()
-        try:
-            own.request(method, path, body, {name.replace("_", "-"): value for name, value in fields.items()})
-            reply = own.getresponse()
-            return reply.status, reply.read().decode()
-        finally:
-            if connection is None:
-                own.close()
 
     def raw(self, request, cut=True, seconds=SECONDS):
         """All that the front answers to some bytes."""

@@ -74,40 +74,50 @@ def check_condition(bench):
         bench.same("the end", front.end(), 0)
 
 
+def judge_writers(bench, front, writers=16, rounds=30):
+    """Writers name the revision that they have read. Those that are accepted follow one another: none has overlooked another."""
+    accepted, refused, faults = [], [], []
+
+    def work(number):
+        kept = front.connection()
+        for i in range(rounds):
+            user = f"w{number}.{i}"
+            _, _, revision = asked(front, "ssdRoleSets", {}, kept)
+            if i % 3:
+                given = asked(front, "addUser", {"user": user}, kept, If_Policy_Revision=revision)
+            else:
+                given = asked(front, "batch", json.dumps({"fn": "addUser", "user": user}), kept, If_Policy_Revision=revision)
+            if given[:2] == (412, OUTDATED):
+                refused.append(user)
+            elif given[0] == 200 and given[2] > revision:
+                accepted.append((revision, given[2], user))
+            else:
+                faults.append(str(given))
+        kept.close()
+
+    _, _, start = asked(front, "ssdRoleSets", {})
+    threads = [threading.Thread(target=work, args=(number,)) for number in range(writers)]
+    for thread in threads:
+        thread.start()
+    for thread in threads:
+        thread.join()
+    accepted.sort()
+    for (before, _, user), after in zip(accepted, [start, *(after for _, after, _ in accepted)]):
+        if before != after:
+            faults.append(f"{user} was accepted at {before}, and the policy had {after}")
+    for users, wanted in ((refused, 409), ([user for _, _, user in accepted], 200)):
+        faults += [user for user in users if front.ask("assignedRoles", {"user": user})[0] != wanted]
+    bench.judge("writers", faults[:5])
+    bench.same("some are refused, and some are not", (len(refused) > 0, len(accepted) > 0), (True, True))
+    return {"writers: accepted": len(accepted), "writers: outdated": len(refused)}
+
+
 def check_writers(bench):
     """Of 16 writers that name the same revision one is answered by the office, and the others are told that it is outdated."""
     with Front(bench) as front:
-        accepted, refused, faults = {}, [], []
-
-        def work(number):
-            kept = front.connection()
-            for i in range(30):
-                user = f"u{number}.{i}"
-                _, _, revision = asked(front, "ssdRoleSets", {}, kept)
-                if i % 3:
-                    given = asked(front, "addUser", {"user": user}, kept, If_Policy_Revision=revision)
-                else:
-                    given = asked(front, "batch", json.dumps({"fn": "addUser", "user": user}), kept, If_Policy_Revision=revision)
-                if given[:2] == (412, OUTDATED):
-                    refused.append(user)
-                elif given[0] == 200 and given[2] == revision + 1:
-                    accepted.setdefault(revision, []).append(user)
-                else:
-                    faults.append(str(given))
-            kept.close()
-
-        threads = [threading.Thread(target=work, args=(number,)) for number in range(16)]
-        for thread in threads:
-            thread.start()
-        for thread in threads:
-            thread.join()
-        faults += [f"{users} at {revision}" for revision, users in accepted.items() if len(users) > 1]
-        for users, wanted in ((refused, 409), ([user for users in accepted.values() for user in users], 200)):
-            faults += [user for user in users if front.ask("assignedRoles", {"user": user})[0] != wanted]
-        bench.judge("writers", faults[:5])
-        bench.same("some are refused, and some are not", (len(refused) > 0, len(accepted) > 0), (True, True))
+        counts = judge_writers(bench, front)
         bench.same("the end", front.end(), 0)
-    return {"writers: accepted": len(accepted), "writers: outdated": len(refused)}
+    return counts
 
 
 def check_caller(bench):

@@ -13,8 +13,8 @@ from stopped.running import checks_of, is_long, run_all
 # What needs nothing but the sources, and what needs a built front.
 OF_SOURCES = ["sources"]
 OF_FRONTS = [
-    "recordkills", "kills", "recordfaults", "records", "recordorder", "wrongfronts", "building", "explained", "sessions", "lists",
-    "watching", "separated", "clients", "identities", "answers", "starts", "booted", "table", "page", "requests", "auditing",
+    "recordkills", "kills", "recordfaults", "records", "recordorder", "wrongfronts", "building", "explained", "tried", "sessions", "lists",
+    "watching", "separated", "clients", "identities", "answers", "starts", "table", "page", "requests", "auditing",
     "described", "conforming", "browsers", "batches", "gateways", "revisions",
 ]  # fmt: skip
 

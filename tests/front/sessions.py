@@ -61,49 +61,55 @@ def refusal_of(refused):
     return {"code": refused.code, "error": ERRORS[refused.code], **refused.told}
 
 
-def check_greedy(bench):
-    """The roles are the greedy choice of the model, and those left out have the reasons that the office gives."""
+def judge_greedy(bench, front, offices=OFFICES):
+    """Makes sessions in random offices, and judges each by the model."""
     seed = random.randrange(1_000_000_000)
     print(f"the seed of the sessions is {seed}")
     counts = {"sessions: made": 0, "sessions: refused": 0, "sessions: roles left out": 0}
-    with Front(bench, "--no-record") as front:
-        kept = front.connection()
-        for number in range(OFFICES):
-            draws = Draws(seed + number)
-            for line, _ in draw_office(draws):
-                batch(front, line, connection=kept)
-            state, faults = draws.state, []
-            for _ in range(SESSIONS):
-                user = draws.random.choice(POOLS["user"])
-                roles = draws.random.choice([None, None, draws.random.sample(POOLS["role"], draws.random.randrange(6))])
-                status, answer = made(front, {"user": user} if roles is None else {"user": user, "roles": roles}, kept)
-                after, wanted = greedy(state, user, roles)
-                if "code" in wanted:
-                    counts["sessions: refused"] += 1
-                    if (status, answer) != (409, wanted):
-                        faults.append(f"{user} {roles}: {status} {answer} and not {wanted}")
-                    continue
-                name = answer.get("value", {}).pop("session", "")
-                if (status, answer) != (200, {"ok": True, "value": wanted}) or not re.fullmatch("[0-9a-f]{32}", name):
+    kept = front.connection()
+    for number in range(offices):
+        draws = Draws(seed + number)
+        for line, _ in draw_office(draws):
+            batch(front, line, connection=kept)
+        state, faults = draws.state, []
+        for _ in range(SESSIONS):
+            user = draws.random.choice(POOLS["user"])
+            roles = draws.random.choice([None, None, draws.random.sample(POOLS["role"], draws.random.randrange(6))])
+            status, answer = made(front, {"user": user} if roles is None else {"user": user, "roles": roles}, kept)
+            after, wanted = greedy(state, user, roles)
+            if "code" in wanted:
+                counts["sessions: refused"] += 1
+                if (status, answer) != (409, wanted):
                     faults.append(f"{user} {roles}: {status} {answer} and not {wanted}")
-                counts["sessions: made"] += 1
-                counts["sessions: roles left out"] += len(wanted["left"])
-                if draws.random.randrange(2):
-                    status, said = front.exchange("DELETE", f"/sessions/{digest_of(name)}", None, kept)
-                    if (status, said) != (200, '{"ok":true}'):
-                        faults.append(f"the end of {name}: {status} {said}")
-                else:
-                    state = after.but(
-                        sessions={
-                            **{key: one for key, one in after.sessions.items() if key != "new"},
-                            name: after.sessions["new"],
-                        }
-                    )
-            bench.judge(f"office {number}", faults[:3])
-            forget(front, state, kept)
-        kept.close()
-        bench.same("the end", front.end(), 0)
+                continue
+            name = answer.get("value", {}).pop("session", "")
+            if (status, answer) != (200, {"ok": True, "value": wanted}) or not re.fullmatch("[0-9a-f]{32}", name):
+                faults.append(f"{user} {roles}: {status} {answer} and not {wanted}")
+            counts["sessions: made"] += 1
+            counts["sessions: roles left out"] += len(wanted["left"])
+            if draws.random.randrange(2):
+                status, said = front.exchange("DELETE", f"/sessions/{digest_of(name)}", None, kept)
+                if (status, said) != (200, '{"ok":true}'):
+                    faults.append(f"the end of {name}: {status} {said}")
+            else:
+                state = after.but(
+                    sessions={
+                        **{key: one for key, one in after.sessions.items() if key != "new"},
+                        name: after.sessions["new"],
+                    }
+                )
+        bench.judge(f"office {number}", faults[:3])
+        forget(front, state, kept)
+    kept.close()
     bench.same("there are some of each sort", min(counts.values()) > 0, True)
+    return counts
+
+
+def check_greedy(bench):
+    """The roles are the greedy choice of the model, and those left out have the reasons that the office gives."""
+    with Front(bench, "--no-record") as front:
+        counts = judge_greedy(bench, front)
+        bench.same("the end", front.end(), 0)
     return counts
 
 

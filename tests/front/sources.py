@@ -1,4 +1,4 @@
-"""The sources of the front, compared with its page. These checks need no Go."""
+"""The sources of the front, compared with its pages. These checks need no Go."""
 
 import re
 
@@ -6,7 +6,7 @@ from pages import markdown
 from program.bench import TESTS
 
 SOURCES = TESTS.parent / "node/src/rbac-node"
-PAGE = markdown.page("FRONT.md")
+PAGE = markdown.page("FRONT.md") + markdown.page("CALLERS.md")
 
 
 def text_of(*names):
@@ -16,7 +16,7 @@ def text_of(*names):
 def keys_of_functions():
     """The keys of each function, by the table in the sources."""
     found = {}
-    for table in re.findall(r"(?:commands|questions) += `(.*?)`", text_of("api/call.go"), re.S):
+    for table in re.findall(r"(?:commands|questions) += `(.*?)`", text_of("api/table.go"), re.S):
         for row in table.strip().splitlines():
             keys, _, names = row.partition(":")
             found.update({name: keys.split() for name in names.split()})
@@ -31,7 +31,7 @@ def check_functions(bench):
 def check_options(bench):
     """The page lists each option that both kinds of offices have, with its default, and no other one."""
     known = re.findall(r'&s\.[\w.]+, "([a-z-]+)"', text_of("settings.go"))
-    section = markdown.section(PAGE, "## 9. Options")
+    section = markdown.section(PAGE, "## 7. Options")
     listed = [name for row in markdown.tables(section)[0] for name in re.findall(r"`--([a-z-]+)`", row[0])]
     bench.same("the options of the page", sorted(listed), sorted(known))
     of_cluster = re.findall(r'&s\.[\w.]+, "([a-z-]+)"', text_of("flags_etcd.go"))
@@ -56,7 +56,7 @@ def check_refusals(bench):
     for _, code, name in found:
         if name not in ("Diverged", "UnknownFunction"):
             bench.same(f"{code} {name}", f"{code} {name}" in PAGE or f'"code":{code},"error":"{name}"' in PAGE, True)
-    bench.same("how many", len(found), 9)
+    bench.same("how many", len(found), 10)
 
 
 def check_limits(bench):

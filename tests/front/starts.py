@@ -135,6 +135,36 @@ def check_first_start(bench):
     bench.same("rbac check", done.stdout, "good\n")
 
 
+def check_starting(bench):
+    """While a start does commands again, /healthz says how many, and all else gets 503. Then the front answers."""
+    slow = bench.path("slow")
+    bench.write("slow", f'#!/bin/sh\n[ "$1" != replay ] || sleep 2\nexec "{RBAC}" "$@"\n'.encode())
+    os.chmod(slow, 0o755)
+    with Front(bench) as front:
+        for number in range(3):
+            bench.same("a command", front.ask("addUser", {"user": f"u{number}"}), (200, OK))
+        front.kill()
+        front.more = ("--program", slow)
+        front.process = front.start_without_waiting()
+        until(lambda: "is done again" in at_start(front, "GET", "/healthz")[1], "/healthz says what is done")
+        status, text = at_start(front, "GET", "/healthz")
+        why = "starting: command 0 of 3 since the last copy of the office is done again"
+        bench.same("health", (status, json.loads(text)), (503, {"ready": False, "why": why}))
+        asked = at_start(front, "POST", "/v1/assignedRoles", '{"user":"u1"}')
+        bench.same("a question", asked, (503, '{"code":60,"error":"Unavailable"}'))
+        until(front.is_listening, "the front listens")
+        bench.same("a question", front.ask("assignedRoles", {"user": "u1"}), (200, '{"ok":true,"value":[]}'))
+        bench.same("the end", front.end(), 0)
+
+
+def at_start(front, *words):
+    """What a front answers that may not listen yet."""
+    try:
+        return front.exchange(*words)
+    except OSError:
+        return 0, ""
+
+
 def check_runtime_directory(bench):
     """In the folder that systemd makes for it the socket is found, and systemd is told that the front is ready."""
     front = Front(

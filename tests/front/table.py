@@ -1,4 +1,4 @@
-"""The table of docs/FRONT.md of which scopes allow which calls: each row is tried for each of its functions."""
+"""The table of docs/CALLERS.md of which scopes allow which calls: each row is tried for each of its functions."""
 
 import hashlib
 import json
@@ -12,8 +12,8 @@ from .identities import bearer, rules, tokens
 from .program import Front
 from .sources import keys_of_functions
 
-# The operations for what is read by GET. Their own checks try them.
-READ = ("metrics", "lists", "snapshot", "watch", "record")
+# The operations for other requests. Their own checks try them.
+READ = ("metrics", "lists", "snapshot", "watch", "record", "whatIf", "review", "reports")
 
 # The keys of what is asked like a function and is none.
 OTHERS_KEYS = {"decideByUser": ["user", "operation", "object"]}
@@ -41,7 +41,7 @@ OTHERS = ["user bob", "role cashier", "object wh:", "object shop"]
 
 def rows():
     """The functions of the table, with what allows them besides `office`."""
-    tables = markdown.tables(markdown.section(markdown.page("FRONT.md"), "## 5. What a caller may do"))
+    tables = markdown.tables(markdown.section(markdown.page("CALLERS.md"), "## 2. What a caller may do"))
     (table,) = [one for one in tables if "`addUser`" in one[0][0]]
     return {name: allowed for names, allowed in table for name in re.findall(r"`(\w+)`", names) if name not in ("GET",)}
 

@@ -71,9 +71,9 @@ class Watch:
 class Follower(threading.Thread):
     """Keeps an office of its own by snapshots and watches, and is cut off now and then."""
 
-    def __init__(self, bench, front, number, stop):
+    def __init__(self, bench, front, number, stop, has_gaps=False):
         super().__init__(daemon=True)
-        self.bench, self.front, self.number, self.stop = bench, front, number, stop
+        self.bench, self.front, self.number, self.stop, self.has_gaps = bench, front, number, stop, has_gaps
         self.draws = random.Random(os.urandom(8))
         self.lines, self.at, self.counts = [], -1, {"cut off": 0, "snapshots": 0}
         self.faults, self.last = [], None
@@ -107,7 +107,7 @@ class Follower(threading.Thread):
                 if self.stop.is_set() and number == self.at == self.last:
                     watch.close()
                     return True
-            elif number != self.at + 1:
+            elif number <= self.at if self.has_gaps else number != self.at + 1:
                 self.faults.append(f"{number} after {self.at}")
             if line is not None:
                 self.at = number

@@ -129,21 +129,13 @@ static long try_line(const char *line)
     }
 }
 
-/* Decides with each allocation failing in turn. There are at most three: a decision copies its three names and nothing else. */
+/* Decides while the next allocation would fail. A decision doesn't allocate, so it is made. */
 static long try_check(int32_t wanted)
 {
-    for (long tries = 1;; tries++) {
-        int32_t decision;
-
-        left = tries - 1;
-        decision = rbac_check(&office, "s", 1, "p", 1, "o", 1);
-        if (left >= 0) {
-            left = -1;
-            CHECK(decision == wanted && tries - 1 <= 3);
-            return tries;
-        }
-        CHECK(decision == -RBAC_MEMORY);
-    }
+    left = 0;
+    CHECK(rbac_check(&office, "s", 1, "p", 1, "o", 1) == wanted && left == 0);
+    left = -1;
+    return 1;
 }
 
 /* Saves and loads with each allocation failing in turn. */

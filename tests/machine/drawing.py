@@ -28,12 +28,11 @@ POOLS["asc"] = POOLS["desc"] = POOLS["role"]
 BUILDING = 120
 TAKING = ("delete", "deassign", "drop", "revoke", "lock")
 
-# How often each command is chosen; a question is chosen half as often as all commands together.
-WEIGHTS = {
+# How often each command is chosen, if not as often as most; a question is chosen half as often as all commands together.
+USUAL = 2
+OFTEN = {
     "addUser": 6,
-    "deleteUser": 2,
     "addRole": 7,
-    "deleteRole": 2,
     "addPermObj": 5,
     "deletePermObj": 1,
     "addPermission": 15,
@@ -44,26 +43,20 @@ WEIGHTS = {
     "deassignUser": 4,
     "addInheritance": 20,
     "deleteInheritance": 3,
-    "addAscendant": 2,
-    "addDescendant": 2,
     "createSsdSet": 6,
     "addSsdRoleMember": 3,
-    "deleteSsdRoleMember": 2,
     "setSsdSetCardinality": 3,
     "deleteSsdSet": 1,
     "createDsdSet": 4,
     "addDsdRoleMember": 3,
-    "deleteDsdRoleMember": 2,
     "setDsdSetCardinality": 3,
     "deleteDsdSet": 1,
     "createSession": 12,
-    "deleteSession": 2,
     "addActiveRole": 10,
     "dropActiveRole": 4,
     "importAssignments": 4,
-    "lockUserAccount": 2,
-    "unlockUserAccount": 2,
 }
+WEIGHTS = {name: OFTEN.get(name, USUAL) for name in COMMANDS}
 
 # Invalid names.
 BAD_NAMES = ["", "n" * 65, "\u00e9" * 33, "a\tb", "\x00", "\x7f", "\x1f"]

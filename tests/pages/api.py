@@ -186,12 +186,22 @@ def sort_of(answer):
     return "Permissions" if isinstance(value[0], list) else "Names"
 
 
+def ending():
+    """The commands whose plans end sessions."""
+    names = {re.sub("([A-Z])", r"_\1", name).lower(): name for name in sources.command_keys()}
+    paths = sorted((sources.ROOT / "crates/admin_mgr/src/planning").glob("*.rt"))
+    bodies = [
+        body
+        for path in paths
+        for body in re.findall(r"^pub\(\w+\) fn plan_(\w+)(.*?)^\}", path.read_text(encoding="utf-8"), re.M | re.S)
+    ]
+    return {names[name] for name, body in bodies if "Loss::" in body}
+
+
 def check_ends(bench):
-    """Each command that ends sessions according to docs/MODEL.md is described to do so."""
-    rows = re.findall(r"^\| (\w+)\(.*; ends \|$", markdown.page("MODEL.md"), re.M)
-    bench.same("commands that end sessions are found", bool(rows), True)
-    for function in [*rows, "deleteUser"]:
-        bench.same(f"{function} ends sessions", bool(re.search(r"[Ee]nds .*session", PARTS[function].text)), True)
+    """Exactly the commands whose plans end sessions are described to do so, and deleteSession."""
+    ends = {name for name, part in PARTS.items() if name in sources.command_keys() and re.search(r"[Ee]nds .*session", part.text)}
+    bench.same("commands that end sessions", ends, ending() | {"deleteSession"})
 
 
 def check_refusals(bench):

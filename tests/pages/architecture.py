@@ -1,55 +1,62 @@
-"""The map of the crates: each crate has a part, with each of its files and definitions, and none that does not exist."""
+"""The map of the tree: its lists are those of the files, its pictures those of their texts, and each top folder has a line."""
 
 import re
+import subprocess
 
 from . import markdown, sources
 
+ROOT = sources.ROOT
 PAGE = markdown.page("ARCHITECTURE.md")
-CRATES = sources.ROOT / "crates"
 
-# The crate of one file, and the crate of tests alone, have no part.
-WITHOUT = {"rbac", "refused_tests"}
+# The most bytes of a page that is read as a whole. These are longer: each is a reference, or is to be split.
+MOST_BYTES = 20 * 1024
+LONGER = {"API.md", "CLUSTER.md", "CONTRACTS.md", "DECISIONS.md", "FRONT.md", "OPERATING.md", "PROOFS.md"}
 
-# What each crate has besides: the list of its modules.
-BESIDE = "lib.rt"
-
-
-def parts():
-    """The text of the part of each crate."""
-    return {name: markdown.section(PAGE, f"### {name}") for name in re.findall(r"^### (\w+)$", PAGE, re.M)}
+# What a build leaves.
+OUT = "out"
 
 
-def listed_files(text):
-    """The files and folders in the first column of a part's table."""
-    (table,) = markdown.tables(text)
-    return [name for row in table for name in re.findall(r"[\w/]+\.rt|[\w/]+/", row[0])]
+def said_by(*command):
+    """What a command of the repository prints, and its status."""
+    ended = subprocess.run([str(ROOT / command[0]), *command[1:]], capture_output=True, text=True, check=False)
+    return ended.returncode, ended.stdout + ended.stderr
+
+
+def check_lists(bench):
+    """The lists of crates and files are those that bin/files makes of the first comments."""
+    bench.same("bin/files --check", said_by("bin/files", "--check"), (0, ""))
+
+
+def check_pictures(bench):
+    """The page shows each picture that has a text, and each picture is that of its text."""
+    bench.same("bin/pictures --check", said_by("bin/pictures", "--check"), (0, ""))
+    shown = set(re.findall(r"\]\(([\w-]+)\.svg\)", PAGE))
+    bench.same("the pictures", shown, {path.stem for path in (ROOT / "docs").glob("*.dot")})
 
 
 def check_crates(bench):
-    """Each crate with functions of its own has a part."""
-    there = {path.name for path in CRATES.iterdir() if (path / "src").is_dir()}
-    bench.same("the parts", set(parts()), there - WITHOUT)
+    """The tables of the crates have each crate, in the order of crates.txt."""
+    lines = (ROOT / "crates.txt").read_text(encoding="utf-8").splitlines()
+    wanted = [line.split()[0].rstrip(":") for line in lines if line]
+    table = markdown.tables(markdown.section(PAGE, "## Crates"))[0]
+    bench.same("the crates", [row[0].strip("`") for row in table], wanted)
 
 
-def check_files(bench):
-    """The table of a crate has each file of its src/, alone or by its folder, and no other."""
-    for crate, text in parts().items():
-        folder, listed = CRATES / crate / "src", listed_files(text)
-        bench.same(f"files of {crate} that do not exist", [name for name in listed if not (folder / name).exists()], [])
-        there = sorted(str(path.relative_to(folder)) for path in folder.rglob("*.rt"))
-        folders = tuple(name for name in listed if name.endswith("/"))
-        left = [name for name in there if name not in listed and not name.startswith(folders or ("/",)) and name != BESIDE]
-        # The file of a folder that is listed has its modules alone.
-        left = [name for name in left if f"{name.removesuffix('.rt')}/" not in folders]
-        bench.same(f"files of {crate} that are not listed", left, [])
+def check_folders(bench):
+    """The table of folders in CONTRIBUTING.md has each top folder, with what belongs there and what doesn't."""
+    page = (ROOT / "CONTRIBUTING.md").read_text(encoding="utf-8")
+    (table,) = markdown.tables(markdown.section(page, "## Where things belong"))
+    there = {path.name for path in ROOT.iterdir() if path.is_dir() and path.name[0] not in "._"} - {OUT}
+    listed = [row[0].strip("`/") for row in table]
+    bench.same("folders without a line", sorted(there - set(listed)), [])
+    bench.same("lines without a folder", [name for name in listed if not (ROOT / name).is_dir()], [])
+    bench.same("folders of which a cell is empty", [row[0] for row in table if not all(row)], [])
 
 
-def check_definitions(bench):
-    """The part of a crate names each file of its specs/."""
-    for crate, text in parts().items():
-        named = set(re.findall(r"\w+", text[text.index("specs/:") :]))
-        there = {path.stem for path in (CRATES / crate / "specs").rglob("*.antt")} - {"Lib", "private"}
-        bench.same(f"definitions of {crate} that are not named", sorted(there - named), [])
-        apart = {path.stem for path in (CRATES / crate / "specs/private").glob("*.antt")}
-        named = set(re.findall(r"\w+", text.partition("specs/private/:")[2]))
-        bench.same(f"definitions of {crate} that are named as private", sorted(named & there), sorted(apart))
+def check_bytes(bench):
+    """No page is longer than one reads at a time, except those that are known to be."""
+    for path in sorted((ROOT / "docs").glob("*.md")):
+        size = path.stat().st_size
+        bench.same(
+            f"{path.name} has at most {MOST_BYTES:,} bytes, and not {size:,}", size <= MOST_BYTES or path.name in LONGER, True
+        )

@@ -7,7 +7,7 @@ from . import markdown, openapi, sources, verdicts
 from .shell import Shell
 
 PAGE = markdown.page("INTEGRATING.md")
-MOST_LINES = 260
+MOST_LINES, MOST_BYTES = 360, 20_480
 
 # The languages of the blocks that tests/clients.py runs, and that of those that are run here.
 ELSEWHERE, HERE = {"python", "sh", "go", "java", "javascript"}, {"console"}
@@ -18,7 +18,7 @@ OF_PROXIES = {502, 504}
 
 def check_length(bench):
     """The page is short."""
-    bench.same("the page is short", len(PAGE.splitlines()) <= MOST_LINES, True)
+    bench.same("the page is short", (len(PAGE.splitlines()) <= MOST_LINES, len(PAGE.encode()) <= MOST_BYTES), (True, True))
 
 
 def check_commands(bench):

@@ -1,125 +1,93 @@
-"""The page of the model: its limits, refusals, commands and questions are those of the sources, and each rule leads to a
-definition, a function and tests that exist.
-
-The tables below "Where each rule is" have a rule in each row, and then the places of its definition, function and tests. A
-place is a file and a name in it, or a file alone: a row of tests/rows, or a must-fail edit.
+"""The page of the model: its limits and refusals are those of the sources, and each rule of docs/RULES.md leads to a definition, a
+function and tests that exist.
 """
 
 import json
 import re
-from dataclasses import dataclass
+import subprocess
 
 from . import markdown, sources, verdicts
+from .rules import BY_NAME, OF_LAWS, rows_of, rules, text_of
 
 PAGE = markdown.page("MODEL.md")
 CRATES = sources.ROOT / "crates"
 
-# How a name begins its definition, function or test, by the ending of the file.
-DEFINED = r"^ *(?:unfoldable |abbrev )?pub (?:record |data )?{name}\b"
-PATTERNS = {
-    ".antt": DEFINED,
-    ".rt": r"\bfn {name}\b",
-    ".test": r"\bfn {name}\b",
-    ".py": r"^def {name}\b",
-    ".sh": r"^{name}\(\)",
-}
+# The pages that name refusals beside their codes.
+REFUSING = [f"{name}.md" for name in "MODEL TABLES LAWS RULES CONTRACTS DECISIONS PROOFS EXTENDING ARCHITECTURE API".split()]
 
 # The tests that meet each limit of the commands.
 LIMITS = "office/commands/limits.rt.test"
+
+# The rules whose definition the contract of the function writes out.
+UNFOLDED = {"names are ordered byte by byte"}
 
 # What refuses an import is judged as its text is read: tests of the texts meet it.
 OF_TEXTS = {"1", "36", "32:byte"}
 
 
-@dataclass(frozen=True)
-class Place:
-    """A file, and a name in it unless the whole file is meant."""
-
-    path: str
-    name: str
-
-    def line(self):
-        """The number of the line at which the place begins."""
-        text = (sources.ROOT / self.path).read_text(encoding="utf-8", errors="replace")
-        found = re.search(self.pattern(), text, re.M) if self.name else re.search("", text)
-        if not found:
-            raise ValueError(f"{self.path} has no {self.name}")
-        return text[: found.start()].count("\n") + 1
-
-    def pattern(self):
-        """Returns the pattern of the name. Of a definition by cases the second word is the case."""
-        if " " in self.name:
-            definition, case = self.name.split()
-            return rf"^{definition} S \(?{case}\b"
-        return PATTERNS[self.path[self.path.rindex(".") :]].format(name=self.name)
-
-
-@dataclass(frozen=True)
-class Rule:
-    """A rule, with its table and the places to which it leads."""
-
-    table: str
-    text: str
-    definitions: list
-    functions: list
-    tests: list
-
-
-def places(cell, folder):
-    """The places that a cell names."""
-    found = []
-    for path, name in re.findall(r"`([^`:]+)(?:: ([^`]+))?`", cell):
-        is_row = folder == "tests" and not name and "." not in path
-        found.append(Place(f"{folder}/{path}.jsonl" if is_row else f"{folder}/{path}", name))
-    return found
-
-
-def rules():
-    """All rules of the page."""
-    for part in re.split(r"^### ", markdown.section(PAGE, "## Where each rule is"), flags=re.M)[1:]:
-        table, _, text = part.partition("\n")
-        (rows,) = markdown.tables(text)
-        for rule, definition, function, test in rows:
-            yield Rule(table, rule, places(definition, "crates"), places(function, "crates"), places(test, "tests"))
-
-
-def rows_of(table):
-    """The rules of a table, by the text of their first column before a colon."""
-    return {rule.text.partition(":")[0]: rule for rule in rules() if rule.table == table}
-
-
 def check_places(bench):
-    """Each rule has a definition, a function and a test, and each of these places exists."""
+    """Each rule has a definition, a function and a test, and each of their names is that of one place."""
     for rule in rules():
-        for what, found in (("definition", rule.definitions), ("function", rule.functions), ("test", rule.tests)):
-            bench.same(f"{rule.text} has a {what}", bool(found), True)
-            for place in found:
-                bench.judge(f"{what} of {rule.text}", faults_of(place))
+        bench.judge(rule.text, rule.faults)
 
 
 def check_folders(bench):
     """Definitions are in the folders specs, functions in the folders src."""
     for rule in rules():
         folders = {place.path.split("/")[2] for place in rule.definitions}
-        bench.same(f"the folders of definitions of {rule.text}", folders, {"specs"})
+        bench.same(f"the folders of definitions of {rule.text}", folders <= {"specs"}, True)
         bench.same(f"the folders of functions of {rule.text}", {place.path.split("/")[2] for place in rule.functions}, {"src"})
 
 
-def faults_of(place):
-    """What is wrong with a place."""
-    try:
-        place.line()
-    except (OSError, ValueError) as fault:
-        return [str(fault)]
-    return []
+def contract_of(place):
+    """The text of a function from its name to its body."""
+    lines = text_of(place.path).split("\n")[place.line - 1 :]
+    if lines[0].endswith("{"):
+        return lines[0]
+    return "\n".join(lines[: [line.strip() for line in lines].index("{")])
+
+
+def check_contracts(bench):
+    """The contract of a function of each rule has one of the definitions of the rule, so that no step on the way is left out."""
+    found = 0
+    for rule in rules():
+        names = {place.name.split()[0] for place in rule.definitions}
+        if rule.table in (*BY_NAME, OF_LAWS) or rule.text in UNFOLDED or not names:
+            continue
+        found += 1
+        contracts = "".join(contract_of(place) for place in rule.functions)
+        cited = [name for name in names if re.search(rf"\b{name}\b", contracts)]
+        bench.same(f"a contract for {rule.text} has one of {sorted(names)}", bool(cited), True)
+    bench.same("contracts are read", found > 70, True)
+
+
+def check_lines(bench):
+    """The line of a row that a rule names is a request with an answer, unless the rule is about lines without one."""
+    found = 0
+    for rule in rules():
+        for place in [place for place in rule.tests if place.path.endswith(".jsonl") and place.line > 1]:
+            found += 1
+            lines = text_of(place.path).split("\n")
+            is_call = '"fn"' in lines[place.line - 1]
+            bench.same(f"line {place.line} of {place.path} is a call", is_call or "line" in rule.text, True)
+    bench.same("lines are named", found > 30, True)
+
+
+def check_words(bench):
+    """A rule is found by the standard's name of its function, in any case; what no rule has is reported."""
+    for words, wanted in (["addinheritance"], "Commands: addInheritance"), (["BLANK"], "blank lines are skipped"):
+        shown = subprocess.run([sources.ROOT / "tests/rules", *words], capture_output=True, text=True, check=False)
+        bench.same(f"tests/rules {words} shows {wanted}", (wanted in shown.stdout, shown.returncode), (True, 0))
+    shown = subprocess.run([sources.ROOT / "tests/rules", "no such rule"], capture_output=True, text=True, check=False)
+    said = "none of" in shown.stderr and all(rule.table in shown.stderr for rule in rules())
+    bench.same("tests/rules says what there is", (said, shown.stdout, shown.returncode), (True, "", 1))
 
 
 def check_functions(bench):
     """Each command and each question has its row."""
-    known = list(sources.functions().values())
     commands, questions = sources.command_keys(), sources.question_keys()
-    bench.same("the commands", list(rows_of("Commands")), [name for name in known if name in commands])
-    bench.same("the questions", list(rows_of("Questions")), [name for name in known if name in questions])
+    bench.same("the commands", sorted(rows_of("Commands")), sorted(commands))
+    bench.same("the questions", sorted(rows_of("Questions")), sorted(questions))
 
 
 def check_laws(bench):
@@ -128,8 +96,8 @@ def check_laws(bench):
     listed = rows_of("Laws")
     bench.same("the laws", sorted(listed), sorted(found))
     for name, rule in listed.items():
-        place = Place(str(found[name].relative_to(sources.ROOT)), name)
-        bench.same(f"the function of {name}", rule.functions, [place])
+        where = [(place.path, place.name) for place in rule.functions]
+        bench.same(f"the function of {name}", where, [(str(found[name].relative_to(sources.ROOT)), name)])
         bench.same(f"definitions that {name} does not have", definitions_beside(found[name], name, rule), [])
 
 
@@ -192,7 +160,6 @@ def answers(path, function):
             yield "ok" if "ok" in answer else ":".join([str(answer["code"]), *([answer["kind"]] if "kind" in answer else [])])
 
 
-
 def check_closed(bench):
     """The closed office has its row, by the code of its refusal."""
     (code,) = [code for code, (name, _) in sources.refusals().items() if name == "Closed"]
@@ -200,75 +167,27 @@ def check_closed(bench):
     bench.same("the rows of the closed office", len(rows), 1)
 
 
-def numbered(text):
-    """The number in a cell."""
-    return int(text.replace(",", ""))
-
-
-def check_limits(bench):
-    """The table of limits has those of the sources, in order; further words in a cell explain it."""
-    (table,) = markdown.tables(markdown.section(PAGE, "## Limits"))
-    listed = {re.match(r"\w+", row[0])[0]: (numbered(row[2]), numbered(row[1])) for row in table}
-    bench.same("the limits", list(listed.items()), list(sources.limits().items()))
-
-
-def check_refusals(bench):
-    """The table of refusals has each code with its name."""
-    (table,) = markdown.tables(markdown.section(PAGE, "## Refusals"))
-    cells = [pair for row in table for pair in zip(row[::2], row[1::2]) if pair[0]]
-    listed = {int(code): name.partition("(")[0] for code, name in cells}
-    bench.same("the refusals", listed, {code: name for code, (name, _) in sources.refusals().items()})
+def check_versions(bench):
+    """The page has each limit in which the versions differ."""
+    text = markdown.in_one_line(markdown.section(PAGE, "## Limits"))
+    for which, words in (1, "version 1 has at most {user:,} users, {role:,} roles and {edge:,} edges"), (
+        0,
+        "version 2 {user:,}, {role:,} and {edge:,}",
+    ):
+        bench.same(
+            f"version {2 - which}", words.format(**{kind: both[which] for kind, both in sources.limits().items()}) in text, True
+        )
+    differing = {kind for kind, (new, old) in sources.limits().items() if new != old}
+    bench.same("the kinds in which the versions differ", differing, {"user", "role", "edge"})
 
 
 def check_names(bench):
     """Each refusal that a page names beside its code has this name."""
     names = {code: name for code, (name, _) in sources.refusals().items()}
-    for page in ("MODEL.md", "CONTRACTS.md", "DECISIONS.md", "PROOFS.md", "ARCHITECTURE.md"):
+    for page in REFUSING:
         named = re.findall(rf"\b(\d+) ({'|'.join(names.values())})\b", markdown.page(page))
         for code, name in named:
             bench.same(f"the refusal {code} in {page}", name, names.get(int(code)))
-
-
-def codes_in(cell):
-    """The refusals that a cell lists, in order: their codes, with the kinds of limits."""
-    kinds = "|".join(sources.kind_words().values())
-    found = re.findall(rf"(?:^|; )(\d+)(?: ({kinds})\b)?", cell)
-    return [f"{code}:{kind}" if kind else code for code, kind in found]
-
-
-def check_commands(bench):
-    """The table of commands has each of them, with its keys and what refuses it in order."""
-    (table,) = markdown.tables(markdown.section(PAGE, "## The commands"))
-    keys, refusals = sources.command_keys(), verdicts.refusals()
-    listed = {row[0].partition("(")[0]: row for row in table}
-    own = {name: row for name, row in listed.items() if name in keys}
-    # One row is of the commands on dynamic sets, which are those on static ones by other names.
-    bench.same("further rows", [name for name in listed if name not in own], ["the same five for dynamic sets"])
-    dynamic = {name.replace("Ssd", "Dsd"): row for name, row in own.items() if "Ssd" in name}
-    bench.same("commands on sets", len(dynamic), 5)
-    bench.same("the commands", {*own, *dynamic}, set(keys))
-    for name, (form, refused, _) in own.items():
-        words = re.findall(r"\w+", form.partition("(")[2])
-        # An import has its pairs in a text.
-        wanted = ["pairs"] if name == "importAssignments" else [key for key, _ in keys[name]]
-        bench.same(f"the arguments of {name}", words, wanted)
-        wanted = ["32:record"] if name == "importAssignments" else refusals[name]
-        bench.same(f"what refuses {name}", codes_in(refused), wanted)
-    for name, (_, refused, _) in dynamic.items():
-        codes = [{"24": "25", "32:ssdSet": "32:dsdSet"}.get(code, code) for code in codes_in(refused)]
-        bench.same(f"what refuses {name}", codes, refusals[name])
-
-
-def check_questions(bench):
-    """The table of questions has each of them but checkAccess, with its keys and what refuses it in order."""
-    (table,) = markdown.tables(markdown.section(PAGE, "## Access decisions and review functions"))
-    keys, listed = sources.question_keys(), {}
-    for cell, refused, _ in table:
-        for name, words in re.findall(r"(\w+)(?:\(([^)]*)\))?(?:, |$)", cell):
-            listed[name] = (re.findall(r"\w+", words), codes_in(refused))
-    wanted = {name: ([key for key, _ in named], verdicts.refusals()[name]) for name, named in keys.items()}
-    del wanted["checkAccess"]
-    bench.same("the questions", listed, wanted)
 
 
 def codes_of(cell):
@@ -279,16 +198,8 @@ def codes_of(cell):
 
 def check_checks(bench):
     """The tables of rows and of an opening have each check by which an office is damaged."""
-    text = markdown.section(PAGE, "## A state from its rows") + markdown.section(PAGE, "## The tables")
+    text = markdown.page("TABLES.md")
     cells = [row[0] for table in markdown.tables(text) for row in table]
     named = [checks for cell in cells for checks in re.findall(r"52 with check (\d+(?: (?:to|or) \d+)?)", cell)]
     listed = set().union(*(codes_of(checks) for checks in named))
     bench.same("the checks", sorted(listed), sources.checks())
-
-
-def check_http_statuses(bench):
-    """The table of replies has the codes of each status."""
-    (table,) = markdown.tables(markdown.section(PAGE, "## Requests over HTTP"))
-    listed = {row[0]: codes_of(row[1]) for row in table}
-    for status, codes in verdicts.codes_by_status().items():
-        bench.same(f"the codes of {status}", listed[str(status)], codes)

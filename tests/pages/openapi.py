@@ -43,7 +43,7 @@ WORDS |= {"minLength", "maxLength", "minItems", "maxItems", "uniqueItems", "mini
 PYTHON = {"object": dict, "array": list, "string": str, "boolean": bool, "integer": int}
 
 # What only the front answers: the refusals by the table of docs/FRONT.md and by its sources, and paths of no function.
-OF_FRONT = [row[:2] for table in markdown.tables(markdown.section(markdown.page("FRONT.md"), "## 7. What clients see"))
+OF_FRONT = [row[:2] for table in markdown.tables(markdown.section(markdown.page("FRONT.md"), "## 5. What clients see"))
             for row in table if re.fullmatch(r"\d{3} [\w ]+", row[0])]  # fmt: skip
 SOURCE = sources.ROOT / "node/src/rbac-node/api/api.go"
 PATHS_OF_FRONT = {
@@ -65,6 +65,9 @@ PATHS_OF_FRONT = {
     "/record": ["get"],
     "/room": ["get"],
     "/picture": ["get"],
+    "/what-if": ["post"],
+    "/reviews": ["post"],
+    "/reports/{report}": ["post", "get"],
 }
 
 # The statuses of a conflict, and of a target or a method that no path here has.
@@ -210,11 +213,14 @@ def parts_of(schema):
 def check_structure(bench):
     """Each part of the description has the keys that such a part has, and no others."""
     bench.same("the parts", set(SPEC), {"openapi", "info", "servers", "security", "tags", "paths", "components"})
-    bench.same("the shared parts", set(COMPONENTS), {"schemas", "responses", "securitySchemes"})
+    bench.same("the shared parts", set(COMPONENTS), {"schemas", "parameters", "responses", "securitySchemes"})
     bench.same("the security schemes", list(COMPONENTS["securitySchemes"]), ["token"])
     accepted, refused, bodies = [], list(COMPONENTS["responses"].values()), []
     for name, told in operations().items():
         keys = {"operationId", "tags", "summary", "description", "requestBody", "responses"}
+        if told["tags"] == ["commands"]:
+            keys.add("parameters")
+            bench.same(f"the parameters of {name}", told["parameters"], [{"$ref": "#/components/parameters/Reason"}])
         bench.same(f"the parts of {name}", set(told), keys)
         bench.same(f"the parts of the body of {name}", set(told["requestBody"]), {"required", "content"})
         accepted.append(told["responses"]["200"])
@@ -232,6 +238,15 @@ def check_structure(bench):
     parts = [part for schema in schemas for part in parts_of(schema)]
     bench.same("schemas with unknown words", [part for part in parts if set(part) - WORDS], [])
     bench.same("words beside a reference", [part for part in parts if "$ref" in part and len(part) > 1], [])
+
+
+def check_reason(bench):
+    """The field for the reason of a command has the name and the length that the front reads."""
+    source = (sources.ROOT / "node/src/rbac-node/front/signing.go").read_text(encoding="utf-8")
+    reason = COMPONENTS["parameters"]["Reason"]
+    bench.same("its name", f'reasonField   = "{reason["name"]}"' in source, True)
+    bench.same("its length", f'longestReason = {reason["schema"]["maxLength"]}\n' in source, True)
+    bench.same("where it is", (reason["in"], reason["required"]), ("header", False))
 
 
 def check_references(bench):

@@ -5,14 +5,11 @@ import os
 import re
 import shutil
 import subprocess
-import tempfile
 from contextlib import contextmanager
 
-from deploy.common import can_mount
 from program import damaged
-from program.bench import PROGRAM, SECONDS
 from program.offices import change, changed, small_office
-from program.web import Server, free_port, post
+from program.web import Server, post
 from tools.running import lines_of_damage, numbers_shown
 
 from . import command_line, markdown, sources
@@ -27,14 +24,11 @@ DAMAGES = {**damaged.DAMAGES, **damaged.LOCKS}
 # The refusals that opening a file can meet.
 OPENING = [40, 41, 50, 51, 32, 52]
 
-# The most lines that the page may have.
-MOST_LINES = 400
+# The most lines and bytes that the page may have.
+MOST_LINES, MOST_BYTES = 400, 20_000
 
 # The commands are for files on a disk.
 ON_DISK = True
-
-# The user as whom a cause is tried that root does not meet.
-NOBODY = ["setpriv", "--reuid=65534", "--regid=65534", "--clear-groups"]
 
 
 def told_check(bench, path):
@@ -77,7 +71,7 @@ def reader_of(bench):
 
 def check_length(bench):
     """The page is short."""
-    bench.same("the page is short", len(PAGE.splitlines()) <= MOST_LINES, True)
+    bench.same("the page is short", (len(PAGE.splitlines()) <= MOST_LINES, len(PAGE.encode()) <= MOST_BYTES), (True, True))
 
 
 def check_commands(bench):
@@ -95,22 +89,21 @@ def check_commands(bench):
 
 
 def check_blocks(bench):
-    """Each block of the page is of a language that is run or compared, here or by tests/deploy.py."""
-    bench.same("the languages", set(re.findall(r"^```(\w+)$", PAGE, re.M)), {"console", "sh", "sql", "text"})
+    """Each block of the page is of a language that is run or compared, here or by tests/installed.py."""
+    bench.same("the languages", set(re.findall(r"^```(\w+)$", PAGE, re.M)), {"console", "sh", "sql"})
     bench.same("blocks without a language", PAGE.count("```"), 2 * len(re.findall(r"^```\w+$", PAGE, re.M)))
-    here = ["--limit 1000000", "--limit 1000\n", "rsync "]
-    elsewhere = ["useradd ", "systemctl restart ", "deploy/nginx/logrotate"]
+    here = ["--limit 1000\n", "rsync "]
+    # By tests/installed.py.
+    elsewhere = ["apt install ./rbac_*.deb ./rbac-node_*.deb\nsystemctl enable", "addUser", "chown -R", "systemctl start rbac-backup@"]
+    elsewhere += ["systemctl disable --now rbac\n"]
     bench.same("blocks that are not run", len(commands_for("sh")), len({block_with(words) for words in here + elsewhere}))
 
 
 def check_loops(bench):
-    """The loops that keep a server running use words that the program reads, and end if a run is refused."""
-    first, second = block_with("--limit 1000000"), block_with("shipped")
-    bench.same("the most connections", f"--limit {command_line.ranges()['limit'][1]};" in first, True)
+    """The loop that keeps a server of copies running uses words that the program reads, and ends if a run is refused."""
     bench.write("shipped", b"")
     with Shell(bench) as reader:
-        reader.shows(first, 'rbac: {"code":41,"error":"Store"}\n')
-        reader.shows(second, 'rbac: {"code":50,"error":"NotAnOffice"}\n')
+        reader.shows(block_with("shipped"), 'rbac: {"code":50,"error":"NotAnOffice"}\n')
 
 
 def check_loop_goes_on(bench):
@@ -166,7 +159,7 @@ def check_limits(bench):
 
 def check_lines(bench):
     """The first table has each refusal that an opening can meet, the second each check, in order."""
-    lines, _, checks = markdown.tables(CHECKS)
+    lines, checks = markdown.tables(CHECKS)
     names = {code: name for code, (name, _) in sources.refusals().items()}
     told = [re.search(r'"code":(\d+),"error":"(\w+)"', row[0]).groups() for row in lines]
     bench.same("the refusals of an opening", told, [(str(code), names[code]) for code in OPENING])
@@ -193,7 +186,7 @@ def check_repairs(bench):
     """If the table says to end the sessions, or to rebuild the pairs, neither that check nor an earlier one fails then."""
     office = small_office(bench)
     ending, making = repairs()
-    _, _, checks = markdown.tables(CHECKS)
+    _, checks = markdown.tables(CHECKS)
     told = {int(row[0]): row[2] for row in checks}
     for name, (check, damage) in DAMAGES.items():
         cure = ending if told[check].startswith("End the sessions") else making if check == 6 else None
@@ -231,7 +224,7 @@ def check_version_1(bench):
 
 def check_groups(bench):
     """The table of groups names functions of the sources, and states how many the others are."""
-    table, _ = markdown.tables(markdown.section(PAGE, "## 8. Behind a front or a proxy"))
+    table, _ = markdown.tables(markdown.page("NGINX.md"))
     said, questions, all_of_them = dict(table), sources.question_keys(), sources.functions().values()
     named = re.findall(r"`(\w+)`", said["applications"])
     bench.same("functions that do not exist", sorted(set(named) - set(all_of_them)), [])
@@ -261,68 +254,3 @@ def check_copies(bench):
 def backup_names(bench):
     """The names of the backups of a bench that were made."""
     return "\n".join(name for name in sorted(os.listdir(bench.path("backups"))) if not name.startswith("."))
-
-
-# Commands that make each cause of 41 in a folder with the file `office`, in the order of the table.
-CAUSES = [
-    "rm office",
-    "ln office second",
-    '"$program" serve office --port "$port" --limit 1 > said & server=$!; until test -s said; do sleep 0.05; done',
-    "chmod 400 office",
-    "chmod 500 .",
-    "cp office office-wal; chmod 400 office-wal",
-    "mount -o remount,ro .",
-    "cat /dev/zero > filler || true",
-    "echo > office-journal",
-    "head -c 20000 office > cut; cat cut > office",
-]
-
-# Makes a cause, runs the command of the page, and opens the office: what both print, with a line between them.
-CAUSE = """
-set -e
-mount_it=$1; program=$2; port=$3; making=$4; command=$5; shift 5
-if [ "$mount_it" = yes ]; then mount -t tmpfs -o size=400k,mode=777 tmpfs . || exit 9; cd "$PWD"; fi
-cp "$program.office" office
-if [ $# -gt 0 ]; then chown 65534:65534 . office; fi
-eval "$making" 2> /dev/null
-chown -f 65534:65534 office-wal || true
-set +e
-"$@" sh -c "$command"
-echo =
-"$@" "$program" check office 2>&1
-if [ -n "$server" ]; then kill "$server"; fi
-"""
-
-
-def check_causes(bench):
-    """Each cause of 41 that the page names is one, and its command then prints something else than for a good office."""
-    _, rows, _ = markdown.tables(CHECKS.replace("\\|", "\0"))
-    rows = [[cell.replace("\0", "|").strip("`") for cell in row] for row in rows]
-    bench.same("the causes", len(rows), len(CAUSES))
-    for folder in (bench.folder, bench.folder.parent):
-        folder.chmod(0o755)
-    program = bench.path("rbac")
-    shutil.copy(PROGRAM, program)
-    bench.run(["init", bench.path("rbac.office")])
-    os.chmod(bench.path("rbac.office"), 0o644)
-    for (cause, command, good), making in zip(rows, CAUSES, strict=True):
-        if not shutil.which(command.split()[0]) or ("mount" in making or "zero" in making) and not can_mount():
-            print(f"left out, since it can't be tried here: {cause}")
-            continue
-        given = outcome(bench, program, "", command)
-        bench.same(f"without the cause: {cause}", given, ("" if good == "nothing" else f"{good}\n", "good\n"))
-        printed, said = outcome(bench, program, making, command)
-        bench.same(f"with the cause: {cause}", said, 'rbac: {"code":41,"error":"Store"}\n')
-        bench.same(f"{command} shows it", printed != given[0], True)
-
-
-def outcome(bench, program, making, command):
-    """Returns what the command of a cause prints, and what the program prints for the office."""
-    is_mount = "yes" if "mount" in making or "zero" in making else "no"
-    user = NOBODY if os.geteuid() == 0 and not command.startswith("fuser") else []
-    own = ["unshare", "-m"] if is_mount == "yes" else []
-    folder = tempfile.mkdtemp(dir=bench.folder)
-    words = [*own, "sh", "-c", CAUSE, "sh", is_mount, program, str(free_port()), making, command, *user]
-    done = subprocess.run(words, cwd=folder, capture_output=True, timeout=SECONDS, check=False)
-    printed, _, said = done.stdout.decode().partition("=\n")
-    return printed, said

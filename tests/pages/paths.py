@@ -5,7 +5,7 @@ import re
 from . import sources
 
 ROOT = sources.ROOT
-PAGES = [f"docs/{name}.md" for name in ("ARCHITECTURE", "DECISIONS", "MODEL", "PROOFS")]
+PAGES = [f"docs/{name}.md" for name in "ARCHITECTURE DECISIONS EXTENDING LAWS MODEL PROOFS RULES TABLES".split()]
 PAGES += [f"{folder}/README.md" for folder in ("bench", "examples", "tests")]
 
 # The most words that a page may have.

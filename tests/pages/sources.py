@@ -14,7 +14,7 @@ STATUSES["SERVICE_UNAVAILABLE"] = 503
 # The files that set the status of a reply.
 REPLYING = [
     "role_http/src/answer.rt",
-    "role_http/src/judge.rt",
+    "role_http/src/head_checks.rt",
     "role_http/src/status.rt",
     "role_wire/src/prepared_reply.rt",
     "role_wire/src/serving.rt",

@@ -5,7 +5,7 @@ import re
 from . import markdown, sources
 
 PAGES = ["README.md"]
-PAGES += [f"docs/{name}.md" for name in ("API", "AUDITING", "CLUSTER", "INTEGRATING", "OPERATING")]
+PAGES += [f"docs/{name}.md" for name in ("API", "AUDITING", "CLUSTER", "INTEGRATING", "NGINX", "OPERATING")]
 
 # A time, or a rate.
 TIME = r"(?<![\w.,-])\d[\d,.]*(?: to \d[\d,.]*)? ?(?:microseconds|milliseconds|us|ms|seconds|s|minutes|hours)\b"
@@ -17,7 +17,8 @@ SETTINGS = {
     "docs/API.md": ["5 seconds"],
     "docs/CLUSTER.md": ["10 seconds", "90 seconds", "10s", "10 s"],
     "docs/INTEGRATING.md": ["5 seconds", "10 seconds", "100 seconds"],
-    "docs/OPERATING.md": ["10 seconds", "30 seconds", "60 seconds"],
+    "docs/NGINX.md": ["30 seconds", "60 seconds"],
+    "docs/OPERATING.md": ["10 seconds", "60 seconds"],
 }
 
 # What a section has to name beside a time.

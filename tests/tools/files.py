@@ -2,8 +2,10 @@
 
 import hashlib
 import html
+import json
 import os
 import re
+from importlib.machinery import SourceFileLoader
 from pathlib import Path
 
 from program.bench import PROGRAM
@@ -11,7 +13,7 @@ from program.offices import Office
 
 from . import wanted
 from .offices import line_of, odd_lines
-from .running import REPORTS, ROOT, TOOLS, is_there, keeping, refuses, report, run, run_script, run_tool
+from .running import REPORTS, ROOT, TOOLS, is_there, keeping, records, refuses, report, run, run_script, run_tool
 
 BANK = ROOT / "examples/bank.jsonl"
 PICTURE = ROOT / "docs/bank.svg"
@@ -132,12 +134,76 @@ def shows_no_session(bench):
         bench.same(f"the reports with {options}", made, wanted_reports)
 
 
+# What chooses lines of permissions.csv, with the places of its columns that it is about.
+PLACES = {"user": [0], "role": [4, 5], "object": [2], "operation": [3]}
+
+
+def chosen_of(rows, chosen):
+    """The rows that some filters choose."""
+    return [row for row in rows if all(value in [row[place] for place in PLACES[key]] for key, value in chosen.items())]
+
+
+def counts_permissions(bench):
+    """The lines of permissions.csv are counted without making them, for all filters by the names of an odd office."""
+    office = office_of(bench, odd_lines())
+    rows = wanted.permissions(office.model.state)
+    evidence = SourceFileLoader("evidence", str(TOOLS / "evidence.py")).load_module()
+    names = sorted({cell for row in rows for cell in row[2:6]} | {"nobody"})
+    filters = [{}, *({key: name} for key in PLACES for name in names)]
+    filters += [{"user": row[0], "role": row[5], "object": row[2], "operation": row[3]} for row in rows]
+    for chosen in filters:
+        counted = evidence.count_permissions(Path(office.path), chosen)
+        bench.same(f"the count of {chosen}", counted, len(chosen_of(rows, chosen)))
+    bench.same("a file that is no office", evidence.count_permissions(Path(bench.write("none", b"none")), {}), 0)
+
+
+def chooses_permissions(bench):
+    """With a filter permissions.csv has only the chosen lines, evidence.txt says so, and the other reports are as without it."""
+    office = office_of(bench, odd_lines())
+    rows = wanted.permissions(office.model.state)
+    whole = {FILES[name]: run_tool(name, office.path).out for name in REPORTS if name != "permissions"}
+    filters = [{"role": "--"}, {"object": "'"}, {"operation": '\\"'}]
+    filters.append({"user": rows[-1][0], "role": rows[-1][4], "object": rows[-1][2]})
+    for number, chosen in enumerate(filters):
+        folder = bench.folder / f"evidence {number}"
+        done = run_script("evidence.py", *(f"--{key}={value}" for key, value in chosen.items()), DAY, office.path, folder)
+        bench.same(f"the end of the evidence of {chosen}", (done.out, done.err, done.status), (b"", b"", 0))
+        found, _ = records((folder / "permissions.csv").read_text(encoding="utf-8"))
+        bench.same(f"the lines of {chosen}", found, chosen_of(rows, chosen))
+        bench.same(f"the other reports of {chosen}", {name: (folder / name).read_bytes() for name in whole}, whole)
+        order = [key for key in PLACES if key in chosen]
+        said = f"# permissions: only those of {', '.join(f'{key} {json.dumps(chosen[key])}' for key in order)}\n"
+        bench.same(f"evidence.txt says it of {chosen}", said in (folder / "evidence.txt").read_text(encoding="utf-8"), True)
+
+
+def refuses_long(bench):
+    """Above 1,000,000 lines of permissions a filter is needed: the line of the refusal has their count, and no folder is made."""
+    users, grants = 1_001, 1_000
+    lines = [line_of("addRole", role="clerk")]
+    for number in range(users):
+        lines += [line_of("addUser", user=f"u{number}"), line_of("assignUser", user=f"u{number}", role="clerk")]
+    for number in range(grants):
+        permission = {"object": f"o{number}", "operation": "read"}
+        lines += [line_of("addPermObj", object=f"o{number}"), line_of("addPermission", **permission)]
+        lines.append(line_of("grantPermission", **permission, role="clerk"))
+    path, folder = bench.path("long"), bench.folder / "evidence"
+    for words, given in ((["init", path], b""), (["replay", path], b"".join(lines))):
+        bench.same(f"the end of {words[0]}", bench.run(words, given).status, 0)
+    done = run_script("evidence.py", DAY, path, folder)
+    refuses(bench, "a long report", done, "permissions.csv would have 1,001,000 lines, above 1,000,000: choose by --user")
+    bench.same("no folder is made", folder.exists(), False)
+    done = run_script("evidence.py", "--user", "u7", DAY, path, folder)
+    bench.same("the end with a filter", (done.out, done.err, done.status), (b"", b"", 0))
+    found, _ = records((folder / "permissions.csv").read_text(encoding="utf-8"))
+    bench.same("its lines", (len(found), {row[0] for row in found}), (grants, {"u7"}))
+
+
 def refuses_evidence(bench):
     """No evidence is made with other arguments, into a folder that exists, or if the program is missing."""
     office, new = bank(bench), bench.path("new")
     for words in ([], [DAY], [DAY, office.path], ["today", office.path, new], ["2026-02-30", office.path, new]):
         done = keeping(bench, f"evidence of {words}", run_script, "evidence.py", *words)
-        ended = done.out, done.status, b"[--with-sessions] DATE COPY FOLDER" in done.err
+        ended = done.out, done.status, b"DATE COPY FOLDER" in done.err
         bench.same(f"the end of evidence of {words}", ended, (b"", 2, True))
     os.mkdir(bench.path("there"))
     done = run_script("evidence.py", DAY, office.path, bench.path("there"))
@@ -196,4 +262,5 @@ def jobs_without_sqlite():
 
 def jobs():
     """Each of these."""
-    return [(draws_bank,), (makes_evidence,), (shows_no_session,), (refuses_evidence,), *jobs_without_sqlite()]
+    own = (draws_bank, makes_evidence, shows_no_session, refuses_evidence, counts_permissions, chooses_permissions, refuses_long)
+    return [*((one,) for one in own), *jobs_without_sqlite()]

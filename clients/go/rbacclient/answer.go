@@ -5,6 +5,7 @@ import (
 	"errors"
 	"fmt"
 	"strconv"
+	"strings"
 	"unicode/utf8"
 )
 
@@ -45,6 +46,9 @@ type argument struct {
 func body(function string, arguments []argument) ([]byte, error) {
 	if function == "importAssignments" {
 		return []byte(arguments[0].value.(string)), nil
+	}
+	if strings.HasPrefix(function, endsSession) {
+		return nil, nil
 	}
 	text, isText := []byte{'{'}, true
 	for i, argument := range arguments {
@@ -202,6 +206,36 @@ func (r *reader) report() ImportReport {
 	})
 	r.need("}")
 	return found
+}
+
+// opened reads what the front answers about a session that it has opened.
+func (r *reader) opened() (name string, roles []string, left []LeftOut) {
+	r.need(`{"left":`)
+	left = []LeftOut{}
+	r.list(func() {
+		var one LeftOut
+		r.need(`{"code":`)
+		one.Code = int(r.number())
+		r.need(`,"error":`)
+		one.Name = r.text()
+		if r.skip(`,"kind":`) {
+			one.Details = map[string]interface{}{"kind": r.text()}
+		}
+		r.need(`,"role":`)
+		one.Role = r.text()
+		if one.Details == nil && r.skip(`,"set":`) {
+			one.Details = map[string]interface{}{"set": r.text()}
+		}
+		r.need("}")
+		left = append(left, one)
+	})
+	r.need(`,"roles":`)
+	roles = r.names()
+	r.need(`,"session":`)
+	name = r.text()
+	r.need("}")
+	r.isBad = r.isBad || name == ""
+	return name, roles, left
 }
 
 // readValue reads an answer with a value. The value is right only if no error is returned.

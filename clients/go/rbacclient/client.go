@@ -53,6 +53,9 @@ type Client struct {
 	noRepeats bool
 	log       *log.Logger
 	first     atomic.Int64 // the address that answered last
+	revision  atomic.Uint64
+	// createsUntil is until when sessions are made by createSession, in nanoseconds, since the server opens none.
+	createsUntil atomic.Int64
 
 	mu     sync.Mutex
 	counts map[Reason]uint64
@@ -106,14 +109,14 @@ func New(config Config) (*Client, error) {
 // readAddress reads an address.
 func readAddress(text string, config *tls.Config) (*address, error) {
 	if path := strings.TrimPrefix(text, "unix:"); path != text && path != "" {
-		return &address{"http://localhost/v1/", transport(config, path, true), transport(config, path, false)}, nil
+		return &address{"http://localhost", transport(config, path, true), transport(config, path, false)}, nil
 	}
 	parsed, err := url.Parse(text)
 	if err != nil || parsed.Scheme != "http" && parsed.Scheme != "https" || parsed.Hostname() == "" ||
 		parsed.User != nil || strings.Trim(parsed.Path, "/") != "" || parsed.RawQuery != "" || parsed.Fragment != "" {
-		return nil, fmt.Errorf("rbacclient: %q is not an address such as https://localhost:8080 or unix:/run/rbac-front/socket", text)
+		return nil, fmt.Errorf("rbacclient: %q is not an address such as https://localhost:8080 or unix:/run/rbac/office.sock", text)
 	}
-	base := parsed.Scheme + "://" + parsed.Host + "/v1/"
+	base := parsed.Scheme + "://" + parsed.Host
 	return &address{base, transport(config, "", true), transport(config, "", false)}, nil
 }
 
@@ -171,14 +174,7 @@ func (c *Client) Counts() map[Reason]uint64 {
 
 // decide returns a decision that isn't counted yet.
 func (c *Client) decide(ctx context.Context, session, operation, object string) Decision {
-	isAllowed, err := c.CheckAccess(ctx, session, operation, object)
-	switch {
-	case err != nil:
-		return undecided(err)
-	case isAllowed:
-		return Decision{Reason: Allowed}
-	}
-	return Decision{Reason: Denied}
+	return DecisionOf(c.CheckAccess(ctx, session, operation, object))
 }
 
 // keep counts a decision, and logs it if the office hasn't made it. The log has no names of sessions.
@@ -282,21 +278,22 @@ func (c *Client) attempt(course *course, function string, text []byte) (int, []b
 	defer cancel()
 	address := course.address()
 	if !course.isQuestion {
-		status, answer, _, err := c.exchange(ctx, address.fresh, address.base+function, text)
+		status, answer, _, err := c.exchange(ctx, address.fresh, address.base, function, text)
 		return status, answer, err
 	}
-	status, answer, isReused, err := c.exchange(ctx, address.kept, address.base+function, text)
+	status, answer, isReused, err := c.exchange(ctx, address.kept, address.base, function, text)
 	if err != nil && err.Reason == Unanswered && isReused && ctx.Err() == nil {
-		status, answer, _, err = c.exchange(ctx, address.fresh, address.base+function, text)
+		status, answer, _, err = c.exchange(ctx, address.fresh, address.base, function, text)
 	}
 	return status, answer, err
 }
 
 // exchange sends a request, and reads its answer. It also returns whether the connection had been used before.
-func (c *Client) exchange(ctx context.Context, over *http.Transport, target string, text []byte) (int, []byte, bool, *Error) {
+func (c *Client) exchange(ctx context.Context, over *http.Transport, base, function string, text []byte) (int, []byte, bool, *Error) {
 	var isConnected, isReused bool
 	trace := &httptrace.ClientTrace{GotConn: func(got httptrace.GotConnInfo) { isConnected, isReused = true, got.Reused }}
-	request, err := http.NewRequestWithContext(httptrace.WithClientTrace(ctx, trace), http.MethodPost, target, bytes.NewReader(text))
+	method, path := targetOf(function)
+	request, err := http.NewRequestWithContext(httptrace.WithClientTrace(ctx, trace), method, base+path, bytes.NewReader(text))
 	if err != nil {
 		return 0, nil, false, failed(InvalidRequest, false, err)
 	}
@@ -321,7 +318,33 @@ func (c *Client) exchange(ctx context.Context, over *http.Transport, target stri
 	if _, err := response.Body.Read(make([]byte, 1)); err != io.EOF {
 		return 0, nil, isReused, failed(Unexpected, true, errors.New("there is more than an answer"))
 	}
+	if revision, isThere := numberOf(response.Header, "Policy-Revision"); isThere {
+		c.saw(revision)
+	}
 	return response.StatusCode, answer, isReused, nil
+}
+
+// targetOf returns the method and the path of a function, or of what only the front does.
+func targetOf(function string) (method, path string) {
+	if method, path, isOfFront := strings.Cut(function, " "); isOfFront {
+		return method, path
+	}
+	return http.MethodPost, "/v1/" + function
+}
+
+// PolicyRevision returns the newest revision of the policy that an answer has had: Policy-Revision of docs/REQUESTS.md, or 0.
+func (c *Client) PolicyRevision() uint64 {
+	return c.revision.Load()
+}
+
+// saw notes the revision of the policy that an answer had.
+func (c *Client) saw(revision uint64) {
+	for {
+		seen := c.revision.Load()
+		if revision <= seen || c.revision.CompareAndSwap(seen, revision) {
+			return
+		}
+	}
 }
 
 // lost returns the error of a request without an answer. Without a connection nothing was sent.

@@ -2,6 +2,7 @@ package rbacclient
 
 import (
 	"context"
+	"strings"
 	"time"
 )
 
@@ -33,7 +34,7 @@ func newCourse(ctx context.Context, c *Client, function string, again int) *cour
 	if again != 0 {
 		code, isRepeatable = again, true
 	}
-	r := &course{client: c, ctx: ctx, deadline: deadline, isQuestion: !commands[function], again: code, left: 1}
+	r := &course{client: c, ctx: ctx, deadline: deadline, isQuestion: !isCommand(function), again: code, left: 1}
 	r.unreached, r.at = len(c.addresses)-1, int(c.first.Load())
 	switch {
 	case r.isQuestion:
@@ -42,6 +43,11 @@ func newCourse(ctx context.Context, c *Client, function string, again int) *cour
 		r.left = mostAttempts
 	}
 	return r
+}
+
+// isCommand reports whether a function changes the office, as all do that only the front does.
+func isCommand(function string) bool {
+	return commands[function] || strings.Contains(function, " ")
 }
 
 // address is the one that is asked now.

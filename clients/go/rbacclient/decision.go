@@ -123,3 +123,19 @@ func undecided(err error) Decision {
 	}
 	return Decision{Reason: reason, Code: own.Code, Detail: strings.TrimPrefix(own.Error(), "rbacclient: ")}
 }
+
+// DecisionOf returns the decision that a result of CheckAccess is: it allows only if there is no error.
+func DecisionOf(isAllowed bool, err error) Decision {
+	switch {
+	case err != nil:
+		return undecided(err)
+	case isAllowed:
+		return Decision{Reason: Allowed}
+	}
+	return Decision{Reason: Denied}
+}
+
+// RefusedError returns the error of a refusal with a code and a name of docs/API.md.
+func RefusedError(code int, name string) *Error {
+	return refusal(code, name, nil)
+}

@@ -21,6 +21,7 @@ var statuses = map[int][]int{
 	65: {403},
 	66: {421},
 	67: {412},
+	68: {503},
 }
 
 // repeatable: the commands that may be repeated if their answer was lost. The code, if it isn't 0, then says that it

@@ -1,6 +1,9 @@
 package rbacclient
 
-import "net/http"
+import (
+	"context"
+	"net/http"
+)
 
 // Need is what a request needs: an operation on an object.
 type Need struct {
@@ -10,6 +13,14 @@ type Need struct {
 // Guard returns a handler that passes a request on only if its session may do what it needs. A request for which need returns nil
 // passes without a question. session returns the name of a request's session, which the application keeps, or nothing.
 func (c *Client) Guard(next http.Handler, need func(*http.Request) *Need, session func(*http.Request) string) http.Handler {
+	return NewGuard(c.Check, next, need, session)
+}
+
+// Check decides whether a session may do an operation on an object: the method of a Client, or of what decides instead of it.
+type Check func(ctx context.Context, session, operation, object string) Decision
+
+// NewGuard returns a handler as Client.Guard does, for which check decides.
+func NewGuard(check Check, next http.Handler, need func(*http.Request) *Need, session func(*http.Request) string) http.Handler {
 	return http.HandlerFunc(func(w http.ResponseWriter, r *http.Request) {
 		needed := need(r)
 		if needed == nil {
@@ -18,7 +29,7 @@ func (c *Client) Guard(next http.Handler, need func(*http.Request) *Need, sessio
 		}
 		status := http.StatusUnauthorized
 		if name := session(r); name != "" {
-			decision := c.Check(r.Context(), name, needed.Operation, needed.Object)
+			decision := check(r.Context(), name, needed.Operation, needed.Object)
 			if decision.Allowed() {
 				next.ServeHTTP(w, r)
 				return

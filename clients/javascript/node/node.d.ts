@@ -30,6 +30,7 @@ declare class TextDecoder {
 
 declare module "node:crypto" {
   export function randomBytes(size: number): Buffer;
+  export function createHash(name: string): { update(text: string): { digest(encoding: "hex"): string } };
 }
 
 declare module "node:http" {

@@ -1,16 +1,38 @@
 // The bodies of requests and of answers. An answer is read only if it is exactly one that `rbac` sends.
 
 import { OfficeError, REASONS_OF_STATUSES, RefusedError } from "./decision.js";
-import { STATUSES, VALUES } from "./functions.js";
+import { AGAIN, STATUSES, VALUES } from "./functions.js";
 
 const ALLOWED = '{"ok":true,"value":true}';
 const DENIED = '{"ok":true,"value":false}';
 export const LONGEST_ANSWER = 4 * 1024 * 1024;
 
+// What only the front answers: a session that it opens, and the end of one that is known by its digest.
+export const OPENS = "POST /sessions";
+export const ENDS = "DELETE /sessions/";
+
 // What follows the code and the name of a refusal.
 const DETAILS = ["set", "kind", "record", "version"];
 
 const UTF_8 = new TextDecoder("utf-8", { fatal: true, ignoreBOM: true });
+
+/**
+ * What the answer to a function has as its value.
+ *
+ * @param {string} name
+ */
+export function kindOf(name) {
+  return name === OPENS ? "session" : name.startsWith(ENDS) ? "done" : VALUES[name] ?? "";
+}
+
+/**
+ * The code that means that a command which was sent again was done, if it may be sent again.
+ *
+ * @param {string} name
+ */
+export function againOf(name) {
+  return name.startsWith(ENDS) ? 26 : AGAIN[name];
+}
 
 /**
  * The body of a request.
@@ -19,6 +41,9 @@ const UTF_8 = new TextDecoder("utf-8", { fatal: true, ignoreBOM: true });
  * @param {Record<string, unknown>} keys
  */
 export function bodyOf(name, keys) {
+  if (name.startsWith(ENDS)) {
+    return "";
+  }
   const body = name === "importAssignments" ? String(keys.csv) : JSON.stringify(keys);
   if (/\p{Surrogate}/u.test(body) || /(?<!\\)(?:\\\\)*\\ud[89a-f]/.test(body)) {
     throw new OfficeError("invalid_request", "a name has half of a character", false);
@@ -40,7 +65,7 @@ export function readAnswer(name, status, bytes) {
     return text === ALLOWED;
   }
   const answer = readExactly(text);
-  const kind = VALUES[name] ?? "";
+  const kind = kindOf(name);
   if (status === 200 && answer.ok === true && Object.keys(answer).join() === (kind === "done" ? "ok" : "ok,value")) {
     if (kind === "done" || (IS_RIGHT[kind] ?? never)(answer.value)) {
       return answer.value;
@@ -116,6 +141,27 @@ function isRecord(value) {
   return isObject && Object.keys(value).join() === "code,record" && isCount(value.code) && isCount(value.record);
 }
 
+/** @param {any} value */
+function isSession(value) {
+  const isObject = typeof value === "object" && value !== null && Object.keys(value).join() === "left,roles,session";
+  return isObject && Array.isArray(value.left) && value.left.every(isLeft) && isNames(value.roles) && isName(value.session);
+}
+
+/** @param {any} value */
+function isLeft(value) {
+  if (typeof value !== "object" || value === null) {
+    return false;
+  }
+  const { code, error, role, ...details } = value;
+  const [key, ...more] = Object.keys(details);
+  return isCount(code) && isName(error) && isName(role) && (key === undefined || DETAILS.includes(key)) && more.length === 0;
+}
+
+/** @param {unknown} value */
+function isName(value) {
+  return typeof value === "string" && value !== "";
+}
+
 function never() {
   return false;
 }
@@ -125,4 +171,4 @@ function never() {
  *
  * @type {Record<string, (value: unknown) => boolean>}
  */
-const IS_RIGHT = { import: isReport, names: isNames, permissions: isPairs, count: isCount };
+const IS_RIGHT = { import: isReport, names: isNames, permissions: isPairs, count: isCount, session: isSession };

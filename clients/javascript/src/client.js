@@ -1,6 +1,6 @@
 // The client: the functions as methods, decisions, and sessions.
 
-import { bodyOf, readAnswer } from "./answers.js";
+import { ENDS, bodyOf, readAnswer } from "./answers.js";
 import { Course } from "./course.js";
 import { Decision, undecided } from "./decision.js";
 import { Functions } from "./functions.js";
@@ -33,6 +33,12 @@ export class Client extends Functions {
   #log;
   /** @type {Map<import("./decision.js").Reason, number>} */
   #counts = new Map();
+  /**
+   * Until then sessions are made by createSession, since the server opens none.
+   *
+   * @internal
+   */
+  createsUntil = -Infinity;
 
   /** @param {Options} options */
   constructor(options) {
@@ -85,11 +91,12 @@ export class Client extends Functions {
   }
 
   /**
-   * Makes a session of the user with these roles activated, under a new name that nobody can guess. With `renews` it is made again when
-   * a decision finds that it has ended, with those of the roles that are left.
+   * Makes a session of the user, under a new name that nobody can guess. The front activates as many of the roles in their order, or of
+   * all that the user is assigned to, as it can, and `left` of the session has the others. `rbac serve` activates exactly these roles, or
+   * refuses. With `renews` the session is made again when a decision finds that it has ended, with those of the roles that are left.
    *
    * @param {string} user
-   * @param {readonly string[]} roles
+   * @param {readonly string[]} [roles]
    * @param {{ renews?: boolean }} [options]
    * @returns {Promise<Session>}
    */
@@ -97,6 +104,19 @@ export class Client extends Functions {
     const session = new Session(this, user, roles, options?.renews ?? false);
     await session.open();
     return session;
+  }
+
+  /**
+   * Ends the session that has this digest, as lists and records of the front show it.
+   *
+   * @param {string} digest
+   * @returns {Promise<void>}
+   */
+  async endSession(digest) {
+    if (!/^[0-9a-f]{32}$/.test(digest)) {
+      throw new TypeError(`${JSON.stringify(digest)} is not the digest of a session`);
+    }
+    await this.call(`${ENDS}${digest}`, {});
   }
 
   /**

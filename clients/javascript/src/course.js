@@ -1,7 +1,7 @@
 // The course of a call: which address is asked next, for how long, and after which pause.
 
+import { againOf, kindOf } from "./answers.js";
 import { OfficeError, RefusedError } from "./decision.js";
-import { AGAIN, VALUES } from "./functions.js";
 
 // How often a command is sent at most, and for what a question is asked at the next address.
 const MOST_ATTEMPTS = 4;
@@ -17,8 +17,8 @@ export class Course {
   constructor(settings, name, again) {
     this.settings = settings;
     this.deadline = now() + settings.timeout;
-    this.isQuestion = VALUES[name] !== "done" && VALUES[name] !== "import";
-    this.again = settings.repeats ? again ?? AGAIN[name] : undefined;
+    this.isQuestion = !["done", "import", "session"].includes(kindOf(name));
+    this.again = settings.repeats ? again ?? againOf(name) : undefined;
     this.left = this.isQuestion ? settings.addresses.length : this.again === undefined ? 1 : MOST_ATTEMPTS;
     // Addresses that can't be reached cost no attempt: nothing was sent.
     this.unreached = settings.addresses.length - 1;

@@ -4,10 +4,11 @@
 export { Client } from "./client.js";
 export { Decision, OfficeError, RefusedError } from "./decision.js";
 export { guard } from "./guard.js";
-export { Session, sessionName } from "./session.js";
+export { Session, sessionDigest, sessionName } from "./session.js";
 
 /** @typedef {import("./client.js").Options} Options */
 /** @typedef {import("./decision.js").Reason} Reason */
+/** @typedef {import("./session.js").LeftOut} LeftOut */
 /** @typedef {import("./values.js").ImportReport} ImportReport */
 /** @typedef {import("./values.js").Permission} Permission */
 /** @typedef {import("./values.js").RefusedRecord} RefusedRecord */

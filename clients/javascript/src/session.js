@@ -1,7 +1,9 @@
 // Sessions: opened when a user logs in, made again if that is wanted, and closed when the user logs out.
 
-import { randomBytes } from "node:crypto";
+import { createHash, randomBytes } from "node:crypto";
 
+import { OPENS } from "./answers.js";
+import { now } from "./course.js";
 import { OfficeError, RefusedError, undecided } from "./decision.js";
 
 /** A new name for a session, which nobody can guess and no other session has. */
@@ -9,23 +11,58 @@ export function sessionName() {
   return randomBytes(16).toString("hex");
 }
 
+/**
+ * What the front shows to others instead of the name of a session.
+ *
+ * @param {string} name
+ */
+export function sessionDigest(name) {
+  return createHash("sha3-256").update(name).digest("hex").slice(0, 32);
+}
+
+/**
+ * A role that wasn't activated in a session, and the refusal of docs/API.md that says why, with its further key if there is one.
+ *
+ * @typedef {{ role: string, code: number, error: string, set?: string, kind?: string }} LeftOut
+ */
+
+/** What a server answers that opens no sessions, such as `rbac serve`. */
+const NO_SUCH_PATH = 35;
+
+/** For how many milliseconds such a server isn't asked to open a session again. */
+const CREATES = 60_000;
+
 /** A session of a user. */
 export class Session {
   #name = "";
+  /** @type {string[] | undefined} */
+  #wanted;
   /** @type {Promise<void> | undefined} */
   #renewal;
 
   /**
    * @param {import("./client.js").Client} office
    * @param {string} user
-   * @param {readonly string[]} roles
+   * @param {readonly string[] | undefined} roles
    * @param {boolean} renews
    */
   constructor(office, user, roles, renews) {
     this.office = office;
     this.user = user;
-    this.roles = [...roles];
     this.renews = renews;
+    /**
+     * The roles that were activated when the session was made.
+     *
+     * @type {readonly string[]}
+     */
+    this.roles = [];
+    /**
+     * Those of the wanted roles that the front has left out.
+     *
+     * @type {readonly LeftOut[]}
+     */
+    this.left = [];
+    this.#wanted = roles && [...roles];
   }
 
   /** The present name. Whoever knows it can ask. */
@@ -34,14 +71,43 @@ export class Session {
   }
 
   /**
-   * Makes the session, under a new name. If the answer is lost it is sent again: nobody else has that name.
+   * Makes the session, under a new name.
    *
    * @internal
    */
   async open() {
-    const name = sessionName();
-    await this.office.call("createSession", { user: this.user, roles: this.roles, session: name }, 27);
-    this.#name = name;
+    if (now() >= this.office.createsUntil) {
+      try {
+        const wanted = this.#wanted === undefined ? {} : { roles: this.#wanted };
+        this.#became(await this.office.call(OPENS, { user: this.user, ...wanted }));
+        return;
+      } catch (error) {
+        if (!(error instanceof RefusedError) || error.code !== NO_SUCH_PATH) {
+          throw error;
+        }
+        this.office.createsUntil = now() + CREATES;
+      }
+    }
+    this.#became(await this.#created());
+  }
+
+  /** @param {{ session: string, roles: string[], left: LeftOut[] }} opened */
+  #became(opened) {
+    this.roles = opened.roles;
+    this.left = opened.left;
+    this.#name = opened.session;
+  }
+
+  /** Makes the session by createSession. If the answer is lost it is sent again: nobody else has that name. */
+  async #created() {
+    const session = sessionName();
+    let roles = this.#wanted ?? (await this.office.assignedRoles(this.user));
+    if (this.#wanted && this.#name) {
+      const left = await this.office.authorizedRoles(this.user);
+      roles = roles.filter((role) => left.includes(role));
+    }
+    await this.office.call("createSession", { user: this.user, roles, session }, 27);
+    return { session, roles, left: [] };
   }
 
   /** Ends the session, for good. It is no error if it has ended before. */
@@ -98,15 +164,9 @@ export class Session {
     if (this.#name !== name) {
       return;
     }
-    this.#renewal ??= this.#openAgain().finally(() => {
+    this.#renewal ??= this.open().finally(() => {
       this.#renewal = undefined;
     });
     await this.#renewal;
-  }
-
-  async #openAgain() {
-    const left = await this.office.authorizedRoles(this.user);
-    this.roles = this.roles.filter((role) => left.includes(role));
-    await this.open();
   }
 }

@@ -29,7 +29,7 @@ export class Address {
     const place = url
       ? { hostname: url.hostname.replace(/^\[|\]$/g, ""), port: Number(url.port) || (this.isTls ? 443 : 80) }
       : { socketPath: text.slice(5), hostname: "localhost" };
-    this.options = { method: "POST", maxHeaderSize: LONGEST_HEAD, ...place, ...(this.isTls ? tls : {}) };
+    this.options = { maxHeaderSize: LONGEST_HEAD, ...place, ...(this.isTls ? tls : {}) };
     this.agent = new this.library.Agent({ keepAlive: true, maxFreeSockets: 16 });
     this.agent.on("free", closesAtData);
   }
@@ -96,7 +96,7 @@ function urlOf(text) {
   }
   const isPlain = !url.username && !url.password && url.pathname === "/" && !url.search && !url.hash && url.hostname;
   if (!["http:", "https:"].includes(url.protocol) || !isPlain) {
-    throw new TypeError(`${JSON.stringify(text)} is not an address such as https://localhost:8080 or unix:/run/rbac-front/socket`);
+    throw new TypeError(`${JSON.stringify(text)} is not an address such as https://localhost:8080 or unix:/run/rbac/office.sock`);
   }
   return url;
 }
@@ -123,7 +123,8 @@ class Exchange {
    */
   run(name, body, headers, limit) {
     return new Promise((resolve, reject) => {
-      const options = { ...this.address.options, agent: this.agent, path: `/v1/${name}`, headers };
+      const [method, path] = name.includes(" ") ? name.split(" ") : ["POST", `/v1/${name}`];
+      const options = { ...this.address.options, agent: this.agent, method, path, headers };
       const request = this.address.library.request(options);
       const timer = setTimeout(() => {
         this.isOver = true;

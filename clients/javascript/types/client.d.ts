@@ -17,6 +17,12 @@
 export class Client extends Functions {
     /** @param {Options} options */
     constructor(options: Options);
+    /**
+     * Until then sessions are made by createSession, since the server opens none.
+     *
+     * @internal
+     */
+    createsUntil: number;
     /** Closes the connections that are kept. A further call opens a new one. */
     close(): void;
     /** How many decisions there were, by their reasons. */
@@ -40,17 +46,25 @@ export class Client extends Functions {
      */
     may(session: string, operation: string, object: string): Promise<boolean>;
     /**
-     * Makes a session of the user with these roles activated, under a new name that nobody can guess. With `renews` it is made again when
-     * a decision finds that it has ended, with those of the roles that are left.
+     * Makes a session of the user, under a new name that nobody can guess. The front activates as many of the roles in their order, or of
+     * all that the user is assigned to, as it can, and `left` of the session has the others. `rbac serve` activates exactly these roles, or
+     * refuses. With `renews` the session is made again when a decision finds that it has ended, with those of the roles that are left.
      *
      * @param {string} user
-     * @param {readonly string[]} roles
+     * @param {readonly string[]} [roles]
      * @param {{ renews?: boolean }} [options]
      * @returns {Promise<Session>}
      */
-    openSession(user: string, roles: readonly string[], options?: {
+    openSession(user: string, roles?: readonly string[] | undefined, options?: {
         renews?: boolean | undefined;
     } | undefined): Promise<Session>;
+    /**
+     * Ends the session that has this digest, as lists and records of the front show it.
+     *
+     * @param {string} digest
+     * @returns {Promise<void>}
+     */
+    endSession(digest: string): Promise<void>;
     /**
      * A decision that isn't counted yet.
      *

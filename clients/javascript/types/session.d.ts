@@ -1,22 +1,39 @@
 /** A new name for a session, which nobody can guess and no other session has. */
 export function sessionName(): string;
+/**
+ * What the front shows to others instead of the name of a session.
+ *
+ * @param {string} name
+ */
+export function sessionDigest(name: string): string;
 /** A session of a user. */
 export class Session {
     /**
      * @param {import("./client.js").Client} office
      * @param {string} user
-     * @param {readonly string[]} roles
+     * @param {readonly string[] | undefined} roles
      * @param {boolean} renews
      */
-    constructor(office: import("./client.js").Client, user: string, roles: readonly string[], renews: boolean);
+    constructor(office: import("./client.js").Client, user: string, roles: readonly string[] | undefined, renews: boolean);
     office: import("./client.js").Client;
     user: string;
-    roles: string[];
     renews: boolean;
+    /**
+     * The roles that were activated when the session was made.
+     *
+     * @type {readonly string[]}
+     */
+    roles: readonly string[];
+    /**
+     * Those of the wanted roles that the front has left out.
+     *
+     * @type {readonly LeftOut[]}
+     */
+    left: readonly LeftOut[];
     /** The present name. Whoever knows it can ask. */
     get name(): string;
     /**
-     * Makes the session, under a new name. If the answer is lost it is sent again: nobody else has that name.
+     * Makes the session, under a new name.
      *
      * @internal
      */
@@ -39,3 +56,13 @@ export class Session {
     may(operation: string, object: string): Promise<boolean>;
     #private;
 }
+/**
+ * A role that wasn't activated in a session, and the refusal of docs/API.md that says why, with its further key if there is one.
+ */
+export type LeftOut = {
+    role: string;
+    code: number;
+    error: string;
+    set?: string;
+    kind?: string;
+};

@@ -10,7 +10,7 @@ from ._client import Client, Office
 from ._decision import Decision, Error, Reason, Refused, Unanswered, Unexpected, Unreachable
 from ._lines import Lines
 from ._sessions import AsyncSession, Session, session_name
-from ._values import ImportReport, Permission, RefusedRecord
+from ._values import ImportReport, LeftOut, Permission, RefusedRecord, session_digest
 
 __all__ = [
     "AsyncClient",
@@ -19,6 +19,7 @@ __all__ = [
     "Decision",
     "Error",
     "ImportReport",
+    "LeftOut",
     "Lines",
     "Office",
     "Permission",
@@ -29,5 +30,6 @@ __all__ = [
     "Unanswered",
     "Unexpected",
     "Unreachable",
+    "session_digest",
     "session_name",
 ]

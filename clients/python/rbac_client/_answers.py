@@ -1,15 +1,21 @@
 """The bodies of requests and of answers. An answer is read only if it is exactly one that `rbac` sends."""
 
 import json
-from typing import Any, Callable, Dict, List, Mapping, Optional, Set
+from typing import Any, Callable, Dict, List, Mapping, NoReturn, Optional, Set, Tuple
 
 from ._decision import REASONS_OF_STATUSES, Reason, Refused, Unexpected
+from ._functions import AGAIN as OF_FUNCTIONS
 from ._functions import STATUSES, VALUES
-from ._values import ImportReport, Permission, RefusedRecord
+from ._values import ImportReport, LeftOut, OpenedSession, Permission, RefusedRecord
 
 ALLOWED = b'{"ok":true,"value":true}'
 DENIED = b'{"ok":true,"value":false}'
 LONGEST_ANSWER = 4 * 1024 * 1024
+
+# What only the front answers: a session that it opens, and the end of one that is known by its digest.
+OPENS, ENDS = "POST /sessions", "DELETE /sessions/"
+KINDS: Mapping[str, str] = {**VALUES, OPENS: "session", ENDS: "done"}
+AGAIN: Mapping[str, int] = {**OF_FUNCTIONS, ENDS: 26}
 
 # The further keys of refusals.
 _DETAILS: List[Set[str]] = [set(), {"set"}, {"kind"}, {"record"}, {"version"}, {"check"}]
@@ -20,10 +26,19 @@ def written(value: Any, is_sorted: bool = False) -> bytes:
     return json.dumps(value, ensure_ascii=False, allow_nan=False, separators=(",", ":"), sort_keys=is_sorted).encode()
 
 
-def body_of(function: str, arguments: Mapping[str, Any]) -> bytes:
-    """The body of a request."""
+def target_of(function: str, arguments: Mapping[str, Any]) -> str:
+    """The method and the path of a request."""
+    if function == ENDS:
+        return ENDS + str(arguments["digest"])
+    return function if function == OPENS else f"POST /v1/{function}"
+
+
+def body_of(function: str, arguments: Mapping[str, Any]) -> Optional[bytes]:
+    """The body of a request, if it has one."""
     if function == "importAssignments":
         return str(arguments["csv"]).encode()
+    if function == ENDS:
+        return None
     try:
         return written(arguments)
     except TypeError as error:
@@ -36,12 +51,18 @@ def read_answer(function: str, status: Optional[int], text: bytes) -> Any:
         return text == ALLOWED
     answer = _read_exactly(text)
     if answer.get("ok") is True and answer.keys() <= {"ok", "value"} and status in (None, 200):
-        kind = VALUES[function]
+        kind = KINDS[function]
         if kind != "access" and _IS_RIGHT[kind](answer.get("value")) and ("value" in answer) == (kind != "done"):
             return _RESULTS.get(kind, lambda value: value)(answer.get("value"))
+    raise_refusal(function, status, text)
+
+
+def raise_refusal(function: str, status: Optional[int], text: bytes, others: Tuple[int, ...] = ()) -> NoReturn:
+    """Raises `Refused` for a refusal, whose status may also be one of some others, and otherwise `Unexpected`."""
+    answer = _read_exactly(text)
     code, name = answer.pop("code", None), answer.pop("error", None)
     is_refusal = type(code) is int and isinstance(name, str) and set(answer) in _DETAILS
-    if is_refusal and (status is None or status in STATUSES.get(code, (409,))):
+    if is_refusal and (status is None or status in (*STATUSES.get(code, (409,)), *others)):
         raise Refused(code, name, answer)
     reason = REASONS_OF_STATUSES.get(status or 0, Reason.UNEXPECTED)
     raise Unexpected(f"no answer of rbac to {function}: {status or ''} {text[:200]!r}", reason)
@@ -77,6 +98,27 @@ def _is_report(value: Any) -> bool:
     return is_right and all(_is_count(one) for one in [*counts, *(one for record in records for one in record.values())])
 
 
+def _is_session(value: Any) -> bool:
+    if not isinstance(value, dict) or list(value) != ["left", "roles", "session"] or not isinstance(value["left"], list):
+        return False
+    return _is_names(value["roles"]) and _is_name(value["session"]) and all(_is_left(one) for one in value["left"])
+
+
+def _is_name(value: Any) -> bool:
+    return isinstance(value, str) and value != ""
+
+
+def _is_left(value: Any) -> bool:
+    if not isinstance(value, dict) or set(value) - {"code", "error", "role"} not in _DETAILS:
+        return False
+    return _is_count(value.get("code")) and _is_name(value.get("error")) and _is_name(value.get("role"))
+
+
+def _opened(value: Dict[str, Any]) -> OpenedSession:
+    left = [LeftOut(one.pop("role"), one.pop("code"), one.pop("error"), one) for one in value["left"]]
+    return OpenedSession(value["session"], value["roles"], left)
+
+
 # What the value of each kind looks like, and what becomes of it.
 _IS_RIGHT: Dict[str, Callable[[Any], bool]] = {
     "done": lambda value: value is None,
@@ -84,10 +126,12 @@ _IS_RIGHT: Dict[str, Callable[[Any], bool]] = {
     "names": _is_names,
     "permissions": _is_pairs,
     "count": _is_count,
+    "session": _is_session,
 }
 _RESULTS: Dict[str, Callable[[Any], Any]] = {
     "import": lambda value: ImportReport(
         value["already"], value["assigned"], [RefusedRecord(one["record"], one["code"]) for one in value["refused"]]
     ),
     "permissions": lambda value: [Permission(*pair) for pair in value],
+    "session": _opened,
 }

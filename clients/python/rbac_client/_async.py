@@ -1,11 +1,13 @@
 """The client whose methods are awaited."""
 
 import asyncio
+import math
+import re
 import select
 import ssl
 from typing import Any, Dict, List, Optional, Sequence, Tuple, Union
 
-from ._answers import body_of, read_answer
+from ._answers import ENDS, body_of, read_answer, target_of
 from ._course import Course, Settings, remaining
 from ._decision import Decision, Error, Reason, Unanswered, Unexpected, Unreachable
 from ._functions import AsyncFunctions
@@ -21,6 +23,8 @@ class AsyncOffice(AsyncFunctions):
 
     def __init__(self) -> None:
         self._decisions = Decisions()
+        # Until then sessions are made by createSession, since the server opens none.
+        self._creates_until = -math.inf
 
     @property
     def counts(self) -> Dict[Reason, int]:
@@ -42,14 +46,22 @@ class AsyncOffice(AsyncFunctions):
         """Whether to let the session do the operation on the object."""
         return (await self.check(session, operation, object)).allowed
 
-    async def open_session(self, user: str, roles: Sequence[str], renews: bool = False) -> AsyncSession:
-        """Makes a session of the user with these roles activated, under a new name that nobody can guess.
+    async def open_session(self, user: str, roles: Optional[Sequence[str]] = None, renews: bool = False) -> AsyncSession:
+        """Makes a session of the user, under a new name that nobody can guess.
 
-        With `renews` it is made again when a decision finds that it has ended, with those of the roles that are left.
+        The front activates as many of the roles in their order, or of all that the user is assigned to, as it can, and `left` of
+        the session has the others. `rbac serve` activates exactly these roles, or refuses. With `renews` the session is made
+        again when a decision finds that it has ended, with those of the roles that are left.
         """
         session = AsyncSession(self, user, roles, renews)
         await session.open()
         return session
+
+    async def end_session(self, digest: str) -> None:
+        """Ends the session that has this digest, as lists and records of the front show it."""
+        if not re.fullmatch("[0-9a-f]{32}", digest):
+            raise ValueError(f"{digest!r} is not the digest of a session")
+        await self._call(ENDS, {"digest": digest})
 
     async def _call(self, function: str, arguments: Dict[str, Any], again: Optional[int] = None) -> Any:
         raise NotImplementedError
@@ -81,6 +93,11 @@ class AsyncClient(AsyncOffice):
     async def __aexit__(self, *_: object) -> None:
         await self.close()
 
+    @property
+    def policy_revision(self) -> int:
+        """The newest revision of the policy that an answer has had: `Policy-Revision` of docs/REQUESTS.md, or 0."""
+        return self._settings.revision
+
     async def close(self) -> None:
         """Closes the connections that are kept. A further call opens a new one."""
         idle, self._idle = self._idle, []
@@ -88,11 +105,11 @@ class AsyncClient(AsyncOffice):
             connection.close()
 
     async def _call(self, function: str, arguments: Dict[str, Any], again: Optional[int] = None) -> Any:
-        body = body_of(function, arguments)
+        target, body = target_of(function, arguments), body_of(function, arguments)
         course = Course(self._settings, function, again)
         while True:
             try:
-                reply = await self._attempt(course, function, body)
+                reply = await self._attempt(course, target, body)
                 value = read_answer(function, reply.status, reply.body)
             except Error as error:
                 pause = course.after(error)
@@ -101,12 +118,13 @@ class AsyncClient(AsyncOffice):
                 await asyncio.sleep(pause)
             else:
                 course.answered()
+                self._settings.saw(reply.revision)
                 return value
 
-    async def _attempt(self, course: Course, function: str, body: bytes) -> Reply:
+    async def _attempt(self, course: Course, target: str, body: Optional[bytes]) -> Reply:
         """Sends a request once. A question is sent over a kept connection if there is one, and a command over a new one."""
         address, limit = course.address, course.limit()
-        text = request(address, function, body, self._settings.token, course.is_question)
+        text = request(address, target, body, self._settings.token, course.is_question)
         kept = self._kept(address) if course.is_question else None
         if kept is not None:
             try:

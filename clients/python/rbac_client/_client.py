@@ -1,18 +1,22 @@
 """The client that waits for its answers."""
 
+import contextlib
+import math
 import os
+import re
 import socket
 import ssl
 import threading
 import time
 from typing import Any, Dict, List, Optional, Sequence, Tuple, Union
 
-from ._answers import body_of, read_answer
+from ._answers import ENDS, body_of, read_answer, target_of
 from ._course import Course, Settings, remaining
 from ._decision import Decision, Error, Reason, Unanswered, Unexpected, Unreachable
 from ._functions import Functions
 from ._http import Address, Reply, Token, request
 from ._office import Decisions, decided, undecided
+from ._following import LONGEST_SNAPSHOT, Snapshot, Watch, now, read_snapshot
 from ._sessions import Session, session_name
 
 _MOST_IDLE = 16
@@ -23,6 +27,8 @@ class Office(Functions):
 
     def __init__(self) -> None:
         self._decisions = Decisions()
+        # Until then sessions are made by createSession, since the server opens none.
+        self._creates_until = -math.inf
 
     @property
     def counts(self) -> Dict[Reason, int]:
@@ -44,14 +50,22 @@ class Office(Functions):
         """Whether to let the session do the operation on the object."""
         return self.check(session, operation, object).allowed
 
-    def open_session(self, user: str, roles: Sequence[str], renews: bool = False) -> Session:
-        """Makes a session of the user with these roles activated, under a new name that nobody can guess.
+    def open_session(self, user: str, roles: Optional[Sequence[str]] = None, renews: bool = False) -> Session:
+        """Makes a session of the user, under a new name that nobody can guess.
 
-        With `renews` it is made again when a decision finds that it has ended, with those of the roles that are left.
+        The front activates as many of the roles in their order, or of all that the user is assigned to, as it can, and `left` of
+        the session has the others. `rbac serve` activates exactly these roles, or refuses. With `renews` the session is made
+        again when a decision finds that it has ended, with those of the roles that are left.
         """
         session = Session(self, user, roles, renews)
         session.open()
         return session
+
+    def end_session(self, digest: str) -> None:
+        """Ends the session that has this digest, as lists and records of the front show it."""
+        if not re.fullmatch("[0-9a-f]{32}", digest):
+            raise ValueError(f"{digest!r} is not the digest of a session")
+        self._call(ENDS, {"digest": digest})
 
     def _call(self, function: str, arguments: Dict[str, Any], again: Optional[int] = None) -> Any:
         raise NotImplementedError
@@ -93,6 +107,38 @@ class Client(Office):
     def __exit__(self, *_: object) -> None:
         self.close()
 
+    def snapshot(self, place: int = 0) -> Snapshot:
+        """What is in the office, by the front at the address with this number. It is for callers with the right `snapshot`."""
+        limit = time.monotonic() + self._settings.timeout
+        address, reply, asked = self._settings.addresses[place], Reply(LONGEST_SNAPSHOT), now()
+        with contextlib.closing(self._connected(address, limit)) as connection:
+            _exchange(connection, request(address, "GET /snapshot", None, self._settings.token, False), reply, limit)
+        return read_snapshot(reply, asked)
+
+    def watch(self, after: int, place: int = 0, silence: float = 5.0) -> Watch:
+        """The commands that the office accepts after a number, as they come. It is for callers with the right `watch`.
+
+        A watch that says nothing for `silence` seconds has ended: the front writes the newest number each second.
+        """
+        address, asked = self._settings.addresses[place], now()
+        connection = self._connected(address, time.monotonic() + min(self._settings.timeout, silence))
+        target = f"GET /watch?after={after}"
+        try:
+            return Watch(connection, request(address, target, None, self._settings.token, False), asked, silence)
+        except BaseException:
+            connection.close()
+            raise
+
+    @property
+    def places(self) -> int:
+        """How many addresses there are."""
+        return len(self._settings.addresses)
+
+    @property
+    def policy_revision(self) -> int:
+        """The newest revision of the policy that an answer has had: `Policy-Revision` of docs/REQUESTS.md, or 0."""
+        return self._settings.revision
+
     def close(self) -> None:
         """Closes the connections that are kept. A further call opens a new one."""
         with self._lock:
@@ -101,11 +147,11 @@ class Client(Office):
             connection.close()
 
     def _call(self, function: str, arguments: Dict[str, Any], again: Optional[int] = None) -> Any:
-        body = body_of(function, arguments)
+        target, body = target_of(function, arguments), body_of(function, arguments)
         course = Course(self._settings, function, again)
         while True:
             try:
-                reply = self._attempt(course, function, body)
+                reply = self._attempt(course, target, body)
                 value = read_answer(function, reply.status, reply.body)
             except Error as error:
                 pause = course.after(error)
@@ -114,12 +160,13 @@ class Client(Office):
                 time.sleep(pause)
             else:
                 course.answered()
+                self._settings.saw(reply.revision)
                 return value
 
-    def _attempt(self, course: Course, function: str, body: bytes) -> Reply:
+    def _attempt(self, course: Course, target: str, body: Optional[bytes]) -> Reply:
         """Sends a request once. A question is sent over a kept connection if there is one, and a command over a new one."""
         address, limit = course.address, course.limit()
-        text = request(address, function, body, self._settings.token, course.is_question)
+        text = request(address, target, body, self._settings.token, course.is_question)
         kept = self._kept(address) if course.is_question else None
         if kept is not None:
             try:

@@ -1,12 +1,13 @@
 """What a client was configured with, and the course of a call: which address is asked next, for how long, after which pause."""
 
 import ssl
+import threading
 import time
 from dataclasses import dataclass, field
 from typing import List, Optional, Sequence, Union
 
 from ._decision import Error, Reason, Refused, Unanswered, Unreachable
-from ._functions import AGAIN, VALUES
+from ._answers import AGAIN, KINDS
 from ._http import Address, Token
 
 # How often a command is sent at most, and for what a question is asked at the next address.
@@ -31,6 +32,8 @@ class Settings:
     pause: float
     repeats: bool
     first: int = field(default=0)
+    revision: int = field(default=0)
+    lock: threading.Lock = field(default_factory=threading.Lock, repr=False)
 
     @classmethod
     def of(
@@ -56,6 +59,12 @@ class Settings:
                 context.load_cert_chain(certificate, key)
         return cls(read, timeout, token, context, pause, repeats)
 
+    def saw(self, revision: int) -> None:
+        """Notes the revision of the policy that an answer had."""
+        if revision > self.revision:
+            with self.lock:
+                self.revision = max(self.revision, revision)
+
 
 class Course:
     """The course of one call. It ends with an answer, or with the error that `after` raises."""
@@ -64,7 +73,7 @@ class Course:
         """`again` is the code that means that the command was done, if the function alone doesn't say it."""
         self._settings = settings
         self.deadline = time.monotonic() + settings.timeout
-        self.is_question = VALUES[function] not in ("done", "import")
+        self.is_question = KINDS[function] not in ("done", "import", "session")
         self._again = AGAIN.get(function) if again is None else again
         if not settings.repeats:
             self._again = None

@@ -76,6 +76,7 @@ STATUSES: Mapping[int, Tuple[int, ...]] = {
     65: (403,),
     66: (421,),
     67: (412,),
+    68: (503,),
 }
 
 # The commands that may be repeated if their answer was lost. The code, if it isn't 0, then says that it was done.

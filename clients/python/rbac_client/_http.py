@@ -29,7 +29,7 @@ class Address:
             return cls("localhost", path=text[5:])
         parts = re.fullmatch(r"(https?)://([^\s/:@?#\[\]]+|\[[0-9A-Fa-f:.]+\])(?::(\d{1,5}))?/?", text)
         if not parts or int(parts[3] or 0) > 65_535:
-            raise ValueError(f"{text!r} is not an address such as https://localhost:8080 or unix:/run/rbac-front/socket")
+            raise ValueError(f"{text!r} is not an address such as https://localhost:8080 or unix:/run/rbac/office.sock")
         is_tls = parts[1] == "https"
         return cls(parts[2].strip("[]"), int(parts[3] or (443 if is_tls else 80)), is_tls)
 
@@ -40,25 +40,36 @@ class Address:
         return host if self.path else f"{host}:{self.port}"
 
 
-def request(address: Address, function: str, body: bytes, token: Optional[Token], keeps: bool) -> bytes:
-    """The bytes of a request. The connection is kept after it if `keeps`."""
+def request(address: Address, target: str, body: Optional[bytes], token: Optional[Token], keeps: bool) -> bytes:
+    """The bytes of a request for a method and a path. The connection is kept after it if `keeps`."""
     shown = token() if callable(token) else token
     if shown is not None and not re.fullmatch(r"[\x21-\x7e]+", shown):
         raise ValueError("the token has a space, or a character that is not ASCII")
-    fields = f"POST /v1/{function} HTTP/1.1\r\nHost: {address.field}\r\nContent-Length: {len(body)}\r\n"
-    fields += "Content-Type: text/csv\r\n" if function == "importAssignments" else "Content-Type: application/json\r\n"
+    fields = f"{target} HTTP/1.1\r\nHost: {address.field}\r\n"
+    if body is not None:
+        kind = "text/csv" if target.endswith("importAssignments") else "application/json"
+        fields += f"Content-Length: {len(body)}\r\nContent-Type: {kind}\r\n"
     if shown is not None:
         fields += f"Authorization: Bearer {shown}\r\n"
-    return f"{fields}{'' if keeps else 'Connection: close' + chr(13) + chr(10)}\r\n".encode() + body
+    return f"{fields}{'' if keeps else 'Connection: close' + chr(13) + chr(10)}\r\n".encode() + (body or b"")
+
+
+def number_of(head: bytes, name: bytes) -> int:
+    """The number that a field of the head of an answer states, such as `Policy-Revision`, or 0."""
+    before = b"\n" + name + b": "
+    at = head.find(before) + len(before)
+    digits = head[at : head.find(b"\r", at)] if at >= len(before) else b""
+    return int(digits) if len(digits) < 19 and digits.isdigit() else 0
 
 
 class Reply:
     """An answer as it arrives. It has to state the length of its body in exactly one way."""
 
-    def __init__(self) -> None:
-        self._received = bytearray()
+    def __init__(self, longest: int = LONGEST_ANSWER) -> None:
+        """`longest` is how many bytes the body may have."""
+        self._received, self._longest, self.head = bytearray(), longest, b""
         self._start = self._end = 0
-        self.status, self.keeps = 0, False
+        self.status, self.keeps, self.revision = 0, False, 0
 
     @property
     def body(self) -> bytes:
@@ -89,7 +100,8 @@ class Reply:
         if re.search(rb"(?i)\ntransfer-encoding", head):
             raise Unexpected("the answer states its length in two ways")
         self.status, length = int(status[2]), int(lengths[0])
-        if length > LONGEST_ANSWER:
+        if length > self._longest:
             raise Unexpected(f"the answer has {length} bytes")
         self._start, self._end = start, start + length
+        self.revision, self.head = number_of(head, b"Policy-Revision"), head
         self.keeps = status[1] == b"1" and not re.search(rb"(?i)\nconnection[ \t]*:[^\r\n]*close", head)

@@ -1,7 +1,8 @@
 """What the methods of the clients return."""
 
+import hashlib
 from dataclasses import dataclass
-from typing import Iterable, List, NamedTuple
+from typing import Any, Dict, Iterable, List, NamedTuple
 
 
 class Permission(NamedTuple):
@@ -25,6 +26,28 @@ class ImportReport:
     already: int
     assigned: int
     refused: List[RefusedRecord]
+
+
+class LeftOut(NamedTuple):
+    """A role that wasn't activated in a session, and the refusal of docs/API.md that says why. `details` has its further key."""
+
+    role: str
+    code: int
+    error: str
+    details: Dict[str, Any]
+
+
+class OpenedSession(NamedTuple):
+    """A session that the front has opened: its name, the roles that are activated, and those that were left out."""
+
+    name: str
+    roles: List[str]
+    left: List[LeftOut]
+
+
+def session_digest(name: str) -> str:
+    """What the front shows to others instead of the name of a session."""
+    return hashlib.sha3_256(name.encode()).hexdigest()[:32]
 
 
 def names(given: Iterable[str]) -> List[str]:

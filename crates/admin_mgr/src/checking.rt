@@ -10,11 +10,11 @@ ghost use Rattle.admin_mgr.specs.private.Holders.{runs_of};
 ghost use Rattle.admin_mgr.specs.StateWithRoom.{separation_of};
 ghost use Rattle.admin_mgr.specs.private.CheckTests.{late_refusal, are_kept, are_roles_there, has_cardinalities, have_authorized_users, have_unlocked_users};
 
-use crate::held::is_reached;
 use crate::judge::set_refusals::{is_cardinality, member_count};
-use crate::numbered::{keep_all, run_numbers};
 use crate::relations::Relations;
 use crate::separation_of_duty::SeparationOfDuty;
+use crate::separation_of_duty::by_name::is_reached;
+use crate::separation_of_duty::by_number::{keep_all, run_numbers};
 use order_matrix::OrderMatrix;
 use rbac_sets::{CountSet, Name, PairSet, Refusal};
 use role_order::RoleOrder;

@@ -33,10 +33,10 @@ use std::alloc::{AllocError, Global};
 
 mod core_rbac;
 mod hierarchy;
-pub(crate) mod naming;
 mod separation;
 mod sessions;
 pub(crate) mod set_refusals;
+pub(crate) mod violation;
 
 // The verdict on a command: the first of its refusals that applies, or `None` if the command is accepted.
 //

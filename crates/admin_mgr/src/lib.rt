@@ -30,22 +30,17 @@
 //! ```
 #![tactic(auto)]
 
-pub use held::is_reached;
 pub use plan::{Plan, Report};
+pub use separation_of_duty::by_name::is_reached;
 pub use state::State;
 
 mod checking;
-pub mod held;
-mod holders;
-mod inheriting;
 mod judge;
-mod keeping;
 pub mod laws;
 mod limits;
 mod lookup;
-mod numbered;
 pub mod plan;
 mod planning;
 mod relations;
-mod separation_of_duty;
+pub mod separation_of_duty;
 pub mod state;

@@ -6,10 +6,16 @@ ghost use Rattle.admin_mgr.specs.private.Holders.{runs_left, runs_of};
 ghost use Rattle.admin_mgr.specs.RbacState.{cardinality_of};
 ghost use Rattle.admin_mgr.specs.private.SeparationOfDuty.{cardinality_rows, kind_of, member_rows, refusal_of, sets_of};
 
-use crate::holders::Runs;
 use crate::relations::Relations;
+use crate::separation_of_duty::holders::Runs;
 use crate::state::State;
 use rbac_sets::{CountSet, Kind, Name, PairSet, Refusal, Row};
+
+pub mod by_name;
+pub(crate) mod by_number;
+pub(crate) mod holders;
+pub(crate) mod inheritance;
+pub(crate) mod keeping;
 
 // A kind of separation of duty.
 #[derive(Clone, Copy)]

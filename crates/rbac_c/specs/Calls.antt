@@ -28,10 +28,10 @@ AnswersIn old new line out count code =
     ⊎ ((code ≡ MEMORY) × ((count ≡ 0) × StopsAt old line new))
 
 -- the same for a handle: one without an office has none afterwards
-abbrev pub Answers : Option OfficeInMemory → Option OfficeInMemory → List ℕ → List ℕ → ℕ → ℕ → Type 0
-Answers None new line out count code = (new ≡ None) × ((count ≡ 0) × (code ≡ CLOSED))
-Answers (Some old) None line out count code = ⊥
-Answers (Some old) (Some new) line out count code = AnswersIn old new line out count code
+abbrev pub AnswersCall : Option OfficeInMemory → Option OfficeInMemory → List ℕ → List ℕ → ℕ → ℕ → Type 0
+AnswersCall None new line out count code = (new ≡ None) × ((count ≡ 0) × (code ≡ CLOSED))
+AnswersCall (Some old) None line out count code = ⊥
+AnswersCall (Some old) (Some new) line out count code = AnswersIn old new line out count code
 
 -- the answer that the office keeps is copied
 abbrev pub CopiesKept : Option OfficeInMemory → List ℕ → ℕ → ℕ → Type 0

@@ -4,7 +4,7 @@ ghost use Rattle.admin_mgr.specs.RbacState.{empty_state};
 ghost use Rattle.role_lines.specs.OfficeInMemory.{starting};
 ghost use Rattle.role_lines.specs.RowParts.{parts_of};
 ghost use Rattle.role_lines.specs.StoredRow.{parts};
-ghost use Rattle.rbac_c.specs.Calls.{AddsRow, Answers, Copies, CopiesKept, CopiesParts, CopiesRow, Decided, Loads, TellsRevision};
+ghost use Rattle.rbac_c.specs.Calls.{AddsRow, AnswersCall, Copies, CopiesKept, CopiesParts, CopiesRow, Decided, Loads, TellsRevision};
 
 use crate::handle::OfficeHandle;
 use role_lines::{MemoryOffice, RowParts, decide, row_at, row_of, table_numbered};
@@ -71,7 +71,7 @@ pub extern "C" fn rbac_office_answer(
     out: &mut [u8],
     count: &mut usize,
 ) -> u32
-    ensures { Answers office.old.office office.new.office line.now out.new count.new result }
+    ensures { AnswersCall office.old.office office.new.office line.now out.new count.new result }
 {
     *count = 0;
     match replace(office, OfficeHandle::none()).into_box(alloc) {
@@ -141,7 +141,7 @@ pub extern "C" fn rbac_office_check(
 {
     match replace(office, OfficeHandle::none()).into_box(alloc) {
         Some(held) => {
-            let result = check(alloc, &held, session, operation, object);
+            let result = check(&held, session, operation, object);
             put(alloc, office, OfficeHandle::of(held));
             result
         }
@@ -228,7 +228,7 @@ fn answer(
     out: &mut [u8],
     count: &mut usize,
 ) -> u32
-    ensures { Answers (Some office.old) (Some office.new) line.now out.new count.new result }
+    ensures { AnswersCall (Some office.old) (Some office.new) line.now out.new count.new result }
 {
     *count = 0;
     match office.answer(alloc, line) {
@@ -238,16 +238,10 @@ fn answer(
 }
 
 // The number that stands for the decision.
-fn check(
-    alloc: Global,
-    office: &MemoryOffice,
-    session: &[u8],
-    operation: &[u8],
-    object: &[u8],
-) -> i32
+fn check(office: &MemoryOffice, session: &[u8], operation: &[u8], object: &[u8]) -> i32
     ensures { Decided (Some office.now) session.now operation.now object.now result }
 {
-    match decide(alloc, office.state(), session, operation, object) {
+    match decide(office.state(), session, operation, object) {
         Ok(true) => 1,
         Ok(false) => 0,
         Err(refusal) => -(refusal.code() as i32),

@@ -23,26 +23,28 @@
 //! ```
 #![tactic(auto)]
 
+pub use borrowed_name::BorrowedName;
 pub use command::Command;
 pub use kind::Kind;
 pub use name::{FINGERPRINTS, Name, is_same};
 pub use refusal::Refusal;
+pub use removal::SetRemoval;
 pub use row::{Change, Row};
 pub use sets::{CountSet, GrantSet, NameSet, PairSet, has_first, has_second};
 pub use sink::{MemorySink, Sink, Writer, write_all};
 pub use sorted_set::{Entry, Prefix, Probe, SortedSet, place};
 pub use source::{Fault, MemorySource, Reader, Source};
 pub use table::Table;
-pub use taking::SetRemoval;
 
+pub mod borrowed_name;
 pub mod command;
 pub mod kind;
 pub mod name;
 pub mod refusal;
+pub mod removal;
 pub mod row;
 pub mod sets;
 pub mod sink;
 pub mod sorted_set;
 pub mod source;
 pub mod table;
-pub mod taking;

@@ -6,6 +6,7 @@ ghost use Rattle.std.specs.Cmp.Lexicographic.{slice_cmp};
 ghost use Rattle.rbac_sets.specs.Name.{fingerprint, first_bytes, has_name_length, is_name, is_printable};
 ghost use Rattle.rbac_sets.specs.Sets.{same_name};
 
+use crate::borrowed_name::BorrowedName;
 use crate::refusal::Refusal;
 use std::alloc::Global;
 use std::cmp::Ordering;
@@ -69,6 +70,14 @@ impl Name {
         ensures is_name { is_name self.now ≡ true }
     {
         self.text.as_str()
+    }
+
+    /// The name with its text borrowed. It doesn't allocate.
+    #[inline(always)]
+    pub fn as_borrowed(&self) -> BorrowedName<'_>
+        ensures { result ≡ self.now }
+    {
+        BorrowedName::of_parts(self.front, self.as_str())
     }
 
     /// A copy of the name, in memory of its own.
@@ -165,7 +174,7 @@ pub fn is_same(a: &Name, b: &Name) -> bool
 // The order of two texts of names, byte by byte: that of the numbers of their first bytes, if these
 // differ. If they don't, and their last byte is zero, both texts are shorter than eight bytes and equal.
 #[inline(always)]
-fn order(text: &str, front: u64, other: &str, other_front: u64) -> Ordering
+pub(crate) fn order(text: &str, front: u64, other: &str, other_front: u64) -> Ordering
     requires names { (is_name text.now ≡ true) × (is_name other.now ≡ true) }
     requires front { front ≡ first_bytes 8 text.now }
     requires other_front { other_front ≡ first_bytes 8 other.now }
@@ -181,7 +190,7 @@ fn order(text: &str, front: u64, other: &str, other_front: u64) -> Ordering
 }
 
 // The first eight bytes of the text as a big-endian number. A shorter text is padded with zeros.
-fn front_of(text: &str) -> u64
+pub(crate) fn front_of(text: &str) -> u64
     ensures { result ≡ first_bytes 8 text.now }
 {
     let bytes = text.as_bytes();
@@ -205,7 +214,7 @@ fn byte_or_zero(bytes: &[u8], place: usize) -> u8
 }
 
 // Whether the text is a valid name. It is UTF-8 already, as every `&str`.
-fn is_name(text: &str) -> bool
+pub(crate) fn is_name(text: &str) -> bool
     ensures { result ≡ is_name text.now }
 {
     let bytes = text.as_bytes();

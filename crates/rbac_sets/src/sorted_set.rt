@@ -11,7 +11,7 @@ ghost use Rattle.rbac_sets.specs.Sets.{IsDisjoint, empty, contains, insert, remo
 ghost use Rattle.rbac_sets.specs.SortedSet.{set_of};
 
 use crate::refusal::Refusal;
-use crate::taking::SetRemoval;
+use crate::removal::SetRemoval;
 use std::alloc::Global;
 use std::cmp::Ordering;
 use std::collections::VecDeque;

@@ -11,7 +11,7 @@ ghost use Rattle.review_mgr.specs.Review.{is_grant_of};
 use crate::intersection::is_granted;
 use crate::lookup::{activated_in, has_operation, has_session};
 use admin_mgr::State;
-use rbac_sets::{Name, Refusal};
+use rbac_sets::{BorrowedName, Name, Refusal};
 
 /// CheckAccess: whether the session may do the operation on the object. It may if the permission is
 /// granted to a role of the session: one that was activated in it, or a junior of such a role.
@@ -29,9 +29,9 @@ use rbac_sets::{Name, Refusal};
 #[tactic(auto, unfolding(crate::specs::Questions::refused, crate::specs::Questions::refusals))]
 pub fn check_access(
     state: &State,
-    session: &Name,
-    operation: &Name,
-    object: &Name,
+    session: &BorrowedName<'_>,
+    operation: &BorrowedName<'_>,
+    object: &BorrowedName<'_>,
 ) -> Result<bool, Refusal>
     ensures answered { IfOk result (λ access. refused state.now.facts (CheckAccess session.now operation.now object.now) ≡ None) }
     ensures value { IfOk result (λ access. access ≡ has_access state.now.facts session.now operation.now object.now) }
@@ -52,14 +52,18 @@ pub fn check_access(
 }
 
 // The grants of the permission.
-fn granted_for<'a>(state: &'a State, operation: &Name, object: &Name) -> &'a [(Name, Name, Name)]
+fn granted_for<'a>(
+    state: &'a State,
+    operation: &BorrowedName<'_>,
+    object: &BorrowedName<'_>,
+) -> &'a [(Name, Name, Name)]
     ensures { result.now ≡ filter (is_grant_of object.now operation.now) (members state.now.facts.grants) }
 {
     state.grants().with_first((object, operation))
 }
 
 // Whether there is such a session. A session with an activated role has a user.
-fn is_session(state: &State, session: &Name, activated: &[(Name, Name)]) -> bool
+fn is_session(state: &State, session: &BorrowedName<'_>, activated: &[(Name, Name)]) -> bool
     requires { activated.now ≡ run_of state.now.facts.active session.now }
     ensures { result ≡ has_session state.now.facts session.now }
 {
@@ -68,7 +72,12 @@ fn is_session(state: &State, session: &Name, activated: &[(Name, Name)]) -> bool
 }
 
 // Whether there is such an object. It is there if the permission is granted.
-fn is_object(state: &State, operation: &Name, object: &Name, granted: &[(Name, Name, Name)]) -> bool
+fn is_object(
+    state: &State,
+    operation: &BorrowedName<'_>,
+    object: &BorrowedName<'_>,
+    granted: &[(Name, Name, Name)],
+) -> bool
     requires { granted.now ≡ filter (is_grant_of object.now operation.now) (members state.now.facts.grants) }
     ensures { result ≡ contains state.now.facts.objects object.now }
 {
@@ -79,8 +88,8 @@ fn is_object(state: &State, operation: &Name, object: &Name, granted: &[(Name, N
 // Whether some permission has the operation. One has it if the permission is granted.
 fn is_operation(
     state: &State,
-    operation: &Name,
-    object: &Name,
+    operation: &BorrowedName<'_>,
+    object: &BorrowedName<'_>,
     granted: &[(Name, Name, Name)],
 ) -> bool
     requires { granted.now ≡ filter (is_grant_of object.now operation.now) (members state.now.facts.grants) }
@@ -94,9 +103,9 @@ fn is_operation(
 // junior of one.
 fn has_access(
     state: &State,
-    session: &Name,
-    operation: &Name,
-    object: &Name,
+    session: &BorrowedName<'_>,
+    operation: &BorrowedName<'_>,
+    object: &BorrowedName<'_>,
     activated: &[(Name, Name)],
     granted: &[(Name, Name, Name)],
 ) -> bool

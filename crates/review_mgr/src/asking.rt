@@ -31,7 +31,13 @@ pub fn ask(alloc: Global, state: &State, query: &Query) -> Result<Answer, Refusa
             session,
             operation,
             object,
-        } => check_access(state, session, operation, object).map(Answer::Access),
+        } => check_access(
+            state,
+            &session.as_borrowed(),
+            &operation.as_borrowed(),
+            &object.as_borrowed(),
+        )
+        .map(Answer::Access),
         Query::AssignedUsers { role } => assigned_users(alloc, state, role).map(Answer::Names),
         Query::AssignedRoles { user } => assigned_roles(alloc, state, user).map(Answer::Names),
         Query::AuthorizedUsers { role } => authorized_users(alloc, state, role).map(Answer::Names),

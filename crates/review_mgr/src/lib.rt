@@ -8,16 +8,16 @@
 //!
 //! ```
 //! use admin_mgr::State;
-//! use rbac_sets::{MemorySink, Name, Refusal};
+//! use rbac_sets::{BorrowedName, MemorySink, Refusal};
 //! use review_mgr::{check_access, report_roles};
 //! use std::test::Fail;
 //!
 //! fn nothing_is_there_yet(rt: HostRuntime) -> Result<(), Fail> {
 //!     let alloc = rt.alloc();
 //!     let state = State::empty(alloc);
-//!     let session = Name::new(alloc, "s1")?;
-//!     let operation = Name::new(alloc, "open")?;
-//!     let object = Name::new(alloc, "safe")?;
+//!     let session = BorrowedName::new("s1")?;
+//!     let operation = BorrowedName::new("open")?;
+//!     let object = BorrowedName::new("safe")?;
 //!     let access = check_access(&state, &session, &operation, &object);
 //!     assert!(rt; matches!(access, Err(Refusal::NoSession)));
 //!     // The report of an office without roles is its heading.

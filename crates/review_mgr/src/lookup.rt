@@ -1,14 +1,17 @@
 //! Lookups in a state.
 ghost use Rattle.std.specs.Prelude.{◌≡◌};
+ghost use Rattle.std.specs.List.{list_any};
+ghost use Rattle.rbac_sets.specs.Sets.{Pair, any, pair_cmp, same_name};
+ghost use Rattle.rbac_sets.specs.SortedSet.{set_of};
 ghost use Rattle.admin_mgr.specs.RbacState.{has_session, has_set};
 ghost use Rattle.admin_mgr.specs.private.HolderRoles.{run_of};
 ghost use Rattle.review_mgr.specs.Questions.{has_operation};
 
 use admin_mgr::State;
-use rbac_sets::{Name, has_first, has_second};
+use rbac_sets::{BorrowedName, Name, PairSet};
 
 // Whether there is a session of this name.
-pub(crate) fn has_session(state: &State, session: &Name) -> bool
+pub(crate) fn has_session(state: &State, session: &BorrowedName<'_>) -> bool
     ensures { result ≡ has_session state.now.facts session.now }
 {
     has_first(state.sessions(), session)
@@ -31,11 +34,32 @@ pub(crate) fn has_dsd_set(state: &State, set: &Name) -> bool
 }
 
 // Whether some permission has the operation. The permission (object, operation) is tried first.
-pub(crate) fn has_operation(state: &State, object: &Name, operation: &Name) -> bool
+pub(crate) fn has_operation(
+    state: &State,
+    object: &BorrowedName<'_>,
+    operation: &BorrowedName<'_>,
+) -> bool
     ensures { result ≡ has_operation state.now.facts operation.now }
 {
     state.permissions().contains((object, operation))
-        || has_second(state.permissions().as_slice(), operation)
+        || has_operation_of(state.permissions().as_slice(), operation)
+}
+
+// Whether one of the pairs has this first name.
+#[tactic(auto, using(rbac_sets::proofs::Lists::any_filter), unfolding(rbac_sets::specs::Sets::any))]
+fn has_first(pairs: &PairSet, first: &BorrowedName<'_>) -> bool
+    ensures { result ≡ any (λ (pair : Pair). same_name pair.0 first.now) (set_of pair_cmp pairs.now) }
+{
+    !pairs.with_first(first).is_empty()
+}
+
+// Whether one of the permissions, as pairs (object, operation), has the operation.
+fn has_operation_of(permissions: &[(Name, Name)], operation: &BorrowedName<'_>) -> bool
+    ensures { result ≡ list_any (λ (permission : Pair). same_name permission.1 operation.now) permissions.now }
+{
+    permissions
+        .iter()
+        .any(|permission| operation.is(&permission.1))
 }
 
 // The roles that are assigned to the user, as pairs (user, role).
@@ -46,7 +70,7 @@ pub(crate) fn assigned_to<'a>(state: &'a State, user: &Name) -> &'a [(Name, Name
 }
 
 // The roles that were activated in the session, as pairs (session, role).
-pub(crate) fn activated_in<'a>(state: &'a State, session: &Name) -> &'a [(Name, Name)]
+pub(crate) fn activated_in<'a>(state: &'a State, session: &BorrowedName<'_>) -> &'a [(Name, Name)]
     ensures { result.now ≡ run_of state.now.facts.active session.now }
 {
     state.active().with_first(session)

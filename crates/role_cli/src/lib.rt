@@ -1,4 +1,21 @@
 //! The program `rbac` as a library: what it does for its arguments.
+//!
+//! # Which contract to read first
+//!
+//! 1. `program::run_with`: what the exit status says of the choice, the work, the output and the files. `run`
+//!    says the same of the program's own files and sockets.
+//! 2. `Works`, `Does` and `FailsOn`, in specs/Work.antt: what a subcommand does over the state that a connection
+//!    stores, and what it did if it failed.
+//! 3. `WorksAndCloses`, in specs/FileWork.antt: the same of files, and what the database file alone stores after
+//!    the close.
+//! 4. `laws::work_is_stored`: what was done is in the file.
+//!
+//! # How data flows
+//!
+//! `run_with` makes a `Choice` of the arguments and has `run_in_file` do it. `run_on_path` opens the file,
+//! `run_on_connection` opens the office on it and does the work, with the input, the output and a host, which
+//! has the CSV files and the clients. The connection comes back, and `run_in_file` closes it. Work that fails
+//! returns a `Failure`, and one line on standard error says which. `replay --memory` opens no file.
 #![tactic(auto)]
 
 pub use choice::{Choice, Place, Unchosen, choose};

@@ -30,5 +30,5 @@ RefusesBytes bytes left (Ok call) = ⊥
 RefusesBytes bytes left (Err status) = ((status ≡ 400) × IsNoHead bytes left) ⊎ ((status ≡ 431) × ExceedsLimits bytes)
 
 -- the answer to the bytes that were read from a source, which has these remaining bytes
-abbrev pub Answers : List ℕ → Option (List ℕ) → Result (Function × ℕ) ℕ → Type 0
-Answers bytes left answer = AnswersHead bytes answer ⊎ RefusesBytes bytes left answer
+abbrev pub AnswersConsumed : List ℕ → Option (List ℕ) → Result (Function × ℕ) ℕ → Type 0
+AnswersConsumed bytes left answer = AnswersHead bytes answer ⊎ RefusesBytes bytes left answer

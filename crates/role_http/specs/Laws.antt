@@ -2,7 +2,7 @@
 use Rattle.std.specs.Prelude.{◌≡◌, ℕ, List, Option, Result}
 use Rattle.httparse.specs.Grammar.{RequestHead, print_request}
 use Rattle.role_functions.specs.declared.function.Function.{Function}
-use Rattle.role_http.specs.HeadAnswer.{Answers, RefusesBytes, with_left}
+use Rattle.role_http.specs.HeadAnswer.{AnswersConsumed, RefusesBytes, with_left}
 use Rattle.role_http.specs.Head.{HasHead}
 use Rattle.role_http.specs.HeadChecks.{judged_head}
 
@@ -17,5 +17,5 @@ RefusedHaveNoHead = (taken : List ℕ) (left : Option (List ℕ)) (answer : Resu
 
 -- if the bytes that were read and the remaining ones begin with a head within the limits, it is what was read, and it is answered
 abbrev pub AnswersAreOfHeads : Type 0
-AnswersAreOfHeads = (taken : List ℕ) (left : Option (List ℕ)) (answer : Result (Function × ℕ) ℕ) → Answers taken left answer
+AnswersAreOfHeads = (taken : List ℕ) (left : Option (List ℕ)) (answer : Result (Function × ℕ) ℕ) → AnswersConsumed taken left answer
     → (head : RequestHead) (rest : List ℕ) → HasHead (with_left taken left) head rest → (taken ≡ print_request head) × (answer ≡ judged_head head)

@@ -3,14 +3,14 @@ ghost use Rattle.std.specs.Prelude.{◌≡◌, ◌≤◌, ℕ, List, IfErr, IfOk
 ghost use Rattle.httparse.specs.Grammar.{HasNoRequest, RequestHead};
 ghost use Rattle.httparse.specs.Spans.{IsRequestAt, IsRequestWithin};
 ghost use Rattle.rbac_sets.specs.Stream.{HasRisen};
-ghost use Rattle.role_http.specs.HeadAnswer.{Answers};
+ghost use Rattle.role_http.specs.HeadAnswer.{AnswersConsumed};
 ghost use Rattle.role_http.specs.Head.{ConsumesHead};
 ghost use Rattle.role_http.specs.HeadChecks.{judged_head};
 ghost use Rattle.role_http.specs.Route.{routes};
 
 use crate::ReadError;
 use crate::head::{HeadEnd, MOST_FIELDS, read_head};
-use crate::judge::judge_head;
+use crate::head_checks::judge_head;
 use crate::route::function_of;
 use http::StatusCode;
 use httparse::spans::{EMPTY_HEADER_SPAN, HeaderSpan, RequestSpans};
@@ -45,7 +45,7 @@ pub fn answer_head<R: Source>(
     source: &mut R,
 ) -> Result<Result<(Function, u32), StatusCode>, ReadError>
     requires route { router.now ≡ routes }
-    ensures answers { IfOk result (λ answer. (taken : List ℕ) × ConsumesHead (R.remaining source.old) (R.remaining source.new) taken × Answers taken (R.remaining source.new) answer) }
+    ensures answers { IfOk result (λ answer. (taken : List ℕ) × ConsumesHead (R.remaining source.old) (R.remaining source.new) taken × AnswersConsumed taken (R.remaining source.new) answer) }
     ensures stops { OnErr result ((taken : List ℕ) × ConsumesHead (R.remaining source.old) (R.remaining source.new) taken × HasNoRequest taken) }
     ensures steady { OnOk result (R.failed source.new ≡ R.failed source.old) }
     ensures fault { IfErr result (λ why. why ≡ ReadError.Fault → HasRisen (R.failed source.old) (R.failed source.new)) }

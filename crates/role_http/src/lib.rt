@@ -6,17 +6,17 @@
 
 pub use answer::answer_head;
 pub use body::read_bytes;
+pub use read_error::ReadError;
 pub use reply::write_reply;
 pub use route::one_route;
 pub use status::status_of;
-pub use unread::ReadError;
 
 pub mod answer;
 pub mod body;
 mod head;
-mod judge;
+mod head_checks;
 pub mod laws;
+pub mod read_error;
 pub mod reply;
 pub mod route;
 pub mod status;
-pub mod unread;

@@ -3,7 +3,7 @@ use Rattle.std.specs.Prelude.{◌≡◌, ◌⊎◌, Bool, true, ℕ, List, Some,
 use Rattle.std.specs.Str.{IsUtf8}
 use Rattle.rbac_sets.specs.Name.{is_name}
 use Rattle.rbac_sets.specs.declared.refusal.Refusal.{Refusal}
-use Rattle.rbac_sets.specs.declared.refusal.Refusal.TheVariants.{BadName, Memory}
+use Rattle.rbac_sets.specs.declared.refusal.Refusal.TheVariants.{BadName}
 use Rattle.admin_mgr.specs.Authorization.{has_access}
 use Rattle.admin_mgr.specs.RbacState.{RbacState}
 use Rattle.review_mgr.specs.Questions.{refused}
@@ -19,9 +19,8 @@ module _ (S : RbacState) (session operation object : List ℕ) where
     pub unrefused : refused S (CheckAccess session operation object) ≡ None
     pub access_is : access ≡ has_access S session operation object
 
-  -- there is no decision: an allocation failed, one of the three isn't a name, or the question is refused
+  -- there is no decision: one of the three isn't a name, or the question is refused
   abbrev pub Refuses : Refusal → Type 0
   Refuses refusal =
-      (refusal ≡ Memory)
-      ⊎ (((refusal ≡ BadName) × ¬ (IsNameText session × IsNameText operation × IsNameText object))
-      ⊎ (refused S (CheckAccess session operation object) ≡ Some refusal))
+      ((refusal ≡ BadName) × ¬ (IsNameText session × IsNameText operation × IsNameText object))
+      ⊎ (refused S (CheckAccess session operation object) ≡ Some refusal)

@@ -3,20 +3,18 @@ ghost use Rattle.std.specs.Prelude.{◌≡◌, ◌⊎◌, IfOk, IfErr};
 ghost use Rattle.role_lines.specs.Decision.{Decides, IsNameText, Refuses};
 
 use admin_mgr::State;
-use rbac_sets::{Name, Refusal};
+use rbac_sets::{BorrowedName, Name, Refusal};
 use review_mgr::check_access;
 use std::alloc::Global;
 
 /// CheckAccess: whether the session may do the operation on the object. The three may be any bytes.
 ///
-/// It allocates three names.
+/// It doesn't allocate.
 ///
 /// # Errors
 ///
-/// `BadName` if one of the three isn't a name, `Memory` if an allocation failed, otherwise the refusals of
-/// `check_access`.
+/// `BadName` if one of the three isn't a name, otherwise the refusals of `check_access`.
 pub fn decide(
-    alloc: Global,
     state: &State,
     session: &[u8],
     operation: &[u8],
@@ -25,10 +23,21 @@ pub fn decide(
     ensures decided { IfOk result (λ access. Decides state.now.facts session.now operation.now object.now access) }
     ensures refused { IfErr result (λ refusal. Refuses state.now.facts session.now operation.now object.now refusal) }
 {
-    let session = name(alloc, session)?;
-    let operation = name(alloc, operation)?;
-    let object = name(alloc, object)?;
+    let session = borrowed(session)?;
+    let operation = borrowed(operation)?;
+    let object = borrowed(object)?;
     check_access(state, &session, &operation, &object)
+}
+
+// The name with these bytes, which are borrowed. `BadName` if they aren't the text of a name.
+fn borrowed(bytes: &[u8]) -> Result<BorrowedName<'_>, Refusal>
+    ensures ok { IfOk result (λ name. (name ≡ bytes.now) × IsNameText bytes.now) }
+    ensures err { IfErr result (λ refusal. (refusal ≡ Refusal.BadName) × ¬ (IsNameText bytes.now)) }
+{
+    match str::from_utf8(bytes) {
+        Ok(text) => BorrowedName::new(text),
+        Err(_) => Err(Refusal::BadName),
+    }
 }
 
 // The name with these bytes. `BadName` if they aren't the text of a name.

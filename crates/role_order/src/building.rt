@@ -5,7 +5,7 @@ ghost use Rattle.rbac_sets.specs.Sets.{Bytes, Pair, name_cmp, pair_cmp, contains
 ghost use Rattle.rbac_sets.specs.SortedSet.{set_of};
 ghost use Rattle.role_order.specs.Order.{HasPair};
 
-use crate::naming::run;
+use crate::comparison::run;
 use rbac_sets::{Entry, Name, NameSet, PairSet, Refusal, SortedSet, is_same};
 use std::alloc::Global;
 

@@ -7,7 +7,7 @@ ghost use Rattle.role_order.specs.Order.{HasPair, IsAcyclic, IsClosure};
 ghost use Rattle.role_order.specs.private.Checked.{second_cmp, is_next, HasSecondsOf, HasFirstStep, HasRowOf, LeadsOn, AllLeadOn};
 
 use crate::building::push;
-use crate::naming::{is_geq, run};
+use crate::comparison::{is_geq, run};
 use rbac_sets::{Name, PairSet, Refusal, is_same};
 use std::alloc::Global;
 

@@ -12,9 +12,9 @@ pub use plan::OrderPlan;
 
 mod building;
 mod checking;
+mod comparison;
 pub mod laws;
-mod lost;
-mod naming;
+mod lost_pairs;
 pub mod order;
 pub mod plan;
 mod removal;

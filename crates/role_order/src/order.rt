@@ -9,7 +9,7 @@ ghost use Rattle.role_order.specs.private.Removal.{AreJuniorsFirst};
 
 use crate::building::{crossed_pairs, set_of_firsts, set_of_seconds};
 use crate::checking::{has_cycle, is_closed_under};
-use crate::naming::is_geq;
+use crate::comparison::is_geq;
 use crate::plan::OrderPlan;
 use crate::removal::{juniors_first, lost_pairs};
 use rbac_sets::{Name, NameSet, PairSet, Refusal};

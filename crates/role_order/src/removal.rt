@@ -8,8 +8,8 @@ ghost use Rattle.role_order.specs.Order.{HasPair};
 ghost use Rattle.role_order.specs.private.Removal.{HasPath, AreSuspects, AreLost, junior_count};
 
 use crate::building::push;
-use crate::lost::LostPairs;
-use crate::naming::run;
+use crate::comparison::run;
+use crate::lost_pairs::LostPairs;
 use rbac_sets::{Name, NameSet, PairSet, Refusal, is_same};
 use std::alloc::Global;
 

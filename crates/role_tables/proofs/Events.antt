@@ -17,15 +17,15 @@ use Rattle.admin_mgr.specs.Run.{tally}
 use Rattle.admin_mgr.specs.OfficeRun.{IsClosedReply, Leaves}
 use Rattle.admin_mgr.specs.PlanEffect.{tally_of_report}
 use Rattle.admin_mgr.proofs.Verdicts.RefusingLaws.{verdicts_refuse_commands}
-use Rattle.role_tables.specs.Office.{OfficeModel, Answers, event_of}
+use Rattle.role_tables.specs.Office.{OfficeModel, AnswersCommand, event_of}
 use Rattle.role_tables.specs.Durability.{IsDurable, LeavesEither, LeavesByEvents}
 
 -- a refusal of the plan is an answer that changes nothing
-pub plan_refused : {S : Type 0} (old : OfficeModel S) (command : Command) (refusal : Refusal) → (refusal ≡ Memory) ⊎ (verdict old.facts command ≡ Some refusal) → Answers old command (Err refusal) old
-plan_refused old command refusal (inl wanting) = subst (λ r. Answers old command (Err r) old) (sym wanting) refl
+pub plan_refused : {S : Type 0} (old : OfficeModel S) (command : Command) (refusal : Refusal) → (refusal ≡ Memory) ⊎ (verdict old.facts command ≡ Some refusal) → AnswersCommand old command (Err refusal) old
+plan_refused old command refusal (inl wanting) = subst (λ r. AnswersCommand old command (Err r) old) (sym wanting) refl
 plan_refused old command refusal (inr told) = go refusal (verdicts_refuse_commands old.facts command refusal told) told
   where
-    go : (r : Refusal) → refuses_commands r ≡ true → verdict old.facts command ≡ Some r → Answers old command (Err r) old
+    go : (r : Refusal) → refuses_commands r ≡ true → verdict old.facts command ≡ Some r → AnswersCommand old command (Err r) old
     go Memory judged is = refl
     go Store judged is = absurd (cc)
     go Closed judged is = absurd (cc)

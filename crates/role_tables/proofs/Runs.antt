@@ -18,7 +18,7 @@ use Rattle.admin_mgr.specs.StateNames.{AreNamed}
 use Rattle.admin_mgr.specs.Verdict.{verdict}
 use Rattle.admin_mgr.specs.declared.plan.Report.{Report}
 use Rattle.role_tables.specs.OfficeHistory.{so_far, MayAnswer, LeavesAt, LastIsSound, closes, is_closed_by}
-use Rattle.role_tables.specs.Office.{OfficeModel, Answers, event_of}
+use Rattle.role_tables.specs.Office.{OfficeModel, AnswersCommand, event_of}
 use Rattle.role_tables.specs.Runs.{IsInRun, GoesOnBy, RecoversRun, run_of}
 use Rattle.role_tables.specs.Durability.{ForgetsNoFault, HoldsWhatWasLeft, HoldsAsBefore, IsDurable, LeavesByEvents}
 use Rattle.role_tables.specs.StoredState.{HoldsState}
@@ -170,7 +170,7 @@ module _ {S : Type 0} (g : Ghosts S) where
         names = λ _ named T left. subst AreNamed (sym (known.2 T left)) named;
       }
     where
-      by : (r : Refusal) → Answers office command (Err r) office
+      by : (r : Refusal) → AnswersCommand office command (Err r) office
           → MayAnswer office.facts (event_of command (Err r)) × (closes (event_of command (Err r)) ≡ false) × ((T : RbacState) → LeavesAt office.facts (event_of command (Err r)) T → T ≡ office.facts)
       by Memory answers = (tt, refl, λ T is. is)
       by Store answers = absurd (true≢false (sym answers.1 ∙ works))
@@ -178,7 +178,7 @@ module _ {S : Type 0} (g : Ghosts S) where
       by _ answers = (answers.0, refl, λ T is. is)
 
   -- one that was done
-  pub done_call : (old new : OfficeModel S) (command : Command) (report : Report) → old.is_closed ≡ false → ForgetsNoFault (state g old.conn) (state g new.conn) → Answers old command (Ok report) new
+  pub done_call : (old new : OfficeModel S) (command : Command) (report : Report) → old.is_closed ≡ false → ForgetsNoFault (state g old.conn) (state g new.conn) → AnswersCommand old command (Ok report) new
       → (HasCleanDisk (state g new.conn) → IsDurable (state g old.conn) old.facts → IsDurable (state g new.conn) (after old.facts command)) → AreNamed new.facts → IsCall (state g) old (event_of command (Ok report)) new
   done_call old new command report works clean answers stands named = record {
     clean = clean;
@@ -193,7 +193,7 @@ module _ {S : Type 0} (g : Ghosts S) where
   }
 
   -- one for which the store failed
-  pub failed_call : (old new : OfficeModel S) (command : Command) → old.is_closed ≡ false → ForgetsNoFault (state g old.conn) (state g new.conn) → Answers old command (Err Store) new
+  pub failed_call : (old new : OfficeModel S) (command : Command) → old.is_closed ≡ false → ForgetsNoFault (state g old.conn) (state g new.conn) → AnswersCommand old command (Err Store) new
       → (HasCleanDisk (state g new.conn) → IsDurable (state g old.conn) old.facts → HoldsAsBefore (state g old.conn) (state g new.conn))
       → (HasCleanDisk (state g new.conn) → IsDurable (state g old.conn) old.facts → LeavesByEvents (state g new.conn) old.facts (event_of command (Err Store) ∷ []))
       → AreNamed (after old.facts command) → IsCall (state g) old (event_of command (Err Store)) new

@@ -27,12 +27,12 @@ coded_office {S} store =
     code_by (Held S × (RbacState × Bool)) (coded× (held_code store) (coded× coded_state coded_bool)) (λ o. (o.conn, (o.facts, o.is_closed))) (λ p. record { conn = p.0; facts = p.1.0; is_closed = p.1.1 }) (λ _. refl)
 
 -- what an open office answers to a command, and the office after it
-abbrev pub Answers : {S : Type 0} → OfficeModel S → Command → Result Report Refusal → OfficeModel S → Type 0
-Answers old command (Ok report) new = (verdict old.facts command ≡ None) × (tally_of_report report ≡ tally old.facts command) × (new.facts ≡ after old.facts command) × (new.is_closed ≡ false)
-Answers old command (Err Memory) new = new ≡ old
-Answers old command (Err Store) new = (verdict old.facts command ≡ None) × (new.is_closed ≡ true) × (new.facts ≡ old.facts)
-Answers old command (Err Closed) new = ⊥
-Answers old command (Err refusal) new = (verdict old.facts command ≡ Some refusal) × (new ≡ old)
+abbrev pub AnswersCommand : {S : Type 0} → OfficeModel S → Command → Result Report Refusal → OfficeModel S → Type 0
+AnswersCommand old command (Ok report) new = (verdict old.facts command ≡ None) × (tally_of_report report ≡ tally old.facts command) × (new.facts ≡ after old.facts command) × (new.is_closed ≡ false)
+AnswersCommand old command (Err Memory) new = new ≡ old
+AnswersCommand old command (Err Store) new = (verdict old.facts command ≡ None) × (new.is_closed ≡ true) × (new.facts ≡ old.facts)
+AnswersCommand old command (Err Closed) new = ⊥
+AnswersCommand old command (Err refusal) new = (verdict old.facts command ≡ Some refusal) × (new ≡ old)
 
 -- the command and its answer as an event of the office's run
 abbrev pub event_of : Command → Result Report Refusal → Event

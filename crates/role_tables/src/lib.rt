@@ -6,6 +6,19 @@
 //! changed. Whenever it crashes, the tables hold the state before the command or the state after it.
 //! The crate works over any store of `sqlite`, a file or memory.
 //!
+//! # Which contract to read first
+//!
+//! 1. `Office::apply`: `answers` says what a command answers and what the state is then, `done`, `undone` and
+//!    `crash` what the tables hold.
+//! 2. `open`: `ok` says which state an opening gives, and `err` of which contents an opening is refused.
+//! 3. `laws::recovers`, the headline theorem, over the events that calls add to a run of an office. The laws
+//!    before it are the steps of its argument.
+//!
+//! # How data flows
+//!
+//! `open` reads the rows of each table, judges them, and makes a `State` of them. `apply` asks this state for a
+//! plan, writes the plan's changes of rows in one transaction, and then commits the plan to the state.
+//!
 //! # Example
 //!
 //! ```
@@ -36,9 +49,9 @@ pub use migrating::migrate;
 pub use office::Office;
 pub use opening::{Unopened, open};
 
+mod content_checks;
 pub mod creating;
 mod gathering;
-mod judging;
 pub mod laws;
 mod meta_rows;
 pub mod migrating;

@@ -9,7 +9,7 @@ ghost use Rattle.role_tables.specs.OpeningChecks.{is_opening_refusal, IsOfVersio
 ghost use Rattle.role_tables.specs.Runs.{IsInRun};
 ghost use Rattle.role_tables.specs.Durability.{ForgetsNoFault, HoldsAsBefore, WhateverIsDurable};
 
-use crate::judging::{read_state, refuse_v2};
+use crate::content_checks::{read_state, refuse_v2};
 use crate::office::Office;
 use crate::opening::Unopened;
 use crate::schema::may_lock;

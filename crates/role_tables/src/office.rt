@@ -4,7 +4,7 @@ ghost use Rattle.sqlite.specs.Held.{state};
 ghost use Rattle.admin_mgr.specs.After.{after};
 ghost use Rattle.admin_mgr.specs.Good.{IsGood};
 ghost use Rattle.admin_mgr.specs.StateNames.{AreNamed};
-ghost use Rattle.role_tables.specs.Office.{Answers, IfWasDurable, event_of};
+ghost use Rattle.role_tables.specs.Office.{AnswersCommand, IfWasDurable, event_of};
 ghost use Rattle.role_tables.specs.Runs.{GoesOnBy};
 ghost use Rattle.role_tables.specs.Durability.{ForgetsNoFault, HoldsAsBefore, LeavesByEvents, IsDurable};
 
@@ -72,7 +72,7 @@ impl<S: Alter> Office<S> {
     /// crash leaves the state before the command or the state after it.
     pub fn apply(&mut self, alloc: Global, command: &Command) -> Result<Report, Refusal>
         ensures closed { IsTrue self.old.is_closed → (result ≡ Err Refusal.Closed) × (self.new ≡ self.old) }
-        ensures answers { self.old.is_closed ≡ false → Answers self.old command.now result self.new }
+        ensures answers { self.old.is_closed ≡ false → AnswersCommand self.old command.now result self.new }
         ensures clean { ForgetsNoFault (state S.Store self.old.conn) (state S.Store self.new.conn) }
         ensures done { IfWasDurable S.Store self.old self.new (OnOk result (IsDurable (state S.Store self.new.conn) (after self.old.facts command.now))) }
         ensures undone { IfWasDurable S.Store self.old self.new (IfErr result (λ _. HoldsAsBefore (state S.Store self.old.conn) (state S.Store self.new.conn))) }

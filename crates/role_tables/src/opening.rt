@@ -7,7 +7,7 @@ ghost use Rattle.role_tables.specs.OpeningChecks.{is_opening_refusal, IsMemoryOr
 ghost use Rattle.role_tables.specs.Runs.{IsInRun};
 ghost use Rattle.role_tables.specs.Durability.{HoldsAsBefore, LeavesOnly, IsDurable, WhateverIsDurable};
 
-use crate::judging::read_state;
+use crate::content_checks::read_state;
 use crate::office::Office;
 use rbac_sets::Refusal;
 use sqlite::{Alter, Connection};

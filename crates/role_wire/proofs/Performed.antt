@@ -19,7 +19,7 @@ use Rattle.review_mgr.specs.Questions.{refused}
 use Rattle.review_mgr.specs.declared.query.Query.{Query}
 use Rattle.role_json.specs.Answer.{told_text}
 use Rattle.role_json.specs.RequestContent.{Change, Ask}
-use Rattle.role_tables.specs.Office.{OfficeModel, Answers, event_of}
+use Rattle.role_tables.specs.Office.{OfficeModel, AnswersCommand, event_of}
 use Rattle.role_tables.specs.Runs.{GoesOnBy, IsInRun}
 use Rattle.role_tables.specs.Durability.{ForgetsNoFault, HoldsAsBefore, LeavesByEvents, LeavesState, IsDurable}
 use Rattle.role_tables.specs.StoredState.{HoldsState}
@@ -46,7 +46,7 @@ module _ {S : Type 0} (shown : Held S → State) where
 
   module _ (old new : OfficeModel S) (command : Command) (result : Result Report Refusal)
       (closed : IsTrue old.is_closed → (result ≡ Err Closed) × (new ≡ old))
-      (answers : old.is_closed ≡ false → Answers old command result new)
+      (answers : old.is_closed ≡ false → AnswersCommand old command result new)
       (clean : ForgetsNoFault (shown old.conn) (shown new.conn))
       (done : old.is_closed ≡ false → HasCleanDisk (shown new.conn) → IsDurable (shown old.conn) old.facts → OnOk result (IsDurable (shown new.conn) (after old.facts command)))
       (undone : old.is_closed ≡ false → HasCleanDisk (shown new.conn) → IsDurable (shown old.conn) old.facts → IfErr result (λ _. HoldsAsBefore (shown old.conn) (shown new.conn)))
@@ -71,7 +71,7 @@ module _ {S : Type 0} (shown : Held S → State) where
     command_done report is = elim (cases_Bool old.is_closed) [
       | inl shut ↦ absurd (let no = sym is ∙ (closed shut).0 in cc)
       | inr works ↦
-          let told : Answers old command (Ok report) new = subst (λ r. Answers old command r new) is (answers works) in
+          let told : AnswersCommand old command (Ok report) new = subst (λ r. AnswersCommand old command r new) is (answers works) in
           let to = leads told.0 in
           record {
             is_open = works;
@@ -91,7 +91,7 @@ module _ {S : Type 0} (shown : Held S → State) where
     -- one in which the store failed
     broken : old.is_closed ≡ false → result ≡ Err Store → StoreFailsFor shown old (Change (content_of command)) new
     broken works is =
-        let told : Answers old command (Err Store) new = subst (λ r. Answers old command r new) is (answers works) in
+        let told : AnswersCommand old command (Err Store) new = subst (λ r. AnswersCommand old command r new) is (answers works) in
         let to = leads told.0 in
         record {
           is_open = works;
@@ -111,7 +111,7 @@ module _ {S : Type 0} (shown : Held S → State) where
           };
         }
 
-    refused_by : old.is_closed ≡ false → (refusal : Refusal) → result ≡ Err refusal → Answers old command (Err refusal) new → Declines shown old (Change (content_of command)) refusal new
+    refused_by : old.is_closed ≡ false → (refusal : Refusal) → result ≡ Err refusal → AnswersCommand old command (Err refusal) new → Declines shown old (Change (content_of command)) refusal new
     unfolding outcome_of
     refused_by works Memory is told = inl (refl, told)
     refused_by works Store is told = inr (inl (refl, broken works is))
@@ -122,7 +122,7 @@ module _ {S : Type 0} (shown : Held S → State) where
     pub command_refused : (refusal : Refusal) → result ≡ Err refusal → Declines shown old (Change (content_of command)) refusal new
     command_refused refusal is = elim (cases_Bool old.is_closed) [
       | inl shut ↦ let same : refusal ≡ Closed = let both = sym is ∙ (closed shut).0 in cc in inr (inr (inl (same, shut, (closed shut).1)))
-      | inr works ↦ refused_by works refusal is (subst (λ r. Answers old command r new) is (answers works))
+      | inr works ↦ refused_by works refusal is (subst (λ r. AnswersCommand old command r new) is (answers works))
     ]
 
   -- ---- questions

@@ -12,7 +12,7 @@ use Rattle.admin_mgr.specs.RbacState.{RbacState}
 use Rattle.role_json.specs.Answer.{refusal_text}
 use Rattle.role_json.specs.RequestContent.{RequestContent}
 use Rattle.role_functions.specs.declared.function.Function.{Function}
-use Rattle.role_http.specs.HeadAnswer.{Answers, RefusesBytes, with_left}
+use Rattle.role_http.specs.HeadAnswer.{AnswersConsumed, RefusesBytes, with_left}
 use Rattle.role_http.specs.Head.{HasHead, ConsumesHead}
 use Rattle.role_http.specs.HeadChecks.{judged_head}
 use Rattle.role_http.specs.ReplyBytes.{reply_bytes}
@@ -128,7 +128,7 @@ module _ {S : Type 0} (shown : Held S → State) where
   -- ---- reading in two steps
 
   pub made_called : (old new : OfficeModel S) (source mid end : Option (List ℕ)) (called : Function) (count : ℕ) (made : PreparedReply)
-      → ((taken : List ℕ) × ConsumesHead source mid taken × Answers taken mid (Ok (called, count)))
+      → ((taken : List ℕ) × ConsumesHead source mid taken × AnswersConsumed taken mid (Ok (called, count)))
       → ((taken : List ℕ) × Consumes mid end taken × (length taken ≤ length (take count (with_left taken end))) × AnswersBody shown old (called_for (with_left taken end) called count) made new)
       → Replied old source end made.status (cow_str_bytes made.body) new
   unfolding reply_to
@@ -143,7 +143,7 @@ module _ {S : Type 0} (shown : Held S → State) where
   made_called old new source mid end called count made (bytes, first, inr none) second = absurd none
 
   pub left_called : (why : Cause) (old new : OfficeModel S) (source mid end : Option (List ℕ)) (called : Function) (count : ℕ)
-      → ((taken : List ℕ) × ConsumesHead source mid taken × Answers taken mid (Ok (called, count)))
+      → ((taken : List ℕ) × ConsumesHead source mid taken × AnswersConsumed taken mid (Ok (called, count)))
       → ((taken : List ℕ) × Consumes mid end taken × (length taken ≤ length (take count (with_left taken end))) × LeavesUnanswered shown why old (IsReadAs (called_for (with_left taken end) called count)) new)
       → Untold why old source end new
   unfolding reply_to
@@ -158,7 +158,7 @@ module _ {S : Type 0} (shown : Held S → State) where
   left_called why old new source mid end called count (bytes, first, inr none) second = absurd none
 
   -- a head that is refused
-  pub made_head : (office : OfficeModel S) (source mid : Option (List ℕ)) (status told : ℕ) (body : List ℕ) → ((taken : List ℕ) × ConsumesHead source mid taken × Answers taken mid (Err status))
+  pub made_head : (office : OfficeModel S) (source mid : Option (List ℕ)) (status told : ℕ) (body : List ℕ) → ((taken : List ℕ) × ConsumesHead source mid taken × AnswersConsumed taken mid (Err status))
       → told ≡ status → body ≡ head_body status → Replied office source mid told body office
   unfolding reply_to
   made_head office source mid status told body (bytes, first, inl (head, has, is)) same text =

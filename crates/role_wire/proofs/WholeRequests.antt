@@ -8,7 +8,7 @@ use Rattle.httparse.proofs.GrammarLemmas.{ReadsRequest-append}
 use Rattle.rbac_sets.proofs.Known.{Consumes-more}
 use Rattle.role_functions.specs.declared.function.Function.{Function}
 use Rattle.role_http.specs.Head.{ConsumesHead, HasHead}
-use Rattle.role_http.specs.HeadAnswer.{Answers}
+use Rattle.role_http.specs.HeadAnswer.{AnswersConsumed}
 use Rattle.role_http.specs.HeadChecks.{judged_head}
 use Rattle.role_http.proofs.Heads.{HasHead-append, heads_are_unique, refused_have_no_head, with_left-later}
 use Rattle.role_wire.specs.Reply.{IsWholeRequest, SaysIfWhole}
@@ -20,7 +20,7 @@ not_whole : (bytes : List ℕ) → HasNoRequest bytes → ¬ (IsWholeRequest byt
 not_whole bytes none (head, body, has, call) = none head body has.0
 
 -- if their head is refused
-not_whole_refused : (bytes : List ℕ) (left : Option (List ℕ)) (status : ℕ) → Answers bytes left (Err status) → ¬ (IsWholeRequest bytes)
+not_whole_refused : (bytes : List ℕ) (left : Option (List ℕ)) (status : ℕ) → AnswersConsumed bytes left (Err status) → ¬ (IsWholeRequest bytes)
 not_whole_refused bytes left status (inl (head, has, is)) (other, body, stands, (called, count, call, whole)) =
     let same = heads_are_unique bytes head other [] body has stands in
     let refused : judged_head other ≡ Err status = ap judged_head (sym same.0) ∙ is in
@@ -49,7 +49,7 @@ whole_by_length bytes body head called count has is =
     )
 
 pub says_called : (source mid end : Option (List ℕ)) (called : Function) (count : ℕ) (has_read_all : Bool)
-    → ((taken : List ℕ) × ConsumesHead source mid taken × Answers taken mid (Ok (called, count)))
+    → ((taken : List ℕ) × ConsumesHead source mid taken × AnswersConsumed taken mid (Ok (called, count)))
     → ((taken : List ℕ) × Consumes mid end taken × (IsTrue has_read_all ↔ (length taken ≡ count))) → SaysIfWhole source end has_read_all
 says_called source mid end called count has_read_all (bytes, first, inl (head, has, is)) (body, later, says) =
     let by_length = whole_by_length bytes body head called count has is in
@@ -62,7 +62,7 @@ says_not : (source mid : Option (List ℕ)) (has_read_all : Bool) (bytes : List 
 says_not source mid has_read_all bytes unread first none =
     rw unread (bytes, first, (λ all. absurd (false≢true all), λ whole. absurd (none whole)))
 
-pub says_refused : (source mid : Option (List ℕ)) (status : ℕ) (has_read_all : Bool) → ((taken : List ℕ) × ConsumesHead source mid taken × Answers taken mid (Err status))
+pub says_refused : (source mid : Option (List ℕ)) (status : ℕ) (has_read_all : Bool) → ((taken : List ℕ) × ConsumesHead source mid taken × AnswersConsumed taken mid (Err status))
     → has_read_all ≡ false → SaysIfWhole source mid has_read_all
 says_refused source mid status has_read_all (bytes, first, answers) unread = says_not source mid has_read_all bytes unread first.0 (not_whole_refused bytes mid status answers)
 

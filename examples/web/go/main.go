@@ -33,10 +33,8 @@ func main() {
 	http.HandleFunc("/login", func(w http.ResponseWriter, r *http.Request) {
 		if user := r.PostFormValue("user"); passwords[user] == "" || passwords[user] != r.PostFormValue("password") {
 			http.Error(w, "Unauthorized", http.StatusUnauthorized)
-		} else if roles, err := office.AssignedRoles(r.Context(), user); err != nil {
+		} else if session, err := office.OpenSession(r.Context(), rbacclient.SessionConfig{User: user}); err != nil {
 			http.Error(w, "Service Unavailable", http.StatusServiceUnavailable)
-		} else if session, err := office.OpenSession(r.Context(), rbacclient.SessionConfig{User: user, Roles: roles}); err != nil {
-			http.Error(w, "Forbidden", http.StatusForbidden)
 		} else if cookie, err := rbacclient.NewSessionName(); err == nil {
 			sessions.Store(cookie, session)
 			http.SetCookie(w, &http.Cookie{Name: "login", Value: cookie, HttpOnly: true, SameSite: http.SameSiteStrictMode})

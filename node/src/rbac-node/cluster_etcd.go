@@ -164,7 +164,10 @@ func (s *clusterSettings) serveNode(ctx context.Context, log *ledger.Ledger, eve
 		return err
 	}
 	defer f.Close()
-	s.IsOpen = s.common.callers.Callers == ""
+	s.IsOpen, s.SessionAge = s.common.callers.Callers == "", s.common.sessionAge
+	if !s.common.record.isOff {
+		s.Record = records.follow(s.common, s.Data, s.Options.File(), events, registry)
+	}
 	n, err := node.New(s.Options, log, events, registry)
 	if err != nil {
 		return err

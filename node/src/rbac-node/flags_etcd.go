@@ -19,7 +19,7 @@ type clusterSettings struct {
 	peer, prefix             string
 	etcd, user, passwordFile string
 	peerTLS, etcdTLS         web.TLS
-	isPeerOpen               bool
+	isPeerOpen, isEtcdOpen   bool
 }
 
 func init() { cluster = &clusterSettings{} }
@@ -38,6 +38,7 @@ func (s *clusterSettings) define(flags *flag.FlagSet) {
 	flags.StringVar(&s.etcd, "etcd", "", "URLs of the members of etcd, separated by commas, for an office on several machines")
 	flags.StringVar(&s.user, "etcd-user", "", "user of etcd")
 	flags.StringVar(&s.passwordFile, "etcd-password-file", "", "file with the password of that user")
+	flags.BoolVar(&s.isEtcdOpen, "etcd-open", false, "have callers although etcd may ask nobody who writes its log")
 	flags.BoolVar(&s.isPeerOpen, "peer-open", false, "serve snapshots over TLS to everybody, without an authority of other nodes")
 	for _, side := range []struct {
 		name, other string
@@ -61,6 +62,10 @@ func (s *clusterSettings) check() error {
 	case s.peerTLS.Cert != "" && s.peerTLS.CA == "" && !s.isPeerOpen:
 		return errors.New("--peer-cert without --peer-ca gives everybody the whole policy; if that is wanted, add --peer-open")
 	}
+	if s.common != nil && s.common.callers.Callers != "" && !s.isEtcdOpen && !s.asksUsers() {
+		return errors.New("with --callers give https URLs of etcd, and --etcd-user or --etcd-cert: whoever may write etcd's log " +
+			"needs to be no caller; if others can't reach etcd, add --etcd-open")
+	}
 	if s.Scratch == "" {
 		s.Scratch = s.Data
 	}
@@ -68,4 +73,14 @@ func (s *clusterSettings) check() error {
 		s.Peer = s.peerTLS.Scheme() + "://" + s.peer
 	}
 	return nil
+}
+
+// asksUsers reports whether the node reaches etcd over TLS alone, and shows who it is.
+func (s *clusterSettings) asksUsers() bool {
+	for _, url := range strings.Split(s.etcd, ",") {
+		if !strings.HasPrefix(url, "https://") {
+			return false
+		}
+	}
+	return s.user != "" || s.etcdTLS.Cert != ""
 }

@@ -15,6 +15,11 @@ func TestClusterCheck(t *testing.T) {
 		{"as little as possible", "--data d", ""},
 		{"certificates and an authority", "--data d --peer-cert c --peer-key k --peer-ca a", ""},
 		{"an open peer port, if that is wanted", "--data d --peer-cert c --peer-key k --peer-open", ""},
+		{"callers, and a user of etcd", "--data d --callers c --etcd https://a:1,https://b:1 --etcd-user u", ""},
+		{"callers, and a certificate for etcd", "--data d --callers c --etcd https://a:1 --etcd-cert c --etcd-key k", ""},
+		{"callers, and an etcd that others don't reach", "--data d --callers c --etcd http://127.0.0.1:1 --etcd-open", ""},
+		{"callers, and nobody that etcd knows", "--data d --callers c --etcd https://a:1", "--etcd-user"},
+		{"callers, and etcd without TLS", "--data d --callers c --etcd https://a:1,http://b:1 --etcd-user u", "https"},
 		{"no folder", "", "--data"},
 		{"a name with a slash", "--data d --name a/b", "--name"},
 		{"an open peer port", "--data d --peer-cert c --peer-key k", "--peer-ca"},
@@ -26,6 +31,7 @@ func TestClusterCheck(t *testing.T) {
 	} {
 		t.Run(one.name, func(t *testing.T) {
 			common, s := &settings{}, &clusterSettings{}
+			s.common = common
 			flags := flag.NewFlagSet("", flag.ContinueOnError)
 			common.define(flags)
 			s.define(flags)

@@ -41,6 +41,15 @@ func (s *settings) serveOne(ctx context.Context) error {
 		Log: log, Starts: options.Callers.Starts, IsOpen: options.IsOpen(),
 		SessionAge: s.sessionAge, SessionIdle: s.sessionIdle,
 	}
+	failed := make(chan error, 1)
+	one.Say = f.Say
+	one.Locked = func() error {
+		if err := f.Listen(); err != nil {
+			return err
+		}
+		f.Begin(reportingTo(failed))
+		return nil
+	}
 	if err := s.addRecord(&one, registry); err != nil {
 		return err
 	}
@@ -54,9 +63,5 @@ func (s *settings) serveOne(ctx context.Context) error {
 		}
 		return 0
 	})
-	if err := f.Listen(); err != nil {
-		_ = office.Close() // Nothing has been asked.
-		return err
-	}
-	return answer(ctx, f, office, make(chan error, 1), log, func(context.Context) {})
+	return answer(ctx, f, office, failed, log, func(context.Context) {})
 }

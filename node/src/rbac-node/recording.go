@@ -6,7 +6,9 @@ import (
 	"os"
 	"path/filepath"
 
+	"rbac-node/logs"
 	"rbac-node/metrics"
+	"rbac-node/recorded"
 	"rbac-node/single"
 )
 
@@ -20,6 +22,8 @@ type recordSettings struct {
 type recordMode interface {
 	// add makes an office keep a record.
 	add(s *settings, office *single.Options, registry *metrics.Registry) error
+	// follow returns the record of a node, with its folder and the office in use, or nil if this program can't keep one.
+	follow(s *settings, data, office string, log *logs.Logger, registry *metrics.Registry) recorded.Follower
 	// run does `record WORD ..` and `backup ..`.
 	run(words []string) error
 }
@@ -35,6 +39,11 @@ var errWithoutRecord = errors.New(
 
 func (withoutRecord) add(*settings, *single.Options, *metrics.Registry) error {
 	return errWithoutRecord
+}
+
+func (withoutRecord) follow(_ *settings, _, _ string, log *logs.Logger, _ *metrics.Registry) recorded.Follower {
+	log.Warn("no record is kept: this program was built without SQLite")
+	return nil
 }
 
 func (withoutRecord) run([]string) error { return errWithoutRecord }

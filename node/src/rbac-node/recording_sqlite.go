@@ -12,6 +12,7 @@ import (
 	"rbac-node/logs"
 	"rbac-node/metrics"
 	"rbac-node/record"
+	"rbac-node/recorded"
 	"rbac-node/single"
 )
 
@@ -25,6 +26,7 @@ func (withRecord) add(s *settings, office *single.Options, registry *metrics.Reg
 	office.OpenRecord = func(ctx context.Context) (single.Recorder, error) {
 		r, err := record.Open(ctx, record.Options{
 			Office: s.office, Program: s.program, HangTimeout: s.hangTimeout, Every: s.record.every, Log: office.Log, Metrics: registry,
+			Say: office.Say,
 		})
 		if err != nil {
 			return nil, err // Not a Recorder that is there and nil.
@@ -32,6 +34,12 @@ func (withRecord) add(s *settings, office *single.Options, registry *metrics.Reg
 		return r, nil
 	}
 	return nil
+}
+
+func (withRecord) follow(s *settings, data, office string, log *logs.Logger, registry *metrics.Registry) recorded.Follower {
+	return record.NewFollower(record.Options{
+		Office: office, Program: s.program, Dir: record.DirIn(data), HangTimeout: s.hangTimeout, Log: log, Metrics: registry,
+	})
 }
 
 // toolHangTimeout is how long a replay of the record may answer nothing in a command other than serve.
@@ -44,11 +52,11 @@ type recordCommand struct {
 	filter record.Filter
 }
 
-var errRecordUsage = errors.New("usage: rbac-node record verify|show|head|cut|adopt --office FILE [options], or " +
-	"rbac-node backup --office FILE FOLDER")
+var errRecordUsage = errors.New("usage: rbac-node record verify|show|head|cut|adopt --office FILE [options], " +
+	"rbac-node record verify|show|head --data FOLDER [options], or rbac-node backup --office FILE FOLDER")
 
 func (withRecord) run(words []string) error {
-	c := &recordCommand{Tool: record.Tool{HangTimeout: toolHangTimeout, Out: os.Stdout, Log: logs.New(os.Stderr)}}
+	c := &recordCommand{Tool: record.Tool{HangTimeout: toolHangTimeout, Out: os.Stdout, Err: os.Stderr, Log: logs.New(os.Stderr)}}
 	name, rest := words[0], words[1:]
 	if name == "record" {
 		if len(rest) == 0 {
@@ -62,7 +70,7 @@ func (withRecord) run(words []string) error {
 		return err
 	}
 	isBackup := words[0] == "backup"
-	if c.Office == "" || isBackup != (flags.NArg() == 1) || !isBackup && flags.NArg() > 0 {
+	if c.Office == "" == (c.Data == "") || isBackup != (flags.NArg() == 1) || !isBackup && flags.NArg() > 0 {
 		return errRecordUsage
 	}
 	return untilSignal(func(ctx context.Context) error {
@@ -76,6 +84,10 @@ func (withRecord) run(words []string) error {
 // define defines the flags of a command.
 func (c *recordCommand) define(flags *flag.FlagSet, name string) {
 	flags.StringVar(&c.Office, "office", "", "file of the office")
+	switch name {
+	case "verify", "show", "head":
+		flags.StringVar(&c.Data, "data", "", "folder of a node of several machines, in place of --office")
+	}
 	if name != "show" && name != "head" {
 		flags.StringVar(&c.Program, "program", "rbac", "the proved program, a path or a name that is looked up in PATH")
 	}

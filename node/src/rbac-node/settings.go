@@ -79,12 +79,12 @@ func (s *settings) define(flags *flag.FlagSet) {
 	flags.StringVar(&s.callers.Issuer, "oidc-issuer", "", "who has to have issued JWTs")
 	flags.StringVar(&s.callers.Audience, "oidc-audience", "", "for whom JWTs have to be")
 	flags.StringVar(&s.callers.Subject, "oidc-claim", "sub", "claim of a JWT that names its caller")
-	flags.DurationVar(&s.sessionAge, "session-age", 0, "after how much time a session ends (default: never), for one machine")
+	flags.DurationVar(&s.sessionAge, "session-age", 0, "after how much time a session ends (default: never)")
 	flags.DurationVar(&s.sessionIdle, "session-idle", 0, "after how much time without a use a session ends (default: never), for one machine")
 	flags.StringVar(&s.publicURL, "public-url", "", "where clients find the front: https://HOST:PORT, for AuthZEN's metadata")
 	flags.StringVar(&s.origins, "origin", "", "origins of pages whose requests are answered, separated by commas")
 	flags.StringVar(&s.refused, "refused", "", "file for requests that are refused with 401, 403 or 421 (default: OFFICE.refused)")
-	flags.BoolVar(&s.record.isOff, "no-record", false, "don't record commands, for one machine")
+	flags.BoolVar(&s.record.isOff, "no-record", false, "don't record commands")
 	flags.Int64Var(&s.record.every, "record-base", 10_000, "commands between two copies of the office, from which a start does them again")
 	flags.BoolVar(&s.isCheck, "check", false, "with callers: only check the files of the callers")
 }
@@ -105,8 +105,8 @@ func (s *settings) check() error {
 		return errors.New("--timeout must be above zero, and --hang-timeout at least 1s")
 	case s.sessionAge < 0 || s.sessionIdle < 0:
 		return errors.New("--session-age and --session-idle must not be below zero")
-	case s.sessionAge+s.sessionIdle > 0 && cluster.isChosen():
-		return errors.New("--session-age and --session-idle are for one machine")
+	case s.sessionIdle > 0 && cluster.isChosen():
+		return errors.New("--session-idle is for one machine: a node doesn't know which sessions are used at others")
 	case s.sessionAge+s.sessionIdle > 0 && !state.IsAvailable:
 		return fmt.Errorf("--session-age and --session-idle: %w", state.ErrUnavailable)
 	case s.record.every < 1:

@@ -62,24 +62,34 @@ public final class Driver {
             case "check":
                 return shown(client.check(text(line, "session"), text(line, "operation"), text(line, "object")));
             case "login":
-                return result(
-                    () -> {
-                        var roles = texts(line.get("roles"));
-                        var isRenewed = line.get("renews").equals(true);
-                        var user = text(line, "user");
-                        session = isRenewed ? client.openRenewedSession(user, roles) : client.openSession(user, roles);
+                return result(() -> {
+                    var user = text(line, "user");
+                    if (line.get("roles") == null) {
+                        session = client.openSession(user);
                         return session.name();
-                    });
+                    }
+                    var roles = texts(line.get("roles"));
+                    var isRenewed = line.get("renews").equals(true);
+                    session = isRenewed ? client.openRenewedSession(user, roles) : client.openSession(user, roles);
+                    return session.name();
+                });
+            case "opened":
+                return opened();
+            case "end":
+                return result(() -> {
+                    var digest = line.get("digest") == null ? Session.digest(session.name()) : text(line, "digest");
+                    client.endSession(digest);
+                    return null;
+                });
             case "ask":
                 var found = shown(session.check(text(line, "operation"), text(line, "object")));
                 found.put("name", session.name());
                 return found;
             case "logout":
-                return result(
-                    () -> {
-                        session.close();
-                        return null;
-                    });
+                return result(() -> {
+                    session.close();
+                    return null;
+                });
             default:
                 var counts = new LinkedHashMap<String, Object>();
                 client.counts().forEach((reason, count) -> counts.put(reason.toString(), count));
@@ -87,8 +97,20 @@ public final class Driver {
         }
     }
 
+    private Map<String, Object> opened() {
+        var left = new ArrayList<List<Object>>();
+        for (var one : session.left()) {
+            var row = new ArrayList<Object>(List.of(one.role(), (long) one.code()));
+            if (!one.detail().isEmpty()) {
+                row.add(one.detail());
+            }
+            left.add(row);
+        }
+        return new LinkedHashMap<>(Map.of("roles", session.roles(), "left", left));
+    }
+
     private Map<String, Object> open(Map<String, Object> line) throws Exception {
-        var builder = Client.of(texts(line.get("addresses")).toArray(String[]::new));
+        var builder = Client.of(texts(line.get("addresses")).toArray(String[] ::new));
         if (line.get("timeout") != null) {
             builder.timeout(Duration.ofNanos((long) ((Double) line.get("timeout") * 1e9)));
         }
@@ -156,7 +178,7 @@ public final class Driver {
         try {
             return plain(method.invoke(client, values.toArray()));
         } catch (InvocationTargetException error) {
-            throw (Exception) error.getCause();
+            throw(Exception) error.getCause();
         }
     }
 
@@ -215,7 +237,7 @@ public final class Driver {
     }
 
     private static List<String> texts(Object value) {
-        return ((List<?>) value).stream().map(String.class::cast).collect(Collectors.toList());
+        return ((List<?>) value).stream().map(String.class ::cast).collect(Collectors.toList());
     }
 
     private static Map<String, Object> object(Object value) {
@@ -263,7 +285,9 @@ public final class Driver {
                         at++;
                     }
                     var word = text.substring(start, at);
-                    return word.equals("null") ? null : word.matches("true|false") ? (Object) word.equals("true") : Double.valueOf(word);
+                    return word.equals("null")       ? null
+                        : word.matches("true|false") ? (Object) word.equals("true")
+                                                     : Double.valueOf(word);
             }
         }
 

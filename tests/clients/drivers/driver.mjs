@@ -4,7 +4,7 @@
 import { readFileSync } from "node:fs";
 import { createInterface } from "node:readline";
 
-import { Client, OfficeError, RefusedError } from "../../../clients/javascript/src/index.js";
+import { Client, OfficeError, RefusedError, sessionDigest } from "../../../clients/javascript/src/index.js";
 
 const keys = JSON.parse(process.argv[2]);
 let client;
@@ -15,6 +15,9 @@ async function result(call) {
   try {
     return { value: (await call()) ?? null };
   } catch (error) {
+    if (error instanceof TypeError) {
+      return { reason: "invalid_request", may_be_done: false };
+    }
     if (!(error instanceof OfficeError)) {
       throw error;
     }
@@ -57,9 +60,14 @@ const DOING = {
   check: async ({ session, operation, object }) => shown(await client.check(session, operation, object)),
   login: ({ user, roles, renews }) =>
     result(async () => {
-      session = await client.openSession(user, roles, { renews });
+      session = await client.openSession(user, roles ?? undefined, { renews });
       return session.name;
     }),
+  opened: () => ({
+    roles: session.roles,
+    left: session.left.map(({ role, code, error, ...details }) => [role, code, ...Object.values(details)]),
+  }),
+  end: ({ digest }) => result(() => client.endSession(digest ?? sessionDigest(session.name))),
   ask: async ({ operation, object }) => ({ ...shown(await session.check(operation, object)), name: session.name }),
   logout: () => result(() => session.close()),
   counts: () => Object.fromEntries(client.counts),

@@ -33,6 +33,12 @@ class Driver:
             return await self.result(self.login, given)
         if do == "logout":
             return await self.result(self.session.close, {})
+        if do == "opened":
+            left = [[one.role, one.code, *one.details.values()] for one in self.session.left]
+            return {"roles": self.session.roles, "left": left}
+        if do == "end":
+            digest = given.get("digest") or rbac_client.session_digest(self.session.name)
+            return await self.result(self.client.end_session, {"digest": digest})
         if do == "ask":
             return {**shown(await awaited(self.session.check(**given))), "name": self.session.name}
         return {reason.value: count for reason, count in self.client.counts.items()}

@@ -2,8 +2,8 @@
 use Rattle.std.specs.Prelude.{List, map}
 use Rattle.rbac_sets.specs.Sets.{Pair, members, pair_cmp}
 use Rattle.rbac_sets.specs.SortedSet.{set_of}
-use Rattle.admin_mgr.specs.declared.holders.Runs.{Runs}
-use Rattle.admin_mgr.specs.declared.holders.Runs.TheVariants.{OfUsers, OfSessions}
+use Rattle.admin_mgr.specs.declared.separation_of_duty.holders.Runs.{Runs}
+use Rattle.admin_mgr.specs.declared.separation_of_duty.holders.Runs.TheVariants.{OfUsers, OfSessions}
 use Rattle.admin_mgr.specs.declared.separation_of_duty.SeparationOfDuty.{SeparationOfDuty}
 use Rattle.admin_mgr.specs.declared.separation_of_duty.SeparationOfDuty.TheVariants.{Static, Dynamic}
 use Rattle.admin_mgr.specs.RbacState.{RbacState}

@@ -7,11 +7,11 @@ ghost use Rattle.admin_mgr.specs.Refusals.{first};
 ghost use Rattle.admin_mgr.specs.Verdict.{verdict};
 ghost use Rattle.admin_mgr.specs.Verdict.{is_in_use};
 
-use crate::held::first_with_one;
-use crate::judge::naming::name_violated;
+use crate::judge::violation::name_violated;
 use crate::limits::{is_full, is_too_many};
 use crate::lookup::has_part;
 use crate::separation_of_duty::SeparationOfDuty;
+use crate::separation_of_duty::by_name::first_with_one;
 use crate::state::State;
 use rbac_sets::{Kind, Name, Refusal, has_first, has_second};
 use std::alloc::{AllocError, Global};

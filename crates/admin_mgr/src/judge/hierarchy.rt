@@ -8,10 +8,10 @@ ghost use Rattle.admin_mgr.specs.Refusals.{first};
 ghost use Rattle.admin_mgr.specs.private.SeparationOfDuty.{violates};
 ghost use Rattle.admin_mgr.specs.Verdict.{verdict, add_inheritance_refusals};
 
-use crate::inheriting::first_violated;
-use crate::judge::naming::name_violated;
+use crate::judge::violation::name_violated;
 use crate::limits::is_full;
 use crate::separation_of_duty::SeparationOfDuty;
+use crate::separation_of_duty::inheritance::first_violated;
 use crate::state::State;
 use rbac_sets::{Kind, Name, Refusal};
 use std::alloc::{AllocError, Global};

@@ -6,8 +6,8 @@ ghost use Rattle.admin_mgr.specs.private.SeparationOfDuty.{create_set, add_membe
 use crate::judge::set_refusals::{
     has_set, refuse_cardinality, refuse_member, refuse_member_removal, refuse_set, refuse_violated,
 };
-use crate::keeping::{keeps, keeps_set, keeps_with};
 use crate::separation_of_duty::SeparationOfDuty;
+use crate::separation_of_duty::keeping::{keeps, keeps_set, keeps_with};
 use crate::state::State;
 use rbac_sets::{Name, NameSet, Refusal};
 use std::alloc::{AllocError, Global};

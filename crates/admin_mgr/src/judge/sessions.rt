@@ -8,12 +8,12 @@ ghost use Rattle.admin_mgr.specs.Authorization.{is_authorized};
 ghost use Rattle.admin_mgr.specs.Refusals.{first};
 ghost use Rattle.admin_mgr.specs.Verdict.{verdict, create_session_refusals, add_active_role_refusals};
 
-use crate::held::{first_with_all, first_with_one, is_reached};
-use crate::judge::naming::name_violated;
 use crate::judge::set_refusals::member_count;
+use crate::judge::violation::name_violated;
 use crate::limits::{is_full, is_too_many};
 use crate::lookup::are_in;
 use crate::separation_of_duty::SeparationOfDuty;
+use crate::separation_of_duty::by_name::{first_with_all, first_with_one, is_reached};
 use crate::state::State;
 use rbac_sets::{Kind, Name, NameSet, Refusal, has_first};
 use std::alloc::{AllocError, Global};

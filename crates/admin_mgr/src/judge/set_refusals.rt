@@ -8,7 +8,7 @@ ghost use Rattle.admin_mgr.specs.Refusals.{first};
 ghost use Rattle.admin_mgr.specs.private.SeparationOfDuty.{refusal_of};
 ghost use Rattle.admin_mgr.specs.Verdict.{create_set_refusals, add_member_refusals, delete_member_refusals, set_cardinality_refusals};
 
-use crate::judge::naming::copied;
+use crate::judge::violation::copied;
 use crate::limits::{is_full, is_too_many};
 use crate::lookup::{are_in, number_of};
 use crate::separation_of_duty::SeparationOfDuty;

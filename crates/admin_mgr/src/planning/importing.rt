@@ -18,11 +18,11 @@ ghost use Rattle.admin_mgr.specs.Refusals.{first};
 ghost use Rattle.admin_mgr.specs.Run.{tally};
 ghost use Rattle.admin_mgr.specs.Verdict.{verdict};
 
-use crate::held::{is_reached, is_touched};
-use crate::judge::naming::name_violated;
+use crate::judge::violation::name_violated;
 use crate::limits::is_full;
 use crate::plan::{Plan, Report};
 use crate::separation_of_duty::SeparationOfDuty;
+use crate::separation_of_duty::by_name::{is_reached, is_touched};
 use crate::state::State;
 use rbac_sets::{Change, Kind, Name, PairSet, Refusal, Row};
 use role_order::RoleOrder;

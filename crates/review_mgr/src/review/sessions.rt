@@ -23,11 +23,12 @@ pub fn session_roles(alloc: Global, state: &State, session: &Name) -> Result<Vec
     ensures value { IfOk result (λ names. names.items ≡ members (session_roles state.now.facts session.now)) }
     ensures refused { IfErr result (λ refusal. (refusal ≡ Refusal.Memory) ⊎ (refused state.now.facts (SessionRoles session.now) ≡ Some refusal)) }
 {
-    if !has_session(state, session) {
+    let name = session.as_borrowed();
+    if !has_session(state, &name) {
         return Err(Refusal::NoSession);
     }
     state.recall_good();
-    roles_reached(alloc, state.order(), activated_in(state, session))
+    roles_reached(alloc, state.order(), activated_in(state, &name))
 }
 
 /// SessionPermissions: the permissions that are granted to the roles of the session, as pairs
@@ -46,7 +47,8 @@ pub fn session_permissions(
     ensures value { IfOk result (λ permissions. permissions.items ≡ members (session_permissions state.now.facts session.now)) }
     ensures refused { IfErr result (λ refusal. (refusal ≡ Refusal.Memory) ⊎ (refused state.now.facts (SessionPermissions session.now) ≡ Some refusal)) }
 {
-    if !has_session(state, session) {
+    let name = session.as_borrowed();
+    if !has_session(state, &name) {
         return Err(Refusal::NoSession);
     }
     state.recall_good();
@@ -54,6 +56,6 @@ pub fn session_permissions(
         alloc,
         state.order(),
         state.grants(),
-        activated_in(state, session),
+        activated_in(state, &name),
     )
 }

@@ -24,18 +24,41 @@ const (
 	Command  Kind = "command"
 	Question Kind = "question"
 	Local    Kind = "local"
+	// Entry is what is recorded in the one order and changes nothing.
+	Entry Kind = "entry"
 )
 
-// An Answer is what the program answered. On several machines Revision is that of the command's entry in the log, in which it has a
-// place, or that of the last entry before the question.
-type Answer struct {
-	Text     []byte
+// Answers are what the program answered to the calls of a batch that were done, and where in the order.
+type Answers struct {
+	Texts [][]byte
+	Point
+}
+
+// A Point is a place in the order of an office. On several machines Revision is that of a command's entry in the log, in which it has
+// a place, or that of the last entry before a question.
+type Point struct {
 	Revision int64
 	Place    int
 	// Newest is a moment at which the state that answered a question was the newest one.
 	Newest time.Time
 	// Policy is the revision of the policy after a command, or that of the state that answered a question, or 0 if it isn't known.
 	Policy int64
+}
+
+// SetHead says in an answer where in the order it is from, as far as that is known. That of one machine has a policy alone.
+func (p Point) SetHead(head http.Header) {
+	if p.Policy > 0 {
+		head[policyField] = []string{strconv.FormatInt(p.Policy, 10)}
+	}
+	if p.Revision > 0 {
+		head.Set("Office-Revision", strconv.FormatInt(p.Revision, 10))
+	}
+	switch {
+	case !p.Newest.IsZero():
+		head.Set("Office-Age", strconv.FormatFloat(time.Since(p.Newest).Seconds(), 'f', 3, 64))
+	case p.Revision > 0:
+		head.Set("Office-Place", strconv.Itoa(p.Place))
+	}
 }
 
 // A Refusal is what is answered without the office: an HTTP status, a code and its name.
@@ -62,15 +85,17 @@ var (
 	// ForeignHost means that the request was sent to a name that isn't one of this machine.
 	ForeignHost = Refusal{http.StatusMisdirectedRequest, 66, "ForeignHost"}
 	// Outdated means that the policy has changed since the revision that the request names.
-	Outdated        = Refusal{http.StatusPreconditionFailed, 67, "Outdated"}
+	Outdated = Refusal{http.StatusPreconditionFailed, 67, "Outdated"}
+	// Upgrading means that a node has an earlier program, which can't judge this: it can be done when all nodes have a later one.
+	Upgrading       = Refusal{http.StatusServiceUnavailable, 68, "Upgrading"}
 	unknownFunction = Refusal{http.StatusNotFound, 35, "UnknownFunction"}
 )
 
 func badRequest(status int) Refusal { return Refusal{status, 34, "BadRequest"} }
 
-// An Office answers calls. An error that is no Refusal is answered as Unavailable.
+// An Office does batches of calls. An error that is no Refusal is answered as Unavailable.
 type Office interface {
-	Ask(ctx context.Context, kind Kind, call *Call) (Answer, error)
+	Do(ctx context.Context, b Batch) (Answers, error)
 	ServeHealth(w http.ResponseWriter, r *http.Request)
 }
 
@@ -110,40 +135,30 @@ func (h *Handler) Serve(w http.ResponseWriter, r *http.Request, judge Judge, don
 	if err == nil && judge != nil {
 		err = judge(h.ctx, call)
 	}
-	var answer Answer
-	ctx := h.ctx
+	var answers Answers
+	var rule Rule
 	if err == nil {
-		ctx, err = withCondition(ctx, r, h.office)
+		rule, err = RuleOf(r, h.office)
 	}
 	if err == nil {
-		answer, err = h.office.Ask(ctx, kind, call)
+		answers, err = Do(h.ctx, h.office, Batch{Kind: kind, Calls: []*Call{call}, Rule: rule})
 	}
 	done()
-	status := respond(w, kind, answer, err)
+	status := respond(w, answers, err)
 	h.answers.Add(string(kind), strconv.Itoa(status))
 	h.seconds.Observe(string(kind), time.Since(start).Seconds())
 }
 
-// respond writes an answer or an error, and returns its status.
-func respond(w http.ResponseWriter, kind Kind, answer Answer, err error) int {
+// respond writes the answer to a call or an error, and returns its status.
+func respond(w http.ResponseWriter, answers Answers, err error) int {
 	if err != nil {
 		refused := Unavailable
 		_ = errors.As(err, &refused)
 		return Refuse(w, refused)
 	}
-	head := w.Header()
-	SetPolicy(head, answer.Policy)
-	switch {
-	case answer.Revision == 0 && answer.Newest.IsZero():
-		// The office is that of one machine.
-	case kind == Command:
-		head.Set("Office-Revision", strconv.FormatInt(answer.Revision, 10))
-		head.Set("Office-Place", strconv.Itoa(answer.Place))
-	default:
-		head.Set("Office-Revision", strconv.FormatInt(answer.Revision, 10))
-		head.Set("Office-Age", strconv.FormatFloat(time.Since(answer.Newest).Seconds(), 'f', 3, 64))
-	}
-	return write(w, StatusOf(answer.Text), answer.Text)
+	answers.SetHead(w.Header())
+	text := answers.Texts[0]
+	return write(w, StatusOf(text), text)
 }
 
 // Refuse answers a request without the office, and returns the status. If nothing else is said, only POST is allowed.
@@ -202,8 +217,8 @@ func read(r *http.Request) (Kind, *Call, error) {
 	if err := judgeHead(r, known); err != nil {
 		return kind, nil, err
 	}
-	if kind == Question && r.Header.Get("Consistency") == "local" {
-		kind = Local
+	if kind == Question {
+		kind = kindOf(r)
 	}
 	body, err := io.ReadAll(r.Body)
 	if err != nil {
@@ -213,13 +228,34 @@ func read(r *http.Request) (Kind, *Call, error) {
 	return kind, call, err
 }
 
+// KindOfQuestions returns how the questions of a request are to be answered, or refuses what it says of that.
+func KindOfQuestions(r *http.Request) (Kind, error) {
+	if !isConsistency(r.Header.Get(consistencyField)) {
+		return Question, badRequest(http.StatusBadRequest)
+	}
+	return kindOf(r), nil
+}
+
+// consistencyField is the field of a request that says how new the state has to be that answers a question.
+const consistencyField = "Consistency"
+
+func kindOf(r *http.Request) Kind {
+	if r.Header.Get(consistencyField) == string(Local) {
+		return Local
+	}
+	return Question
+}
+
+func isConsistency(text string) bool {
+	return text == "" || text == string(Local) || text == "linearizable"
+}
+
 // judgeHead refuses a head that `rbac serve` would refuse.
 func judgeHead(r *http.Request, known bool) error {
 	fields := 1 // The library keeps Host apart.
 	for _, values := range r.Header {
 		fields += len(values)
 	}
-	consistency := r.Header.Get("Consistency")
 	switch {
 	case fields > maxFields:
 		return badRequest(http.StatusRequestHeaderFieldsTooLarge)
@@ -233,7 +269,7 @@ func judgeHead(r *http.Request, known bool) error {
 		return badRequest(http.StatusLengthRequired)
 	case r.ContentLength > maxBodyBytes:
 		return badRequest(http.StatusRequestEntityTooLarge)
-	case consistency != "" && consistency != "local" && consistency != "linearizable":
+	case !isConsistency(r.Header.Get(consistencyField)):
 		return badRequest(http.StatusBadRequest)
 	}
 	return nil

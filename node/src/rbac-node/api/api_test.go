@@ -21,9 +21,9 @@ type fakeOffice struct {
 	newest time.Time
 }
 
-func (f *fakeOffice) Ask(_ context.Context, kind Kind, call *Call) (Answer, error) {
-	f.lines = append(f.lines, string(kind)+" "+string(call.Line))
-	return Answer{Text: []byte(`{"ok":true}`), Newest: f.newest}, nil
+func (f *fakeOffice) Do(_ context.Context, b Batch) (Answers, error) {
+	f.lines = append(f.lines, string(b.Kind)+" "+string(b.Calls[0].Line))
+	return Answers{[][]byte{[]byte(`{"ok":true}`)}, Point{Newest: f.newest}}, nil
 }
 
 func (f *fakeOffice) ServeHealth(http.ResponseWriter, *http.Request) {}

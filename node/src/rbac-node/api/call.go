@@ -11,39 +11,10 @@ import (
 	"rbac-node/office"
 )
 
-// The functions of an office with their keys. A command changes the office if it is accepted, a question changes
-// nothing. The value at roles is a list of texts, that at cardinality a number, and all others are texts.
-const (
-	commands = `
-	user: addUser deleteUser lockUserAccount unlockUserAccount
-	role: addRole deleteRole
-	object: addPermObj deletePermObj
-	object operation: addPermission deletePermission
-	object operation role: grantPermission revokePermission
-	user role: assignUser deassignUser
-	asc desc: addInheritance deleteInheritance addAscendant addDescendant
-	set roles cardinality: createSsdSet createDsdSet
-	set role: addSsdRoleMember deleteSsdRoleMember addDsdRoleMember deleteDsdRoleMember
-	set cardinality: setSsdSetCardinality setDsdSetCardinality
-	set: deleteSsdSet deleteDsdSet
-	user roles session: createSession
-	user session: deleteSession
-	user session role: addActiveRole dropActiveRole
-	csv: importAssignments
-`
-	questions = `
-	session operation object: checkAccess
-	role: assignedUsers authorizedUsers rolePermissions
-	user: assignedRoles authorizedRoles userPermissions
-	session: sessionRoles sessionPermissions
-	role object: roleOperationsOnObject
-	user object: userOperationsOnObject
-	object operation: permissionRoles
-	set: ssdRoleSetRoles ssdRoleSetCardinality dsdRoleSetRoles dsdRoleSetCardinality
-	: ssdRoleSets dsdRoleSets
-`
-	importer = "importAssignments"
-)
+// importer is the function whose body is CSV. bin/commands writes the tables of all functions in table.go: a command changes the office
+// if it is accepted, a question changes nothing. The value at roles is a list of texts, that at cardinality a number, and all others are
+// texts.
+const importer = "importAssignments"
 
 // A function is one of the office: how it is answered, and its keys.
 type function struct {
@@ -79,6 +50,8 @@ type Call struct {
 	Line  []byte
 	// Caller is who asks, and Reason why, if it has said so.
 	Caller, Reason string
+	// Seen is called when the call has been answered, at its place in the order. It must not wait. It may be nil.
+	Seen func()
 }
 
 // ParseLine reads a line that names its function.
@@ -170,7 +143,7 @@ func (c *Call) write(cardinality []byte) error {
 
 // fieldsOf reads an object of JSON, and refuses what the office refuses as no JSON, even at keys that it ignores.
 func fieldsOf(text []byte) (found map[string]json.RawMessage, err error) {
-	if found, isFlat := flatFields(text); isFlat {
+	if found, isPlain := plainFields(text); isPlain {
 		return found, nil
 	}
 	if !isStrict(text) || json.Unmarshal(text, &found) != nil || found == nil {
@@ -253,11 +226,22 @@ func textOf(value json.RawMessage) (text string, err error) {
 	return text, nil
 }
 
-// textsOf returns the texts of a list that is written as JSON.
-func textsOf(value json.RawMessage) ([]string, error) {
-	var list []json.RawMessage
+// itemsOf returns the values of a list that is written as JSON.
+func itemsOf(value json.RawMessage) (list []json.RawMessage, err error) {
+	if list, isPlain := plainItems(value); isPlain {
+		return list, nil
+	}
 	if json.Unmarshal(value, &list) != nil || list == nil {
 		return nil, badRequest(http.StatusBadRequest)
+	}
+	return list, nil
+}
+
+// textsOf returns the texts of a list that is written as JSON.
+func textsOf(value json.RawMessage) ([]string, error) {
+	list, err := itemsOf(value)
+	if err != nil {
+		return nil, err
 	}
 	texts := make([]string, len(list))
 	for i, one := range list {

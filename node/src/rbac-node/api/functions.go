@@ -19,10 +19,17 @@ const (
 	Lists, Snapshot, Watch = "lists", "snapshot", "watch"
 	// Record reads who has asked for which command.
 	Record = "record"
+	// WhatIf tries commands over a copy of the office, and Review ends a review of who has what.
+	WhatIf, Review = "whatIf", "review"
+	// Reports reads reports as files.
+	Reports = "reports"
 )
 
 // others has the keys of these operations.
-var others = map[string][]string{DecideByUser: {"user", "operation", "object"}, Lists: nil, Snapshot: nil, Watch: nil, Record: nil}
+var others = map[string][]string{
+	DecideByUser: {"user", "operation", "object"}, Lists: nil, Snapshot: nil, Watch: nil, Record: nil, WhatIf: nil, Review: nil,
+	Reports: nil,
+}
 
 // IsOther reports whether an operation is one of these.
 func IsOther(name string) bool {
@@ -56,6 +63,9 @@ func Functions() (names []string) {
 	return names
 }
 
+// NewEntry makes a call that changes nothing and is recorded as a text of JSON.
+func NewEntry(name string, text []byte) *Call { return &Call{Function: name, Kind: Entry, Line: text} }
+
 // NewCall makes a call of a function all of whose values are texts: its keys, each followed by its text.
 func NewCall(name string, pairs ...string) (*Call, error) {
 	called, known := functions[name]
@@ -66,16 +76,6 @@ func NewCall(name string, pairs ...string) (*Call, error) {
 	for i := 0; i+1 < len(pairs); i += 2 {
 		call.Texts[pairs[i]] = pairs[i+1]
 	}
-	return call, call.write(nil)
-}
-
-// NewCallOfRoles is NewCall for a function that has a list of roles as well.
-func NewCallOfRoles(name string, roles []string, pairs ...string) (*Call, error) {
-	call, err := NewCall(name, pairs...)
-	if err != nil {
-		return nil, err
-	}
-	call.Roles = roles
 	return call, call.write(nil)
 }
 

@@ -47,6 +47,9 @@ func Text(value json.RawMessage) (string, error) { return textOf(value) }
 // Texts returns the texts of a list that is written as JSON.
 func Texts(value json.RawMessage) ([]string, error) { return textsOf(value) }
 
+// Items returns the values of a list that is written as JSON.
+func Items(value json.RawMessage) ([]json.RawMessage, error) { return itemsOf(value) }
+
 // RefusalText returns a refusal as the office writes it.
 func RefusalText(code int, name string) []byte {
 	return []byte(fmt.Sprintf(`{"code":%d,"error":"%s"}`, code, name))

@@ -62,8 +62,10 @@ func (e *Endpoints) evaluations(r *request) (int, error) {
 		return 0, err
 	}
 	var list []json.RawMessage
-	if value, has := fields["evaluations"]; has && (json.Unmarshal(value, &list) != nil || list == nil) {
-		return 0, errNotRead
+	if value, has := fields["evaluations"]; has {
+		if list, err = api.Items(value); err != nil {
+			return 0, err
+		}
 	}
 	if len(list) == 0 {
 		return e.evaluateOne(r, fields)

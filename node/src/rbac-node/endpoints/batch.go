@@ -2,14 +2,12 @@ package endpoints
 
 import (
 	"bytes"
-	"context"
 	"errors"
 	"net/http"
 	"net/url"
 	"strconv"
 
 	"rbac-node/api"
-	"rbac-node/state"
 )
 
 // batch does the lines of a body in their order, with nothing between them. If a line can't be read or may not be done, none is.
@@ -33,35 +31,64 @@ func (e *Endpoints) batch(r *request) (int, error) {
 	if err != nil {
 		return 0, err
 	}
-	ctx, err := api.WithCondition(r.ctx, r.Request, e.office)
+	rule, err := api.RuleOf(r.Request, e.office)
 	if err != nil {
 		return 0, err
 	}
-	answers, numbers, err := e.do(ctx, calls, isStopped)
+	rule.IsStopped = isStopped
+	answers, err := e.do(r, rule, calls)
 	if err != nil {
 		return 0, err
 	}
 	r.done()
-	api.SetPolicy(r.w.Header(), numbers.Policy)
 	return writeLines(r.w, answers), nil
 }
 
-// do returns the answers to calls, up to the first that is refused if that ends them, and the numbers after them.
-func (e *Endpoints) do(ctx context.Context, calls []*api.Call, isStopped bool) ([][]byte, state.Numbers, error) {
-	if !isStopped {
-		return e.office.AskAll(ctx, calls...)
+// do returns the answers to the lines of a batch, up to the first that is refused if that ends them.
+func (e *Endpoints) do(r *request, rule api.Rule, lines []*api.Call) ([][]byte, error) {
+	if len(lines) == 0 {
+		return nil, nil
 	}
-	var answers [][]byte // The function may outlive the request.
-	var numbers state.Numbers
-	err := e.office.Turn(ctx, func(turn Turn) (err error) {
-		answers, err = untilRefused(turn, calls)
-		numbers = turn.Numbers()
-		return err
-	})
+	var queries []*query // nil for a line that the office itself answers
+	var asked []*api.Call
+	views, hasQuery := make([]view, len(lines)), false
+	for i, line := range lines {
+		queries = append(queries, nil)
+		if line.Function != api.DecideByUser {
+			asked = append(asked, line)
+			continue
+		}
+		q := &query{user: line.Texts["user"], operation: line.Texts["operation"], object: line.Texts["object"]}
+		questions, err := e.questionsAbout(q, &views[i])
+		if err != nil {
+			return nil, err
+		}
+		queries[i], hasQuery = q, true
+		asked = append(asked, questions...)
+	}
+	if hasQuery && rule.IsStopped && api.NewBatch(r.kind, lines...).Kind == api.Command {
+		return nil, errNotRead // The office doesn't know whether such a line is refused.
+	}
+	found, err := e.ask(r, rule, asked...)
 	if err != nil {
-		return nil, state.Numbers{}, err
+		return nil, err
 	}
-	return answers, numbers, nil
+	var answers [][]byte
+	for i := 0; len(found) > 0; i++ {
+		if queries[i] == nil {
+			answers, found = append(answers, found[0]), found[1:]
+		} else {
+			decided, err := queries[i].find(found[:askedOfUser], views[i])
+			if err != nil {
+				return nil, err
+			}
+			answers, found = append(answers, decided.text()), found[askedOfUser:]
+		}
+		if rule.IsStopped && !api.IsAccepted(answers[i]) {
+			break
+		}
+	}
+	return answers, nil
 }
 
 // readStop reads from the target of a request whether a batch ends after the first line that is refused.
@@ -77,28 +104,6 @@ func readStop(target string) (bool, error) {
 		return true, nil
 	}
 	return false, api.BadRequest(http.StatusBadRequest)
-}
-
-// untilRefused asks for calls until one is refused. Questions change nothing, so those that follow one another are asked at once.
-func untilRefused(turn Turn, calls []*api.Call) (answers [][]byte, err error) {
-	for len(calls) > 0 {
-		count := 1
-		for calls[0].Kind == api.Question && count < len(calls) && calls[count].Kind == api.Question {
-			count++
-		}
-		found, err := turn.Ask(calls[:count]...)
-		if err != nil {
-			return nil, err
-		}
-		for _, answer := range found {
-			answers = append(answers, answer)
-			if !api.IsAccepted(answer) {
-				return answers, nil
-			}
-		}
-		calls = calls[count:]
-	}
-	return answers, nil
 }
 
 // writeLines answers a request with lines of JSON.

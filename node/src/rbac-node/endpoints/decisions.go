@@ -50,21 +50,18 @@ func readQuery(fields map[string]json.RawMessage, keys ...string) (q query, err 
 
 // decideAll decides queries of a visitor at one place in the order.
 func (e *Endpoints) decideAll(r *request, queries []query) ([]decision, error) {
-	calls := make([]*api.Call, len(queries))
+	calls, views := make([]*api.Call, len(queries)), make([]view, len(queries))
 	var asked []*api.Call
-	for i, one := range queries {
+	for i := range queries {
 		var err error
-		if calls[i], err = one.call(); err != nil {
+		if calls[i], err = queries[i].call(); err != nil {
 			return nil, err
 		}
-		if one.user == "" {
+		if queries[i].user == "" {
 			asked = append(asked, calls[i])
 			continue
 		}
-		if e.office.State() == nil {
-			return nil, errNoState
-		}
-		questions, err := one.questions()
+		questions, err := e.questionsAbout(&queries[i], &views[i])
 		if err != nil {
 			return nil, err
 		}
@@ -73,21 +70,25 @@ func (e *Endpoints) decideAll(r *request, queries []query) ([]decision, error) {
 	if err := r.may(calls...); err != nil {
 		return nil, err
 	}
-	views := make([]view, len(queries))
-	answers, err := e.office.Observe(r.ctx, func() { e.lookAll(queries, views) }, asked...)
+	answers, err := e.ask(r, api.Rule{}, asked...)
 	if err != nil {
 		return nil, err
 	}
 	return decisionsOf(queries, answers, views)
 }
 
-// lookAll notes what is known of the office for queries about users.
-func (e *Endpoints) lookAll(queries []query, views []view) {
-	for i, one := range queries {
-		if one.user != "" {
-			views[i] = one.look(e.office.State())
-		}
+// questionsAbout returns what is asked for a query about a user, and notes what is known of the office at its place.
+func (e *Endpoints) questionsAbout(q *query, seen *view) ([]*api.Call, error) {
+	s := e.office.State()
+	if s == nil {
+		return nil, errNoState
 	}
+	questions, err := q.questions()
+	if err != nil {
+		return nil, err
+	}
+	questions[len(questions)-1].Seen = func() { *seen = q.look(s) }
+	return questions, nil
 }
 
 // decisionsOf returns the decisions about queries by the answers to what was asked for them.

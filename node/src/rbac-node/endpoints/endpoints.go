@@ -14,22 +14,11 @@ import (
 	"rbac-node/state"
 )
 
-// A Turn is a part of the order of an office in which no command of other clients is done.
-type Turn interface {
-	// Ask returns the answers to some calls, with nothing of other clients between them.
-	Ask(calls ...*api.Call) ([][]byte, error)
-	// Numbers returns the numbers of this moment.
-	Numbers() state.Numbers
-}
-
 // An Office is what the endpoints ask.
 type Office interface {
-	// AskAll returns the answers to some calls, with nothing of other clients between them, and the numbers after them.
-	AskAll(ctx context.Context, calls ...*api.Call) ([][]byte, state.Numbers, error)
-	// Observe is AskAll for questions. The function is called at their place in the order. It must not wait.
-	Observe(ctx context.Context, observed func(), questions ...*api.Call) ([][]byte, error)
-	// Turn calls a function when all commands before are done. Those of others wait until it returns.
-	Turn(ctx context.Context, do func(Turn) error) error
+	api.Office
+	// Await returns when the state has all that questions of a kind have to see.
+	Await(ctx context.Context, kind api.Kind) (api.Point, error)
 	// State returns what is known of the office, or nil. IsReady reports whether the office answers.
 	State() *state.State
 	IsReady() bool
@@ -67,11 +56,13 @@ type Endpoints struct {
 	life   context.Context
 	office Office
 	at     map[string]endpoint
+	// tickets let reports be read.
+	tickets *tickets
 }
 
 // New returns endpoints that answer until the context ends.
 func New(life context.Context, office Office, options Options) *Endpoints {
-	e := &Endpoints{Options: options, life: life, office: office}
+	e := &Endpoints{Options: options, life: life, office: office, tickets: newTickets()}
 	e.add()
 	return e
 }
@@ -83,6 +74,8 @@ type request struct {
 	w       http.ResponseWriter
 	ctx     context.Context
 	visitor Visitor
+	// kind is how questions are to be answered.
+	kind api.Kind
 }
 
 // An endpoint is what is at a path: how a request is counted, its methods, and what answers it and returns the status, or an error
@@ -109,6 +102,8 @@ func (e *Endpoints) add() {
 		"/record":                {"list", get, e.record},
 		"/room":                  {"list", get, e.room},
 		"/picture":               {"picture", get, e.picture},
+		"/what-if":               {"trial", post, e.whatIf},
+		"/reviews":               {"command", post, e.endReview},
 	}
 }
 
@@ -120,6 +115,9 @@ func (e *Endpoints) find(target string) (found endpoint, has bool) {
 	}
 	if strings.HasPrefix(path, listsPath) {
 		return endpoint{"list", get, e.list}, true
+	}
+	if strings.HasPrefix(path, reportsPath) {
+		return endpoint{"report", post, e.report}, true
 	}
 	found, has = e.at[path]
 	return found, has
@@ -138,13 +136,18 @@ func (e *Endpoints) Serve(w http.ResponseWriter, r *http.Request, visitor Visito
 	start := time.Now()
 	at, _ := e.find(r.RequestURI)
 	sign := func(call *api.Call) error { return e.Sign(r, visitor, call) }
-	asked := &request{r, sign, w, e.life, visitor}
+	kind, err := api.KindOfQuestions(r)
+	asked := &request{r, sign, w, e.life, visitor, kind}
 	if id := r.Header.Get("X-Request-ID"); id != "" && strings.HasPrefix(r.URL.Path, "/access/") {
 		w.Header().Set("X-Request-ID", id)
 	}
-	status, err := 0, error(api.BadRequest(http.StatusMethodNotAllowed))
-	if has(at.methods, r.Method) {
+	status := 0
+	switch {
+	case err != nil:
+	case has(at.methods, r.Method):
 		status, err = at.answer(asked)
+	default:
+		err = api.BadRequest(http.StatusMethodNotAllowed)
 	}
 	asked.done()
 	if err != nil {
@@ -167,15 +170,33 @@ func has(methods []string, method string) bool {
 	return false
 }
 
-// known returns what is known of the office, if it answers: nothing is said about an office that may have changed.
-func (e *Endpoints) known() (*state.State, error) {
+// known returns what is known of the office, if it answers: nothing is said about an office that may have changed. The head of the
+// answer says how old that may be.
+func (e *Endpoints) known(r *request) (*state.State, error) {
 	switch {
 	case e.office.State() == nil:
 		return nil, errNoState
 	case !e.office.IsReady():
 		return nil, api.Unavailable
 	}
+	at, err := e.office.Await(r.ctx, r.kind)
+	if err != nil {
+		return nil, err
+	}
+	at.SetHead(r.w.Header())
 	return e.office.State(), nil
+}
+
+// ask does calls as a rule says. The head of the answer says where in the order they were done.
+func (e *Endpoints) ask(r *request, rule api.Rule, calls ...*api.Call) ([][]byte, error) {
+	b := api.NewBatch(r.kind, calls...)
+	b.Rule = rule
+	answers, err := api.Do(r.ctx, e.office, b)
+	if err != nil {
+		return nil, err
+	}
+	answers.SetHead(r.w.Header())
+	return answers.Texts, nil
 }
 
 // may refuses calls unless the visitor may do all of them.

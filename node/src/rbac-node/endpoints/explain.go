@@ -40,8 +40,8 @@ func (e *Endpoints) explain(r *request) (int, error) {
 	if err != nil {
 		return 0, err
 	}
-	if _, err := e.known(); err != nil {
-		return 0, err
+	if e.office.State() == nil {
+		return 0, errNoState
 	}
 	if command, isThere := fields["command"]; isThere {
 		return e.explainCommand(r, command)
@@ -83,9 +83,9 @@ func (e *Endpoints) explainedUser(r *request, q query) (told *explanation, refus
 	}
 	var seen view
 	var assigned []string
-	answers, err := e.office.Observe(r.ctx, func() {
-		seen, assigned = q.look(e.office.State()), e.office.State().AssignedRoles(q.user)
-	}, questions...)
+	s := e.office.State()
+	questions[len(questions)-1].Seen = func() { seen, assigned = q.look(s), s.AssignedRoles(q.user) }
+	answers, err := e.ask(r, api.Rule{}, questions...)
 	if err != nil {
 		return nil, nil, err
 	}
@@ -126,11 +126,13 @@ func (e *Endpoints) explainedSession(r *request, q query, base *api.Call) (told 
 	var graph *state.Graph
 	var session state.Session
 	var assigned []string
-	answers, err := e.office.Observe(r.ctx, func() {
-		graph = e.office.State().Graph()
-		session, _ = e.office.State().Session(q.session)
-		assigned = e.office.State().AssignedRoles(session.User)
-	}, base, granted, roles)
+	s := e.office.State()
+	roles.Seen = func() {
+		graph = s.Graph()
+		session, _ = s.Session(q.session)
+		assigned = s.AssignedRoles(session.User)
+	}
+	answers, err := e.ask(r, api.Rule{}, base, granted, roles)
 	if err != nil {
 		return nil, nil, err
 	}

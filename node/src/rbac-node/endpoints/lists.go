@@ -32,7 +32,8 @@ func (e *Endpoints) list(r *request) (int, error) {
 	if err := r.may(api.NewOther(api.Lists)); err != nil {
 		return 0, err
 	}
-	if _, err := e.known(); err != nil {
+	s, err := e.known(r)
+	if err != nil {
 		return 0, err
 	}
 	name := strings.TrimPrefix(r.URL.Path, listsPath)
@@ -40,54 +41,60 @@ func (e *Endpoints) list(r *request) (int, error) {
 	if err != nil {
 		return 0, err
 	}
-	found, numbers, err := e.page(r, name, query)
+	found, err := e.page(r, s, name, query)
 	if err != nil {
 		return 0, err
 	}
-	api.SetPolicy(r.w.Header(), numbers.Policy)
 	return r.reply(http.StatusOK, found.text()), nil
 }
 
 // page returns the rows of a list that are wanted.
-func (e *Endpoints) page(r *request, name string, query listQuery) (page, state.Numbers, error) {
-	s := e.office.State()
+func (e *Endpoints) page(r *request, s *state.State, name string, query listQuery) (page, error) {
 	switch {
 	case name == "sessions":
 		sessions, numbers := s.Sessions()
-		return pageOfSessions(sessions, query.Query), numbers, nil
+		r.isAt(numbers)
+		return pageOfSessions(sessions, query.Query), nil
 	case name == "staticSets" || name == "dynamicSets":
 		sets, numbers := s.Sets(name == "staticSets")
-		return pageOfSets(sets, query.Query), numbers, nil
+		r.isAt(numbers)
+		return pageOfSets(sets, query.Query), nil
 	case query.holder != nil:
-		rows, numbers, err := e.permissionsOf(r, query.holder)
+		rows, err := e.permissionsOf(r, query.holder)
 		if err != nil {
-			return page{}, numbers, err
+			return page{}, err
 		}
 		found, hasMore := query.Select(name, rows)
-		return pageOfRows(name, found, hasMore), numbers, nil
+		return pageOfRows(name, found, hasMore), nil
 	}
 	rows, hasMore, numbers := s.Rows(name, query.Query)
-	return pageOfRows(name, rows, hasMore), numbers, nil
+	r.isAt(numbers)
+	return pageOfRows(name, rows, hasMore), nil
+}
+
+// isAt says in the head of the answer which revision of the policy it is from.
+func (r *request) isAt(numbers state.Numbers) {
+	api.Point{Policy: numbers.Policy}.SetHead(r.w.Header())
 }
 
 // permissionsOf returns the permissions of a user or a role, as the office answers them.
-func (e *Endpoints) permissionsOf(r *request, holder *api.Call) (rows []state.Row, numbers state.Numbers, err error) {
-	answers, err := e.office.Observe(r.ctx, func() { numbers = e.office.State().Numbers() }, holder)
+func (e *Endpoints) permissionsOf(r *request, holder *api.Call) (rows []state.Row, err error) {
+	answers, err := e.ask(r, api.Rule{}, holder)
 	if err != nil {
-		return nil, state.Numbers{}, err
+		return nil, err
 	}
 	if !api.IsAccepted(answers[0]) {
 		code, name := api.CodeOf(answers[0])
-		return nil, numbers, api.Refusal{Status: api.StatusOf(answers[0]), Code: code, Name: name}
+		return nil, api.Refusal{Status: api.StatusOf(answers[0]), Code: code, Name: name}
 	}
 	var pairs [][2]string
 	if err := api.ValueOf(answers[0], &pairs); err != nil {
-		return nil, numbers, err
+		return nil, err
 	}
 	for _, one := range pairs {
 		rows = append(rows, state.Row{one[0], one[1]})
 	}
-	return rows, numbers, nil
+	return rows, nil
 }
 
 // A listQuery is what a request wants of a list. holder asks for the permissions of a user or a role, or is nil.

@@ -40,8 +40,9 @@ func (e *Endpoints) picture(r *request) (int, error) {
 	if err := r.may(api.NewOther(api.Lists)); err != nil {
 		return 0, err
 	}
-	if e.office.State() == nil {
-		return 0, errNoState
+	s, err := e.known(r)
+	if err != nil {
+		return 0, err
 	}
 	query, err := readPictureQuery(r.URL.RawQuery)
 	if err != nil {
@@ -51,7 +52,7 @@ func (e *Endpoints) picture(r *request) (int, error) {
 	if err != nil {
 		return 0, errNoState
 	}
-	part, err := query.part(e.office.State())
+	part, err := query.part(s)
 	if err != nil {
 		return 0, err
 	}

@@ -56,9 +56,13 @@ func (e *Endpoints) record(r *request) (int, error) {
 func (r *request) replyRecord(page recorded.Page) (int, error) {
 	value := struct {
 		Entries []entry `json:"entries"`
+		First   int64   `json:"first,omitempty"`
 		Head    string  `json:"head"`
 		Next    int64   `json:"next,omitempty"`
 	}{Entries: []entry{}, Head: page.Head}
+	if page.First > 1 {
+		value.First = page.First
+	}
 	for _, one := range page.Entries {
 		value.Entries = append(value.Entries, entry{
 			json.RawMessage(one.Answer), one.At, one.Caller, one.IsFound, one.N, one.Reason, json.RawMessage(one.Request),

@@ -10,11 +10,12 @@ func (e *Endpoints) room(r *request) (int, error) {
 	if err := r.may(api.NewOther(api.Lists)); err != nil {
 		return 0, err
 	}
-	if e.office.State() == nil {
-		return 0, errNoState
+	s, err := e.known(r)
+	if err != nil {
+		return 0, err
 	}
-	rooms, numbers := e.office.State().Rooms()
-	api.SetPolicy(r.w.Header(), numbers.Policy)
+	rooms, numbers := s.Rooms()
+	r.isAt(numbers)
 	return r.replyValue(struct {
 		Room []state.Room `json:"room"`
 	}{rooms})

@@ -47,7 +47,11 @@ func (e *Endpoints) explainCommand(r *request, line json.RawMessage) (int, error
 	if err := r.may(call); err != nil {
 		return 0, err
 	}
-	found := e.office.State().Conflicts(call)
+	s, err := e.known(r)
+	if err != nil {
+		return 0, err
+	}
+	found := s.Conflicts(call)
 	told := separation{Refused: len(found) > 0}
 	for _, one := range found {
 		if r.mayAskAll(setFunctions(one.IsStatic)...) {

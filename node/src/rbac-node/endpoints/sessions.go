@@ -9,7 +9,6 @@ import (
 	"strings"
 
 	"rbac-node/api"
-	"rbac-node/state"
 )
 
 // randomBytes is how many random bytes the name of a session has. It is written with twice as many digits.
@@ -33,14 +32,18 @@ type left struct {
 
 // An opening is the making of a session.
 type opening struct {
-	request *request
-	turn    Turn
-	user    string
+	*request
+	endpoints *Endpoints
+	rule      api.Rule
+	user      string
 	// wanted has the roles that the client has named, if it has named any.
 	wanted  []string
 	hasList bool
 	made    made
 }
+
+// mostOpenings is how often a session is tried whose user is assigned to other roles when its turn comes.
+const mostOpenings = 10
 
 // makeSession makes a session with a random name and as many of a user's roles as the caller may give and the office accepts.
 func (e *Endpoints) makeSession(r *request) (int, error) {
@@ -52,23 +55,14 @@ func (e *Endpoints) makeSession(r *request) (int, error) {
 	if err != nil {
 		return 0, err
 	}
-	o.request = r
-	ctx, err := api.WithCondition(r.ctx, r.Request, e.office)
+	o.request, o.endpoints = r, e
+	if o.rule, err = api.RuleOf(r.Request, e.office); err != nil {
+		return 0, err
+	}
+	refused, err := o.open()
 	if err != nil {
 		return 0, err
 	}
-	var refused []byte // The function may outlive the request.
-	var numbers state.Numbers
-	err = e.office.Turn(ctx, func(turn Turn) (err error) {
-		o.turn = turn
-		refused, err = o.open()
-		numbers = turn.Numbers()
-		return err
-	})
-	if err != nil {
-		return 0, err
-	}
-	api.SetPolicy(r.w.Header(), numbers.Policy)
 	if refused != nil {
 		return r.reply(api.StatusOf(refused), refused), nil
 	}
@@ -102,74 +96,122 @@ func readOpening(fields map[string]json.RawMessage) (*opening, error) {
 	return o, nil
 }
 
-// open makes the session, or returns how the office refuses it.
+// open makes the session, or returns how the office refuses it. The roles that the user is assigned to are asked before: if they are
+// others when the turn of the session comes, nothing is done, and it is tried again with those.
 func (o *opening) open() (refused []byte, err error) {
-	wanted, refused, err := o.roles()
-	if err != nil || refused != nil {
-		return refused, err
-	}
-	given, err := o.mayGive(wanted)
-	if err != nil {
-		return nil, err
-	}
-	create, err := o.call("createSession", nil)
-	if err != nil {
-		return nil, err
-	}
-	if len(given) == 0 {
-		// Only who may make any session may make one without roles, or may be told why it can't be made.
-		if err := o.request.may(create); err != nil {
+	if o.hasList {
+		answers, err := o.do(o.wanted)
+		if err != nil {
 			return nil, err
 		}
-	} else if err := o.request.sign(create); err != nil {
-		return nil, err
-	}
-	answers, err := o.turn.Ask(create)
-	if err != nil {
-		return nil, err
-	}
-	if !api.IsAccepted(answers[0]) {
-		return answers[0], nil
-	}
-	return o.activate(given)
-}
-
-// roles returns the roles that are to be activated, in the order of preference.
-func (o *opening) roles() (roles []string, refused []byte, err error) {
-	if o.hasList {
-		return o.wanted, nil, nil
+		return o.read(answers)
 	}
 	assigned, err := api.NewCall("assignedRoles", "user", o.user)
 	if err != nil {
-		return nil, nil, err
+		return nil, err
 	}
-	answers, err := o.turn.Ask(assigned)
-	if err != nil {
-		return nil, nil, err
-	}
-	if !api.IsAccepted(answers[0]) {
-		// A caller who may only make sessions for some roles isn't told who is a user.
-		create, err := o.call("createSession", nil)
-		if err == nil {
-			err = o.request.may(create)
+	answers, err := o.endpoints.ask(o.request, api.Rule{}, assigned)
+	for tried := 0; err == nil && tried < mostOpenings; tried++ {
+		var roles []string
+		if !api.IsAccepted(answers[0]) {
+			return answers[0], o.mayMakeAny()
 		}
-		return nil, answers[0], err
+		if err = api.ValueOf(answers[0], &roles); err != nil {
+			return nil, err
+		}
+		o.rule.Expected = string(answers[0])
+		if answers, err = o.do(roles, assigned); err == nil && len(answers) > 1 {
+			return o.read(answers[1:])
+		}
 	}
-	err = api.ValueOf(answers[0], &roles)
-	return roles, nil, err
+	if err == nil {
+		err = api.Unavailable
+	}
+	return nil, err
+}
+
+// mayMakeAny refuses a caller who may only make sessions for some roles: it isn't told who is a user, or why there is no session.
+func (o *opening) mayMakeAny() error {
+	create, err := o.call("createSession")
+	if err != nil {
+		return err
+	}
+	return o.may(create)
+}
+
+// do opens the session with those of some roles that the caller may give. Some calls come before.
+func (o *opening) do(roles []string, before ...*api.Call) ([][]byte, error) {
+	o.made.Left = []left{}
+	var err error
+	if o.made.Roles, err = o.mayGive(roles); err != nil {
+		return nil, err
+	}
+	if len(o.made.Roles) == 0 {
+		if err := o.mayMakeAny(); err != nil {
+			return nil, err
+		}
+	}
+	calls := before
+	add := func(function string, pairs ...string) {
+		call, failed := o.call(function, pairs...)
+		if failed == nil {
+			failed = o.sign(call)
+		}
+		if failed != nil && err == nil {
+			err = failed
+		}
+		calls = append(calls, call)
+	}
+	add("createSession")
+	for _, role := range o.made.Roles {
+		add("addActiveRole", "role", role)
+	}
+	add("deleteSession")
+	if err != nil {
+		return nil, err
+	}
+	o.rule.IsOpening = true
+	return o.endpoints.ask(o.request, o.rule, calls...)
+}
+
+// read reads the answers to createSession and to the activation of each role. If none of several was accepted, there is no session.
+func (o *opening) read(answers [][]byte) (refused []byte, err error) {
+	if !api.IsAccepted(answers[0]) {
+		return answers[0], nil
+	}
+	tried := o.made.Roles
+	o.made.Roles = []string{}
+	for i, role := range tried {
+		answer := answers[i+1]
+		if api.IsAccepted(answer) {
+			o.made.Roles = append(o.made.Roles, role)
+			continue
+		}
+		refused = answer
+		one := left{Role: role}
+		if err := json.Unmarshal(answer, &one); err != nil {
+			return nil, fmt.Errorf("the answer %s: %w", answer, err)
+		}
+		o.made.Left = append(o.made.Left, one)
+	}
+	if len(o.made.Roles) > 0 {
+		return nil, nil
+	}
+	return refused, nil
 }
 
 // mayGive returns those of some roles that the caller may give to a session. The others are left out. They are named if the client has
 // named them, or may ask which roles the user has.
 func (o *opening) mayGive(roles []string) (given []string, err error) {
 	assigned := api.NewOther("assignedRoles", "user", o.user)
-	isNamed := o.hasList || o.request.may(assigned) == nil
+	isNamed := o.hasList || o.may(assigned) == nil
 	for _, role := range roles {
-		call, err := o.call("createSession", []string{role})
+		call, err := o.call("createSession")
 		if err != nil {
 			return nil, err
 		}
-		switch err := o.request.may(call); {
+		call.Roles = []string{role}
+		switch err := o.may(call); {
 		case err == nil:
 			given = append(given, role)
 		case err != api.Forbidden:
@@ -181,54 +223,8 @@ func (o *opening) mayGive(roles []string) (given []string, err error) {
 	return given, nil
 }
 
-// activate activates as many roles as the office accepts, one after the other. If it accepts none of several, there is no session.
-func (o *opening) activate(roles []string) (refused []byte, err error) {
-	calls := make([]*api.Call, len(roles))
-	for i, role := range roles {
-		if calls[i], err = api.NewCall("addActiveRole", "user", o.user, "session", o.made.Session, "role", role); err != nil {
-			return nil, err
-		}
-		if err := o.request.sign(calls[i]); err != nil {
-			return nil, err
-		}
-	}
-	answers, err := o.turn.Ask(calls...)
-	if err != nil {
-		return nil, err
-	}
-	for i, answer := range answers {
-		if api.IsAccepted(answer) {
-			o.made.Roles = append(o.made.Roles, roles[i])
-			continue
-		}
-		refused = answer
-		one := left{Role: roles[i]}
-		if err := json.Unmarshal(answer, &one); err != nil {
-			return nil, fmt.Errorf("the answer %s: %w", answer, err)
-		}
-		o.made.Left = append(o.made.Left, one)
-	}
-	if len(roles) == 0 || len(o.made.Roles) > 0 {
-		return nil, nil
-	}
-	return refused, o.end()
-}
-
-// end ends the session that was made.
-func (o *opening) end() error {
-	call, err := api.NewCall("deleteSession", "user", o.user, "session", o.made.Session)
-	if err == nil {
-		err = o.request.sign(call)
-	}
-	if err != nil {
-		return err
-	}
-	_, err = o.turn.Ask(call)
-	return err
-}
-
 // call makes a call about the session, whose name is chosen with the first one.
-func (o *opening) call(function string, roles []string) (*api.Call, error) {
+func (o *opening) call(function string, pairs ...string) (*api.Call, error) {
 	if o.made.Session == "" {
 		random := make([]byte, randomBytes)
 		if _, err := rand.Read(random); err != nil {
@@ -236,7 +232,7 @@ func (o *opening) call(function string, roles []string) (*api.Call, error) {
 		}
 		o.made.Session = hex.EncodeToString(random)
 	}
-	return api.NewCallOfRoles(function, roles, "user", o.user, "session", o.made.Session)
+	return api.NewCall(function, append(pairs, "user", o.user, "session", o.made.Session)...)
 }
 
 // sessionsPath is where sessions are, by their digests.
@@ -244,10 +240,11 @@ const sessionsPath = "/sessions/"
 
 // deleteSession ends the session with a digest.
 func (e *Endpoints) deleteSession(r *request) (int, error) {
-	if e.office.State() == nil {
-		return 0, errNoState
+	s, err := e.known(r)
+	if err != nil {
+		return 0, err
 	}
-	session, isThere := e.office.State().ByDigest(strings.TrimPrefix(r.URL.Path, sessionsPath))
+	session, isThere := s.ByDigest(strings.TrimPrefix(r.URL.Path, sessionsPath))
 	call, err := api.NewCall("deleteSession", "user", session.User, "session", session.Name)
 	if err == nil {
 		err = r.may(call)
@@ -255,13 +252,13 @@ func (e *Endpoints) deleteSession(r *request) (int, error) {
 	if err != nil {
 		return 0, err
 	}
-	ctx, err := api.WithCondition(r.ctx, r.Request, e.office)
+	rule, err := api.RuleOf(r.Request, e.office)
 	if err != nil {
 		return 0, err
 	}
 	text := api.RefusalText(noSession.Code, noSession.Name)
 	if isThere {
-		answers, _, err := e.office.AskAll(ctx, call)
+		answers, err := e.ask(r, rule, call)
 		if err != nil {
 			return 0, err
 		}

@@ -32,15 +32,15 @@ func (e *Endpoints) snapshot(r *request) (int, error) {
 	if err := r.may(api.NewOther(api.Snapshot)); err != nil {
 		return 0, err
 	}
-	s, err := e.known()
+	s, err := e.known(r)
 	if err != nil {
 		return 0, err
 	}
 	text, numbers := s.Snapshot()
+	r.isAt(numbers)
 	r.done()
 	head := r.w.Header()
 	head.Set(numberField, strconv.FormatInt(numbers.All, 10))
-	api.SetPolicy(head, numbers.Policy)
 	head.Set("Content-Type", "application/jsonl")
 	head.Set("Content-Length", strconv.Itoa(len(text)))
 	r.w.WriteHeader(http.StatusOK)
@@ -57,9 +57,9 @@ type watch struct {
 	lines     *bufio.Writer
 	// after is the number of the last command that was written.
 	after int64
-	// told is when the newest number was written last.
-	told time.Time
-	gone chan struct{}
+	// began is when the request was read, and due when the newest number is to be written next.
+	began, due time.Time
+	gone       chan struct{}
 }
 
 // watching counts those who watch.
@@ -67,10 +67,11 @@ var watching atomic.Int64
 
 // watch answers the commands after a number, as server-sent events, until the client or its right to them is gone.
 func (e *Endpoints) watch(r *request) (int, error) {
+	began := time.Now()
 	if err := r.may(api.NewOther(api.Watch)); err != nil {
 		return 0, err
 	}
-	s, err := e.known()
+	s, err := e.known(r)
 	if err != nil {
 		return 0, err
 	}
@@ -96,7 +97,8 @@ func (e *Endpoints) watch(r *request) (int, error) {
 		return 0, err
 	}
 	defer conn.Close()
-	w := &watch{request: r, endpoints: e, state: s, conn: conn, lines: buffered.Writer, after: after, gone: make(chan struct{})}
+	w := &watch{request: r, endpoints: e, state: s, conn: conn, lines: buffered.Writer, after: after, began: began, due: began}
+	w.gone = make(chan struct{})
 	w.run(buffered.Reader)
 	return http.StatusOK, nil
 }
@@ -137,6 +139,9 @@ func (w *watch) run(from *bufio.Reader) {
 		if !known || found.Newest > w.after {
 			changed = always
 		}
+		if !w.endpoints.office.IsReady() {
+			changed = nil
+		}
 		select {
 		case <-changed:
 		case <-ticker.C:
@@ -155,10 +160,15 @@ var always = func() <-chan struct{} {
 	return closed
 }()
 
-// write writes the next commands, and once in a while the newest number. It returns false if the watch has ended.
+// write writes the next commands, and once a second the newest number, if there are no more, with the time since the request: so a
+// client that knows when it has asked knows how old its copy is, however long the connection has held the event up. It returns false
+// if the watch has ended. While the office doesn't answer it writes nothing, so that clients notice.
 func (w *watch) write() bool {
+	if !w.endpoints.office.IsReady() {
+		return true
+	}
 	var found state.Watched
-	known := true
+	known, now := true, time.Now()
 	// The commands are read while the right holds, and no later change of the callers is in force.
 	err := w.again(func() { found, known = w.state.After(w.after, mostAtOnce) })
 	if err != nil || !known {
@@ -170,9 +180,15 @@ func (w *watch) write() bool {
 		_, _ = w.lines.Write(one.Line)
 		_, _ = w.lines.WriteString("\n\n")
 	}
-	if now := time.Now(); now.Sub(w.told) >= watchInterval {
-		w.told = now
-		_, _ = w.lines.WriteString("event: newest\ndata: " + strconv.FormatInt(found.Newest, 10) + "\n\n")
+	if len(found.Events) == mostAtOnce {
+		return w.lines.Flush() == nil
+	}
+	w.after = found.Newest // On several machines refused commands have numbers too.
+	if !now.Before(w.due) {
+		// A tick may come a little early, and the next one isn't to be waited for then.
+		w.due = now.Add(watchInterval - watchInterval/10)
+		elapsed := strconv.FormatInt(now.Sub(w.began).Milliseconds(), 10)
+		_, _ = w.lines.WriteString("event: newest\ndata: " + strconv.FormatInt(found.Newest, 10) + "\nelapsed: " + elapsed + "\n\n")
 	}
 	return w.lines.Flush() == nil
 }

@@ -67,6 +67,8 @@ type Feed struct {
 	// reads is the most times that the replay can have read its input. Only the goroutine of Run uses it.
 	reads int64
 	mutex sync.Mutex // for First
+	// resting is locked while a replay starts or ends, both of which write the file of the office, and while that must not change.
+	resting sync.Mutex
 	// starting says that a replay is being started.
 	starting atomic.Bool
 	// why says why there is no replay, or is empty.
@@ -89,7 +91,7 @@ func Open(ctx context.Context, options Options) (*Feed, error) {
 		return nil, err
 	}
 	if f.Keeper != nil {
-		f.keeping = newKeeping(f.Keeper, f.units)
+		f.keeping = newKeeping(f.Keeper, f.units, &f.resting)
 		go f.keeping.run()
 	}
 	return f, nil
@@ -174,7 +176,7 @@ func (f *Feed) Run(ctx context.Context) error {
 		err := f.pass(ctx)
 		if ctx.Err() != nil {
 			f.answerRest()
-			return f.end()
+			return f.Quietly(f.end)
 		}
 		if err != nil {
 			f.why.Store("the replay has ended")
@@ -194,10 +196,8 @@ func (f *Feed) Run(ctx context.Context) error {
 
 // anew ends the replay in order and starts another one, and reports whether there is one. What is kept can be sent to it.
 func (f *Feed) anew(ctx context.Context) bool {
-	if f.keeping != nil {
-		f.keeping.resting.Lock() // The replay writes the file of the office when it ends.
-		defer f.keeping.resting.Unlock()
-	}
+	f.resting.Lock()
+	defer f.resting.Unlock()
 	if err := f.end(); err != nil {
 		f.Log.Warn("the replay, which was to be started anew, has failed", "replay", f.Name, "why", err)
 		return false
@@ -336,6 +336,13 @@ func (f *Feed) endKeeping() {
 	}
 }
 
+// Quietly does something while no replay starts or ends. If no command is on its way either, nobody writes the file of the office.
+func (f *Feed) Quietly(do func() error) error {
+	f.resting.Lock()
+	defer f.resting.Unlock()
+	return do()
+}
+
 // end ends the replay after it has answered all lines. One that doesn't is killed.
 func (f *Feed) end() error {
 	defer time.AfterFunc(leaving, f.replay.Kill).Stop()
@@ -378,6 +385,8 @@ func (f *Feed) startAgain(ctx context.Context) error {
 func (f *Feed) start(ctx context.Context) error {
 	f.starting.Store(true)
 	defer f.starting.Store(false)
+	f.resting.Lock()
+	defer f.resting.Unlock()
 	if f.Before != nil {
 		if err := f.Before(ctx); err != nil {
 			return err

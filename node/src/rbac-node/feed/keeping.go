@@ -27,14 +27,14 @@ type keeping struct {
 	halts, resumes chan chan struct{}
 	ends, ended    chan struct{}
 	// resting is locked while the keeper rests. The file of the office must not change then.
-	resting sync.Mutex
+	resting *sync.Mutex
 	// isOver says that nothing more will be asked, and that there is no replay. Only the goroutine of run uses it.
 	isOver bool
 }
 
-func newKeeping(keeper Keeper, units chan<- *Unit) *keeping {
+func newKeeping(keeper Keeper, units chan<- *Unit, resting *sync.Mutex) *keeping {
 	return &keeping{
-		keeper: keeper, units: units, asked: make(chan *Unit, most), wake: make(chan struct{}, 1),
+		keeper: keeper, units: units, resting: resting, asked: make(chan *Unit, most), wake: make(chan struct{}, 1),
 		halts: make(chan chan struct{}), resumes: make(chan chan struct{}), ends: make(chan struct{}), ended: make(chan struct{}),
 	}
 }

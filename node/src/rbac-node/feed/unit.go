@@ -15,6 +15,8 @@ type Unit struct {
 	Calls []*api.Call
 	// Recorded has the lines as the keeper writes them down. Whoever makes the unit sets it, if there is a keeper.
 	Recorded [][]byte
+	// Numbers has the numbers of the entries that the keeper has made of the commands.
+	Numbers []int64
 	// Answers has an answer to each line once the replay has answered all.
 	Answers [][]byte
 	// Observed is called with the unit once the replay has answered all, before the observer is told of the next one, as the observer
@@ -39,10 +41,10 @@ func NewUnit(calls ...*api.Call) *Unit {
 	return u
 }
 
-// Commands returns the places of the lines that are commands.
+// Commands returns the places of the lines that are recorded: commands, and entries that change nothing.
 func (u *Unit) Commands() (places []int) {
 	for i, call := range u.Calls {
-		if call.Kind == api.Command {
+		if call.Kind == api.Command || call.Kind == api.Entry {
 			places = append(places, i)
 		}
 	}

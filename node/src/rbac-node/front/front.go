@@ -67,6 +67,9 @@ type Front struct {
 	office    api.Office
 	listeners []net.Listener
 	servers   []*http.Server
+	// stage says what a start does, and isServing that it has come to its end.
+	stage     atomic.Value
+	isServing atomic.Bool
 	// hangups gets SIGHUP, from the beginning: a signal that comes early doesn't end the front.
 	hangups chan os.Signal
 }
@@ -152,22 +155,39 @@ func (f *Front) loadCallers(ctx context.Context) error {
 	return nil
 }
 
-// Serve answers clients from an office. Each server runs in a goroutine.
-func (f *Front) Serve(life context.Context, start func(func() error), office api.Office) {
-	f.office, f.handler = office, api.NewHandler(life, office, f.Metrics)
-	f.serveEndpoints(life)
+// Say says what a start does, which may take long.
+func (f *Front) Say(stage string) { f.stage.Store(stage) }
+
+// Begin answers clients that the office doesn't answer yet, until Serve is called. Each server runs in a goroutine.
+func (f *Front) Begin(start func(func() error)) {
 	limits := web.Limits{
 		AnswerTimeout: 2*web.RequestTimeout + 2*f.AnswerTimeout, Connected: callers.WithPeer, Errors: log.New(&failures{front: f}, "", 0),
 	}
 	room := web.NewRoom(f.Connections)
 	f.Metrics.Gauge("rbac_node_connections", "Connections of clients.", func() float64 { return float64(room.Connections()) })
 	for i, listener := range f.listeners {
-		config := f.config
-		if f.Addresses[i].Network == unix {
-			config = nil
-		}
-		f.servers = append(f.servers, web.ServeIn(room, start, web.Secure(listener, config), f, limits))
-		f.Log.Info("listening", "at", f.Addresses[i].String(), "tls", config != nil)
+		f.servers = append(f.servers, web.ServeIn(room, start, web.Secure(listener, f.configAt(i)), f, limits))
+	}
+}
+
+// configAt returns the configuration of TLS at an address, or nil.
+func (f *Front) configAt(i int) *tls.Config {
+	if f.Addresses[i].Network == unix {
+		return nil
+	}
+	return f.config
+}
+
+// Serve answers clients from an office.
+func (f *Front) Serve(life context.Context, start func(func() error), office api.Office) {
+	f.office, f.handler = office, api.NewHandler(life, office, f.Metrics)
+	f.serveEndpoints(life)
+	f.isServing.Store(true)
+	if len(f.servers) == 0 {
+		f.Begin(start)
+	}
+	for i, address := range f.Addresses {
+		f.Log.Info("listening", "at", address.String(), "tls", f.configAt(i) != nil)
 	}
 	if f.IsOpen() {
 		f.Log.Warn("open: everybody who can connect may do everything")

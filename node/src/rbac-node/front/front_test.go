@@ -24,9 +24,9 @@ import (
 // An echo is an office that answers each call with its line, and the opening question with nothing special.
 type echo struct{ asked []string }
 
-func (e *echo) Ask(_ context.Context, _ api.Kind, call *api.Call) (api.Answer, error) {
-	e.asked = append(e.asked, string(call.Line))
-	return api.Answer{Text: []byte(`{"ok":true}`)}, nil
+func (e *echo) Do(_ context.Context, b api.Batch) (api.Answers, error) {
+	e.asked = append(e.asked, string(b.Calls[0].Line))
+	return api.Answers{Texts: [][]byte{[]byte(`{"ok":true}`)}}, nil
 }
 
 func (e *echo) ServeHealth(w http.ResponseWriter, _ *http.Request) {
@@ -285,5 +285,32 @@ func TestSocket(t *testing.T) {
 	_ = listener.Close()
 	if _, err := os.Stat(path); err == nil {
 		t.Error("the socket is left")
+	}
+}
+
+// While the office starts, nothing but the reason is answered.
+func TestStart(t *testing.T) {
+	f, err := New(context.Background(), Options{Connections: 10, Log: logs.New(io.Discard), Metrics: &metrics.Registry{}})
+	if err != nil {
+		t.Fatal(err)
+	}
+	t.Cleanup(f.Close)
+	nobody := func(func() error) {}
+	f.Begin(nobody)
+	f.Say("command 7 of 9")
+	for target, says := range map[string]string{
+		"/healthz": `{"ready":false,"why":"starting: command 7 of 9"}`, assign: `{"code":60,"error":"Unavailable"}`, "/metrics": `"Unavailable"`,
+	} {
+		w := httptest.NewRecorder()
+		f.ServeHTTP(w, httptest.NewRequest("POST", target, strings.NewReader(clerk)))
+		if w.Code != 503 || !strings.Contains(w.Body.String(), says) {
+			t.Errorf("%s: %d %s", target, w.Code, w.Body)
+		}
+	}
+	f.Serve(context.Background(), nobody, &echo{})
+	w := httptest.NewRecorder()
+	f.ServeHTTP(w, httptest.NewRequest("POST", assign, strings.NewReader(clerk)))
+	if w.Code != 200 {
+		t.Errorf("%d %s", w.Code, w.Body)
 	}
 }

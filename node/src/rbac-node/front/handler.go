@@ -18,6 +18,10 @@ import (
 
 // ServeHTTP answers a request, unless it comes from a foreign page or nobody knows who asks.
 func (f *Front) ServeHTTP(w http.ResponseWriter, r *http.Request) {
+	if !f.isServing.Load() {
+		f.serveStart(w, r)
+		return
+	}
 	if origins, has := r.Header["Origin"]; has && !f.areOwn(origins) && !(f.endpoints != nil && isOwnPage(r, origins)) {
 		w.Header().Set("Connection", "close") // Nothing more is read from it.
 		f.refuse(w, r, "", errors.New("a page of "+strings.Join(origins, ", ")), api.ForeignOrigin)
@@ -32,7 +36,7 @@ func (f *Front) ServeHTTP(w http.ResponseWriter, r *http.Request) {
 		f.serveHealth(w, r)
 		return
 	}
-	if f.endpoints != nil && f.endpoints.ServeConfiguration(w, r) {
+	if f.endpoints != nil && (f.endpoints.ServeConfiguration(w, r) || f.endpoints.ServeTicket(w, r)) {
 		return
 	}
 	if f.endpoints != nil && console.Has(r) {
@@ -53,13 +57,28 @@ func (f *Front) ServeHTTP(w http.ResponseWriter, r *http.Request) {
 	f.answer(w, r, visit)
 }
 
+// serveStart answers before the office does: it reports what the start does.
+func (f *Front) serveStart(w http.ResponseWriter, r *http.Request) {
+	if r.URL.Path != "/healthz" {
+		api.Refuse(w, api.Unavailable)
+		return
+	}
+	stage, _ := f.stage.Load().(string)
+	replyUnready(w, "starting: "+stage)
+}
+
 // serveHealth reports the condition of the office, unless no caller can be judged.
 func (f *Front) serveHealth(w http.ResponseWriter, r *http.Request) {
 	if f.guard == nil || f.guard.Why() == "" {
 		f.office.ServeHealth(w, r)
 		return
 	}
-	text, _ := json.Marshal(map[string]any{"ready": false, "why": "callers: " + f.guard.Why()})
+	replyUnready(w, "callers: "+f.guard.Why())
+}
+
+// replyUnready reports why nothing can be answered.
+func replyUnready(w http.ResponseWriter, why string) {
+	text, _ := json.Marshal(map[string]any{"ready": false, "why": why})
 	w.Header().Set("Content-Type", "application/json")
 	w.WriteHeader(http.StatusServiceUnavailable)
 	_, _ = w.Write(append(text, '\n')) // If it fails, the client is gone.

@@ -6,7 +6,6 @@ import (
 
 	"rbac-node/api"
 	"rbac-node/callers"
-	"rbac-node/endpoints"
 )
 
 // settling is how long it may take until all requests are done that earlier callers have sent.
@@ -55,13 +54,16 @@ func (f *Front) ask(ctx context.Context) error {
 	if err != nil {
 		return err
 	}
-	if ordered, can := f.office.(endpoints.Office); can {
-		// It also waits for commands that nobody waits for any more.
-		return ordered.Turn(ctx, func(turn endpoints.Turn) error {
-			_, err := turn.Ask(call)
+	if ordered, can := f.office.(settler); can {
+		if err := ordered.Settle(ctx); err != nil {
 			return err
-		})
+		}
 	}
-	_, err = f.office.Ask(ctx, api.Question, call)
+	_, err = f.office.Do(ctx, api.NewBatch(api.Question, call))
 	return err
+}
+
+// A settler also waits for commands that nobody waits for any more.
+type settler interface {
+	Settle(ctx context.Context) error
 }

@@ -20,7 +20,7 @@ var badReason = api.Refusal{Status: http.StatusBadRequest, Code: 34, Name: "BadR
 
 // sign writes on a command who asks for it and why.
 func sign(r *http.Request, visit *callers.Visit, call *api.Call) error {
-	if call.Kind != api.Command {
+	if call.Kind != api.Command && call.Kind != api.Entry {
 		return nil
 	}
 	switch user := callers.PeerOf(r); {

@@ -1,6 +1,6 @@
 // Package ledger keeps the commands of an office in etcd, in the order in which all nodes apply them.
 //
-// An entry is a batch of command lines under a key of its own, log/GENERATION/ID. The revision at which etcd created
+// An entry is a batch of commands under a key of its own, log/GENERATION/ID. The revision at which etcd created
 // the key is the entry's place in the order. Entries stay as keys until they are trimmed, so that a compaction of
 // etcd's history by anybody loses none of them. The key head is written with each entry: its revision is that of the
 // newest one.
@@ -11,7 +11,6 @@
 package ledger
 
 import (
-	"bytes"
 	"context"
 	"encoding/json"
 	"errors"
@@ -44,6 +43,10 @@ const (
 	maxPageKeys = 64
 	// stallInterval is how long the log may be known to have more before it is followed anew.
 	stallInterval = time.Second
+	// firstKey has the number after which the commands are numbered, and mostPerSecond is more than a log gets in a second.
+	firstKey, mostPerSecond = "first", 1 << 20
+	// nodesPrefix begins the keys of the nodes.
+	nodesPrefix = "nodes/"
 )
 
 // ErrTrimmed reports that entries that are still needed were deleted.
@@ -62,8 +65,9 @@ type Ledger struct {
 	log *logs.Logger
 	// pageTimeout is how long a page of the log may take before a smaller one is asked for.
 	pageTimeout time.Duration
-	// generation is the newest one that is known, and head the newest revision of an entry.
-	generation, head atomic.Int64
+	// generation is the newest one that is known, head the newest revision of an entry, and form that from which entries have form 2,
+	// or 0.
+	generation, head, form atomic.Int64
 }
 
 // New returns the ledger below a prefix of etcd's keys.
@@ -208,31 +212,40 @@ func (l *Ledger) UseLeader(ctx context.Context) {
 	}
 }
 
-// Append puts an entry into the log, only once however often it has to be tried. An attempt that is delivered late
-// never appends a second time: it succeeds only if its key is new, and no other generation has begun since. Append
-// returns the revision of the entry and that of the one before it, or 0 if the entry is in the log by an attempt whose
-// reply was lost.
-func (l *Ledger) Append(ctx context.Context, id string, lines [][]byte) (revision, before int64, err error) {
+// Append puts units into the log as an entry, only once however often it has to be tried. An attempt that is delivered
+// late never appends a second time: it succeeds only if its key is new, and no other generation and no other form of
+// entries has begun since. Append returns the entry as all nodes read it and the revision of the one before it. If the
+// entry is in the log by an attempt whose reply was lost, its revision is 0.
+func (l *Ledger) Append(ctx context.Context, id string, units []Unit) (entry Entry, before int64, err error) {
 	for {
-		tried := l.generation.Load()
+		tried, raised := l.generation.Load(), l.form.Load()
+		form := 1
+		if raised > 0 {
+			form = Form
+		}
+		text, err := textOf(units, form)
+		if err != nil {
+			return entry, 0, fmt.Errorf("append: %w", err)
+		}
 		key := keyOf(tried) + id
 		reply, err := l.commit(ctx, "append", func(t clientv3.Txn) clientv3.Txn {
-			return t.If(clientv3.Compare(clientv3.Version(key), "=", 0), isAt("floor", tried)).Then(
-				clientv3.OpGet("head"), clientv3.OpPut(key, string(bytes.Join(lines, []byte("\n")))), clientv3.OpPut("head", ""),
-			).Else(clientv3.OpGet("floor"), clientv3.OpGet(key, clientv3.WithKeysOnly()))
+			return t.If(clientv3.Compare(clientv3.Version(key), "=", 0), isAt("floor", tried), isAt(formKey, raised)).Then(
+				clientv3.OpGet("head"), clientv3.OpPut(key, text), clientv3.OpPut("head", ""),
+			).Else(clientv3.OpGet("floor"), clientv3.OpGet(key, clientv3.WithKeysOnly()), clientv3.OpGet(formKey))
 		})
 		switch {
 		case err != nil:
-			return 0, 0, err
+			return entry, 0, err
 		case reply.Succeeded:
-			return reply.Header.Revision, revisionOf(read(reply, 0)), nil
+			return entryOf(reply.Header.Revision, id, []byte(text)), revisionOf(read(reply, 0)), nil
 		case len(read(reply, 1)) > 0:
-			return 0, 0, nil
+			return entry, 0, nil
 		}
-		// The generation has ended without this entry, unless it is deleted already.
+		// The generation has ended without this entry, unless it is deleted already, or another form has begun.
 		l.generation.Store(revisionOf(read(reply, 0)))
+		l.form.Store(revisionOf(read(reply, 2)))
 		if err := checkFloor(reply, tried); err != nil {
-			return 0, 0, fmt.Errorf("append: %w", err)
+			return entry, 0, fmt.Errorf("append: %w", err)
 		}
 	}
 }
@@ -276,6 +289,26 @@ func (l *Ledger) Trim(ctx context.Context, s State, needless int64) (floor int64
 	return s.generation, nil
 }
 
+// First returns the number after which the commands of the log are numbered. The first node that asks makes it of the time, so that it is
+// greater than all numbers of an earlier log.
+func (l *Ledger) First(ctx context.Context) (int64, error) {
+	for {
+		reply, err := l.do(ctx, "read of the first number", clientv3.OpGet(firstKey))
+		if err != nil {
+			return 0, err
+		}
+		if kvs := read(reply, 0); len(kvs) > 0 {
+			return strconv.ParseInt(string(kvs[0].Value), 10, 64)
+		}
+		first := strconv.FormatInt(time.Now().Unix()*mostPerSecond, 10)
+		if _, err := l.commit(ctx, "first number", func(t clientv3.Txn) clientv3.Txn {
+			return t.If(isAt(firstKey, 0)).Then(clientv3.OpPut(firstKey, first))
+		}); err != nil {
+			return 0, err
+		}
+	}
+}
+
 // Adopt makes an empty log begin after a snapshot that holds an earlier state of an office. It returns the revision of
 // that snapshot. Nodes without it have to fetch it.
 func (l *Ledger) Adopt(ctx context.Context) (int64, error) {
@@ -302,28 +335,31 @@ type Member struct {
 	Peer string `json:"peer"`
 	// Snapshots are those that it keeps, the newest first.
 	Snapshots []office.Snapshot `json:"snapshots"`
+	// Form is the newest form of entries that it reads, or 0 if that is form 1.
+	Form int `json:"form,omitempty"`
 }
 
 // Register writes what a node reports about itself.
 func (l *Ledger) Register(ctx context.Context, member Member) error {
+	member.Form = Form
 	text, err := json.Marshal(member)
 	if err != nil {
 		return fmt.Errorf("registration: %w", err)
 	}
-	_, err = l.do(ctx, "registration", clientv3.OpPut("nodes/"+member.Name, string(text)))
+	_, err = l.do(ctx, "registration", clientv3.OpPut(nodesPrefix+member.Name, string(text)))
 	return err
 }
 
 // A State is what etcd has besides the entries: the revision up to which they may be gone, the newest generation, the
-// nodes that are registered, and the revision at which it was read.
+// revision from which entries have form 2, or 0, the nodes that are registered, and the revision at which it was read.
 type State struct {
-	Floor, generation, Revision int64
-	Members                     []Member
+	Floor, generation, form, Revision int64
+	Members                           []Member
 }
 
 // State reads the state.
 func (l *Ledger) State(ctx context.Context) (s State, err error) {
-	reply, err := l.do(ctx, "read of the nodes", clientv3.OpGet("floor"), clientv3.OpGet("nodes/", clientv3.WithPrefix()))
+	reply, err := l.do(ctx, "read of the nodes", clientv3.OpGet("floor"), clientv3.OpGet(nodesPrefix, clientv3.WithPrefix()))
 	if err != nil {
 		return s, err
 	}
@@ -333,20 +369,18 @@ func (l *Ledger) State(ctx context.Context) (s State, err error) {
 		return s, err
 	}
 	for _, kv := range read(reply, 1) {
+		if string(kv.Key) == formKey {
+			s.form = kv.ModRevision
+			continue
+		}
 		var member Member
 		if err := json.Unmarshal(kv.Value, &member); err != nil {
 			return s, fmt.Errorf("%s: %w", kv.Key, err)
 		}
 		s.Members = append(s.Members, member)
 	}
+	l.form.Store(s.form)
 	return s, nil
-}
-
-// An Entry is a batch of commands with its place in the order.
-type Entry struct {
-	Revision int64
-	ID       string
-	Lines    [][]byte
 }
 
 // Follow delivers the entries after a revision, in their order, until the context ends, a delivery fails, or the log
@@ -468,7 +502,7 @@ func (f *follower) page(ctx context.Context, keys []*mvccpb.KeyValue) (size int,
 // hand delivers an entry.
 func (f *follower) hand(kv *mvccpb.KeyValue) error {
 	f.after = kv.CreateRevision
-	return f.deliver(Entry{f.after, path.Base(string(kv.Key)), bytes.Split(kv.Value, []byte("\n"))})
+	return f.deliver(entryOf(f.after, path.Base(string(kv.Key)), kv.Value))
 }
 
 // watch delivers what etcd's watch reports until it ends, or until entries that the log is known to have don't come: a

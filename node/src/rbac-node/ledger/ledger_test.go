@@ -44,10 +44,16 @@ func newLedger(t *testing.T, words ...string) *Ledger {
 	return New(client, "test", logs.New(io.Discard))
 }
 
-func lines(text string) [][]byte { return [][]byte{[]byte(text), []byte(text + "2")} }
+// units returns units as somebody asks for them.
+func units(lines ...string) (all []Unit) {
+	for _, line := range lines {
+		all = append(all, Unit{Caller: "token:a", At: "2026-11-27T09:00:00.000Z", Reason: "ticket", Lines: [][]byte{[]byte(line)}})
+	}
+	return all
+}
 
 func mustAppend(t *testing.T, l *Ledger, id string) {
-	if _, _, err := l.Append(context.Background(), id, lines(id)); err != nil {
+	if _, _, err := l.Append(context.Background(), id, units(id, id+"2")); err != nil {
 		t.Fatalf("append of %s: %v", id, err)
 	}
 }
@@ -77,21 +83,22 @@ func all(t *testing.T, l *Ledger, after int64) ([]Entry, error) {
 
 func TestAppendOnce(t *testing.T) {
 	l, ctx := newLedger(t), context.Background()
-	first, _, err := l.Append(ctx, "a", lines("a"))
+	first, _, err := l.Append(ctx, "a", units("a", "a2"))
 	if err != nil {
 		t.Fatal(err)
 	}
-	if second, before, err := l.Append(ctx, "b", lines("b")); second <= first || before != first || err != nil {
-		t.Errorf("an append after %d: %d, %d, %v", first, second, before, err)
+	second, before, err := l.Append(ctx, "b", units("b"))
+	if second.Revision <= first.Revision || before != first.Revision || err != nil {
+		t.Errorf("an append after %d: %d, %d, %v", first.Revision, second.Revision, before, err)
 	}
-	if again, _, err := l.Append(ctx, "a", lines("a")); again != 0 || err != nil {
-		t.Errorf("an append again: %d, %v", again, err)
+	if again, _, err := l.Append(ctx, "a", units("a", "a2")); again.Revision != 0 || err != nil {
+		t.Errorf("an append again: %d, %v", again.Revision, err)
 	}
 	entries, err := all(t, l, 0)
 	if err != nil || len(entries) != 2 || entries[0].ID != "a" || entries[1].ID != "b" {
 		t.Fatalf("the log has %v, %v", entries, err)
 	}
-	if text := string(entries[0].Lines[1]); len(entries[0].Lines) != 2 || text != "a2" {
+	if text := string(entries[0].Lines()[1]); len(entries[0].Lines()) != 2 || text != "a2" {
 		t.Errorf("the second line is %s", text)
 	}
 }
@@ -135,13 +142,13 @@ func TestAppendAfterTrim(t *testing.T) {
 		t.Errorf("a trim that another node has just done: %d, %v", again, err)
 	}
 	// In an earlier generation that still exists it counts as appended. What is in none of them is put into the newest.
-	if again, _, err := late.Append(ctx, "a", lines("a")); again != 0 || err != nil {
-		t.Errorf("a late attempt: %d, %v", again, err)
+	if again, _, err := late.Append(ctx, "a", units("a")); again.Revision != 0 || err != nil {
+		t.Errorf("a late attempt: %d, %v", again.Revision, err)
 	}
 	mustAppend(t, New(l.client, "test", logs.New(io.Discard)), "b")
 	late.generation.Store(0)
 	mustTrim(t, l, head(t, l), true)
-	if _, _, err := late.Append(ctx, "a", lines("a")); !errors.Is(err, ErrTrimmed) {
+	if _, _, err := late.Append(ctx, "a", units("a")); !errors.Is(err, ErrTrimmed) {
 		t.Errorf("an attempt after its generation was deleted: %v", err)
 	}
 	mustAppend(t, late, "c")

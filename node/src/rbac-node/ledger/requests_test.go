@@ -1,11 +1,11 @@
 package ledger
 
 import (
-	"bytes"
 	"context"
 	"errors"
 	"fmt"
 	"io"
+	"strings"
 	"sync"
 	"testing"
 	"time"
@@ -118,7 +118,7 @@ func TestAttempts(t *testing.T) {
 // A full etcd refuses an entry at once, and is still read.
 func TestAppendToFullLog(t *testing.T) {
 	l := newLedger(t, "--quota-backend-bytes", "1000000")
-	large := [][]byte{bytes.Repeat([]byte("x"), 100_000)}
+	large := units(strings.Repeat("x", 100_000))
 	var err error
 	for i := 0; err == nil && i < 100; i++ {
 		_, _, err = l.Append(context.Background(), fmt.Sprint(i), large)
@@ -183,12 +183,12 @@ func TestPages(t *testing.T) {
 		if i >= small {
 			length = entryBytes
 		}
-		revision, _, err := l.Append(ctx, fmt.Sprint(i), [][]byte{bytes.Repeat([]byte("x"), length)})
+		added, _, err := l.Append(ctx, fmt.Sprint(i), units(strings.Repeat("x", length)))
 		if err != nil {
 			t.Fatal(err)
 		}
 		if i == small {
-			firstLarge = revision
+			firstLarge = added.Revision
 		}
 	}
 	for _, one := range []struct {

@@ -32,14 +32,14 @@ func newFakeLog() *fakeLog { return &fakeLog{entries: make(chan ledger.Entry, 10
 
 var errFull = errors.New("no space")
 
-func (l *fakeLog) Append(_ context.Context, id string, lines [][]byte) (revision, before int64, err error) {
+func (l *fakeLog) Append(_ context.Context, id string, units []ledger.Unit) (entry ledger.Entry, before int64, err error) {
 	l.mutex.Lock()
 	defer l.mutex.Unlock()
 	if l.isFull {
-		return 0, 0, errFull
+		return entry, 0, errFull
 	}
 	l.revision++
-	return l.revision, l.revision - 1, nil
+	return ledger.Entry{Revision: l.revision, ID: id, Units: units, Form: ledger.Form}, l.revision - 1, nil
 }
 
 func (l *fakeLog) Head(context.Context) (int64, error) {
@@ -68,6 +68,12 @@ func (l *fakeLog) State(context.Context) (ledger.State, error) {
 }
 
 func (l *fakeLog) Trim(context.Context, ledger.State, int64) (int64, error) { return 0, nil }
+
+func (l *fakeLog) HasRules() bool { return true }
+
+func (l *fakeLog) First(context.Context) (int64, error) { return 1000, nil }
+
+func (l *fakeLog) Raise(context.Context, ledger.State) (bool, error) { return false, nil }
 
 func (l *fakeLog) Register(_ context.Context, member ledger.Member) error {
 	l.mutex.Lock()
@@ -173,7 +179,7 @@ func newNode(t *testing.T) (*Node, *fakeLog, *fakeReplay) {
 	if err != nil {
 		t.Fatal(err)
 	}
-	n.replay = first
+	n.replay, n.state = first, nil // There are no rows to read.
 	n.open = func() (replay, error) { return newFakeReplay(), nil }
 	return n, log, first
 }
@@ -200,14 +206,21 @@ func eventually(t *testing.T, what string, holds func() bool) {
 }
 
 func entry(revision int64, lines ...string) ledger.Entry {
-	e := ledger.Entry{Revision: revision, ID: fmt.Sprint(revision)}
+	u := ledger.Unit{}
 	for _, line := range lines {
-		e.Lines = append(e.Lines, []byte(line))
+		u.Lines = append(u.Lines, []byte(line))
 	}
-	return e
+	return ledger.Entry{Revision: revision, ID: fmt.Sprint(revision), Units: []ledger.Unit{u}}
 }
 
-func call(line string) *api.Call { return &api.Call{Line: []byte(line)} }
+// of returns a batch of one call.
+func of(kind api.Kind, line string) api.Batch {
+	call := &api.Call{Kind: kind, Line: []byte(line)}
+	if kind == api.Local {
+		call.Kind = api.Question
+	}
+	return api.NewBatch(kind, call)
+}
 
 func member(name string, snapshots ...office.Snapshot) ledger.Member {
 	return ledger.Member{Name: name, Snapshots: snapshots}

@@ -15,10 +15,12 @@ const maxReadyAge = 3 * time.Second
 
 // A status is the condition of a node. It is ready if its replay has answered what the log had a short time ago.
 type status struct {
-	Ready    bool    `json:"ready"`
-	Why      string  `json:"why,omitempty"`
-	Revision int64   `json:"revision"`
-	Count    int64   `json:"commands"`
+	Ready    bool   `json:"ready"`
+	Why      string `json:"why,omitempty"`
+	Revision int64  `json:"revision"`
+	Count    int64  `json:"commands"`
+	// Newest is the newest revision of the log that is known.
+	Newest   int64   `json:"newest"`
 	Snapshot int64   `json:"snapshot"`
 	Age      float64 `json:"age"`
 	// Open says that everybody who can connect may do everything.
@@ -27,11 +29,15 @@ type status struct {
 
 func (n *Node) status() status {
 	age, at := time.Since(n.newest()), n.applied.Load()
-	s := status{Open: n.options.IsOpen, Revision: at.revision, Count: at.count, Snapshot: n.snapshot.Load(), Age: age.Seconds()}
+	s := status{
+		Open: n.options.IsOpen, Revision: at.revision, Count: at.count, Snapshot: n.snapshot.Load(), Age: age.Seconds(),
+		Newest: n.seen.Load(),
+	}
 	switch s.Why, _ = n.differs.Load().(string); {
 	case s.Why != "":
 	case n.heard.Load() < 0:
-		s.Why = "starting: not all of the log is applied yet"
+		stage, _ := n.stage.Load().(string)
+		s.Why = "starting: " + stage
 	case age > maxReadyAge:
 		s.Why = fmt.Sprintf("the state may be %.1f s old", s.Age)
 	default:

@@ -39,7 +39,11 @@ func (n *Node) takeSnapshot() error {
 	if err := n.reopen(); err != nil {
 		return err
 	}
-	n.copies <- copied{file, office.Snapshot{Revision: n.revision, Count: n.count}}
+	made := office.Snapshot{Revision: n.revision, Count: n.count, Record: n.head()}
+	if n.order.isExact {
+		made.Policy = n.order.numbers.Policy
+	}
+	n.copies <- copied{file, made}
 	return nil
 }
 
@@ -81,12 +85,17 @@ func (n *Node) attempt(ctx context.Context, otherwise string, do func(context.Co
 func (n *Node) finish(ctx context.Context, one copied) error {
 	within, cancel := context.WithTimeout(ctx, checkTimeout)
 	defer cancel()
+	if n.options.Record != nil && one.snapshot.Record != "" {
+		if err := n.options.Record.Keep(within, one.snapshot.Record); err != nil {
+			return err
+		}
+	}
 	s, err := n.store.Finish(within, one.file, one.snapshot)
 	if err != nil {
 		return err
 	}
 	n.log.Info("snapshot", "revision", s.Revision, "commands", s.Count,
-		"digest", s.Digest)
+		"digest", s.Digest, "record", s.Record)
 	return nil
 }
 
@@ -109,8 +118,20 @@ func (n *Node) look(ctx context.Context) error {
 	if err != nil {
 		return err
 	}
-	if err := n.judge(state.Members); err != nil {
+	for i, member := range state.Members { // They are in the order of their names.
+		if member.Name == n.options.Name {
+			n.rank.Store(int64(i))
+		}
+	}
+	if err := n.judgeSnapshots(state.Members); err != nil {
 		return err
+	}
+	raised, err := n.shared.Raise(ctx, state)
+	if err != nil {
+		return err
+	}
+	if raised {
+		n.log.Info("all nodes read the newest form of entries, so it is written from now on", "form", ledger.Form)
 	}
 	floor, err := n.shared.Trim(ctx, state, needless(state.Members))
 	if floor > 0 {
@@ -119,8 +140,8 @@ func (n *Node) look(ctx context.Context) error {
 	return err
 }
 
-// judge makes this node refuse to serve while most nodes do not have its snapshots.
-func (n *Node) judge(members []ledger.Member) error {
+// judgeSnapshots makes this node refuse to serve while most nodes do not have its snapshots.
+func (n *Node) judgeSnapshots(members []ledger.Member) error {
 	own, err := n.store.List()
 	if err != nil {
 		return err
@@ -144,7 +165,7 @@ func difference(name string, own []office.Snapshot, members []ledger.Member) str
 			witness, isThere := snapshotAt(member, s.Revision)
 			switch {
 			case member.Name == name || !isThere:
-			case witness.Digest != s.Digest:
+			case !witness.IsSame(s):
 				other = member.Name
 				if !witness.Copied {
 					differ++

@@ -6,9 +6,7 @@
 package node
 
 import (
-	"bytes"
 	"context"
-	"errors"
 	"fmt"
 	"net/http"
 	"path/filepath"
@@ -23,6 +21,8 @@ import (
 	"rbac-node/logs"
 	"rbac-node/metrics"
 	"rbac-node/office"
+	"rbac-node/recorded"
+	"rbac-node/state"
 )
 
 const (
@@ -37,11 +37,14 @@ const (
 // A Log has the commands of an office in the order in which all nodes apply them, and what nodes report about
 // themselves.
 type Log interface {
-	Append(ctx context.Context, id string, lines [][]byte) (revision, before int64, err error)
+	Append(ctx context.Context, id string, units []ledger.Unit) (entry ledger.Entry, before int64, err error)
 	Head(ctx context.Context) (int64, error)
 	Follow(ctx context.Context, after int64, deliver func(ledger.Entry) error) error
 	State(ctx context.Context) (ledger.State, error)
 	Trim(ctx context.Context, state ledger.State, needless int64) (floor int64, err error)
+	Raise(ctx context.Context, state ledger.State) (bool, error)
+	HasRules() bool
+	First(ctx context.Context) (int64, error)
 	Register(ctx context.Context, member ledger.Member) error
 	UseLeader(ctx context.Context)
 }
@@ -76,7 +79,14 @@ type Options struct {
 	Fetch *http.Client
 	// IsOpen says that everybody who can connect may do everything.
 	IsOpen bool
+	// SessionAge is after how much time a session ends. Zero is never.
+	SessionAge time.Duration
+	// Record is nil if the node keeps none.
+	Record recorded.Follower
 }
+
+// File returns the path of the office in use.
+func (o *Options) File() string { return filepath.Join(o.Scratch, "office", "office") }
 
 // A Node is one copy of the office.
 type Node struct {
@@ -93,6 +103,11 @@ type Node struct {
 	copies chan copied
 	// pending has the batches of this node that may come from the log, by their names.
 	pending sync.Map
+	// progress is that of the replay, order what its answers say, and state what they say about the office, or nil if this program can't
+	// read the rows of one.
+	progress progress
+	order    order
+	state    *state.State
 
 	// tasks has what the goroutine that feeds the replay has to do. The other fields belong to that goroutine: held has
 	// the tasks that wait until entries are fed. revision and count are those of what was fed, bytes counts since the
@@ -104,6 +119,8 @@ type Node struct {
 	revision, count int64
 	bytes, reads    int64
 	err             error
+	// isRecorded says that the log has begun to say who asks.
+	isRecorded bool
 
 	// isFed is set when that goroutine runs.
 	isFed atomic.Bool
@@ -112,8 +129,10 @@ type Node struct {
 	// heard is when the newest read of the log began whose entries all have their answers, in nanoseconds since the
 	// start, or -1.
 	heard atomic.Int64
-	// snapshot is the revision of the newest snapshot.
-	snapshot atomic.Int64
+	// snapshot is the revision of the newest snapshot, seen that of the newest entry that is known, and rank how many nodes come before
+	// this one in the order of their names. stage says what a start does.
+	snapshot, seen, rank atomic.Int64
+	stage                atomic.Value
 	// differs is the text that describes where this node differs from most others, or empty.
 	differs atomic.Value
 }
@@ -143,9 +162,13 @@ func New(options Options, shared Log, log *logs.Logger, registry *metrics.Regist
 		},
 	}
 	n.open = func() (replay, error) { return office.Start(options.Program, n.file(), options.HangTimeout) }
+	if state.IsAvailable {
+		n.state = state.New(state.Numbers{})
+	}
 	n.heard.Store(-1)
 	n.applied.Store(&place{})
 	n.differs.Store("")
+	n.stage.Store("etcd is asked")
 	n.addMetrics(registry)
 	return n, nil
 }
@@ -160,19 +183,25 @@ func (n *Node) Run(life context.Context) error {
 		return fmt.Errorf("recovery: %w", err)
 	}
 	group, ctx := errgroup.WithContext(life)
-	for _, part := range []func(context.Context) error{n.feed, n.follow, n.appendCommands, n.confirm, n.confirm, n.keep} {
+	for _, part := range []func(context.Context) error{
+		n.feed, n.readLog, n.appendCommands, n.confirm, n.confirm, n.keep, n.expire,
+	} {
 		part := part
 		group.Go(func() error { return part(ctx) })
 	}
 	err := group.Wait()
-	if closed := n.replay.Close(); life.Err() != nil {
+	closed := n.replay.Close()
+	if failed := n.closeRecord(); closed == nil {
+		closed = failed
+	}
+	if life.Err() != nil {
 		return closed
 	}
 	return err
 }
 
-// follow feeds the entries of the log.
-func (n *Node) follow(ctx context.Context) error {
+// readLog feeds the entries of the log.
+func (n *Node) readLog(ctx context.Context) error {
 	return n.shared.Follow(ctx, n.applied.Load().revision, func(entry ledger.Entry) error {
 		return n.submit(ctx, task{0, func() { n.apply(entry) }})
 	})
@@ -202,7 +231,9 @@ func (n *Node) feed(ctx context.Context) error {
 			if err := n.replay.Close(); err != nil {
 				return err
 			}
-			return errors.New("the replay has ended")
+			return errReplayEnded
+		case <-n.recordFailed():
+			return n.options.Record.Failure()
 		case <-ctx.Done():
 			return nil
 		}
@@ -224,7 +255,11 @@ func (n *Node) feed(ctx context.Context) error {
 // send passes a line to the replay.
 func (n *Node) send(line []byte, answered func(answer []byte)) {
 	n.reads += office.ReadsOf(line)
-	n.replay.Send(line, answered)
+	n.progress.send()
+	n.replay.Send(line, func(text []byte) {
+		answered(text)
+		n.progress.answer()
+	})
 }
 
 // renew starts another replay when the one there is has answered everything.
@@ -256,45 +291,6 @@ func (n *Node) perform(one task) {
 	one.do()
 }
 
-// apply sends the commands of an entry to the replay, unless it already has them.
-func (n *Node) apply(entry ledger.Entry) {
-	if entry.Revision <= n.revision {
-		return
-	}
-	found, _ := n.pending.LoadAndDelete(entry.ID)
-	own, _ := found.(*batch)
-	before := n.count
-	n.revision, n.count = entry.Revision, n.count+int64(len(entry.Lines))
-	reached := &place{n.revision, n.count}
-	for number, line := range entry.Lines {
-		n.bytes += int64(len(line))
-		if len(line) > office.MaxLineBytes || len(bytes.TrimSpace(line)) == 0 {
-			n.log.Error("a line of the log is no command", "revision", entry.Revision, "place", number)
-			continue // All nodes skip it. No node has written it.
-		}
-		number := number
-		n.send(line, func(text []byte) {
-			if own != nil {
-				own.answer(api.Answer{Text: text, Revision: entry.Revision, Place: number})
-			}
-			if number == len(entry.Lines)-1 {
-				n.applied.Store(reached)
-			}
-		})
-	}
-	// All nodes come to the same places: each place is reached from the one before it, and snapshots are only of
-	// places.
-	if before/n.options.SnapshotCommands != n.count/n.options.SnapshotCommands || n.bytes >= n.options.SnapshotBytes {
-		n.bytes = 0
-		n.err = n.takeSnapshot()
-	}
-	waiting := n.held
-	n.held = nil
-	for _, one := range waiting {
-		n.perform(one)
-	}
-}
-
 // pose sends questions to the replay. The age of an answer counts until the client gets it, however long the replay
 // takes.
 func (n *Node) pose(questions ...*request) {
@@ -303,10 +299,16 @@ func (n *Node) pose(questions ...*request) {
 		if !q.isWaiting() {
 			continue
 		}
-		reply := q.reply
-		n.send(q.line, func(text []byte) {
-			reply <- api.Answer{Text: text, Revision: revision, Newest: n.newest()}
-		})
+		q, texts := q, make([][]byte, len(q.batch.Calls))
+		for i, call := range q.batch.Calls {
+			i := i
+			n.ask(call, func(text []byte) {
+				if texts[i] = text; i == len(texts)-1 {
+					at := api.Point{Revision: revision, Newest: n.newest(), Policy: n.order.numbers.Policy}
+					q.reply <- reply{answers: api.Answers{Texts: texts, Point: at}}
+				}
+			})
+		}
 	}
 }
 
@@ -314,4 +316,4 @@ func (n *Node) pose(questions ...*request) {
 func (n *Node) newest() time.Time { return n.start.Add(time.Duration(n.heard.Load())) }
 
 // file is the office in use.
-func (n *Node) file() string { return filepath.Join(n.options.Scratch, "office", "office") }
+func (n *Node) file() string { return n.options.File() }

@@ -26,7 +26,7 @@ func TestAgeOfAnswers(t *testing.T) {
 			eventually(t, "it is ready", func() bool { return n.status().Ready })
 			first.pause(true)
 			time.AfterFunc(pause, func() { first.pause(false) })
-			answer, err := n.Ask(context.Background(), kind, call("q"))
+			answer, err := n.Do(context.Background(), of(kind, "q"))
 			if err != nil {
 				t.Fatal(err)
 			}
@@ -84,14 +84,14 @@ func TestFeedEndsWithReplay(t *testing.T) {
 // An entry is applied once, and what waits for it comes after it, in the order of the log.
 func TestApply(t *testing.T) {
 	n, _, first := newNode(t)
-	n.perform(task{2, func() { n.pose(&request{nil, []byte("q2"), make(chan api.Answer, 1)}) }})
+	n.perform(task{2, func() { n.pose(&request{nil, of(api.Question, "q2"), make(chan reply, 1)}) }})
 	n.perform(task{1, func() { n.apply(entry(2, "c")) }})
 	n.perform(task{0, func() { n.apply(entry(1, "a", "", strings.Repeat("x", office.MaxLineBytes+1), "b")) }})
 	n.perform(task{0, func() { n.apply(entry(1, "a")) }})
 	n.perform(task{0, func() { n.apply(entry(2, "c")) }})
 	over, cancel := context.WithCancel(context.Background())
 	cancel()
-	n.pose(&request{over.Done(), []byte("nobody waits"), nil})
+	n.pose(&request{over.Done(), of(api.Question, "nobody waits"), nil})
 	if sent := strings.Join(first.sent(), " "); sent != "a b c q2" || len(n.held) > 0 {
 		t.Errorf("sent was %s, and %d wait", sent, len(n.held))
 	}
@@ -105,7 +105,7 @@ func TestCommands(t *testing.T) {
 	n, log, _ := newNode(t)
 	running(t, n.feed, n.appendCommands)
 	for i := 1; i <= 3; i++ {
-		answer, err := n.Ask(context.Background(), api.Command, call("c"))
+		answer, err := n.Do(context.Background(), of(api.Command, "c"))
 		if err != nil || answer.Revision != int64(i) || answer.Place != 0 {
 			t.Fatalf("%+v, %v", answer, err)
 		}
@@ -113,7 +113,7 @@ func TestCommands(t *testing.T) {
 	// A full etcd refuses a command at once.
 	log.setFull(true)
 	start := time.Now()
-	if _, err := n.Ask(context.Background(), api.Command, call("c")); !errors.Is(err, api.Unavailable) {
+	if _, err := n.Do(context.Background(), of(api.Command, "c")); !errors.Is(err, api.Unavailable) {
 		t.Errorf("%v", err)
 	}
 	if time.Since(start) >= n.options.AnswerTimeout {
@@ -124,12 +124,12 @@ func TestCommands(t *testing.T) {
 // A node that differs refuses everything, and one that hasn't heard of the log yet local questions.
 func TestAskRefuses(t *testing.T) {
 	n, _, _ := newNode(t)
-	if _, err := n.Ask(context.Background(), api.Local, call("q")); !errors.Is(err, api.Unavailable) {
+	if _, err := n.Do(context.Background(), of(api.Local, "q")); !errors.Is(err, api.Unavailable) {
 		t.Errorf("%v", err)
 	}
 	n.differs.Store("at revision 9")
 	for _, kind := range []api.Kind{api.Command, api.Question, api.Local} {
-		if _, err := n.Ask(context.Background(), kind, call("q")); !errors.Is(err, api.Diverged) {
+		if _, err := n.Do(context.Background(), of(kind, "q")); !errors.Is(err, api.Diverged) {
 			t.Errorf("%s: %v", kind, err)
 		}
 	}
@@ -141,12 +141,12 @@ func TestAskRefusesWhatWaited(t *testing.T) {
 	for _, kind := range []api.Kind{api.Command, api.Question} {
 		failed := make(chan error)
 		go func() {
-			_, err := n.Ask(context.Background(), kind, call("q"))
+			_, err := n.Do(context.Background(), of(kind, "q"))
 			failed <- err
 		}()
 		waiting := <-n.asked[kind]
 		n.differs.Store("at revision 9")
-		waiting.reply <- api.Answer{Text: []byte("wrong")}
+		waiting.reply <- reply{answers: api.Answers{Texts: [][]byte{[]byte("wrong")}}}
 		if err := <-failed; !errors.Is(err, api.Diverged) {
 			t.Errorf("%s: %v", kind, err)
 		}
@@ -173,7 +173,7 @@ func TestRenewed(t *testing.T) {
 				go func() {
 					defer group.Done()
 					for i := 0; i < questions/clients; i++ {
-						if _, err := n.Ask(context.Background(), api.Question, call("q")); err != nil {
+						if _, err := n.Do(context.Background(), of(api.Question, "q")); err != nil {
 							t.Error(err)
 							return
 						}

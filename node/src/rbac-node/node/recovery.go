@@ -17,8 +17,22 @@ func (n *Node) resume(ctx context.Context) error {
 	if err != nil {
 		return err
 	}
+	n.stage.Store(fmt.Sprintf("the office is made from the snapshot at revision %d", base.Revision))
 	if err := n.makeOffice(ctx, base); err != nil {
 		return err
+	}
+	if err := n.resumeRecord(ctx, base); err != nil {
+		return err
+	}
+	first, err := n.shared.First(ctx)
+	if err != nil {
+		return err
+	}
+	n.begin(base, first)
+	if n.state != nil {
+		if err := n.state.Load(ctx, n.file()); err != nil {
+			return err
+		}
 	}
 	if err := n.reopen(); err != nil {
 		return err
@@ -26,11 +40,12 @@ func (n *Node) resume(ctx context.Context) error {
 	n.revision, n.count = base.Revision, base.Count
 	n.applied.Store(&place{base.Revision, base.Count})
 	n.log.Info("recovered", "revision", base.Revision, "commands", base.Count)
+	n.stage.Store("not all of the log is applied yet")
 	state, err := n.shared.State(ctx)
 	if err != nil {
 		return err
 	}
-	return n.judge(state.Members)
+	return n.judgeSnapshots(state.Members)
 }
 
 // makeOffice makes the office in use from a snapshot, or an empty one.
@@ -68,16 +83,21 @@ func (n *Node) base(ctx context.Context) (newest office.Snapshot, err error) {
 		return newest, fmt.Errorf("the snapshot is at revision %d and etcd only at %d: etcd was restored to an earlier time, "+
 			"so move the snapshots of all nodes that are newer away", newest.Revision, state.Revision)
 	}
-	if newest.Revision >= state.Floor {
+	switch {
+	case newest.Record == office.NoRecord && n.options.Record != nil:
+		n.log.Info("this node was without a record, which it can't go on with")
+	case newest.Revision >= state.Floor:
 		return newest, nil
+	default:
+		n.log.Info("the log no longer has what this node lacks", "floor", state.Floor)
 	}
-	n.log.Info("the log no longer has what this node lacks", "floor", state.Floor)
 	return n.fetch(ctx)
 }
 
 // fetch returns a snapshot that it has fetched from another node. It asks all nodes until one has a snapshot that will
 // do.
 func (n *Node) fetch(ctx context.Context) (office.Snapshot, error) {
+	n.stage.Store("a snapshot of another node is fetched")
 	for {
 		state, err := n.shared.State(ctx)
 		if err != nil {
@@ -113,6 +133,9 @@ func (n *Node) accept(ctx context.Context, name string, offered office.Snapshot)
 	if err != nil {
 		return err
 	}
+	if offered.Record == office.NoRecord && n.options.Record != nil {
+		return errNotRecorded
+	}
 	if offered.Revision < state.Floor {
 		return fmt.Errorf("the snapshot is at revision %d, and the log begins after %d", offered.Revision, state.Floor)
 	}
@@ -122,7 +145,7 @@ func (n *Node) accept(ctx context.Context, name string, offered office.Snapshot)
 		if !isThere {
 			continue
 		}
-		if s.Digest != offered.Digest {
+		if !s.IsSame(offered) {
 			return fmt.Errorf("the snapshot at revision %d differs from that of %s", offered.Revision, member.Name)
 		}
 		if member.Name != name {

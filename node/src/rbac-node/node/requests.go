@@ -3,21 +3,33 @@ package node
 import (
 	"context"
 	"fmt"
+	"net/http"
 	"time"
 
 	"rbac-node/api"
 	"rbac-node/ledger"
+	"rbac-node/recorded"
+	"rbac-node/state"
 )
 
 // probe is a question that costs the office little.
 const probe = `{"fn":"sessionRoles","session":"-"}`
 
-// A request waits for its answer until over is closed. An answer without a text means that the command is not in the
-// log.
+// maxUnitBytes is how many bytes the lines of one request for commands may have: etcd refuses values of more than 1.5 MiB, and the
+// requests before it in a batch have at most maxBatchBytes.
+const maxUnitBytes = 768 << 10
+
+// A request waits for its answers until over is closed.
 type request struct {
 	over  <-chan struct{}
-	line  []byte
-	reply chan api.Answer
+	batch api.Batch
+	reply chan reply
+}
+
+// A reply has the answers to a request, or why there are none.
+type reply struct {
+	answers api.Answers
+	err     error
 }
 
 // isWaiting tells whether somebody waits for the answer.
@@ -30,35 +42,90 @@ func (r *request) isWaiting() bool {
 	}
 }
 
-// Ask answers a call. The answer of a command is that of this node's replay at the command's place in the log.
-func (n *Node) Ask(ctx context.Context, kind api.Kind, call *api.Call) (api.Answer, error) {
-	if n.differs.Load() != "" {
-		return api.Answer{}, api.Diverged
+// Do does a batch. The answers to commands are those of this node's replay at their place in the log.
+func (n *Node) Do(ctx context.Context, b api.Batch) (api.Answers, error) {
+	switch {
+	case n.differs.Load() != "":
+		return api.Answers{}, api.Diverged
+	case b.Kind == api.Local && n.heard.Load() < 0:
+		return api.Answers{}, api.Unavailable
+	case b.Kind == api.Command && ruleOf(b) != nil && !n.shared.HasRules():
+		return api.Answers{}, api.Upgrading
+	case sizeOf(b) > maxUnitBytes:
+		return api.Answers{}, api.BadRequest(http.StatusRequestEntityTooLarge)
 	}
-	if kind == api.Local && n.heard.Load() < 0 {
-		return api.Answer{}, api.Unavailable
+	if err := n.admit(b); err != nil {
+		return api.Answers{}, err
 	}
+	n.touch(b.Calls)
 	within, cancel := context.WithTimeout(ctx, n.options.AnswerTimeout)
 	defer cancel()
-	r := &request{within.Done(), call.Line, make(chan api.Answer, 1)}
+	r := &request{within.Done(), b, make(chan reply, 1)}
 	select {
-	case n.asked[kind] <- r:
+	case n.asked[b.Kind] <- r:
 	case <-within.Done():
-		return api.Answer{}, api.Unavailable
+		return api.Answers{}, api.Unavailable
 	}
 	select {
-	case answer := <-r.reply:
-		switch {
-		case answer.Text == nil:
-			return answer, api.Unavailable
-		case n.differs.Load() != "":
+	case found := <-r.reply:
+		if n.differs.Load() != "" {
 			// It may have been found out while the request waited, such as that of a node that had just started.
-			return api.Answer{}, api.Diverged
+			return api.Answers{}, api.Diverged
 		}
-		return answer, nil
+		return found.answers, found.err
 	case <-within.Done():
-		return api.Answer{}, api.Unavailable
+		return api.Answers{}, api.Unavailable
 	}
+}
+
+// sizeOf returns how many bytes of a batch go into the log.
+func sizeOf(b api.Batch) (size int) {
+	if b.Kind != api.Command {
+		return 0
+	}
+	for _, call := range logged(b) {
+		size += len(call.Line)
+	}
+	return size
+}
+
+// touch says that the sessions are used which questions name.
+func (n *Node) touch(calls []*api.Call) {
+	if n.state == nil {
+		return
+	}
+	for _, call := range calls {
+		if name, has := call.Texts["session"]; has && call.Kind == api.Question {
+			n.state.Touch(name)
+		}
+	}
+}
+
+// Await returns when the state has all that questions of a kind have to see.
+func (n *Node) Await(ctx context.Context, kind api.Kind) (api.Point, error) {
+	answers, err := n.Do(ctx, api.NewBatch(kind, &api.Call{Kind: api.Question, Line: []byte(probe)}))
+	return api.Point{Newest: answers.Newest}, err
+}
+
+// State returns what is known of the office, or nil if this program can't read its rows.
+func (n *Node) State() *state.State { return n.state }
+
+// IsReady reports whether the node answers.
+func (n *Node) IsReady() bool { return n.status().Ready }
+
+// JudgesConditions says that the node knows the revision of the policy.
+func (n *Node) JudgesConditions() bool { return true }
+
+// expire ends sessions that are too old.
+func (n *Node) expire(ctx context.Context) error {
+	if n.state == nil || n.options.SessionAge <= 0 {
+		return nil
+	}
+	rank := func() int { return int(n.rank.Load()) }
+	n.state.Expire(ctx, n.options.SessionAge, 0, rank, func(ctx context.Context, call *api.Call) {
+		_, _ = n.Do(ctx, api.NewBatch(api.Question, call)) // It is tried again.
+	})
+	return nil
 }
 
 // gather waits for a number of requests, or for one if it is late, and adds all others that wait, as many as a batch
@@ -82,23 +149,16 @@ func gather(ctx context.Context, from <-chan *request, least int, late <-chan ti
 			}
 		}
 		if r.isWaiting() {
-			found, size = append(found, r), size+len(r.line)
+			found, size = append(found, r), size+sizeOf(r.batch)
 		}
 	}
 	return found
 }
 
-// A batch of commands is one entry of the log. done is closed when all have their answers.
+// A batch of requests is one entry of the log. done is closed when all have their answers.
 type batch struct {
 	requests []*request
 	done     chan struct{}
-}
-
-func (b *batch) answer(answer api.Answer) {
-	b.requests[answer.Place].reply <- answer
-	if answer.Place == len(b.requests)-1 {
-		close(b.done)
-	}
 }
 
 // appendCommands puts commands into the log. Those that come while a batch is on its way go into the next one. If they
@@ -130,14 +190,20 @@ func (n *Node) appendCommands(ctx context.Context) error {
 
 // appendBatch appends a batch and feeds it. It needn't be read from the log if the entries before it are fed.
 func (n *Node) appendBatch(ctx context.Context, id string, b *batch) error {
-	entry := ledger.Entry{ID: id}
-	for _, r := range b.requests {
-		entry.Lines = append(entry.Lines, r.line)
+	units, at := make([]ledger.Unit, len(b.requests)), time.Now().UTC().Format(recorded.TimeLayout)
+	for i, r := range b.requests {
+		calls := logged(r.batch)
+		units[i] = ledger.Unit{At: at, Rule: ruleOf(r.batch)}
+		for _, call := range calls {
+			if call.Kind == api.Command {
+				units[i].Caller, units[i].Reason = call.Caller, call.Reason // They are the same for all.
+			}
+			units[i].Lines = append(units[i].Lines, call.Line)
+		}
 	}
 	n.pending.Store(id, b)
-	revision, before, err := n.shared.Append(ctx, id, entry.Lines)
-	if err == nil && revision > 0 {
-		entry.Revision = revision
+	entry, before, err := n.shared.Append(ctx, id, units)
+	if err == nil && entry.Revision > 0 {
 		err = n.submit(ctx, task{before, func() { n.apply(entry) }})
 	}
 	if err == nil {
@@ -146,7 +212,7 @@ func (n *Node) appendBatch(ctx context.Context, id string, b *batch) error {
 	if _, isOurs := n.pending.LoadAndDelete(id); isOurs && ctx.Err() == nil {
 		// etcd has refused it, so that nobody needs to wait.
 		for _, r := range b.requests {
-			r.reply <- api.Answer{}
+			r.reply <- reply{err: api.Unavailable}
 		}
 	}
 	return err
@@ -163,6 +229,7 @@ func (n *Node) confirm(ctx context.Context) error {
 		read := time.Since(n.start)
 		within, cancel := context.WithTimeout(ctx, n.options.AnswerTimeout)
 		if head, err := n.shared.Head(within); err == nil { // Otherwise the askers have waited long enough.
+			n.seen.Store(head)
 			_ = n.submit(within, task{head, func() {
 				n.send([]byte(probe), func([]byte) { n.hear(read) })
 				n.pose(questions...)

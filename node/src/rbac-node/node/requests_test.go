@@ -2,8 +2,11 @@ package node
 
 import (
 	"context"
+	"strings"
 	"testing"
 	"time"
+
+	"rbac-node/api"
 )
 
 func TestGather(t *testing.T) {
@@ -28,7 +31,7 @@ func TestGather(t *testing.T) {
 	} {
 		from := make(chan *request, maxBatchLines)
 		for _, ctx := range one.asked {
-			from <- &request{over: ctx.Done()}
+			from <- &request{over: ctx.Done(), batch: of(api.Command, "c")}
 		}
 		if found := gather(one.ctx, from, one.least, one.late); len(found) != one.wanted {
 			t.Errorf("%s: %d", one.what, len(found))
@@ -40,7 +43,7 @@ func TestGather(t *testing.T) {
 func TestGatherMost(t *testing.T) {
 	from := make(chan *request, maxBatchLines+1)
 	for i := 0; i <= maxBatchLines; i++ {
-		from <- &request{line: make([]byte, maxBatchBytes/2)}
+		from <- &request{batch: of(api.Command, strings.Repeat("c", maxBatchBytes/2))}
 	}
 	if found := gather(context.Background(), from, 1, nil); len(found) != 2 {
 		t.Errorf("%d long requests", len(found))

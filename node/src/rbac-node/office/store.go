@@ -13,6 +13,7 @@ import (
 	"os/exec"
 	"path/filepath"
 	"sort"
+	"strconv"
 	"strings"
 )
 
@@ -21,6 +22,10 @@ const (
 	maxSnapshots = 3
 	// unfinishedPrefix is the prefix of the name of an unfinished snapshot.
 	unfinishedPrefix = "making-"
+	// policyMark is before the revision of the policy in the name of a snapshot.
+	policyMark = "-policy"
+	// recordMark is before the head of the record in the name of a snapshot.
+	recordMark = "-record"
 	// copiedSuffix ends the name of a snapshot that another node has made.
 	copiedSuffix = "-copied"
 	// nameField is the field in the head of a reply that names the snapshot.
@@ -69,8 +74,23 @@ type Snapshot struct {
 	Revision int64  `json:"revision"`
 	Count    int64  `json:"commands"`
 	Digest   string `json:"digest"`
+	// Record is the head of the record at this place. It is empty if the record begins later, and NoRecord if the node that has made
+	// the snapshot keeps none.
+	Record string `json:"record,omitempty"`
+	// Policy is the revision of the policy, or 0 if the nodes may not agree on it yet.
+	Policy int64 `json:"policy,omitempty"`
 	// Copied says that another node has made it, so that it is no second witness for its rows.
 	Copied bool `json:"copied,omitempty"`
+}
+
+// NoRecord is in place of the head of a record that a node doesn't keep.
+const NoRecord = "none"
+
+// IsSame reports whether two snapshots of one revision have the same rows, the same revision of the policy, and the same record if both
+// have one.
+func (s Snapshot) IsSame(other Snapshot) bool {
+	return s.Digest == other.Digest && s.Policy == other.Policy &&
+		(s.Record == other.Record || s.Record == NoRecord || other.Record == NoRecord)
 }
 
 // A Store is a folder of snapshots. Each is the file of an office, and its name has what is known about it.
@@ -79,9 +99,12 @@ type Store struct {
 	program string
 }
 
+// FolderIn returns the folder of the snapshots of a node whose folder this is.
+func FolderIn(data string) string { return filepath.Join(data, "snapshots") }
+
 // Open returns the store of a node, which it makes in the folder of the node. It deletes what a crash left unfinished.
 func Open(data, program string) (*Store, error) {
-	folder := filepath.Join(data, "snapshots")
+	folder := FolderIn(data)
 	if err := os.MkdirAll(folder, 0o700); err != nil {
 		return nil, fmt.Errorf("snapshots: %w", err)
 	}
@@ -101,6 +124,12 @@ func Open(data, program string) (*Store, error) {
 // nameOf and parse write and read the name of a snapshot.
 func nameOf(s Snapshot) string {
 	name := fmt.Sprintf("%d-%d-%s", s.Revision, s.Count, s.Digest)
+	if s.Policy > 0 {
+		name += policyMark + strconv.FormatInt(s.Policy, 10)
+	}
+	if s.Record != "" {
+		name += recordMark + s.Record
+	}
 	if s.Copied {
 		name += copiedSuffix
 	}
@@ -113,15 +142,29 @@ func parse(name string) (s Snapshot, err error) {
 		return s, fmt.Errorf("%q is not the name of a snapshot: %w", name, err)
 	}
 	s.Copied = plain != name
+	var policy string
+	s.Digest, s.Record, _ = strings.Cut(s.Digest, recordMark)
+	if s.Digest, policy, _ = strings.Cut(s.Digest, policyMark); policy == "" {
+		return s, nil
+	}
+	if s.Policy, err = strconv.ParseInt(policy, 10, 64); err != nil {
+		return s, fmt.Errorf("%q is not the name of a snapshot: %w", name, err)
+	}
 	return s, nil
 }
 
 // Path returns the path of a snapshot.
-func (s *Store) Path(snapshot Snapshot) string { return filepath.Join(s.dir.Name(), nameOf(snapshot)) }
+func (s *Store) Path(snapshot Snapshot) string { return PathIn(s.dir.Name(), snapshot) }
+
+// PathIn returns the path of a snapshot in a folder.
+func PathIn(folder string, snapshot Snapshot) string { return filepath.Join(folder, nameOf(snapshot)) }
 
 // List returns all snapshots, the newest first.
-func (s *Store) List() ([]Snapshot, error) {
-	entries, err := os.ReadDir(s.dir.Name())
+func (s *Store) List() ([]Snapshot, error) { return List(s.dir.Name()) }
+
+// List returns the snapshots in a folder, the newest first.
+func List(folder string) ([]Snapshot, error) {
+	entries, err := os.ReadDir(folder)
 	if err != nil {
 		return nil, fmt.Errorf("snapshots: %w", err)
 	}

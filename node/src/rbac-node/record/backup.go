@@ -27,7 +27,7 @@ const (
 
 // Backup copies an office and its record as a pair into a new folder in a folder, whose path it prints. A front may have them.
 func (t *Tool) Backup(ctx context.Context, folder string) error {
-	files, err := filesOf(t.Office)
+	files, err := filesOf(DirOf(t.Office))
 	if err != nil {
 		return err
 	}

@@ -40,21 +40,26 @@ func recordedText(text string) string {
 	return DigestOf(text)
 }
 
-// Admit writes the lines that are recorded for a unit. It refuses one whose line would be longer than the replay accepts.
-func (r *Record) Admit(u *feed.Unit) error {
+// recordedLine returns the line that is recorded for a command. It refuses one that would be longer than the replay accepts.
+func recordedLine(call *api.Call) ([]byte, error) {
+	text, has := call.Texts[session]
+	if !has {
+		return call.Line, nil
+	}
+	line, err := call.LineWith(session, recordedText(text))
+	if err != nil {
+		return line, api.Refusal{Status: http.StatusRequestEntityTooLarge, Code: 34, Name: "BadRequest"}
+	}
+	return line, nil
+}
+
+// Admit writes the lines that are recorded for a unit, or refuses it.
+func (r *Record) Admit(u *feed.Unit) (err error) {
 	u.Recorded = make([][]byte, len(u.Calls))
 	for _, i := range u.Commands() {
-		call := u.Calls[i]
-		u.Recorded[i] = call.Line
-		text, has := call.Texts[session]
-		if !has {
-			continue
+		if u.Recorded[i], err = recordedLine(u.Calls[i]); err != nil {
+			return err
 		}
-		line, err := call.LineWith(session, recordedText(text))
-		if err != nil {
-			return api.Refusal{Status: http.StatusRequestEntityTooLarge, Code: 34, Name: "BadRequest"}
-		}
-		u.Recorded[i] = line
 	}
 	return nil
 }

@@ -16,6 +16,8 @@ import (
 	"time"
 
 	sqlite3 "github.com/mattn/go-sqlite3"
+
+	"rbac-node/recorded"
 )
 
 // schema makes the tables of a file. A part begins with a copy of the office, in which sessions have the digests of their names:
@@ -45,8 +47,22 @@ type entry struct {
 	found                                   bool
 }
 
+// addEntry adds an entry with an answer.
+const addEntry = "INSERT INTO entry VALUES (?, ?, ?, ?, ?, ?, ?, ?)"
+
+// values returns the values of the columns.
+func (e *entry) values() []any {
+	return []any{e.n, e.at, e.caller, e.reason, e.request, e.answer, e.found, e.ch}
+}
+
 // isCommand reports whether the replay gets the entry.
 func (e *entry) isCommand() bool { return strings.HasPrefix(e.request, `{"fn":`) }
+
+// isReview reports whether the entry says that somebody has ended a review of who has what. The replay doesn't get it.
+func (e *entry) isReview() bool { return strings.HasPrefix(e.request, recorded.ReviewPrefix) }
+
+// accepted is the answer of an entry that is no command.
+const accepted = `{"ok":true}`
 
 // chained returns the link of an entry: a digest of the link before it and of each of its fields.
 func chained(before string, e *entry) string {
@@ -62,7 +78,7 @@ func chained(before string, e *entry) string {
 	return hex.EncodeToString(h.Sum(nil))
 }
 
-func now() string { return time.Now().UTC().Format("2006-01-02T15:04:05.000Z") }
+func now() string { return time.Now().UTC().Format(recorded.TimeLayout) }
 
 // driver is SQLite with a function that maps the names of sessions.
 const driver = "sqlite3-record"
@@ -109,14 +125,21 @@ type querier interface {
 	QueryRow(query string, values ...any) *sql.Row
 }
 
-// lastOf returns the last entry that has an answer, and the last entry. Without any the entries are zero.
+// lastOf returns the last entry that has an answer, and the last entry. If there is none, it is what the last part says of the one
+// before.
 func lastOf(db querier) (answered, last entry, err error) {
-	answered, err = entryOf(db.QueryRow("SELECT " + columns + " FROM entry WHERE answer IS NOT NULL ORDER BY n DESC LIMIT 1"))
-	if err == nil || errors.Is(err, sql.ErrNoRows) {
-		last, err = entryOf(db.QueryRow("SELECT " + columns + " FROM entry ORDER BY n DESC LIMIT 1"))
-	}
-	if errors.Is(err, sql.ErrNoRows) {
-		err = nil
+	var before entry
+	err = db.QueryRow("SELECT first - 1, before FROM part ORDER BY first DESC LIMIT 1").Scan(&before.n, &before.ch)
+	for _, one := range []struct {
+		found *entry
+		where string
+	}{{&answered, "WHERE answer IS NOT NULL"}, {&last, ""}} {
+		if err == nil {
+			*one.found, err = entryOf(db.QueryRow("SELECT " + columns + " FROM entry " + one.where + " ORDER BY n DESC LIMIT 1"))
+		}
+		if errors.Is(err, sql.ErrNoRows) {
+			*one.found, err = before, nil
+		}
 	}
 	return answered, last, err
 }

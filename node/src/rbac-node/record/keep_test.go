@@ -14,7 +14,7 @@ import (
 func BenchmarkKeep(b *testing.B) {
 	const size = 16
 	dir := b.TempDir()
-	if err := makeFile(dir, 1, "", beginning, "", "/dev/null"); err != nil {
+	if err := makeFile(dir, part{1, beginning, "", ""}, now(), "/dev/null"); err != nil {
 		b.Fatal(err)
 	}
 	r := &Record{dir: dir}

@@ -17,31 +17,47 @@ const (
 	beginning = "begins"    // There was no record before.
 	continued = "continues" // The part before it has been closed; its last rows are the first of this one.
 	adopted   = "adopts"    // Somebody has written the office or the record, and the office as it is was adopted.
+	joined    = "joins"     // A node has begun with a snapshot. No entry says so, since all nodes have the same entries.
 )
 
-// firstEntry returns the entry that says how a part begins.
-func firstEntry(n int64, before, why, rows string) entry {
-	e := entry{n: n, at: now(), caller: Front, request: fmt.Sprintf(`{"record":"%s","rows":"%s"}`, why, rows), answer: `{"ok":true}`}
-	e.ch = chained(before, &e)
+// A part is a row of its table: which entry is the first, why the part begins, the link before it, and the digest of the rows of the
+// office over which the commands are done.
+type part struct {
+	first             int64
+	why, before, rows string
+}
+
+// entry returns the entry that says how a part begins, or nil if there is none.
+func (p *part) entry(at string) *entry {
+	if p.why == joined {
+		return nil
+	}
+	e := &entry{
+		n: p.first, at: at, caller: Front, request: fmt.Sprintf(`{"record":"%s","rows":"%s"}`, p.why, p.rows), answer: accepted,
+	}
+	e.ch = chained(p.before, e)
 	return e
 }
 
-// addPart begins a part with a mapped copy of the office, and returns its first entry.
-func addPart(tx *sql.Tx, n int64, before, why, rows, copied string) (entry, error) {
+// addPart begins a part with a mapped copy of the office, and returns its first entry, if it has one.
+func addPart(tx *sql.Tx, p part, at, copied string) (*entry, error) {
 	text, err := os.ReadFile(copied)
 	if err != nil {
-		return entry{}, err
+		return nil, err
 	}
-	if _, err := tx.Exec("INSERT INTO part VALUES (?, ?, ?, ?, ?)", n, why, before, rows, text); err != nil {
-		return entry{}, err
+	if _, err := tx.Exec("INSERT INTO part VALUES (?, ?, ?, ?, ?)", p.first, p.why, p.before, p.rows, text); err != nil {
+		return nil, err
 	}
-	e := firstEntry(n, before, why, rows)
-	_, err = tx.Exec("INSERT INTO entry VALUES (?, ?, ?, ?, ?, ?, ?, ?)", e.n, e.at, e.caller, e.reason, e.request, e.answer, e.found, e.ch)
+	e := p.entry(at)
+	if e == nil {
+		return nil, nil
+	}
+	_, err = tx.Exec(addEntry, e.values()...)
 	return e, err
 }
 
 // makeFile makes the file of a record that begins with a mapped copy of the office. After a crash there is a whole file or none.
-func makeFile(dir string, n int64, before, why, rows, copied string) error {
+func makeFile(dir string, p part, at, copied string) error {
 	making := filepath.Join(dir, fileName+".making")
 	for _, left := range []string{making, making + "-journal"} {
 		if err := os.RemoveAll(left); err != nil {
@@ -56,7 +72,7 @@ func makeFile(dir string, n int64, before, why, rows, copied string) error {
 		if _, err := tx.Exec(schema); err != nil {
 			return err
 		}
-		_, err := addPart(tx, n, before, why, rows, copied)
+		_, err := addPart(tx, p, at, copied)
 		return err
 	})
 	if closing := db.Close(); err == nil {
@@ -88,6 +104,11 @@ func inTransaction(db *sql.DB, work func(tx *sql.Tx) error) error {
 		return err
 	}
 	return tx.Commit()
+}
+
+// partPath returns the path of the file of an earlier part.
+func partPath(dir string, first, last int64) string {
+	return filepath.Join(dir, fmt.Sprintf("%s%d-%d.db", partPrefix, first, last))
 }
 
 // unknown is recorded in place of an answer that nobody can find any more.

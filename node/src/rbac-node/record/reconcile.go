@@ -56,7 +56,7 @@ func (r *Record) reconcile(ctx context.Context, scratch string) error {
 		return err
 	}
 	defer func() { _ = again.Close() }() // What it has done is thrown away.
-	if err := again.each(ctx, entriesAfter(ctx, r.db, n, answered.n)); err != nil {
+	if err := again.each(ctx, r.told(entriesAfter(ctx, r.db, n, answered.n), answered.n-n)); err != nil {
 		return err
 	}
 	open, err := openEntries(ctx, r.db, answered.n)
@@ -75,6 +75,21 @@ func (r *Record) reconcile(ctx context.Context, scratch string) error {
 	}
 	r.Log.Info("the record gives the rows of the office", "again", answered.n-n, "found", done, "never_done", len(open)-done)
 	return nil
+}
+
+// sayingInterval is after how many commands it is said how many were done again.
+const sayingInterval = 100
+
+// told returns entries as next does, and says how many of them it has returned.
+func (r *Record) told(next func() (*entry, error), all int64) func() (*entry, error) {
+	done := 0
+	return func() (*entry, error) {
+		if done%sayingInterval == 0 {
+			r.say(fmt.Sprintf("command %d of %d since the last copy of the office is done again", done, all))
+		}
+		done++
+		return next()
+	}
 }
 
 // settle keeps the answers that were found, and deletes the entries that were never done: nobody was told of them.

@@ -37,14 +37,17 @@ const (
 
 // Options are what a record needs.
 type Options struct {
-	// Office is the file of the office, and Program the proved program.
-	Office, Program string
+	// Office is the file of the office, and Program the proved program. Dir is the folder of the record, which is beside the office if
+	// nothing else is said.
+	Office, Program, Dir string
 	// HangTimeout is how long a replay of the record may answer nothing.
 	HangTimeout time.Duration
 	// Every is how many commands there are between two base copies.
 	Every   int64
 	Log     *logs.Logger
 	Metrics *metrics.Registry
+	// Say is told what a start does. It may be nil.
+	Say func(stage string)
 }
 
 // A Record is that of an office which a front has open. Keep, IsDue and Rest are for the goroutine of a feed's keeper.
@@ -83,9 +86,8 @@ var (
 		"or let `rbac-node record adopt` begin anew over the office as it is")
 )
 
-// HasRecord reports whether there is a record of an office, or a part of one.
-func HasRecord(office string) (bool, error) {
-	dir := DirOf(office)
+// hasRecord reports whether there is a record in a folder, or a part of one.
+func hasRecord(dir string) (bool, error) {
 	if _, err := os.Stat(filepath.Join(dir, fileName)); err == nil {
 		return true, nil
 	}
@@ -111,7 +113,7 @@ func hasPrefix(name, prefix string) bool {
 
 // CheckOffice refuses a record without its office, or with an empty one.
 func CheckOffice(office string) error {
-	has, err := HasRecord(office)
+	has, err := hasRecord(DirOf(office))
 	if err != nil || !has {
 		return err
 	}
@@ -122,12 +124,27 @@ func CheckOffice(office string) error {
 	return err
 }
 
-// Open opens the record of an office that no program has open, and begins one if there is none.
-func Open(ctx context.Context, options Options) (*Record, error) {
-	r := &Record{Options: options, dir: DirOf(options.Office)}
+func (r *Record) say(stage string) {
+	if r.Say != nil {
+		r.Say(stage)
+	}
+}
+
+// newRecord returns a record that isn't open yet, and removes what a crash has left of copies.
+func newRecord(options Options) *Record {
+	r := &Record{Options: options, dir: options.Dir}
+	if r.dir == "" {
+		r.dir = DirOf(options.Office)
+	}
 	r.life, r.stop = context.WithCancel(context.Background())
 	removeScratch(r.Office, r.dir)
-	has, err := HasRecord(options.Office)
+	return r
+}
+
+// Open opens the record of an office that no program has open, and begins one if there is none.
+func Open(ctx context.Context, options Options) (*Record, error) {
+	r := newRecord(options)
+	has, err := hasRecord(r.dir)
 	if err == nil && !has {
 		err = r.begin(ctx)
 	}
@@ -144,14 +161,23 @@ func Open(ctx context.Context, options Options) (*Record, error) {
 
 // begin makes a record that begins with the office as it is. After a crash there is a whole record or none.
 func (r *Record) begin(ctx context.Context) error {
+	r.say("the office is copied, since its record begins")
+	return r.beginWith(ctx, part{1, beginning, "", ""}, now(), func(copied, rows string) error {
+		return addBase(r.dir, copied, base{1, rows})
+	})
+}
+
+// beginWith makes a file that begins with the office as it is, and then does something more.
+func (r *Record) beginWith(ctx context.Context, p part, at string, more func(copied, rows string) error) error {
 	if err := os.Mkdir(r.dir, 0o700); err != nil && !errors.Is(err, os.ErrExist) {
 		return err
 	}
 	return r.withCopy(ctx, func(copied, rows string) error {
-		if err := makeFile(r.dir, 1, "", beginning, rows, copied); err != nil {
+		p.rows = rows
+		if err := makeFile(r.dir, p, at, copied); err != nil {
 			return err
 		}
-		return addBase(r.dir, copied, base{1, rows})
+		return more(copied, rows)
 	})
 }
 
@@ -184,7 +210,10 @@ func (r *Record) load() (err error) {
 	if len(bases) > 0 {
 		r.based = bases[0].n
 	}
-	r.head, _, err = lastOf(r.db)
+	head, _, err := lastOf(r.db)
+	r.mutex.Lock()
+	defer r.mutex.Unlock()
+	r.head = head
 	return err
 }
 
@@ -206,6 +235,9 @@ func (r *Record) Keep(answered, asked []*feed.Unit) error {
 		for _, i := range u.Commands() {
 			e := r.open[0] // Answers come in order.
 			r.open, e.answer = r.open[1:], string(u.Answers[i])
+			if e.isReview() {
+				e.answer = accepted // What the replay has answered was only about its place in the order.
+			}
 			r.late = append(r.late, e)
 		}
 	}
@@ -227,6 +259,7 @@ func (r *Record) entriesOf(asked []*feed.Unit) (next []entry) {
 		for _, i := range u.Commands() {
 			call := u.Calls[i]
 			n++
+			u.Numbers = append(u.Numbers, n)
 			next = append(next, entry{n: n, at: at, caller: call.Caller, reason: call.Reason, request: string(u.Recorded[i])})
 		}
 	}

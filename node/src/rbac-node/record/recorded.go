@@ -10,11 +10,14 @@ import (
 
 // Recorded returns the newest entries that a query chooses, also from earlier parts.
 func (r *Record) Recorded(ctx context.Context, query recorded.Query) (page recorded.Page, err error) {
-	files, err := filesOf(r.Office)
+	files, err := filesOf(r.dir)
 	if err != nil {
 		return page, err
 	}
 	page.Head = r.Head().String()
+	if page.First, err = firstIn(ctx, files[0]); err != nil {
+		return page, err
+	}
 	for i := len(files) - 1; i >= 0 && len(page.Entries) <= query.Limit; i-- {
 		if err := addNewest(ctx, &page, files[i], query); err != nil {
 			return page, err
@@ -24,6 +27,20 @@ func (r *Record) Recorded(ctx context.Context, query recorded.Query) (page recor
 		page.Entries, page.HasMore = page.Entries[:query.Limit], true
 	}
 	return page, nil
+}
+
+// firstIn returns the number of the first entry of a file.
+func firstIn(ctx context.Context, path string) (int64, error) {
+	v, err := openView(ctx, path)
+	if err != nil {
+		return 0, err
+	}
+	defer v.Close()
+	parts, err := partsOf(ctx, v)
+	if err != nil {
+		return 0, err
+	}
+	return parts[0].first, nil
 }
 
 // addNewest adds the entries of a file, up to one more than are wanted.

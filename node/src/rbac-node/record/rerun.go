@@ -136,6 +136,10 @@ func (r *rerun) fit(ctx context.Context, open []entry, want sums) (int, error) {
 		if i == len(open) {
 			return most, nil
 		}
+		if open[i].isReview() {
+			open[i].answer = accepted // It leaves the rows as they are.
+			continue
+		}
 		if open[i].answer, err = r.one(ctx, open[i].request); err == nil && feed.IsAccepted([]byte(open[i].answer)) {
 			same, err = r.has(ctx, want)
 		}

@@ -5,6 +5,7 @@ package record
 import (
 	"bufio"
 	"context"
+	"fmt"
 	"strconv"
 	"strings"
 
@@ -44,26 +45,43 @@ func (f *Filter) where() (string, []any) {
 // Show prints the entries that a filter chooses: number, time, caller, reason, request and answer, with tabs between them. None of
 // them has a tab. An answer that a start has found has a star, and an entry without an answer has a question mark in its place.
 func (t *Tool) Show(ctx context.Context, filter Filter) error {
-	files, err := filesOf(t.Office)
+	files, err := filesOf(t.dir())
 	if err != nil {
 		return err
 	}
 	out := bufio.NewWriter(t.Out)
 	defer out.Flush()
+	last := int64(0)
 	for _, path := range files {
-		if err := show(ctx, out, path, filter); err != nil {
+		if last, err = t.show(ctx, out, path, filter, last+1); err != nil {
 			return err
 		}
 	}
 	return out.Flush()
 }
 
-func show(ctx context.Context, out *bufio.Writer, path string, filter Filter) error {
+// show prints entries of a file, which should begin with an entry, and returns its last one. It says so if it begins later.
+func (t *Tool) show(ctx context.Context, out *bufio.Writer, path string, filter Filter, first int64) (last int64, err error) {
 	v, err := openView(ctx, path)
 	if err != nil {
-		return err
+		return 0, err
 	}
 	defer v.Close()
+	parts, err := partsOf(ctx, v)
+	if err != nil {
+		return 0, err
+	}
+	if parts[0].first > first {
+		fmt.Fprintln(t.Err, missing(first, parts[0]))
+	}
+	if err := showEntries(ctx, out, v, filter); err != nil {
+		return 0, err
+	}
+	_, end, err := lastOf(v.tx)
+	return end.n, err
+}
+
+func showEntries(ctx context.Context, out *bufio.Writer, v *view, filter Filter) error {
 	where, values := filter.where()
 	rows, err := v.tx.QueryContext(ctx, "SELECT "+columns+" FROM entry WHERE "+where+" ORDER BY n", values...)
 	if err != nil {

@@ -18,12 +18,22 @@ import (
 	"rbac-node/single"
 )
 
-// A Tool does what commands other than serve do with the record of an office.
+// A Tool does what commands other than serve do with the record of an office, or with that of a node of several machines, whose
+// folder Data is.
 type Tool struct {
-	Office, Program string
-	HangTimeout     time.Duration
-	Out             io.Writer
-	Log             *logs.Logger
+	Office, Data, Program string
+	HangTimeout           time.Duration
+	// Out is for what is asked for, and Err for what else has to be known.
+	Out, Err io.Writer
+	Log      *logs.Logger
+}
+
+// dir returns the folder of the record.
+func (t *Tool) dir() string {
+	if t.Data != "" {
+		return DirIn(t.Data)
+	}
+	return DirOf(t.Office)
 }
 
 // glance is how long it is looked whether a front has the office.
@@ -47,10 +57,7 @@ func (t *Tool) openLocked(ctx context.Context) (*Record, *os.File, error) {
 	if err := CheckOffice(t.Office); err != nil {
 		return nil, nil, err
 	}
-	if has, err := HasRecord(t.Office); err != nil || !has {
-		if err == nil {
-			err = fmt.Errorf("there is no record %s", DirOf(t.Office))
-		}
+	if _, err := filesOf(DirOf(t.Office)); err != nil {
 		return nil, nil, err
 	}
 	lock, err := t.lockIfFree(ctx)
@@ -69,9 +76,8 @@ func (t *Tool) openLocked(ctx context.Context) (*Record, *os.File, error) {
 }
 
 // filesOf returns the paths of the files of a record, in the order of their entries.
-func filesOf(office string) ([]string, error) {
-	dir := DirOf(office)
-	if has, err := HasRecord(office); err != nil || !has {
+func filesOf(dir string) ([]string, error) {
+	if has, err := hasRecord(dir); err != nil || !has {
 		if err == nil {
 			err = fmt.Errorf("there is no record %s", dir)
 		}
@@ -147,7 +153,7 @@ func (v *view) Close() {
 
 // PrintHead prints the head.
 func (t *Tool) PrintHead(ctx context.Context) error {
-	files, err := filesOf(t.Office)
+	files, err := filesOf(t.dir())
 	if err != nil {
 		return err
 	}
@@ -206,7 +212,10 @@ func (r *Record) adopt(ctx context.Context, tx *sql.Tx, copied, rows string) err
 		}
 		r.head = e
 	}
-	r.head, err = addPart(tx, r.head.n+1, r.head.ch, adopted, rows, copied)
+	begins, err := addPart(tx, part{r.head.n + 1, adopted, r.head.ch, rows}, now(), copied)
+	if err == nil {
+		r.head = *begins
+	}
 	return err
 }
 
@@ -246,7 +255,7 @@ func (t *Tool) Cut(ctx context.Context) error {
 	if first == r.head.n {
 		return errors.New("there is nothing to cut: the part at hand has no command")
 	}
-	path := filepath.Join(r.dir, fmt.Sprintf("%s%d-%d.db", partPrefix, first, r.head.n))
+	path := partPath(r.dir, first, r.head.n)
 	err = r.withCopy(ctx, func(copied, rows string) error {
 		// Its log is merged when it is closed.
 		if err := r.db.Close(); err != nil {
@@ -261,7 +270,7 @@ func (t *Tool) Cut(ctx context.Context) error {
 		if err := os.Link(filepath.Join(r.dir, fileName), path); err != nil {
 			return err
 		}
-		if err := makeFile(r.dir, r.head.n+1, r.head.ch, continued, rows, copied); err != nil {
+		if err := makeFile(r.dir, part{r.head.n + 1, continued, r.head.ch, rows}, now(), copied); err != nil {
 			return err
 		}
 		return addBase(r.dir, copied, base{r.head.n + 1, rows})

@@ -8,14 +8,18 @@ import (
 	"fmt"
 	"os"
 	"path/filepath"
+
+	"rbac-node/office"
 )
 
 // A verifier reads a record from its beginning, and does its commands again.
 type verifier struct {
 	*Tool
 	scratch string
-	// want has the rows of the office, or is nil if a front has it.
+	// want has the rows of the office, or is nil if a front has it. On a node it has those of the newest snapshot, which is at a place
+	// of the record.
 	want *sums
+	at   Head
 	head *Head
 	// last is the last entry that was read, first the first one, and rows are those after the last one, if a rerun has led there.
 	first, last entry
@@ -26,14 +30,16 @@ type verifier struct {
 // record gives. While a front has the office its rows are not compared. A head that is known from elsewhere shows whether the end
 // was cut off, or whether the chain was computed anew.
 func (t *Tool) Verify(ctx context.Context, head *Head) error {
-	if err := CheckOffice(t.Office); err != nil {
-		return err
+	if t.Data == "" {
+		if err := CheckOffice(t.Office); err != nil {
+			return err
+		}
 	}
-	files, err := filesOf(t.Office)
+	files, err := filesOf(t.dir())
 	if err != nil {
 		return err
 	}
-	scratch, err := newScratch(t.Office, DirOf(t.Office), forVerify)
+	scratch, err := newScratch(t.Office+t.Data, t.dir(), forVerify)
 	if err != nil {
 		return err
 	}
@@ -52,6 +58,9 @@ func (t *Tool) Verify(ctx context.Context, head *Head) error {
 	if err := v.read(ctx, current, true); err != nil {
 		return fmt.Errorf("%s: %w", files[len(files)-1], err)
 	}
+	if t.Data != "" && v.want != nil {
+		return fmt.Errorf("the newest snapshot is at entry %d, which is not here", v.at.N)
+	}
 	if head != nil && v.last.n < head.N {
 		return fmt.Errorf("the record ends at entry %d: those from there to %d are missing", v.last.n, head.N)
 	}
@@ -61,6 +70,9 @@ func (t *Tool) Verify(ctx context.Context, head *Head) error {
 
 // look opens the file at hand and describes the office, both as of one moment if no front has the office.
 func (v *verifier) look(ctx context.Context, path string) (*view, error) {
+	if v.Data != "" {
+		return v.lookAtNode(ctx, path)
+	}
 	lock, err := v.lockIfFree(ctx)
 	if err != nil {
 		return nil, err
@@ -75,6 +87,50 @@ func (v *verifier) look(ctx context.Context, path string) (*view, error) {
 	}
 	v.want = &want
 	return openView(ctx, path)
+}
+
+// lookAtNode describes the newest snapshot of a node, and opens the file at hand, which has all entries up to that snapshot.
+func (v *verifier) lookAtNode(ctx context.Context, path string) (*view, error) {
+	folder := office.FolderIn(v.Data)
+	snapshots, err := office.List(folder)
+	if err != nil && !errors.Is(err, os.ErrNotExist) {
+		return nil, err
+	}
+	for _, s := range snapshots {
+		if v.at, err = ParseHead(s.Record); err != nil {
+			continue // The record begins later.
+		}
+		want, err := sumsOf(ctx, v.Program, office.PathIn(folder, s), filepath.Join(v.scratch, "office"))
+		if err != nil {
+			return nil, err
+		}
+		v.want = &want
+		break
+	}
+	if v.want == nil {
+		fmt.Fprintln(v.Out, "there is no snapshot since the record began: no rows are compared")
+	}
+	return openView(ctx, path)
+}
+
+// compareNode does the entries of a part up to the newest snapshot of a node, if it has them, and compares the rows.
+func (v *verifier) compareNode(ctx context.Context, opened *view, p part, end int64, again *rerun) error {
+	if v.Data == "" || v.want == nil || v.at.N < v.last.n || v.at.N > end {
+		return nil
+	}
+	if err := again.each(ctx, v.checked(entriesAfter(ctx, opened.tx, v.last.n, v.at.N), p)); err != nil {
+		return err
+	}
+	same, err := again.has(ctx, *v.want)
+	if err == nil && (!same || v.last.ch != v.at.Chain) {
+		err = fmt.Errorf("the newest snapshot is not what the record gives at entry %d: somebody has written one of them", v.at.N)
+	}
+	if err != nil {
+		return err
+	}
+	fmt.Fprintf(v.Out, "the newest snapshot has the rows that the record gives at entry %d\n", v.at.N)
+	v.want = nil
+	return nil
 }
 
 // file reads the file of an earlier part.
@@ -92,12 +148,6 @@ func (v *verifier) file(ctx context.Context, path string) error {
 		return fmt.Errorf("it ends at entry %d, and its name says %d", v.last.n, last)
 	}
 	return nil
-}
-
-// A part is a row of its table.
-type part struct {
-	first             int64
-	why, before, rows string
 }
 
 func partsOf(ctx context.Context, opened *view) (parts []part, err error) {
@@ -170,23 +220,36 @@ func (v *verifier) part(ctx context.Context, opened *view, p part, end int64, is
 		return err
 	}
 	defer func() { _ = again.Close() }() // What it has done is thrown away.
-	from := p.first
-	if err := again.each(ctx, v.checked(entriesAfter(ctx, opened.tx, p.first-1, end), p)); err != nil {
+	if err := v.compareNode(ctx, opened, p, end, again); err != nil {
+		return err
+	}
+	if err := again.each(ctx, v.checked(entriesAfter(ctx, opened.tx, v.last.n, end), p)); err != nil {
 		return err
 	}
 	if v.last.n != end {
 		return fmt.Errorf("entries %d to %d are missing", v.last.n+1, end)
 	}
-	fmt.Fprintf(v.Out, "entries %d to %d: the chain holds, and the program gives the same answers\n", from, end)
-	if isLast && v.want != nil {
+	if end >= p.first {
+		fmt.Fprintf(v.Out, "entries %d to %d: the chain holds, and the program gives the same answers\n", p.first, end)
+	}
+	if isLast && v.want != nil && v.Data == "" {
 		return v.compare(ctx, opened, again)
 	}
 	s, err := again.sums(ctx)
 	v.rows = s.all
-	if isLast {
+	if isLast && v.Data == "" {
 		fmt.Fprintln(v.Out, "a front has the office: its rows are not compared")
 	}
 	return err
+}
+
+// missing says that entries before a part aren't here.
+func missing(from int64, p part) string {
+	why := "their part was moved away"
+	if p.why == joined {
+		why = "this part begins with a snapshot"
+	}
+	return fmt.Sprintf("entries %d to %d are not here: %s", from, p.first-1, why)
 }
 
 // join reports how a part follows what was read before.
@@ -195,14 +258,14 @@ func (v *verifier) join(p part) error {
 	case p.first < next:
 		return fmt.Errorf("the part that begins with entry %d comes after entry %d", p.first, v.last.n)
 	case p.first > next:
-		fmt.Fprintf(v.Out, "entries %d to %d are not here: their part was moved away\n", next, p.first-1)
+		fmt.Fprintln(v.Out, missing(next, p))
 		if v.head != nil && next <= v.head.N && v.head.N < p.first {
 			return fmt.Errorf("entry %d, whose link is known, is not here", v.head.N)
 		}
 		v.last = entry{n: p.first - 1, ch: p.before}
 	case p.before != v.last.ch:
 		return fmt.Errorf("the part that begins with entry %d does not follow entry %d", p.first, v.last.n)
-	case p.why == continued && p.rows != v.rows:
+	case (p.why == continued || p.why == joined) && p.rows != v.rows:
 		return fmt.Errorf("the part that begins with entry %d has other rows than entry %d leaves", p.first, v.last.n)
 	}
 	if p.why == adopted {
@@ -218,7 +281,8 @@ func (v *verifier) checked(next func() (*entry, error), p part) func() (*entry, 
 		if err != nil || e == nil {
 			return e, err
 		}
-		begins := firstEntry(e.n, "", p.why, p.rows)
+		begins := p.entry("")
+		isFirst := begins != nil && e.n == p.first
 		switch {
 		case e.n != v.last.n+1:
 			return nil, fmt.Errorf("entry %d is missing", v.last.n+1)
@@ -228,7 +292,7 @@ func (v *verifier) checked(next func() (*entry, error), p part) func() (*entry, 
 			return nil, fmt.Errorf("the chain breaks at entry %d: it or the one before it was changed", e.n)
 		case v.head != nil && v.head.N == e.n && v.head.Chain != e.ch:
 			return nil, fmt.Errorf("entry %d has another link than the one that is known: the chain was computed anew", e.n)
-		case e.n == p.first && e.request != begins.request || e.n > p.first && !e.isCommand():
+		case isFirst && e.request != begins.request || !isFirst && !e.isCommand() && !e.isReview():
 			return nil, fmt.Errorf("entry %d is not what its part says", e.n)
 		}
 		v.last = *e

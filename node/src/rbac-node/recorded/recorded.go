@@ -1,6 +1,18 @@
 // Package recorded has what is asked of the record of an office, and what it answers.
 package recorded
 
+import (
+	"context"
+
+	"rbac-node/api"
+)
+
+// TimeLayout is how the time of an entry is written, in UTC.
+const TimeLayout = "2006-01-02T15:04:05.000Z"
+
+// ReviewPrefix is how the request of an entry begins that says that somebody has ended a review of who has what.
+const ReviewPrefix = `{"record":"reviewed",`
+
 // A Filter chooses entries. An empty text chooses all.
 type Filter struct {
 	User, Role, Object, Function, Caller, Since, Until string
@@ -15,7 +27,7 @@ type Query struct {
 	Limit  int
 }
 
-// An Entry is a command of the record, or says how a part of the record begins.
+// An Entry is a command of the record, or says how a part of the record begins, or that a review has ended.
 type Entry struct {
 	N                  int64
 	At, Caller, Reason string
@@ -30,6 +42,31 @@ type Page struct {
 	Entries []Entry
 	// HasMore says that there are older ones that the filter chooses.
 	HasMore bool
-	// Head is the number and the link of the last entry that has an answer.
-	Head string
+	// Head is the number and the link of the last entry that has an answer, and First the number of the first one that is here.
+	Head  string
+	First int64
+}
+
+// A Follower is the record of a node, which gets the commands of the log in their order.
+type Follower interface {
+	// Resume goes on after the head that the office in use has, which a snapshot gave. That may have been fetched from another node.
+	Resume(ctx context.Context, head string, isFetched bool) error
+	// HasBegun reports whether there is a record, and Begin begins one with the office in use, which no program has open.
+	HasBegun() bool
+	Begin(ctx context.Context, at string) error
+	// Admit refuses a command that can't be recorded.
+	Admit(call *api.Call) error
+	// Add adds a command with its answer. It doesn't wait; Room waits until there is room for many more.
+	Add(caller, at, reason string, call *api.Call, answer []byte)
+	Room()
+	// Added returns the head after all that was added, or an empty text. Keep makes the entries up to a head durable.
+	Added() string
+	Keep(ctx context.Context, head string) error
+	// Failed is closed when the record can't go on, and Failure says why.
+	Failed() <-chan struct{}
+	Failure() error
+	// Recorded returns entries.
+	Recorded(ctx context.Context, query Query) (Page, error)
+	// Close writes what was added. Nothing is added afterwards.
+	Close() error
 }

@@ -12,7 +12,6 @@ import (
 	"sync/atomic"
 
 	"rbac-node/api"
-	"rbac-node/endpoints"
 	"rbac-node/feed"
 	"rbac-node/state"
 )
@@ -80,6 +79,7 @@ func (o *Office) before(ctx context.Context) error {
 			return err
 		}
 	}
+	o.Say("the rows of the office are read")
 	if o.state == nil {
 		return nil
 	}
@@ -107,32 +107,63 @@ func (o *Office) State() *state.State { return o.state }
 // JudgesConditions reports whether the office knows the revision of its policy.
 func (o *Office) JudgesConditions() bool { return o.state != nil }
 
-// AskAll returns the answers to some calls, with nothing of others between them, and the numbers after them.
-func (o *Office) AskAll(ctx context.Context, calls ...*api.Call) (answers [][]byte, numbers state.Numbers, err error) {
-	if len(calls) == 0 {
-		return nil, numbers, nil
-	}
-	_, isConditional := api.Condition(ctx)
-	if isConditional || o.state != nil && state.NeedsReview(calls) {
-		return o.askInTurn(ctx, calls)
+// Do does a batch. All kinds of questions are answered from the newest state.
+func (o *Office) Do(ctx context.Context, b api.Batch) (api.Answers, error) {
+	if b.Kind == api.Command && (b.Rule != api.Rule{} || o.state != nil && (state.NeedsReview(b.Calls) || areSeen(b.Calls))) {
+		return o.doInTurn(ctx, b)
 	}
 	within, cancel := context.WithTimeout(ctx, o.AnswerTimeout)
 	defer cancel()
-	o.touch(calls)
-	u := &feed.Unit{Lines: linesOf(calls), Observed: o.counting(&numbers)}
-	if haveCommand(calls) {
-		if err := o.admit(u, calls); err != nil {
-			return nil, numbers, err
+	o.touch(b.Calls)
+	at := &api.Point{} // The unit may outlive the request.
+	u := &feed.Unit{Lines: linesOf(b.Calls), Observed: func() {
+		at.Policy = o.numbers().Policy
+		see(b.Calls)
+	}}
+	if b.Kind == api.Command {
+		if err := o.admit(u, b.Calls); err != nil {
+			return api.Answers{}, err
 		}
 		if err := o.enter(within); err != nil {
-			return nil, numbers, err
+			return api.Answers{}, err
 		}
 		u.Finally = o.gate.RUnlock
 	}
-	if answers, err = o.feed.Do(within, u); err != nil {
-		return nil, state.Numbers{}, err
+	texts, err := o.feed.Do(within, u)
+	if err != nil {
+		return api.Answers{}, err
 	}
-	return answers, numbers, nil
+	return api.Answers{Texts: texts, Point: *at}, nil
+}
+
+// areSeen reports whether somebody wants to see the state behind one of the calls.
+func areSeen(calls []*api.Call) bool {
+	for _, call := range calls {
+		if call.Seen != nil {
+			return true
+		}
+	}
+	return false
+}
+
+// see says that calls have been answered.
+func see(calls []*api.Call) {
+	for _, call := range calls {
+		if call.Seen != nil {
+			call.Seen()
+		}
+	}
+}
+
+// Await returns at once: the state has whatever was answered.
+func (o *Office) Await(context.Context, api.Kind) (api.Point, error) { return api.Point{}, nil }
+
+// numbers returns the numbers of this moment.
+func (o *Office) numbers() (numbers state.Numbers) {
+	if o.state != nil {
+		numbers = o.state.Numbers()
+	}
+	return numbers
 }
 
 // admit makes a unit one of commands.
@@ -145,27 +176,26 @@ func (o *Office) admit(u *feed.Unit, calls []*api.Call) error {
 	return o.record.Admit(u)
 }
 
-// counting returns what notes the numbers when a unit is observed.
-func (o *Office) counting(numbers *state.Numbers) func() {
-	if o.state == nil {
-		return nil
-	}
-	return func() { *numbers = o.state.Numbers() }
-}
-
-// askInTurn is AskAll while no command of others is done.
-func (o *Office) askInTurn(ctx context.Context, calls []*api.Call) ([][]byte, state.Numbers, error) {
-	var answers [][]byte // The function may outlive the request.
-	var numbers state.Numbers
-	err := o.Turn(ctx, func(t endpoints.Turn) (err error) {
-		answers, err = t.Ask(calls...)
-		numbers = t.Numbers()
+// doInTurn is Do while no command of others is done.
+func (o *Office) doInTurn(ctx context.Context, b api.Batch) (api.Answers, error) {
+	var answers api.Answers // The function may outlive the request.
+	err := o.inTurn(ctx, func(t *turn) (err error) {
+		if b.Rule.Policy > 0 && b.Rule.Policy != o.numbers().Policy {
+			return api.Outdated
+		}
+		answers.Texts, err = b.Rule.Run(b.Calls, t.askStepwise)
+		answers.Policy = o.numbers().Policy
 		return err
 	})
 	if err != nil {
-		return nil, state.Numbers{}, err
+		return api.Answers{}, err
 	}
-	return answers, numbers, nil
+	return answers, nil
+}
+
+// Settle returns when all commands are done that were asked before, also those that nobody waits for any more.
+func (o *Office) Settle(ctx context.Context) error {
+	return o.inTurn(ctx, func(*turn) error { return nil })
 }
 
 // enter waits until nobody has or awaits a turn.
@@ -188,15 +218,6 @@ func (o *Office) enter(ctx context.Context) error {
 		}()
 		return api.Unavailable
 	}
-}
-
-// Observe returns the answers to some questions. A function is called at their place in the order, when the state is that in which
-// they are answered. It must not wait.
-func (o *Office) Observe(ctx context.Context, observed func(), questions ...*api.Call) ([][]byte, error) {
-	within, cancel := context.WithTimeout(ctx, o.AnswerTimeout)
-	defer cancel()
-	o.touch(questions)
-	return o.feed.Do(within, &feed.Unit{Lines: linesOf(questions), Observed: observed})
 }
 
 // touch says that the sessions are used which calls name.
@@ -237,9 +258,9 @@ type turn struct {
 	asked sync.WaitGroup
 }
 
-// Turn calls a function when all commands before are done. Those of others wait until it returns, so it must wait for little but
-// its answers. It isn't called if the context has ended before, or names a revision that the policy no longer has.
-func (o *Office) Turn(ctx context.Context, do func(endpoints.Turn) error) error {
+// inTurn calls a function when all commands before are done. Those of others wait until it returns, so it must wait for little but
+// its answers. It isn't called if the context has ended before.
+func (o *Office) inTurn(ctx context.Context, do func(*turn) error) error {
 	within, cancel := context.WithTimeout(ctx, o.AnswerTimeout)
 	done := make(chan error, 1)
 	go func() {
@@ -248,9 +269,7 @@ func (o *Office) Turn(ctx context.Context, do func(endpoints.Turn) error) error 
 		defer o.gate.Unlock()
 		t := &turn{office: o, ctx: within}
 		err := error(api.Unavailable)
-		if revision, has := api.Condition(ctx); has && revision != t.Numbers().Policy {
-			err = api.Outdated
-		} else if within.Err() == nil {
+		if within.Err() == nil {
 			err = do(t)
 		}
 		done <- err
@@ -269,16 +288,25 @@ func (o *Office) Turn(ctx context.Context, do func(endpoints.Turn) error) error 
 	}
 }
 
-// Numbers returns the numbers of this moment.
-func (t *turn) Numbers() (numbers state.Numbers) {
-	if t.office.state != nil {
-		numbers = t.office.state.Numbers()
+// askStepwise is ask, up to each call behind which somebody wants to see the state.
+func (t *turn) askStepwise(calls ...*api.Call) (answers [][]byte, err error) {
+	for len(calls) > 0 {
+		count := 1
+		for calls[count-1].Seen == nil && count < len(calls) {
+			count++
+		}
+		found, err := t.ask(calls[:count]...)
+		if err != nil {
+			return nil, err
+		}
+		see(calls[:count])
+		answers, calls = append(answers, found...), calls[count:]
 	}
-	return numbers
+	return answers, nil
 }
 
-// Ask returns the answers to some calls, with nothing of others between them.
-func (t *turn) Ask(calls ...*api.Call) ([][]byte, error) {
+// ask returns the answers to some calls, with nothing of others between them.
+func (t *turn) ask(calls ...*api.Call) ([][]byte, error) {
 	o := t.office
 	o.touch(calls)
 	if !haveCommand(calls) {

@@ -8,19 +8,18 @@ import (
 	"time"
 
 	"rbac-node/api"
-	"rbac-node/endpoints"
 )
 
 // A turn that was done is never said to be unanswered, however soon it ends.
 func TestTurn(t *testing.T) {
 	o, stop := run(t, optionsOf(t, filepath.Join(t.TempDir(), "office")))
 	for i := 0; i < 20_000; i++ {
-		if err := o.Turn(context.Background(), func(endpoints.Turn) error { return nil }); err != nil {
+		if err := o.inTurn(context.Background(), func(*turn) error { return nil }); err != nil {
 			t.Fatalf("turn %d: %v", i, err)
 		}
 	}
 	own := errors.New("own")
-	if err := o.Turn(context.Background(), func(endpoints.Turn) error { return own }); err != own {
+	if err := o.inTurn(context.Background(), func(*turn) error { return own }); err != own {
 		t.Errorf("its own error: %v", err)
 	}
 	if err := stop(); err != nil {
@@ -33,13 +32,13 @@ func TestTurnInTime(t *testing.T) {
 	o, stop := run(t, optionsOf(t, filepath.Join(t.TempDir(), "office")))
 	ended, cancel := context.WithCancel(context.Background())
 	cancel()
-	if err := o.Turn(ended, func(endpoints.Turn) error { t.Error("it is called"); return nil }); err != api.Unavailable {
+	if err := o.inTurn(ended, func(*turn) error { t.Error("it is called"); return nil }); err != api.Unavailable {
 		t.Errorf("a context that has ended: %v", err)
 	}
 	begun, release := make(chan struct{}), make(chan struct{})
 	late := make(chan error, 1)
 	go func() {
-		late <- o.Turn(context.Background(), func(endpoints.Turn) error {
+		late <- o.inTurn(context.Background(), func(*turn) error {
 			close(begun)
 			<-release
 			return nil
@@ -52,7 +51,7 @@ func TestTurnInTime(t *testing.T) {
 	if err != nil {
 		t.Fatal(err)
 	}
-	if _, _, err := o.AskAll(within, call); err != api.Unavailable {
+	if _, err := o.Do(within, api.NewBatch(api.Question, call)); err != api.Unavailable {
 		t.Errorf("a command during a turn: %v", err)
 	}
 	close(release)

@@ -19,6 +19,7 @@ import (
 	"rbac-node/logs"
 	"rbac-node/metrics"
 	"rbac-node/office"
+	"rbac-node/trial"
 )
 
 const (
@@ -40,6 +41,9 @@ type Options struct {
 	IsOpen bool
 	// SessionAge is after how much time a session ends, and SessionIdle after how much in which it isn't named. Zero is never.
 	SessionAge, SessionIdle time.Duration
+	// Locked is called when the office belongs to this front, and is there. Say is told what the start does from then on.
+	Locked func() error
+	Say    func(stage string)
 	// CheckRecord refuses what the record can't be that of, before the office is made, and OpenRecord opens the record. Without them
 	// nothing is recorded.
 	CheckRecord func() error
@@ -67,6 +71,7 @@ type Office struct {
 	lock *os.File
 	// record is nil if nothing is recorded.
 	record Recorder
+	trying trying
 }
 
 // Open opens the office of a file, and makes it if there is no file.
@@ -75,7 +80,8 @@ func Open(ctx context.Context, options Options) (*Office, error) {
 	if err != nil {
 		return nil, err
 	}
-	o := &Office{Options: options, lock: lock}
+	o := &Office{Options: options, lock: lock, trying: make(trying, 1)}
+	trial.RemoveFolders(o.File)
 	if err := o.open(ctx); err != nil {
 		if o.record != nil {
 			_ = o.record.Close(false) // What has failed before says more.
@@ -97,6 +103,10 @@ func (o *Office) open(ctx context.Context) error {
 		return err
 	}
 	if err := o.count(); err != nil {
+		return err
+	}
+	o.Say("the record is opened")
+	if err := o.Locked(); err != nil {
 		return err
 	}
 	options := feed.Options{
@@ -183,8 +193,13 @@ func syncFolder(path string) error {
 // Run answers until the context ends, and then those that have asked before.
 func (o *Office) Run(ctx context.Context) error {
 	defer o.lock.Close()
-	go o.expire(ctx)
+	if o.state != nil && o.SessionAge+o.SessionIdle > 0 {
+		go o.state.Expire(ctx, o.SessionAge, o.SessionIdle, func() int { return 0 }, func(ctx context.Context, call *api.Call) {
+			_, _ = o.Do(ctx, api.NewBatch(api.Question, call)) // It is tried again.
+		})
+	}
 	err := o.feed.Run(ctx)
+	o.trying <- struct{}{} // Whoever has tried commands has removed the copy.
 	if o.record == nil {
 		return err
 	}
@@ -199,15 +214,6 @@ func (o *Office) Close() error {
 	ended, end := context.WithCancel(context.Background())
 	end()
 	return o.Run(ended)
-}
-
-// Ask answers a call. All kinds are answered from the newest state.
-func (o *Office) Ask(ctx context.Context, _ api.Kind, call *api.Call) (api.Answer, error) {
-	answers, numbers, err := o.AskAll(ctx, call)
-	if err != nil {
-		return api.Answer{}, err
-	}
-	return api.Answer{Text: answers[0], Policy: numbers.Policy}, nil
 }
 
 // IsAlive tells whether the goroutine that feeds the replay goes on, before the context ends.

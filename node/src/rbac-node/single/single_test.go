@@ -19,6 +19,7 @@ import (
 
 func optionsOf(t *testing.T, file string) Options {
 	return Options{
+		Locked: func() error { return nil }, Say: func(string) {},
 		File: file, Program: programtest.Path(t), AnswerTimeout: 20 * time.Second, HangTimeout: time.Minute, Reads: MostReads, Log: logs.New(&bytes.Buffer{}),
 		Starts: (&metrics.Registry{}).Counter("starts", "", "replay"),
 	}
@@ -44,11 +45,11 @@ func ask(t *testing.T, o *Office, line string) string {
 	if err != nil {
 		t.Fatal(err)
 	}
-	answer, err := o.Ask(context.Background(), api.Question, call)
+	answers, err := o.Do(context.Background(), api.NewBatch(api.Question, call))
 	if err != nil {
 		t.Fatal(err)
 	}
-	return string(answer.Text)
+	return string(answers.Texts[0])
 }
 
 func TestOffice(t *testing.T) {

@@ -1,6 +1,10 @@
 package state
 
-import "rbac-node/api"
+import (
+	"sort"
+
+	"rbac-node/api"
+)
 
 // mostEvents is how many accepted commands are kept for those who watch.
 const mostEvents = 10_000
@@ -18,6 +22,7 @@ func (s *State) keep(call *api.Call) {
 		line = lineWithDigest(call)
 	}
 	if len(s.events) == mostEvents {
+		s.forgotten = s.events[mostEvents/10-1].Number
 		s.events = append(s.events[:0], s.events[mostEvents/10:]...)
 	}
 	s.events = append(s.events, Event{s.numbers.All, line})
@@ -43,9 +48,8 @@ func lineWithDigest(call *api.Call) []byte {
 
 // forget forgets the commands that were kept.
 func (s *State) forget() {
-	s.events = nil
-	close(s.changed)
-	s.changed = make(chan struct{})
+	s.events, s.forgotten = nil, s.numbers.All
+	s.wake()
 }
 
 // Skip leaves out numbers, since it isn't known which commands were accepted. So nobody takes a state of before for that of now.
@@ -63,7 +67,7 @@ const gap = 1 << 20
 // Watched is what somebody who watches gets next.
 type Watched struct {
 	Events []Event
-	// Newest is the number of the last accepted command.
+	// Newest is the number of now.
 	Newest int64
 	// Changed is closed when there are more.
 	Changed <-chan struct{}
@@ -74,11 +78,10 @@ func (s *State) After(number int64, most int) (Watched, bool) {
 	s.mutex.RLock()
 	defer s.mutex.RUnlock()
 	found := Watched{Newest: s.numbers.All, Changed: s.changed}
-	kept := int64(len(s.events))
-	if number > s.numbers.All || number < s.numbers.All-kept {
+	if number > s.numbers.All || number < s.forgotten {
 		return found, false
 	}
-	rest := s.events[kept-(s.numbers.All-number):]
+	rest := s.events[sort.Search(len(s.events), func(i int) bool { return s.events[i].Number > number }):]
 	if len(rest) > most {
 		rest = rest[:most]
 	}

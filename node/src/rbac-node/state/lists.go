@@ -76,13 +76,17 @@ func (q Query) Select(list string, rows []Row) (found []Row, hasMore bool) {
 }
 
 func (q Query) of(columns []string, rows []Row) (found []Row, hasMore bool) {
+	if name, has := q.Names[columns[0]]; has { // These rows are in one place.
+		rows = rows[sort.Search(len(rows), func(i int) bool { return rows[i][0] >= name }):]
+		rows = rows[:sort.Search(len(rows), func(i int) bool { return rows[i][0] > name })]
+	}
 	start := 0
 	if q.Prefix != "" {
 		start = sort.Search(len(rows), func(i int) bool { return rows[i][0] >= q.Prefix })
 	}
 	if len(q.After) > 0 {
 		after := rowOf(q.After)
-		if i := sort.Search(len(rows), func(i int) bool { return after.isBefore(rows[i]) }); i > start {
+		if i := sort.Search(len(rows), func(i int) bool { return after.IsBefore(rows[i]) }); i > start {
 			start = i
 		}
 	}
@@ -130,12 +134,5 @@ func (s *State) Sets(isStatic bool) (found []NamedSet, numbers Numbers) {
 	s.mutex.RLock()
 	graph, numbers := s.graph, s.numbers
 	s.mutex.RUnlock()
-	sets := graph.dynamic
-	if isStatic {
-		sets = graph.static
-	}
-	for _, name := range namesOf(sets) {
-		found = append(found, NamedSet{name, sets[name].members(), sets[name].Cardinality})
-	}
-	return found, numbers
+	return graph.Sets(isStatic), numbers
 }

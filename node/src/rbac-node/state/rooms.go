@@ -12,6 +12,10 @@ type Room struct {
 func (s *State) Rooms() ([]Room, Numbers) {
 	s.mutex.RLock()
 	defer s.mutex.RUnlock()
+	return s.rooms(), s.numbers
+}
+
+func (s *State) rooms() []Room {
 	edges, members, active := 0, 0, 0
 	for _, juniors := range s.graph.juniors {
 		edges += len(juniors)
@@ -29,7 +33,7 @@ func (s *State) Rooms() ([]Room, Numbers) {
 		{len(s.permissions.rows), "permission", 5_000}, {len(s.grants.rows), "grant", 20_000},
 		{len(s.assign.rows), "assignment", 20_000}, {edges, "edge", 4_096}, {len(s.graph.static), "ssdSet", 64},
 		{len(s.graph.dynamic), "dsdSet", 64}, {members, "member", 32}, {len(s.sessions), "session", 1_000}, {active, "activeRole", 32},
-	}, s.numbers
+	}
 }
 
 func greater(a, b int) int {

@@ -26,10 +26,11 @@ type State struct {
 	sessions map[string]*session
 	names    map[string]string
 	numbers  Numbers
-	// oldest is the number of the first command that is kept, and events has those from it on, in their order.
-	events  []Event
-	changed chan struct{}
-	clock   Clock
+	// events has the accepted commands after the number forgotten, in their order.
+	events    []Event
+	forgotten int64
+	changed   chan struct{}
+	clock     Clock
 }
 
 // A Clock has the time of the machine, which somebody may change, and how long the state has been there, which only grows.
@@ -47,10 +48,21 @@ type session struct {
 	used         atomic.Int64
 }
 
-// Numbers count accepted commands. They never come back: an office that was opened again begins with greater ones.
+// Numbers say how far the order of commands has come. They never come back: an office that was opened again begins with greater ones.
 type Numbers struct {
-	// All counts all, and Policy those that aren't about one session.
+	// All grows with each accepted command, and Policy with each that isn't about one session. On one machine they count them. On several
+	// machines a refused command counts for All too, and Policy is what All was at the last such command: so all nodes have the same
+	// numbers, whichever snapshot they began with.
 	All, Policy int64
+}
+
+// After returns the numbers after a command with a number of its own.
+func (n Numbers) After(number int64, call *api.Call, isAccepted bool) Numbers {
+	n.All = number
+	if isAccepted && !isAboutSession(call.Function) {
+		n.Policy = number
+	}
+	return n
 }
 
 // ErrUnavailable means that this program can't read the rows of an office.
@@ -60,7 +72,7 @@ var ErrUnavailable = errors.New("this rbac-node was built without SQLite")
 func New(first Numbers) *State {
 	start := time.Now()
 	clock := Clock{time.Now, func() time.Duration { return time.Since(start) }}
-	s := &State{numbers: first, changed: make(chan struct{}), clock: clock}
+	s := &State{numbers: first, forgotten: first.All, changed: make(chan struct{}), clock: clock}
 	s.clear()
 	return s
 }
@@ -121,7 +133,7 @@ func isAboutSession(function string) bool {
 	return false
 }
 
-// Answered follows a unit of calls with their answers, and then what was asked behind them.
+// Answered follows a unit of calls with their answers, and then what was asked behind them. It counts the accepted ones.
 func (s *State) Answered(calls []*api.Call, answers [][]byte) {
 	s.mutex.Lock()
 	defer s.mutex.Unlock()
@@ -130,19 +142,51 @@ func (s *State) Answered(calls []*api.Call, answers [][]byte) {
 		switch {
 		case call.Kind == api.Question:
 			s.reviewed(call, answers[i])
+		case call.Kind == api.Entry: // It has changed nothing.
 		case api.IsAccepted(answers[i]):
-			s.apply(call)
 			s.numbers.All++
 			if !isAboutSession(call.Function) {
 				s.numbers.Policy++
 			}
-			s.keep(call)
+			s.accept(call)
 		}
 	}
 	if s.numbers.All != before {
-		close(s.changed)
-		s.changed = make(chan struct{})
+		s.wake()
 	}
+}
+
+// Follow follows a command with its answer, and what was asked behind it. The numbers are those after it.
+func (s *State) Follow(numbers Numbers, calls []*api.Call, answers [][]byte) {
+	s.mutex.Lock()
+	defer s.mutex.Unlock()
+	s.numbers = numbers
+	if api.IsAccepted(answers[0]) {
+		s.accept(calls[0])
+		s.wake()
+	}
+	for i, call := range calls[1:] {
+		s.reviewed(call, answers[i+1])
+	}
+}
+
+// Advance says that there are no commands up to some numbers.
+func (s *State) Advance(numbers Numbers) {
+	s.mutex.Lock()
+	defer s.mutex.Unlock()
+	s.numbers = numbers
+}
+
+// accept follows an accepted command, which has the number of now.
+func (s *State) accept(call *api.Call) {
+	s.apply(call)
+	s.keep(call)
+}
+
+// wake tells those who watch that there are commands.
+func (s *State) wake() {
+	close(s.changed)
+	s.changed = make(chan struct{})
 }
 
 // reviewed follows what was asked about a session that may have ended, or about a role that an import may have assigned.

@@ -30,7 +30,7 @@ func TestTable(t *testing.T) {
 			}
 		}
 	}
-	if !sort.SliceIsSorted(own.rows, func(i, j int) bool { return own.rows[i].isBefore(own.rows[j]) }) {
+	if !sort.SliceIsSorted(own.rows, func(i, j int) bool { return own.rows[i].IsBefore(own.rows[j]) }) {
 		t.Error("the rows are in no order")
 	}
 	given := map[Row]bool{}

@@ -5,7 +5,8 @@ import "sort"
 // A Row is a tuple of names. Those that its table doesn't have are empty.
 type Row [3]string
 
-func (r Row) isBefore(other Row) bool {
+// IsBefore reports whether a row comes before another one, by the bytes of their names.
+func (r Row) IsBefore(other Row) bool {
 	for i, name := range r {
 		if name != other[i] {
 			return name < other[i]
@@ -19,7 +20,7 @@ type table struct{ rows []Row }
 
 // find returns where a row is or would be, and whether it is there.
 func (t *table) find(row Row) (int, bool) {
-	i := sort.Search(len(t.rows), func(k int) bool { return !t.rows[k].isBefore(row) })
+	i := sort.Search(len(t.rows), func(k int) bool { return !t.rows[k].IsBefore(row) })
 	return i, i < len(t.rows) && t.rows[i] == row
 }
 
@@ -58,7 +59,7 @@ func (t *table) removeAll(column int, name string) {
 
 // sort puts rows in order that were appended in any order.
 func (t *table) sort() {
-	sort.Slice(t.rows, func(i, j int) bool { return t.rows[i].isBefore(t.rows[j]) })
+	sort.Slice(t.rows, func(i, j int) bool { return t.rows[i].IsBefore(t.rows[j]) })
 }
 
 func rowOf(names []string) (row Row) {

@@ -25,6 +25,7 @@ type line struct {
 	Token, CA, Certificate, Key string
 	Timeout, Pause              float64
 	Session, Operation, Object  string
+	Digest                      string
 	User                        string
 	Roles                       []string
 	Renews                      bool
@@ -67,6 +68,24 @@ func (d *driver) do(l line) (answer, error) {
 		}
 		d.session = session
 		return answer{"value": session.Name()}, nil
+	case "opened":
+		left := [][]interface{}{}
+		for _, one := range d.session.Left() {
+			row := []interface{}{one.Role, one.Code}
+			for _, value := range one.Details {
+				row = append(row, value)
+			}
+			left = append(left, row)
+		}
+		return answer{"roles": d.session.Roles(), "left": left}, nil
+	case "end":
+		if l.Digest == "" {
+			l.Digest = rbacclient.SessionDigest(d.session.Name())
+		}
+		if err := d.client.EndSession(ctx, l.Digest); err != nil {
+			return failure(err), nil
+		}
+		return answer{"value": nil}, nil
 	case "logout":
 		if err := d.session.Close(ctx); err != nil {
 			return failure(err), nil

@@ -8,7 +8,7 @@ let reason = "";
 export class Refused extends Error {
     constructor(status, answer) {
         super(answer.error ?? `status ${status}`);
-        Object.assign(this, { status, code: answer.code ?? 0, set: answer.set, kind: answer.kind });
+        Object.assign(this, { status, code: answer.code ?? 0, set: answer.set, kind: answer.kind, line: answer.line, lines: answer.lines });
     }
 }
 
@@ -45,7 +45,7 @@ async function answerOf(reply) {
         throw new Refused(reply.status, {});
     }
     if (!reply.ok) {
-        throw new Refused(reply.status, answer);
+        throw new Refused(reply.status, { ...answer, line: reply.headers.get("Office-Line") });
     }
     return answer;
 }
@@ -149,6 +149,26 @@ export async function endSession(digest) {
     return answerOf(await send("DELETE", `sessions/${digest}`, undefined, reasonField()));
 }
 
+/** Tries commands over a copy of the office, and returns what they would change. */
+export async function whatIf(lines) {
+    return (await answerOf(await send("POST", "what-if", lines.join("\n")))).value;
+}
+
+/** Does lines if the policy still has a revision, and returns their answers. */
+export async function doAll(lines, revision, why = reason) {
+    const fields = { "If-Policy-Revision": String(revision), ...(why ? { "Office-Reason": bytesOf(why) } : {}) };
+    const reply = await send("POST", "v1/batch", lines.join("\n"), fields);
+    if (!reply.ok) {
+        await answerOf(reply);
+    }
+    return (await reply.text()).trim().split("\n").map((line) => JSON.parse(line));
+}
+
+/** Records that a review has ended, and returns the number of its entry. */
+export async function endReview(values) {
+    return (await answerOf(await send("POST", "reviews", JSON.stringify(values)))).value.number;
+}
+
 /** Returns the condition of the front. It needs no identity. */
 export async function health() {
     try {
@@ -162,6 +182,21 @@ export async function health() {
 export async function picture(query) {
     const reply = await send("GET", pathOf("picture", query));
     return reply.ok ? reply.blob() : answerOf(reply);
+}
+
+/** Asks for a report: a ticket for one download of it, how many lines it has, and of which revision of the policy and when it is. */
+export async function report(name, values = {}) {
+    return (await answerOf(await send("POST", `reports/${name}`, JSON.stringify(values)))).value;
+}
+
+/** Returns the lines of a report that was asked for as lines, each as it is written. */
+export async function linesOf(ticket) {
+    const reply = await send("GET", `reports/${ticket}`);
+    if (!reply.ok) {
+        await answerOf(reply);
+    }
+    const text = await reply.text().catch(() => { throw new Lost("the end is missing"); });
+    return text.split("\n").slice(0, -1);
 }
 
 // The keys of each function that scopes are about: roles, objects, users.

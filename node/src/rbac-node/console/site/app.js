@@ -8,9 +8,12 @@ import { explainAddress, explainPage } from "./explain.js";
 import { objectPage, objectsPage } from "./objects.js";
 import { overviewPage } from "./overview.js";
 import { recordPage } from "./record.js";
+import { reportPage, reportsPage } from "./reports.js";
 import { rolePage, rolesPage } from "./roles.js";
 import { separationPage, setPage } from "./separation.js";
+import { forgetReview, reviewPage } from "./review.js";
 import { userPage, usersPage } from "./users.js";
+import { whatIfPage } from "./whatif.js";
 
 /** The pages: a segment, a title, what the caller needs, the page of all, and the page of one. */
 const PAGES = [
@@ -20,7 +23,10 @@ const PAGES = [
     ["objects", "Objects", () => may("lists"), objectsPage, objectPage],
     ["separation", "Separation of duty", () => may("lists"), separationPage, setPage],
     ["explain", "Explain", () => maySome("decideByUser") || maySome("checkAccess"), explainPage, explainAddress],
+    ["what-if", "What if", () => may("whatIf"), whatIfPage],
+    ["review", "Review", () => may("lists") && may("review"), reviewPage],
     ["record", "Record", () => may("record"), recordPage],
+    ["reports", "Reports", () => may("reports"), reportsPage, reportPage],
 ];
 
 const COMMANDS = ["addUser", "deleteUser", "lockUserAccount", "unlockUserAccount", "addRole", "deleteRole", "assignUser", "deassignUser",
@@ -121,6 +127,7 @@ function showWho() {
 
 function leave() {
     logout();
+    forgetReview();
     isIn = false;
     setReason("");
     hush();

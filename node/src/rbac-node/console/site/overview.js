@@ -5,7 +5,8 @@ import { drawn, later, number, section, table } from "./parts.js";
 import { h } from "./text.js";
 import { entriesTable } from "./record.js";
 
-const KINDS = {
+/** The kinds of what is counted, in words. */
+export const KINDS = {
     user: "Users", role: "Roles", object: "Objects", permission: "Permissions", grant: "Grants", assignment: "Assignments",
     edge: "Inheritances", ssdSet: "Static sets", dsdSet: "Dynamic sets", member: "Members of the largest set", session: "Sessions",
     activeRole: "Activated roles of one session, at most",
@@ -17,15 +18,17 @@ const NEAR = 0.9;
 
 export async function overviewPage() {
     const mayList = may("lists");
+    const recording = may("record") ? record({ limit: 8 }) : null;
+    recording?.catch(() => {}); // It is said in its section.
     const [condition, rooms] = await Promise.all([health(), mayList ? room() : []]);
     const nodes = [h("h1", {}, "Overview"), conditionSection(condition)];
     const columns = [];
     if (mayList) {
         columns.push(roomSection(rooms));
     }
-    if (may("record")) {
+    if (recording) {
         columns.push(later("Last changes", async () => {
-            const { entries } = await record({ limit: 8 });
+            const { entries } = await recording;
             return [entriesTable("The last commands, the newest first", entries, true), h("p", {}, h("a", { href: "#/record" }, "The whole record"))];
         }));
     }

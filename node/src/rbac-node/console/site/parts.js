@@ -38,12 +38,17 @@ export function hush() {
 
 export const LOST = "The front doesn't answer. What you asked for may or may not have been done: look again when it answers.";
 
+/** What somebody has typed or opened can't be used; the message says why. */
+export class Unfit extends Error {}
+
 /** Says why something failed. */
 export async function fail(error, values = {}) {
     if (error instanceof Lost) {
         say("refused", [LOST]);
     } else if (error instanceof Refused) {
         say("refused", ["Refused: ", await why(values, error)]);
+    } else if (error instanceof Unfit) {
+        say("refused", [error.message]);
     } else {
         throw error;
     }

@@ -18,6 +18,10 @@ export function entriesTable(caption, entries, isShort = false) {
 
 /** What an entry says, in a sentence. */
 function whatOf({ request, answer, found }) {
+    if (request.record === "reviewed") {
+        return ["The review ", name(request.review), ` has ended: ${request.kept} kept, ${request.removed} removed, ${request.open} open. SHA-256 of its list: `,
+            h("span", { class: "mono" }, request.sha256), "."];
+    }
     if (request.record !== undefined) {
         return h("span", { class: "quiet" }, `The record ${request.record}.`);
     }

@@ -24,8 +24,14 @@ function codeOf(letter) {
     return `U+${letter.codePointAt(0).toString(16).toUpperCase().padStart(4, "0")}`;
 }
 
+// Most names have nothing that can't be seen.
+const USUAL = /^[!-~]+( [!-~]+)*$/;
+
 /** Returns the parts of a name: texts, and codes in place of what can't be seen, also of spaces at its ends. */
 function partsOf(text) {
+    if (USUAL.test(text)) {
+        return [{ text }];
+    }
     const letters = [...text];
     const parts = [];
     letters.forEach((letter, i) => {
@@ -46,9 +52,20 @@ export function name(text) {
     return h("bdi", {}, partsOf(text).map((part) => part.text ?? h("span", { class: "code" }, part.code)));
 }
 
+/** Returns a name for a cell or a link: as a text if it has nothing that would need isolation, since pages have many of them. */
+export function brief(text) {
+    return USUAL.test(text) || text === "" ? text : name(text);
+}
+
 /** Returns a name as a text, for titles and labels. */
 export function plain(text) {
     return partsOf(text).map((part) => part.text ?? `[${part.code}]`).join("");
+}
+
+/** Returns a value as JSON in which each character that can't be seen is written as a code. */
+export function json(value) {
+    const units = (letter) => [...letter.split("")].map((unit) => `\\u${unit.charCodeAt(0).toString(16).padStart(4, "0")}`).join("");
+    return JSON.stringify(value).replace(new RegExp(HIDDEN.source, "gu"), units);
 }
 
 /** Returns a link to a page by its segments. */
@@ -60,10 +77,10 @@ export function hashOf(segments) {
     return `#/${segments.map(encodeURIComponent).join("/")}`;
 }
 
-export const user = (text) => link(["users", text], name(text));
-export const role = (text) => link(["roles", text], name(text));
-export const object = (text) => link(["objects", text], name(text));
-export const set = (kind, text) => link(["separation", kind, text], name(text));
+export const user = (text) => link(["users", text], brief(text));
+export const role = (text) => link(["roles", text], brief(text));
+export const object = (text) => link(["objects", text], brief(text));
+export const set = (kind, text) => link(["separation", kind, text], brief(text));
 
 /** Returns nodes with commas between them, and `last` before the last one. */
 export function listed(nodes, last = "and") {
@@ -73,6 +90,12 @@ export function listed(nodes, last = "and") {
         }
         return [i < nodes.length - 1 ? ", " : ` ${last} `, node];
     });
+}
+
+/** Returns `listed` of the first few names, and how many more there are. */
+export function some(names, show, last = "and", most = 5) {
+    const left = names.length - most;
+    return left > 1 ? [names.slice(0, most).map((one) => [show(one), ", "]), `${last} ${left} more`] : listed(names.map(show), last);
 }
 
 /** Returns a number with a noun: "1 user", "1,000 users". */

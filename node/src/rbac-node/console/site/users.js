@@ -2,9 +2,12 @@
 
 import { ask, askAll, endSession, everything, list, may, maySome, Refused, rows } from "./api.js";
 import { action, button, command, deliberate, fail, field, form, later, pager, say, section, table } from "./parts.js";
-import { counted, h, hashOf, link, listed, name, object, plain, role, set, time, user } from "./text.js";
+import { brief, counted, h, hashOf, link, listed, name, object, plain, role, set, some, time, user } from "./text.js";
 
 const SHOWN = 100;
+const SHOWN_OF_USER = 50;
+// How long parts of a page are waited for, in milliseconds.
+const PATIENCE = 300;
 
 export async function usersPage({ query, anew }) {
     const { contains = "", after } = query;
@@ -27,24 +30,37 @@ export async function usersPage({ query, anew }) {
 }
 
 export async function userPage([text], { query, anew }) {
+    const values = { user: text };
+    const assigning = rows("assignments", values);
+    const authorizing = may("authorizedRoles", values) ? ask("authorizedRoles", values).catch(nothing) : null;
+    // Everything is asked for at once. What fails is said in its section.
+    const setting = authorizing && early(Promise.all([everything("staticSets"), everything("dynamicSets")]));
+    const permitting = may("userPermissions", values) ? early(permitted(text, query.after)) : null;
+    const sessions = early(rows("sessions", values));
     const [known, locked, assigned, authorized] = await Promise.all([
-        rows("users", { user: text }), rows("locked", { user: text }),
-        rows("assignments", { user: text }).then((found) => found.map((row) => row.role)),
-        may("authorizedRoles", { user: text }) ? ask("authorizedRoles", { user: text }).catch(nothing) : null,
+        authorizing ? true : rows("users", values), rows("locked", values), assigning.then((found) => found.map((row) => row.role)), authorizing,
     ]);
-    if (known.length === 0) {
+    if (authorizing ? authorized === null : known.length === 0) {
         return [h("h1", {}, "User ", name(text)), h("p", {}, "There is no such user.")];
     }
     const isLocked = locked.length > 0;
+    // A page that is shown once is there sooner than one that is shown in parts.
+    await Promise.race([Promise.allSettled([setting, permitting, sessions]), new Promise((done) => { setTimeout(done, PATIENCE); })]);
     return [
         h("h1", {}, "User ", name(text), isLocked ? [" ", h("span", { class: "mark no" }, "locked")] : null),
         isLocked ? h("p", {}, name(text), " is locked: no session is possible.") : null,
         actionsOf(text, isLocked, anew),
         h("div", { class: "columns" }, rolesSection(text, assigned, authorized, anew),
-            authorized ? later("Separation of duty", () => nearness(text, authorized)) : null),
-        may("userPermissions", { user: text }) ? later("Permissions", () => permissionsOf(text, authorized, query.after)) : null,
-        later("Sessions", () => sessionsOf(text, anew)),
+            setting ? later("Separation of duty", async () => nearness(text, authorized, await setting)) : null),
+        permitting ? later("Permissions", async () => permissionsOf(text, authorized, query.after, await permitting)) : null,
+        later("Sessions", async () => sessionsOf(text, await sessions, anew)),
     ];
+}
+
+/** Returns a promise that may fail before somebody waits for it. */
+function early(promise) {
+    promise.catch(() => {});
+    return promise;
 }
 
 /** Returns null for a user that was deleted meanwhile. */
@@ -81,8 +97,7 @@ function rolesSection(text, assigned, authorized, anew) {
     const nodes = [table("Assigned roles", ["Role", ""], assigned.map((one) => [role(one), action(remove(one))]), "No role is assigned.")];
     const more = (authorized ?? []).filter((one) => !assigned.includes(one));
     if (more.length > 0) {
-        nodes.push(h("p", {}, "Also authorized, by inheritance: ", listed(more.slice(0, SHOWN).map(role)),
-            more.length > SHOWN ? ` and ${more.length - SHOWN} more` : null, "."));
+        nodes.push(h("p", {}, "Also authorized, by inheritance: ", some(more, role, "and", SHOWN_OF_USER), "."));
     }
     if (maySome("assignUser")) {
         nodes.push(form("Assign a role", [field("Role", "role", { from: "roles", required: true })], "Assign",
@@ -91,46 +106,54 @@ function rolesSection(text, assigned, authorized, anew) {
     return section("Roles", nodes);
 }
 
-/** How near a user is to each set of which the user has a member. */
-async function nearness(text, authorized) {
-    const [fixed, dynamic] = await Promise.all([everything("staticSets"), everything("dynamicSets")]);
-    const lines = [["static", fixed], ["dynamic", dynamic]].flatMap(([kind, sets]) => sets.flatMap((one) => {
-        const held = one.roles.filter((member) => authorized.includes(member));
-        return held.length === 0 ? [] : [h("li", {}, lineOf(kind, one, held))];
-    }));
-    return lines.length === 0 ? h("p", { class: "quiet" }, name(text), " has no member of a separation of duty set.") : h("ul", { class: "sets" }, lines);
+// How many sets are shown: the nearest ones.
+const MOST_SETS = 10;
+
+/** How near a user is to each set of which the user has a member, the nearest first. */
+function nearness(text, authorized, [fixed, dynamic]) {
+    const has = new Set(authorized);
+    const found = [["static", fixed], ["dynamic", dynamic]].flatMap(([kind, sets]) => sets.map((one) => [kind, one, one.roles.filter((member) => has.has(member))]))
+        .filter(([, , held]) => held.length > 0).sort(([, a, x], [, b, y]) => a.cardinality - x.length - (b.cardinality - y.length));
+    const lines = found.slice(0, MOST_SETS).map((one) => h("li", {}, lineOf(...one)));
+    if (lines.length === 0) {
+        return h("p", { class: "quiet" }, name(text), " has no member of a separation of duty set.");
+    }
+    return [h("ul", { class: "sets" }, lines), found.length > MOST_SETS ? h("p", {}, `These are the nearest ${MOST_SETS} of ${counted(found.length, "set")}.`) : null];
 }
 
 function lineOf(kind, { set: setName, cardinality, roles }, held) {
     const others = roles.filter((one) => !held.includes(one));
-    const begin = [set(kind, setName), ` (${kind}): has `, listed(held.map(role)), ". "];
+    const begin = [set(kind, setName), ` (${kind}): has `, some(held, role), ". "];
     const left = cardinality - held.length;
     if (kind === "dynamic" && left <= 0) {
         return [begin, "No session may have ", cardinality === 2 && held.length === 2 ? "both" : `${cardinality} of them`, "."];
     }
-    const rest = listed(others.map(role), "or");
+    const rest = some(others, role, "or");
     if (left === 1) {
         return [begin, kind === "static" ? "Can't become " : "No session may also have ", rest, "."];
     }
-    return [begin, `May have ${left - 1} more of `, listed(others.map(role)), "."];
+    return [begin, `May have ${left - 1} more of `, some(others, role), "."];
+}
+
+/** A part of a user's permissions, and the roles to which each is granted, if the caller may know them. */
+async function permitted(text, after) {
+    const part = await list("permissions", { user: text, limit: SHOWN_OF_USER, after });
+    const givers = may("permissionRoles") ? await askAll(part.value.map((row) => ({ fn: "permissionRoles", ...row }))) : [];
+    return { part, givers };
 }
 
 /** A part of a user's permissions, each with the roles that give it. */
-async function permissionsOf(text, authorized, after) {
-    const part = await list("permissions", { user: text, limit: SHOWN, after });
-    const givers = authorized && may("permissionRoles")
-        ? await askAll(part.value.map((row) => ({ fn: "permissionRoles", ...row }))) : part.value.map(() => ({ value: [] }));
+function permissionsOf(text, authorized, after, { part, givers }) {
     const has = new Set(authorized ?? []);
     const found = part.value.map((row, i) => [
-        object(row.object), name(row.operation), listed((givers[i].value ?? []).filter((one) => has.has(one)).map(role)),
+        object(row.object), brief(row.operation), some((givers[i]?.value ?? []).filter((one) => has.has(one)), role, "and", 3),
         action(link(["explain", text, row.operation, row.object], "Why")),
     ]);
     return [table(`Permissions through all roles`, ["Object", "Operation", "Given by", ""], found, "No permission."),
         pager(["users", text], part.next ? { after: part.next } : null, !after)];
 }
 
-async function sessionsOf(text, anew) {
-    const sessions = await rows("sessions", { user: text });
+function sessionsOf(text, sessions, anew) {
     const end = (one) => button("End", `End the session ${one.session.slice(0, 8)}`, async () => {
         try {
             await endSession(one.session);

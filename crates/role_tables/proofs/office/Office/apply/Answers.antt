@@ -6,7 +6,7 @@ use Rattle.admin_mgr.specs.Good.{IsGood}
 use Rattle.admin_mgr.specs.PlanEffect.{LeadsTo, IsPlanOf, tally_of_report}
 use Rattle.admin_mgr.specs.Verdict.{verdict}
 use Rattle.rbac_sets.specs.declared.refusal.Refusal.TheVariants.{Memory, Store, Closed}
-use Rattle.role_tables.specs.Office.{Answers, event_of}
+use Rattle.role_tables.specs.Office.{AnswersCommand, event_of}
 use Rattle.role_tables.specs.Runs.{GoesOnBy}
 use Rattle.role_tables.specs.Durability.{ForgetsNoFault, HoldsAsBefore, IsDurable, LeavesByEvents}
 use Rattle.role_tables.proofs.Reading.Durability.{leaves_either}
@@ -20,7 +20,7 @@ pub returns-in_err-plan-clause-answers : goal.returns-in_err-plan-clause-answers
 returns-in_err-plan-clause-answers g c working =
     let is : c.from_residual.result ≡ Err c.in_err-plan.field-0.0 = search rules in
     let facts : c.self.inside.state.facts ≡ c.args.self.now.facts = search rules in
-    subst (λ r. Answers c.args.self.now c.args.command.now r c.args.self.now) (sym is)
+    subst (λ r. AnswersCommand c.args.self.now c.args.command.now r c.args.self.now) (sym is)
     (plan_refused c.args.self.now c.args.command.now c.in_err-plan.field-0.0
     (subst (λ S. (c.in_err-plan.field-0.0 ≡ Memory) ⊎ (verdict S c.args.command.now ≡ Some c.in_err-plan.field-0.0)) facts c.in_err-plan.ensures.refused))
 
@@ -86,7 +86,7 @@ returns-in_err-plan-clause-named g c store =
     let facts : c.self.inside.state.facts ≡ c.args.self.now.facts = search rules in
     let working : c.args.self.now.is_closed ≡ false = search rules in
     let its : c.in_err-plan.field-0.0 ≡ Store = cc in
-    let answered = subst (λ r. Answers c.args.self.now c.args.command.now (Err r) c.args.self.now) its
+    let answered = subst (λ r. AnswersCommand c.args.self.now c.args.command.now (Err r) c.args.self.now) its
     (plan_refused c.args.self.now c.args.command.now c.in_err-plan.field-0.0
     (subst (λ S. (c.in_err-plan.field-0.0 ≡ Memory) ⊎ (verdict S c.args.command.now ≡ Some c.in_err-plan.field-0.0)) facts c.in_err-plan.ensures.refused)) in
     absurd (true≢false (sym answered.1 ∙ working))

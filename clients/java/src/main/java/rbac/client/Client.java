@@ -27,13 +27,15 @@ public final class Client extends Functions {
     private final boolean repeats;
     private final Map<Reason, Long> counts = new EnumMap<>(Reason.class);
 
+    /** Until then sessions are made by createSession, since the server opens none: by the nanoseconds of System. */
+    volatile long createsUntil = System.nanoTime();
+
     private Client(Builder builder) {
-        var http =
-            HttpClient.newBuilder()
-                .version(HttpClient.Version.HTTP_1_1)
-                .followRedirects(HttpClient.Redirect.NEVER)
-                .proxy(HttpClient.Builder.NO_PROXY)
-                .connectTimeout(builder.timeout.dividedBy(2L * builder.addresses.size()));
+        var http = HttpClient.newBuilder()
+                       .version(HttpClient.Version.HTTP_1_1)
+                       .followRedirects(HttpClient.Redirect.NEVER)
+                       .proxy(HttpClient.Builder.NO_PROXY)
+                       .connectTimeout(builder.timeout.dividedBy(2L * builder.addresses.size()));
         if (builder.context != null) {
             http.sslContext(builder.context);
         }
@@ -125,7 +127,15 @@ public final class Client extends Functions {
         return check(session, operation, object).isAllowed();
     }
 
-    /** Makes a session of the user with these roles activated, under a new name that nobody can guess. */
+    /** Makes a session of the user with as many of the roles that the user is assigned to as the server activates together. */
+    public Session openSession(String user) {
+        return Session.opened(this, user, null, false);
+    }
+
+    /**
+     * Makes a session of the user, under a new name that nobody can guess. The front activates as many of the roles in their order as
+     * it can, and {@link Session#left} has the others. {@code rbac serve} activates exactly these roles, or refuses.
+     */
     public Session openSession(String user, Collection<String> roles) {
         return Session.opened(this, user, roles, false);
     }
@@ -135,6 +145,14 @@ public final class Client extends Functions {
      */
     public Session openRenewedSession(String user, Collection<String> roles) {
         return Session.opened(this, user, roles, true);
+    }
+
+    /** Ends the session that has this digest, as lists and records of the front show it. */
+    public void endSession(String digest) {
+        if (!digest.matches("[0-9a-f]{32}")) {
+            throw new IllegalArgumentException("this is not the digest of a session");
+        }
+        call("DELETE /sessions/" + digest, Functions.keys(), Reader.DONE, 26);
     }
 
     /** How many decisions there were, by their reasons. */
@@ -200,10 +218,8 @@ public final class Client extends Functions {
     private <T> T answered(Course course, String function, String body, Reader<T> reader) {
         var address = addresses.get(course.place());
         var shown = token.get();
-        var answer =
-            course.isQuestion()
-                ? address.ask(function, body, shown, course.limit())
-                : address.send(function, body, shown, course.limit());
+        var answer = course.isQuestion() ? address.ask(function, body, shown, course.limit())
+                                         : address.send(function, body, shown, course.limit());
         return reader.read(answer.status, answer.text);
     }
 

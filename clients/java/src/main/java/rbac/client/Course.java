@@ -23,7 +23,8 @@ final class Course {
         this.addresses = addresses;
         this.pause = pause;
         this.deadline = System.nanoTime() + timeout.toNanos();
-        this.isQuestion = !Functions.COMMANDS.contains(function);
+        // What only the front does is a method and a path, and changes the office.
+        this.isQuestion = !Functions.COMMANDS.contains(function) && !function.contains(" ");
         this.again = !repeats ? null : again != null ? again : Functions.AGAIN.get(function);
         this.left = isQuestion ? addresses : this.again == null ? 1 : MOST_ATTEMPTS;
         // Addresses that can't be reached cost no attempt: nothing was sent.

@@ -41,7 +41,7 @@ final class Exchange {
             throw new IllegalArgumentException("\"" + address + "\" is not an address such as https://localhost:8080");
         }
         this.http = http;
-        this.base = uri.getScheme() + "://" + uri.getRawAuthority() + "/v1/";
+        this.base = uri.getScheme() + "://" + uri.getRawAuthority();
     }
 
     /** An answer. */
@@ -72,11 +72,12 @@ final class Exchange {
 
     /** Sends a request once. */
     Answer send(String function, String body, String token, long nanoseconds) {
-        var request = HttpRequest.newBuilder(URI.create(base + function)).header("Content-Type", "application/json");
+        var words = function.contains(" ") ? function.split(" ") : new String[] {"POST", "/v1/" + function};
+        var request = HttpRequest.newBuilder(URI.create(base + words[1])).header("Content-Type", "application/json");
         if (token != null) {
             request.header("Authorization", "Bearer " + token);
         }
-        request.POST(HttpRequest.BodyPublishers.ofString(body, StandardCharsets.UTF_8));
+        request.method(words[0], HttpRequest.BodyPublishers.ofString(body, StandardCharsets.UTF_8));
         mayBeKept = false;
         var sent = http.sendAsync(request.build(), Exchange::subscriber);
         try {
@@ -135,7 +136,8 @@ final class Exchange {
     /** What reads the body of an answer. The answer has to state its length in exactly one way. */
     private static HttpResponse.BodySubscriber<byte[]> subscriber(HttpResponse.ResponseInfo head) {
         var lengths = head.headers().allValues("Content-Length");
-        var isRight = lengths.size() == 1 && lengths.get(0).matches("\\d{1,9}") && Integer.parseInt(lengths.get(0)) <= LONGEST_ANSWER;
+        var isRight =
+            lengths.size() == 1 && lengths.get(0).matches("\\d{1,9}") && Integer.parseInt(lengths.get(0)) <= LONGEST_ANSWER;
         if (!isRight || !head.headers().allValues("Transfer-Encoding").isEmpty()) {
             return new Refusing("the answer has a length of " + lengths);
         }

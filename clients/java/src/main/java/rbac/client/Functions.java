@@ -28,7 +28,8 @@ public abstract class Functions {
             Map.entry(64, List.of(429)),
             Map.entry(65, List.of(403)),
             Map.entry(66, List.of(421)),
-            Map.entry(67, List.of(412)));
+            Map.entry(67, List.of(412)),
+            Map.entry(68, List.of(503)));
 
     /** The commands that may be repeated if their answer was lost. The code, if it isn't 0, then says that it was done. */
     static final Map<String, Integer> AGAIN =

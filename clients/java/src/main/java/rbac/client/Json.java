@@ -19,12 +19,11 @@ final class Json {
     /** The body of a request. A name that is null is not the text "null": it can't be sent. */
     static String body(Map<String, Object> keys) {
         var written = new StringBuilder("{");
-        keys.forEach(
-            (key, value) -> {
-                written.append(written.length() > 1 ? "," : "");
-                append(written, key);
-                appendValue(written.append(':'), value);
-            });
+        keys.forEach((key, value) -> {
+            written.append(written.length() > 1 ? "," : "");
+            append(written, key);
+            appendValue(written.append(':'), value);
+        });
         return written.append('}').toString();
     }
 

@@ -9,25 +9,23 @@ interface Reader<T> {
     T read(int status, String text);
 
     /** That of a command without a value. */
-    Reader<Void> DONE =
-        (status, text) -> {
-            if (status == 200 && text.equals("{\"ok\":true}")) {
-                return null;
-            }
-            throw refusal(status, text);
-        };
+    Reader<Void> DONE = (status, text) -> {
+        if (status == 200 && text.equals("{\"ok\":true}")) {
+            return null;
+        }
+        throw refusal(status, text);
+    };
 
     /** That of a decision: true only after the one answer that allows. */
-    Reader<Boolean> ACCESS =
-        (status, text) -> {
-            if (status == 200 && text.equals("{\"ok\":true,\"value\":true}")) {
-                return true;
-            }
-            if (status == 200 && text.equals("{\"ok\":true,\"value\":false}")) {
-                return false;
-            }
-            throw refusal(status, text);
-        };
+    Reader<Boolean> ACCESS = (status, text) -> {
+        if (status == 200 && text.equals("{\"ok\":true,\"value\":true}")) {
+            return true;
+        }
+        if (status == 200 && text.equals("{\"ok\":true,\"value\":false}")) {
+            return false;
+        }
+        throw refusal(status, text);
+    };
 
     Reader<List<String>> NAMES = (status, text) -> value(status, text, json -> json.list(json::text));
 
@@ -36,6 +34,8 @@ interface Reader<T> {
     Reader<List<Permission>> PERMISSIONS = (status, text) -> value(status, text, json -> json.list(() -> permission(json)));
 
     Reader<ImportReport> IMPORT = (status, text) -> value(status, text, Reader::report);
+
+    Reader<Session.Opened> OPENED = (status, text) -> value(status, text, Reader::opened);
 
     /** What reads a value. */
     interface Value<T> {
@@ -69,18 +69,40 @@ interface Reader<T> {
         json.need(",\"assigned\":");
         var assigned = json.number();
         json.need(",\"refused\":");
-        var refused =
-            json.list(
-                () -> {
-                    json.need("{\"code\":");
-                    var code = (int) json.number();
-                    json.need(",\"record\":");
-                    var record = json.number();
-                    json.need("}");
-                    return new ImportReport.RefusedRecord(record, code);
-                });
+        var refused = json.list(() -> {
+            json.need("{\"code\":");
+            var code = (int) json.number();
+            json.need(",\"record\":");
+            var record = json.number();
+            json.need("}");
+            return new ImportReport.RefusedRecord(record, code);
+        });
         json.need("}");
         return new ImportReport(already, assigned, refused);
+    }
+
+    private static Session.Opened opened(Json json) {
+        json.need("{\"left\":");
+        var left = json.list(() -> leftOut(json));
+        json.need(",\"roles\":");
+        var roles = json.list(json::text);
+        json.need(",\"session\":");
+        var name = json.text();
+        json.need(name.isEmpty() ? "a name" : "}");
+        return new Session.Opened(name, roles, left);
+    }
+
+    private static LeftOut leftOut(Json json) {
+        json.need("{\"code\":");
+        var code = (int) json.number();
+        json.need(",\"error\":");
+        var refusal = json.text();
+        var kind = json.skips(",\"kind\":") ? json.text() : "";
+        json.need(",\"role\":");
+        var role = json.text();
+        var set = kind.isEmpty() && json.skips(",\"set\":") ? json.text() : "";
+        json.need("}");
+        return new LeftOut(role, code, refusal, kind.isEmpty() ? set : kind);
     }
 
     /** The refusal that an answer is, or an error that says that it is none. */

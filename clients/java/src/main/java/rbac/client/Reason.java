@@ -20,25 +20,12 @@ public enum Reason {
     UNEXPECTED;
 
     /** The reasons of the refusals that a decision can get, by their codes. All others are REFUSED. */
-    private static final Map<Integer, Reason> OF_CODES =
-        Map.ofEntries(
-            Map.entry(26, ENDED_SESSION),
-            Map.entry(6, UNKNOWN_NAME),
-            Map.entry(33, UNKNOWN_NAME),
-            Map.entry(1, INVALID_REQUEST),
-            Map.entry(34, INVALID_REQUEST),
-            Map.entry(35, INVALID_REQUEST),
-            Map.entry(36, INVALID_REQUEST),
-            Map.entry(62, UNAUTHENTICATED),
-            Map.entry(63, FORBIDDEN),
-            Map.entry(65, FORBIDDEN),
-            Map.entry(66, FORBIDDEN),
-            Map.entry(40, UNAVAILABLE),
-            Map.entry(41, UNAVAILABLE),
-            Map.entry(42, UNAVAILABLE),
-            Map.entry(60, UNAVAILABLE),
-            Map.entry(61, UNAVAILABLE),
-            Map.entry(64, UNAVAILABLE));
+    private static final Map<Integer, Reason> OF_CODES = Map.ofEntries(
+        Map.entry(26, ENDED_SESSION), Map.entry(6, UNKNOWN_NAME), Map.entry(33, UNKNOWN_NAME), Map.entry(1, INVALID_REQUEST),
+        Map.entry(34, INVALID_REQUEST), Map.entry(35, INVALID_REQUEST), Map.entry(36, INVALID_REQUEST),
+        Map.entry(62, UNAUTHENTICATED), Map.entry(63, FORBIDDEN), Map.entry(65, FORBIDDEN), Map.entry(66, FORBIDDEN),
+        Map.entry(40, UNAVAILABLE), Map.entry(41, UNAVAILABLE), Map.entry(42, UNAVAILABLE), Map.entry(60, UNAVAILABLE),
+        Map.entry(61, UNAVAILABLE), Map.entry(64, UNAVAILABLE));
 
     /** The reasons of answers that aren't those of rbac, by their statuses: a proxy sends them. */
     private static final Map<Integer, Reason> OF_STATUSES =

@@ -1,0 +1,210 @@
+package rbacclient
+
+import (
+	"bufio"
+	"bytes"
+	"context"
+	"errors"
+	"fmt"
+	"io"
+	"net/http"
+	"net/http/httptrace"
+	"strconv"
+	"time"
+)
+
+const (
+	longestSnapshot = 256 << 20
+	// longestLine is how long the line of an event may be: a command, and what is before it.
+	longestLine = 65_536 + 64
+)
+
+// Outdated is the code of the refusal of a number after which not all commands are known.
+const Outdated = 67
+
+// Snapshot is an office as it was: the lines that make it. Sessions have digests for names.
+type Snapshot struct {
+	Number   uint64    // how many commands had been accepted
+	Revision uint64    // how many of them aren't about one session
+	Asked    time.Time // what had been accepted before is in it
+	Lines    [][]byte
+}
+
+// Places returns how many addresses there are.
+func (c *Client) Places() int {
+	return len(c.addresses)
+}
+
+// Snapshot returns what is in the office, by the front at the address with this number. It is for callers with the right snapshot.
+func (c *Client) Snapshot(ctx context.Context, place int) (*Snapshot, error) {
+	ctx, cancel := context.WithTimeout(ctx, c.timeout)
+	defer cancel()
+	asked := time.Now()
+	response, err := c.get(ctx, c.addresses[place], "/snapshot")
+	if err != nil {
+		return nil, err
+	}
+	defer response.Body.Close()
+	body, err := readBody(response, longestSnapshot)
+	if err != nil {
+		return nil, err
+	}
+	if response.StatusCode != http.StatusOK {
+		return nil, readRefusal(response.StatusCode, body)
+	}
+	number, isThere := numberOf(response.Header, "Office-Number")
+	if !isThere || len(body) > 0 && body[len(body)-1] != '\n' {
+		return nil, failed(Unexpected, false, errors.New("the answer to /snapshot is no snapshot"))
+	}
+	revision, _ := numberOf(response.Header, "Policy-Revision")
+	lines := bytes.Split(body, []byte{'\n'})
+	return &Snapshot{Number: number, Revision: revision, Asked: asked, Lines: lines[:len(lines)-1]}, nil
+}
+
+// Event is an accepted command, or the newest number if there is no line.
+type Event struct {
+	Number uint64
+	Line   []byte
+	// Moment is a time before which the newest number was not yet written: the number is that of an office of then or later.
+	Moment time.Time
+}
+
+// Watch has the commands that an office accepts after a number, as they come. Its methods are for one goroutine, but for Close.
+type Watch struct {
+	Asked time.Time // when it was asked for
+
+	cancel  context.CancelFunc
+	body    io.Closer
+	lines   *bufio.Scanner
+	timer   *time.Timer
+	silence time.Duration
+}
+
+// Watch watches the commands after a number. It is for callers with the right watch. A watch that says nothing for this long has
+// ended: the front writes the newest number each second.
+func (c *Client) Watch(ctx context.Context, place int, after uint64, silence time.Duration) (*Watch, error) {
+	ctx, cancel := context.WithCancel(ctx)
+	w := &Watch{Asked: time.Now(), cancel: cancel, silence: silence, timer: time.AfterFunc(silence, cancel)}
+	response, err := c.get(ctx, c.addresses[place], "/watch?after="+strconv.FormatUint(after, 10))
+	if err != nil {
+		w.Close()
+		return nil, err
+	}
+	if response.StatusCode != http.StatusOK {
+		defer w.Close()
+		defer response.Body.Close()
+		if response.StatusCode == http.StatusGone {
+			return nil, refusal(Outdated, "Outdated", nil)
+		}
+		body, err := readBody(response, longestAnswer)
+		if err != nil {
+			return nil, err
+		}
+		return nil, readRefusal(response.StatusCode, body)
+	}
+	w.body = response.Body
+	if response.Header.Get("Content-Type") != "text/event-stream" || response.ContentLength >= 0 || len(response.TransferEncoding) > 0 {
+		w.Close()
+		return nil, failed(Unexpected, false, errors.New("the answer to /watch is no watch"))
+	}
+	w.lines = bufio.NewScanner(response.Body)
+	w.lines.Buffer(make([]byte, 0, 4096), longestLine)
+	return w, nil
+}
+
+// Close ends the watch.
+func (w *Watch) Close() {
+	w.timer.Stop()
+	w.cancel()
+	if w.body != nil {
+		_ = w.body.Close()
+	}
+}
+
+// Next returns the next event. The line is valid until the next call.
+func (w *Watch) Next() (Event, error) {
+	w.timer.Reset(w.silence)
+	var event Event
+	var isNewest bool
+	var number []byte
+	for w.lines.Scan() {
+		line := w.lines.Bytes()
+		if len(line) == 0 {
+			return w.event(event, number, isNewest)
+		}
+		name, value, _ := bytes.Cut(line, []byte(": "))
+		switch string(name) {
+		case "event":
+			isNewest = string(value) == "newest"
+		case "id":
+			number = append(number, value...)
+		case "data":
+			event.Line = append([]byte(nil), value...)
+		case "elapsed":
+			milliseconds, err := strconv.ParseUint(string(value), 10, 62)
+			if err != nil {
+				return Event{}, failed(Unexpected, false, err)
+			}
+			event.Moment = w.Asked.Add(time.Duration(milliseconds) * time.Millisecond)
+		}
+	}
+	err := w.lines.Err()
+	if errors.Is(err, bufio.ErrTooLong) {
+		return Event{}, failed(Unexpected, false, err)
+	}
+	return Event{}, failed(Unanswered, false, fmt.Errorf("the watch has ended: %v", err))
+}
+
+// event returns an event whose fields were read.
+func (w *Watch) event(event Event, number []byte, isNewest bool) (Event, error) {
+	if isNewest {
+		number, event.Line = event.Line, nil
+		if event.Moment.IsZero() {
+			event.Moment = w.Asked
+		}
+	}
+	var err error
+	if event.Number, err = strconv.ParseUint(string(number), 10, 63); err != nil {
+		return Event{}, failed(Unexpected, false, err)
+	}
+	if !isNewest && event.Line == nil {
+		return Event{}, failed(Unexpected, false, errors.New("an event without a command"))
+	}
+	return event, nil
+}
+
+// get sends a request without a body over a new connection.
+func (c *Client) get(ctx context.Context, address *address, path string) (*http.Response, error) {
+	var isConnected bool
+	trace := &httptrace.ClientTrace{GotConn: func(httptrace.GotConnInfo) { isConnected = true }}
+	request, err := http.NewRequestWithContext(httptrace.WithClientTrace(ctx, trace), http.MethodGet, address.base+path, nil)
+	if err != nil {
+		return nil, failed(InvalidRequest, false, err)
+	}
+	if c.token != nil {
+		request.Header["Authorization"] = []string{"Bearer " + c.token()}
+	}
+	response, err := address.fresh.RoundTrip(request)
+	if err != nil {
+		return nil, lost(err, isConnected)
+	}
+	return response, nil
+}
+
+// readBody reads a body of a stated length.
+func readBody(response *http.Response, longest int64) ([]byte, error) {
+	if response.ContentLength < 0 || response.ContentLength > longest {
+		return nil, failed(Unexpected, true, fmt.Errorf("the answer has a length of %d", response.ContentLength))
+	}
+	body := make([]byte, response.ContentLength)
+	if _, err := io.ReadFull(response.Body, body); err != nil {
+		return nil, failed(Unanswered, true, err)
+	}
+	return body, nil
+}
+
+// numberOf returns the number in a field of a head, and whether there is one.
+func numberOf(head http.Header, name string) (uint64, bool) {
+	number, err := strconv.ParseUint(head.Get(name), 10, 63)
+	return number, err == nil
+}

@@ -1,0 +1,170 @@
+package rbacreplica
+
+import (
+	"bytes"
+	"encoding/json"
+	"sync"
+
+	"rbac/clients/go/rbacclient"
+	"rbac/clients/go/rbacoffice"
+)
+
+// snapshotLine is a line of a snapshot.
+type snapshotLine struct {
+	Fn, User, Role, Asc, Desc, Object, Operation, Set, Session string
+	Roles                                                      []string
+	Cardinality                                                uint32
+}
+
+// rows returns the rows that a line makes, or false if it isn't one of those that snapshots have.
+func (l *snapshotLine) rows() ([]rbacoffice.Row, bool) {
+	row := func(table rbacoffice.Table, names ...string) rbacoffice.Row {
+		made := rbacoffice.Row{Table: table}
+		copy(made.Names[:], names)
+		return made
+	}
+	list := func(first rbacoffice.Row, table rbacoffice.Table, name string) []rbacoffice.Row {
+		found := []rbacoffice.Row{first}
+		for _, role := range l.Roles {
+			found = append(found, row(table, name, role))
+		}
+		return found
+	}
+	set := func(cardinalities, members rbacoffice.Table) []rbacoffice.Row {
+		first := row(cardinalities, l.Set)
+		first.Number = l.Cardinality
+		return list(first, members, l.Set)
+	}
+	switch l.Fn {
+	case "addUser":
+		return []rbacoffice.Row{row(rbacoffice.Users, l.User)}, true
+	case "addRole":
+		return []rbacoffice.Row{row(rbacoffice.Roles, l.Role)}, true
+	case "addInheritance":
+		return []rbacoffice.Row{row(rbacoffice.Inheritances, l.Asc, l.Desc)}, true
+	case "addPermObj":
+		return []rbacoffice.Row{row(rbacoffice.Objects, l.Object)}, true
+	case "addPermission":
+		return []rbacoffice.Row{row(rbacoffice.Permissions, l.Object, l.Operation)}, true
+	case "grantPermission":
+		return []rbacoffice.Row{row(rbacoffice.Grants, l.Object, l.Operation, l.Role)}, true
+	case "assignUser":
+		return []rbacoffice.Row{row(rbacoffice.Assignments, l.User, l.Role)}, true
+	case "createSsdSet":
+		return set(rbacoffice.StaticCardinalities, rbacoffice.StaticMembers), true
+	case "createDsdSet":
+		return set(rbacoffice.DynamicCardinalities, rbacoffice.DynamicMembers), true
+	case "lockUserAccount":
+		return []rbacoffice.Row{row(rbacoffice.Locks, l.User)}, true
+	case "createSession":
+		return list(row(rbacoffice.Sessions, l.Session, l.User), rbacoffice.ActivatedRoles, l.Session), true
+	}
+	return nil, false
+}
+
+// officeOf returns the office that the lines of a snapshot make: by its rows, since a large office is loaded faster by them.
+func officeOf(lines [][]byte) (*rbacoffice.Office, error) {
+	var rows []rbacoffice.Row
+	done := 0
+	for _, text := range lines {
+		var line snapshotLine
+		if err := json.Unmarshal(text, &line); err != nil {
+			return nil, diverged("the line %q of the snapshot: %v", cut(text), err)
+		}
+		more, isKnown := line.rows()
+		if !isKnown {
+			break
+		}
+		rows = append(rows, more...)
+		done++
+	}
+	office, err := rbacoffice.Load(append(rows, closure(rows)...), 0)
+	if err != nil {
+		return nil, diverged("the snapshot is none of an office: %v", err)
+	}
+	for _, text := range lines[done:] {
+		if err := do(office, text); err != nil {
+			office.Close()
+			return nil, err
+		}
+	}
+	return office, nil
+}
+
+// closure returns the pairs of a role and one that it inherits from, directly or through others.
+func closure(rows []rbacoffice.Row) []rbacoffice.Row {
+	juniors := map[string][]string{}
+	for _, row := range rows {
+		if row.Table == rbacoffice.Inheritances {
+			juniors[row.Names[0]] = append(juniors[row.Names[0]], row.Names[1])
+		}
+	}
+	var pairs []rbacoffice.Row
+	for senior := range juniors {
+		reached, ahead := map[string]bool{}, []string{senior}
+		for len(ahead) > 0 {
+			role := ahead[len(ahead)-1]
+			ahead = ahead[:len(ahead)-1]
+			for _, junior := range juniors[role] {
+				if !reached[junior] {
+					reached[junior] = true
+					ahead = append(ahead, junior)
+					pairs = append(pairs, rbacoffice.Row{Table: rbacoffice.ClosurePairs, Names: [3]string{senior, junior}})
+				}
+			}
+		}
+	}
+	return pairs
+}
+
+// do does a command that the office of the front has accepted.
+func do(office *rbacoffice.Office, line []byte) error {
+	before, err := office.Revision()
+	if err != nil {
+		return diverged("%v", err)
+	}
+	answer, err := office.Answer(line)
+	if err != nil {
+		return diverged("%v", err)
+	}
+	after, err := office.Revision()
+	if err != nil || after != before+1 || !bytes.HasPrefix(answer, []byte(`{"ok":true`)) {
+		return diverged("it doesn't accept %q: %q", cut(line), cut(answer))
+	}
+	return nil
+}
+
+// cut returns the beginning of a text, as much as an error shows.
+func cut(text []byte) []byte {
+	if len(text) > 200 {
+		return text[:200]
+	}
+	return text
+}
+
+// mostDigests is how many digests of sessions are kept.
+const mostDigests = 16_384
+
+// digests has the digests of names of sessions that were asked about.
+type digests struct {
+	mu    sync.RWMutex
+	known map[string]string
+}
+
+// of returns the digest of a name.
+func (d *digests) of(name string) string {
+	d.mu.RLock()
+	digest, isKnown := d.known[name]
+	d.mu.RUnlock()
+	if isKnown {
+		return digest
+	}
+	digest = rbacclient.SessionDigest(name)
+	d.mu.Lock()
+	defer d.mu.Unlock()
+	if d.known == nil || len(d.known) >= mostDigests {
+		d.known = map[string]string{}
+	}
+	d.known[name] = digest
+	return digest
+}

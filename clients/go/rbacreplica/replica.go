@@ -1,0 +1,307 @@
+// Package rbacreplica has a replica: a copy of an office in this process, which follows the front and decides by itself.
+//
+// It needs the library librbac, as the package rbacoffice does (docs/EMBEDDING.md). The caller of its client needs the rights snapshot
+// and watch, so it gets the whole policy. docs/INTEGRATING.md, section 7, says when to use it.
+package rbacreplica
+
+import (
+	"context"
+	"errors"
+	"fmt"
+	"log"
+	"sync"
+	"time"
+
+	"rbac/clients/go/rbacclient"
+	"rbac/clients/go/rbacoffice"
+)
+
+// Otherwise is what a replica does if its copy is too old, hasn't the wanted revision, or doesn't know the session.
+type Otherwise int
+
+const (
+	Ask  Otherwise = iota // ask the front
+	Wait                  // wait for the copy up to a limit, and deny then
+	Deny                  // deny at once
+)
+
+// Config is what a replica is made from. Client is required.
+type Config struct {
+	// Client asks the front. Its caller needs the rights snapshot and watch. It stays open when the replica is closed.
+	Client *rbacclient.Client
+	// Oldest is how old a copy may be that decides. The default is 5 seconds.
+	Oldest time.Duration
+	// Otherwise is what is done if the copy may not decide. Limit is for how long Wait waits: 2 seconds if it is 0.
+	Otherwise Otherwise
+	Limit     time.Duration
+	// Silence is after how long without a word of the front the copy counts as cut off. The default is 5 seconds.
+	Silence time.Duration
+	// Log gets a line for each decision that the office hasn't made, and if the replica is cut off. The default is the standard logger.
+	Log *log.Logger
+}
+
+// Decision is that of a replica: it also says by which state of the office it was made. Its zero value denies.
+type Decision struct {
+	rbacclient.Decision
+	// Age is how long before the decision, at most, the copy had all that was accepted. With Number 0 it is how long the front took.
+	Age time.Duration
+	// Number is that of the last command in the copy, or 0 if the front was asked.
+	Number uint64
+}
+
+// Status is how a copy is. Err is why it isn't followed at the moment, if it isn't.
+type Status struct {
+	Number, Revision uint64
+	Age              time.Duration
+	Err              error
+}
+
+// Never is the age if there is no copy.
+const Never = time.Duration(1<<63 - 1)
+
+// errNothing and errClosed are why there is no copy at the beginning and at the end.
+var (
+	errNothing = &rbacclient.Error{Reason: rbacclient.Unavailable, Err: errors.New("nothing was loaded yet")}
+	errClosed  = &rbacclient.Error{Reason: rbacclient.Unavailable, Err: errors.New("the replica is closed")}
+)
+
+// Replica decides by its own copy of an office. Goroutines may share it.
+type Replica struct {
+	config Config
+	stop   context.CancelFunc
+	ended  chan struct{}
+	names  digests
+
+	mu       sync.Mutex
+	office   *rbacoffice.Office // nil if there is no copy
+	number   uint64
+	revision uint64
+	place    int // the address that the copy is from; -1 if it is to be made anew
+	fresh    moment
+	young    map[string]time.Time // when sessions came that may not have all of their roles yet
+	trouble  *rbacclient.Error
+	failures int
+	changed  chan struct{} // closed at the next change, if somebody waits for it
+	counts   map[rbacclient.Reason]uint64
+}
+
+// Open makes a replica, which begins to follow the front. Ready waits until it decides.
+func Open(config Config) (*Replica, error) {
+	if config.Client == nil {
+		return nil, errors.New("rbacreplica: there is no client")
+	}
+	for _, one := range []struct {
+		value *time.Duration
+		usual time.Duration
+	}{{&config.Oldest, 5 * time.Second}, {&config.Limit, 2 * time.Second}, {&config.Silence, 5 * time.Second}} {
+		if *one.value <= 0 {
+			*one.value = one.usual
+		}
+	}
+	if config.Log == nil {
+		config.Log = log.Default()
+	}
+	ctx, stop := context.WithCancel(context.Background())
+	r := &Replica{config: config, stop: stop, ended: make(chan struct{}), trouble: errNothing, counts: map[rbacclient.Reason]uint64{}}
+	go r.run(ctx)
+	return r, nil
+}
+
+// Close ends the replica. It denies then.
+func (r *Replica) Close() {
+	r.stop()
+	<-r.ended
+	r.drop(errClosed)
+}
+
+// Ready waits until the copy may decide.
+func (r *Replica) Ready(ctx context.Context) error {
+	for {
+		r.mu.Lock()
+		behind := r.behind(time.Now(), 0)
+		changed := r.nextChange()
+		r.mu.Unlock()
+		if behind == nil {
+			return nil
+		}
+		select {
+		case <-changed:
+		case <-ctx.Done():
+			return fmt.Errorf("rbacreplica: %s: %w", behind.Detail, ctx.Err())
+		}
+	}
+}
+
+// Status returns how the copy is at the moment.
+func (r *Replica) Status() Status {
+	r.mu.Lock()
+	defer r.mu.Unlock()
+	status := Status{Number: r.number, Revision: r.revision, Age: r.fresh.age(time.Now())}
+	if r.trouble != nil {
+		status.Err = r.trouble
+	}
+	return status
+}
+
+// Counts returns how many decisions there were, by their reasons.
+func (r *Replica) Counts() map[rbacclient.Reason]uint64 {
+	r.mu.Lock()
+	defer r.mu.Unlock()
+	copied := make(map[rbacclient.Reason]uint64, len(r.counts))
+	for reason, count := range r.counts {
+		copied[reason] = count
+	}
+	return copied
+}
+
+// Check says whether the session may do the operation on the object, why, and by which state.
+func (r *Replica) Check(ctx context.Context, session, operation, object string) Decision {
+	return r.CheckAt(ctx, 0, session, operation, object)
+}
+
+// CheckAt is Check by a copy that has at least this revision of the policy, such as PolicyRevision of a client after a command.
+func (r *Replica) CheckAt(ctx context.Context, revision uint64, session, operation, object string) Decision {
+	name := r.names.of(session)
+	decision, isFinal := r.here(revision, name, operation, object)
+	switch {
+	case isFinal:
+		return decision // It is counted.
+	case r.config.Otherwise == Wait:
+		decision, isFinal = r.later(ctx, revision, name, operation, object)
+		if isFinal {
+			return decision
+		}
+	case r.config.Otherwise == Ask:
+		asked := time.Now()
+		isAllowed, err := r.config.Client.CheckAccess(ctx, session, operation, object)
+		decision = Decision{Decision: rbacclient.DecisionOf(isAllowed, err), Age: time.Since(asked)}
+	}
+	r.mu.Lock()
+	r.counts[decision.Reason]++
+	r.mu.Unlock()
+	r.report(decision, operation, object)
+	return decision
+}
+
+// Decide is Check without its age and number, for a guard or a session of rbacclient.
+func (r *Replica) Decide(ctx context.Context, session, operation, object string) rbacclient.Decision {
+	return r.Check(ctx, session, operation, object).Decision
+}
+
+// May reports whether to let the session do the operation on the object.
+func (r *Replica) May(ctx context.Context, session, operation, object string) bool {
+	return r.Check(ctx, session, operation, object).Allowed()
+}
+
+// here returns the decision of the copy, and whether nothing else is to be tried. It is counted and reported then.
+func (r *Replica) here(revision uint64, name, operation, object string) (Decision, bool) {
+	decision, isFinal := r.decide(revision, name, operation, object)
+	if isFinal {
+		r.report(decision, operation, object)
+	}
+	return decision, isFinal
+}
+
+// decide is here without a report.
+func (r *Replica) decide(revision uint64, name, operation, object string) (Decision, bool) {
+	r.mu.Lock()
+	defer r.mu.Unlock()
+	now := time.Now()
+	if behind := r.behind(now, revision); behind != nil {
+		isFinal := r.trouble == errClosed || r.trouble != nil && isNoRight(r.trouble.Reason)
+		if isFinal {
+			r.counts[behind.Reason]++
+		}
+		return *behind, isFinal
+	}
+	isAllowed, err := r.office.Check(name, operation, object)
+	decision := Decision{Decision: decisionOf(isAllowed, err), Age: r.fresh.age(now), Number: r.number}
+	if decision.Reason == rbacclient.EndedSession {
+		return decision, false
+	}
+	// A session that has just come may get its roles only now.
+	if came, isYoung := r.young[name]; isYoung && decision.Reason == rbacclient.Denied && now.Sub(came) < young {
+		return decision, false
+	}
+	r.counts[decision.Reason]++
+	return decision, true
+}
+
+// report writes a line about a decision that the office hasn't made. It has no name of a session.
+func (r *Replica) report(decision Decision, operation, object string) {
+	if !decision.IsDecided() {
+		r.config.Log.Printf("no decision about %q on %q: %s: %s", operation, object, decision.Reason, decision.Detail)
+	}
+}
+
+// decisionOf returns the decision of the library.
+func decisionOf(isAllowed bool, err error) rbacclient.Decision {
+	var refused *rbacoffice.RefusedError
+	if errors.As(err, &refused) {
+		err = rbacclient.RefusedError(refused.Code, refused.Name)
+	}
+	return rbacclient.DecisionOf(isAllowed, err)
+}
+
+// behind returns the decision if the copy may not decide. The caller holds the lock.
+func (r *Replica) behind(now time.Time, revision uint64) *Decision {
+	age := r.fresh.age(now)
+	decision := &Decision{Age: age, Number: r.number}
+	decision.Reason = rbacclient.Unavailable
+	switch {
+	case r.office == nil || age > r.config.Oldest:
+		decision.Detail = "there is no copy"
+		if r.office != nil {
+			decision.Detail = fmt.Sprintf("the copy is %v old", age)
+		}
+		if r.trouble != nil {
+			decision.Detail += ": " + r.trouble.Error()
+			if r.trouble.Reason != rbacclient.Refused {
+				decision.Reason = r.trouble.Reason
+			}
+		}
+	case r.revision < revision:
+		decision.Detail = fmt.Sprintf("the copy has revision %d and not yet %d", r.revision, revision)
+	default:
+		return nil
+	}
+	return decision
+}
+
+// later returns the decision as soon as the copy may make it, or when the time is over.
+func (r *Replica) later(ctx context.Context, revision uint64, name, operation, object string) (Decision, bool) {
+	timer := time.NewTimer(r.config.Limit)
+	defer timer.Stop()
+	for {
+		r.mu.Lock()
+		changed := r.nextChange()
+		r.mu.Unlock()
+		decision, isFinal := r.here(revision, name, operation, object)
+		if isFinal {
+			return decision, true
+		}
+		select {
+		case <-changed:
+		case <-timer.C:
+			return decision, false
+		case <-ctx.Done():
+			return decision, false
+		}
+	}
+}
+
+// nextChange returns what is closed at the next change of the copy. The caller holds the lock.
+func (r *Replica) nextChange() <-chan struct{} {
+	if r.changed == nil {
+		r.changed = make(chan struct{})
+	}
+	return r.changed
+}
+
+// hasChanged lets those go on who wait for a change. The caller holds the lock.
+func (r *Replica) hasChanged() {
+	if r.changed != nil {
+		close(r.changed)
+		r.changed = nil
+	}
+}

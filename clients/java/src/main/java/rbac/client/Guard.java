@@ -1,0 +1,50 @@
+package rbac.client;
+
+import java.util.function.Function;
+
+/**
+ * A guard in front of pages: a request passes only if its session may do what it needs. The requests are of any kind, such as
+ * {@code HttpServletRequest}: a filter of servlets calls {@link #statusOf}, and passes the request on if the status is 200.
+ *
+ * @param <R> the requests
+ */
+public final class Guard<R> {
+    private final Client office;
+    private final Function<? super R, Need> need;
+    private final Function<? super R, String> session;
+
+    /**
+     * A guard. The function need returns what a request needs, or null if it passes without a question; session returns the name of
+     * its session, which the application keeps, or null.
+     */
+    public Guard(Client office, Function<? super R, Need> need, Function<? super R, String> session) {
+        this.office = office;
+        this.need = need;
+        this.session = session;
+    }
+
+    /** 200 if the request passes. Otherwise 401 without a session, 403 if the office denies, and 503 if there is no decision. */
+    public int statusOf(R request) {
+        var needed = need.apply(request);
+        if (needed == null) {
+            return 200;
+        }
+        var name = session.apply(request);
+        if (name == null || name.isEmpty()) {
+            return 401;
+        }
+        var decision = office.check(name, needed.operation(), needed.object());
+        if (decision.isAllowed()) {
+            return 200;
+        }
+        if (decision.reason() == Reason.ENDED_SESSION) {
+            return 401;
+        }
+        return decision.isDecided() ? 403 : 503;
+    }
+
+    /** The text of the answer to a request that doesn't pass, by its status. */
+    public static String textOf(int status) {
+        return status == 401 ? "Unauthorized" : status == 403 ? "Forbidden" : "Service Unavailable";
+    }
+}

@@ -1,0 +1,381 @@
+//go:build sqlite
+
+package record
+
+import (
+	"context"
+	"database/sql"
+	"errors"
+	"fmt"
+	"os"
+	"path/filepath"
+	"sync"
+
+	"rbac-node/api"
+)
+
+// mostQueued is how many entries may wait to be written.
+const mostQueued = 50_000
+
+// DirIn returns the folder of the record of a node whose folder this is.
+func DirIn(data string) string { return filepath.Join(data, "record") }
+
+// A Follower is the record of a node of several machines. All nodes get the same entries, from the log. The log has a command for as
+// long as a node may need to do it again. So an entry is written once the office has answered, and is synced before the node relies
+// on a snapshot that has it: after a crash the commands since the snapshot come again, and have to give the entries that are there.
+type Follower struct {
+	*Record
+	// writing is held by whoever writes entries. checked is the last entry up to which the file was read again.
+	writing sync.Mutex
+	checked entry
+
+	mutex sync.Mutex // for what follows
+	// room says that entries were written, or that writing has failed.
+	room *sync.Cond
+	// added is the last entry, and queue has those that aren't written yet. known has the links of entries that were written before
+	// the start, and come again.
+	added  entry
+	queue  []entry
+	known  []string
+	begun  bool
+	err    error
+	wake   chan struct{}
+	failed chan struct{}
+	ended  chan struct{}
+}
+
+// NewFollower returns the record of a node. Resume says where it goes on.
+func NewFollower(options Options) *Follower {
+	f := &Follower{
+		Record: newRecord(options), wake: make(chan struct{}, 1), failed: make(chan struct{}), ended: make(chan struct{}),
+	}
+	f.room = sync.NewCond(&f.mutex)
+	f.addMetrics()
+	go f.run()
+	return f
+}
+
+// Resume goes on after the head that a snapshot has, from which the office in use was made. No head means that nothing was recorded
+// before it. A record that ends before a fetched snapshot becomes an earlier part.
+func (f *Follower) Resume(ctx context.Context, head string, isFetched bool) error {
+	if err := f.resume(ctx, head, isFetched); err != nil {
+		return fmt.Errorf("record %s: %w", f.dir, err)
+	}
+	go f.announce()
+	return nil
+}
+
+func (f *Follower) resume(ctx context.Context, text string, isFetched bool) error {
+	has, err := hasRecord(f.dir)
+	if err != nil && !errors.Is(err, errNoFile) {
+		return err
+	}
+	if text == "" {
+		if has && err == nil {
+			return f.openAt(ctx, Head{})
+		}
+		return nil
+	}
+	head, err := ParseHead(text)
+	if err != nil {
+		return err
+	}
+	if has && isFetched {
+		if has, err = f.closeBefore(head.N); err != nil {
+			return err
+		}
+	}
+	if !has {
+		f.Log.Warn("the record begins with a snapshot: earlier entries are not here", "first", head.N+1)
+		nothing := func(string, string) error { return nil }
+		if err := f.beginWith(ctx, part{head.N + 1, joined, head.Chain, ""}, "", nothing); err != nil {
+			return err
+		}
+	}
+	return f.openAt(ctx, head)
+}
+
+// openAt opens the file, which has to have a head, and expects that the entries after it come again.
+func (f *Follower) openAt(ctx context.Context, head Head) error {
+	if err := f.load(); err != nil {
+		return err
+	}
+	isThere := false
+	last, err := f.check(ctx, entry{}, 1<<62, func(e entry) {
+		if e.n > head.N {
+			f.known = append(f.known, e.ch)
+		}
+		isThere = isThere || e.n == head.N && e.ch == head.Chain
+	})
+	switch {
+	case err != nil:
+		return err
+	case last.n < head.N:
+		return fmt.Errorf("it ends at entry %d, and the snapshot has entry %d: %w", last.n, head.N, errMoveAway)
+	case !isThere:
+		return fmt.Errorf("entry %d is not the one that the snapshot has: %w", head.N, errMoveAway)
+	}
+	f.added = entry{n: head.N, ch: head.Chain}
+	f.begun, f.checked = head.N > 0, f.added
+	return nil
+}
+
+var errMoveAway = errors.New("restore the record of this node, or move it away")
+
+// closeBefore makes a file that ends before an entry an earlier part, and reports whether there is still a file.
+func (f *Follower) closeBefore(n int64) (has bool, err error) {
+	path := filepath.Join(f.dir, fileName)
+	db, err := openFile(path, "_busy_timeout="+busy)
+	if err != nil {
+		return true, err
+	}
+	first, last, err := endsOf(db)
+	if closing := db.Close(); err == nil {
+		err = closing
+	}
+	if err != nil || last >= n {
+		return true, err
+	}
+	return false, renamePart(f.dir, first, last)
+}
+
+// endsOf returns the first and the last entry of a file.
+func endsOf(db querier) (first, last int64, err error) {
+	if err := db.QueryRow("SELECT min(first) FROM part").Scan(&first); err != nil {
+		return 0, 0, err
+	}
+	answered, _, err := lastOf(db)
+	return first, answered.n, err
+}
+
+// renamePart gives the file of a record, whose log is merged, the name of an earlier part.
+func renamePart(dir string, first, last int64) error {
+	path := filepath.Join(dir, fileName)
+	if _, err := os.Stat(path + walSuffix); !errors.Is(err, os.ErrNotExist) {
+		return errors.New("another program reads the record: try again when it has ended")
+	}
+	return os.Rename(path, partPath(dir, first, last))
+}
+
+// HasBegun reports whether there is a record: it begins with the first entry of the log that says who asks.
+func (f *Follower) HasBegun() bool {
+	f.mutex.Lock()
+	defer f.mutex.Unlock()
+	return f.begun
+}
+
+// Begin begins the record with the office as it is now, which no program has open. If an earlier run has begun it, it has to have
+// begun in the same way.
+func (f *Follower) Begin(ctx context.Context, at string) error {
+	p := part{1, beginning, "", ""}
+	note := func(_, rows string) error { p.rows = rows; return nil }
+	var err error
+	if f.db != nil {
+		err = f.withCopy(ctx, note)
+	} else if err = f.beginWith(ctx, p, at, note); err == nil {
+		err = f.openAt(ctx, Head{})
+	}
+	if err != nil {
+		return fmt.Errorf("record %s: %w", f.dir, err)
+	}
+	f.mutex.Lock()
+	f.begun = true
+	f.mutex.Unlock()
+	f.add(*p.entry(at)) // It is there, so it is compared.
+	return nil
+}
+
+// Admit refuses a command that can't be recorded.
+func (f *Follower) Admit(call *api.Call) error {
+	_, err := recordedLine(call)
+	return err
+}
+
+// Add adds the next command of the log, with its answer. It doesn't wait.
+func (f *Follower) Add(caller, at, reason string, call *api.Call, answer []byte) {
+	line, _ := recordedLine(call) // All nodes record the same line, even if it is too long.
+	f.add(entry{at: at, caller: caller, reason: reason, request: string(line), answer: string(answer)})
+}
+
+func (f *Follower) add(e entry) {
+	f.mutex.Lock()
+	defer f.mutex.Unlock()
+	e.n = f.added.n + 1
+	e.ch = chained(f.added.ch, &e)
+	f.added = e
+	if len(f.known) > 0 {
+		if f.known[0] != e.ch {
+			f.fail(fmt.Errorf("entry %d is not what the log gives: %w", e.n, errMoveAway))
+		}
+		f.known = f.known[1:]
+		return
+	}
+	f.queue = append(f.queue, e)
+	select {
+	case f.wake <- struct{}{}:
+	default:
+	}
+}
+
+// Added returns the head after the last entry that was added, or an empty text if there is no record.
+func (f *Follower) Added() string {
+	f.mutex.Lock()
+	defer f.mutex.Unlock()
+	if !f.begun {
+		return ""
+	}
+	return Head{f.added.n, f.added.ch}.String()
+}
+
+// Room waits until few entries wait to be written.
+func (f *Follower) Room() {
+	f.mutex.Lock()
+	defer f.mutex.Unlock()
+	for len(f.queue) > mostQueued && f.err == nil {
+		f.room.Wait()
+	}
+}
+
+// fail says that the node has to end. The mutex is locked.
+func (f *Follower) fail(err error) {
+	if f.err == nil {
+		f.err = fmt.Errorf("record %s: %w", f.dir, err)
+		close(f.failed)
+	}
+	f.room.Broadcast()
+}
+
+// Failed is closed when the record can't go on.
+func (f *Follower) Failed() <-chan struct{} { return f.failed }
+
+// Failure returns why the record can't go on, or nil.
+func (f *Follower) Failure() error {
+	f.mutex.Lock()
+	defer f.mutex.Unlock()
+	return f.err
+}
+
+// run writes entries until the record is closed.
+func (f *Follower) run() {
+	defer close(f.ended)
+	for {
+		select {
+		case <-f.wake:
+		case <-f.life.Done():
+			return
+		}
+		f.flush("NORMAL")
+	}
+}
+
+// flush writes the entries that wait. At the level FULL all that was written is synced.
+func (f *Follower) flush(level string) {
+	f.writing.Lock()
+	defer f.writing.Unlock()
+	f.mutex.Lock()
+	queue := f.queue
+	f.queue = nil
+	f.mutex.Unlock()
+	err := f.append(queue, level)
+	f.mutex.Lock()
+	defer f.mutex.Unlock()
+	if err != nil {
+		f.fail(err)
+	}
+	f.room.Broadcast()
+}
+
+func (f *Follower) append(queue []entry, level string) error {
+	if err := f.sync(level); err != nil {
+		return err
+	}
+	err := inTransaction(f.db, func(tx *sql.Tx) error {
+		insert, err := tx.Prepare(addEntry)
+		if err != nil {
+			return err
+		}
+		defer insert.Close()
+		for i := range queue {
+			if _, err := insert.Exec(queue[i].values()...); err != nil {
+				return err
+			}
+		}
+		if level == "FULL" {
+			_, err = tx.Exec("UPDATE part SET why = why") // Without a write nothing would be synced.
+		}
+		return err
+	})
+	if err == nil && len(queue) > 0 {
+		f.Record.mutex.Lock()
+		defer f.Record.mutex.Unlock()
+		f.head = queue[len(queue)-1]
+	}
+	return err
+}
+
+// Keep makes the entries up to a head durable, and reads again what was written since it was last called.
+func (f *Follower) Keep(ctx context.Context, text string) error {
+	head, err := ParseHead(text)
+	if err != nil {
+		return err
+	}
+	f.flush("FULL")
+	if err := f.Failure(); err != nil {
+		return err
+	}
+	last, err := f.check(ctx, f.checked, head.N, func(entry) {})
+	if err == nil && (last.n != head.N || last.ch != head.Chain) {
+		err = fmt.Errorf("somebody has written it: entry %d is not the one that was added", head.N)
+	}
+	if err != nil {
+		return fmt.Errorf("record %s: %w", f.dir, err)
+	}
+	f.checked = last
+	return nil
+}
+
+// check reads the entries of the file after one, or all if that is zero, up to a number, and reports whether the chain holds. It
+// returns the last one.
+func (f *Follower) check(ctx context.Context, last entry, to int64, each func(entry)) (entry, error) {
+	v, err := openView(ctx, filepath.Join(f.dir, fileName))
+	if err != nil {
+		return last, err
+	}
+	defer v.Close()
+	if last.ch == "" {
+		parts, err := partsOf(ctx, v)
+		if err != nil {
+			return last, err
+		}
+		last = entry{n: parts[0].first - 1, ch: parts[0].before}
+		each(last)
+	}
+	next := entriesAfter(ctx, v.tx, last.n, to)
+	for {
+		e, err := next()
+		if err != nil || e == nil {
+			return last, err
+		}
+		if e.n != last.n+1 || chained(last.ch, e) != e.ch {
+			return last, fmt.Errorf("the chain breaks at entry %d: %w", last.n+1, errMoveAway)
+		}
+		last = *e
+		each(last)
+	}
+}
+
+// Close ends the record once nothing more is added. It writes what waits, and returns why the record couldn't go on.
+func (f *Follower) Close() error {
+	f.stop()
+	<-f.ended
+	if f.db == nil {
+		return nil
+	}
+	f.flush("NORMAL")
+	f.logHead()
+	failure, closing := f.Failure(), f.close()
+	if failure != nil {
+		return failure
+	}
+	return closing
+}

@@ -1,0 +1,308 @@
+"""The records of the nodes, which are the same on all of them: compared with one another, with the log and with the answers."""
+
+import http.client
+import json
+import random
+import signal
+import sqlite3
+import subprocess
+import time
+from contextlib import closing
+from pathlib import Path
+
+from front.identities import bearer, rules, tokens
+from front.recorded import Entry, Model, digest, files_with, link
+from program.bench import PROGRAM
+
+from .keeping import log_of
+from .machines import PREFIX, SECONDS, Cluster, encoded
+from .networks import MACHINES
+from .rows import snapshots_of
+from .running import build
+
+# Commands from one snapshot to the next.
+EVERY = 60
+
+# Who asks, with the tokens.
+CALLERS = {"desk": "secret-of-the-desk", "boss": "secret-of-the-boss"}
+
+# What they may do everywhere.
+ALLOWED = ["addUser", "deleteUser", "addRole", "assignUser", "deassignUser", "createSession", "deleteSession", "addActiveRole"]
+
+# Names of sessions that are found nowhere by chance.
+SECRETS = [f"session-that-nobody-may-see-{number}" for number in range(8)]
+
+
+def files_of(data):
+    """The files of the record in the folder of a node, in their order."""
+    parts = sorted(Path(data).glob("record/record-*.db"), key=lambda path: int(path.name.split("-")[1]))
+    return [*parts, Path(data, "record/record.db")]
+
+
+def entries_of(data):
+    """All entries of the record in the folder of a node."""
+    found = []
+    for path in files_of(data):
+        if path.exists():
+            with closing(sqlite3.connect(f"file:{path}?mode=ro", uri=True, timeout=SECONDS)) as opened:
+                found += [Entry(*row) for row in opened.execute("SELECT * FROM entry ORDER BY n")]
+    return found
+
+
+def tool(node, *words):
+    """The status and the outputs of a command about a record."""
+    if words[0] == "verify":
+        words = ("verify", "--program", PROGRAM, *words[1:])
+    done = subprocess.run([node, "record", *words], capture_output=True, text=True, timeout=10 * SECONDS, check=False)
+    return done.returncode, done.stdout, done.stderr
+
+
+def raised_at(cluster):
+    """The revision from which the entries of the log say who asks, or 0."""
+    reply = cluster.etcd_call("/v3/kv/range", {"key": encoded(f"{PREFIX}/nodes//"), "range_end": encoded(f"{PREFIX}/nodes/0")})
+    return max((int(kv["mod_revision"]) for kv in (reply or {}).get("kvs", [])), default=0)
+
+
+def recorded_text(line):
+    """The text of a request of the log as the record has it."""
+    request = json.loads(line)
+    if "session" in request:
+        request["session"] = digest(request["session"])
+    return json.dumps(request, separators=(",", ":"), ensure_ascii=False)
+
+
+def joined(records):
+    """The entries that any node has, by their numbers, and what is wrong with them: two nodes have another one at a number, a link
+    does not follow from the one before it, or an end is missing."""
+    found, faults = {}, []
+    for i, record in enumerate(records):
+        for before, entry in zip([None, *record], record):
+            if found.setdefault(entry.n, entry) != entry:
+                faults.append(f"node {i} has {entry}, and another one {found[entry.n]}")
+            if before and before.n + 1 == entry.n and link(before.chain, entry) != entry.chain:
+                faults.append(f"at node {i} entry {entry.n} does not follow")
+    if len({record[-1].n if record else 0 for record in records}) != 1:
+        faults.append(f"the records end at {[record[-1].n if record else 0 for record in records]}")
+    return [found[n] for n in sorted(found)], faults
+
+
+def faults_of(cluster, judge):
+    """What is wrong with the records of a cluster whose nodes have ended, when a judge has compared its log with the answers."""
+    raised = raised_at(cluster)
+    entries, faults = joined([entries_of(cluster.data(f"node{i}")) for i in range(MACHINES)])
+    wanted = [
+        (revision, place, line)
+        for revision, lines, _ in judge.entries
+        for place, line in enumerate(lines)
+        if raised and revision > raised
+    ]
+    commands = [entry for entry in entries if '"record":' not in entry.request]
+    print(f"{len(commands):9,}  commands in the records, of {len(wanted):,} since they began", flush=True)
+    if len(commands) == len(entries) - 1 and len(commands) != len(wanted):
+        faults.append(f"the records have {len(commands)} commands, and the log {len(wanted)} since they began")
+    by_reason = {one.reason: one for one in judge.asked}
+    # If all have lost their beginning, they have the last commands.
+    for entry, (revision, place, line) in zip(reversed(commands), reversed(wanted)):
+        asked = judge.asked_at.get((revision, place))
+        if asked is None or not asked.is_answered:  # Of several that are the same and were not answered it may be any.
+            asked = by_reason.get(entry.reason)
+        if entry.request != recorded_text(line):
+            faults.append(f"{entry} is not the command at {revision}, {place}: {line}")
+        elif not asked or (entry.caller, entry.reason, recorded_text(json.dumps(asked.line))) != (
+            asked.caller, asked.reason, entry.request
+        ):  # fmt: skip
+            faults.append(f"{entry} was asked for by {asked}")
+        elif asked.is_answered and entry.answer.encode() != asked.answer:
+            faults.append(f"{entry} has another answer than {asked}")
+    for i in range(MACHINES):
+        status, out, said = tool(cluster.node, "verify", "--data", cluster.data(f"node{i}"))
+        if (status, said) != (0, "") and commands:
+            faults.append(f"verify of node {i}: {out}{said}")
+    return faults[:20]
+
+
+class Asker:
+    """Sends random commands to all nodes, as several callers and for several reasons, and keeps what was answered."""
+
+    def __init__(self, cluster, seed):
+        self.cluster, self.random = cluster, random.Random(seed)
+        self.answered, self.number = [], 0
+
+    def drawn(self):
+        pick = self.random.choice
+        user, role, session = pick("abcdef"), pick("rstuv"), pick(SECRETS)
+        return pick([
+            {"fn": "addUser", "user": user}, {"fn": "addRole", "role": role}, {"fn": "deleteUser", "user": user},
+            {"fn": "assignUser", "user": user, "role": role}, {"fn": "deassignUser", "user": user, "role": role},
+            {"fn": "createSession", "user": user, "roles": [], "session": session},
+            {"fn": "addActiveRole", "user": user, "session": session, "role": role},
+            {"fn": "deleteSession", "user": user, "session": session},
+        ])  # fmt: skip
+
+    def ask(self, count):
+        """Sends commands until so many are answered."""
+        wanted, deadline = len(self.answered) + count, time.monotonic() + 5 * SECONDS
+        while len(self.answered) < wanted:
+            if time.monotonic() > deadline:
+                raise TimeoutError(f"{count} commands are not answered")
+            self.number += 1
+            line, caller, reason = self.drawn(), self.random.choice(sorted(CALLERS)), f"ticket {self.number} \u00e9"
+            fields = {**bearer(CALLERS[caller]), "Office-Reason": reason.encode()}
+            address = self.cluster.network.address(self.random.randrange(MACHINES), 8080)
+            connection = http.client.HTTPConnection(address, timeout=10)
+            body = json.dumps({key: value for key, value in line.items() if key != "fn"})
+            try:
+                connection.request("POST", f"/v1/{line['fn']}", body, fields)
+                reply = connection.getresponse()
+                text = reply.read().decode()
+                if reply.status in (200, 409):
+                    self.answered.append((f"token:{caller}", reason, recorded_text(json.dumps(line)), text))
+            except (OSError, http.client.HTTPException):
+                pass  # It may be done or not.
+            finally:
+                connection.close()
+
+
+def same_head(cluster):
+    """Whether the records of all nodes end with the same entry, which is that of the log's last command."""
+    heads = {tool(cluster.node, "head", "--data", cluster.data(f"node{i}"))[1] for i in range(MACHINES)}
+    return len(heads) == 1 and cluster.ready() and len({cluster.status(i)["commands"] for i in range(MACHINES)}) == 1
+
+
+def check_records(bench):
+    """All nodes have the same record, with callers and reasons, whatever is killed. It is known from where one begins."""
+    bench.write("callers.jsonl", rules({f"token:{name}": [(one, "office") for one in ALLOWED] for name in CALLERS}).encode())
+    bench.write("tokens", tokens(**CALLERS).encode())
+    words = ("--callers", bench.path("callers.jsonl"), "--tokens", bench.path("tokens"), "--etcd-open")
+    seed = random.randrange(10**6)
+    print(f"seed {seed}")
+    with Cluster(bench.folder, build(bench.shared), every=EVERY, more=words) as cluster:
+        asker = Asker(cluster, seed)
+        cluster.until(lambda: raised_at(cluster), "the log says who asks")
+        for _ in range(6):
+            asker.ask(40)
+            cluster.nodes[asker.random.randrange(MACHINES)].send(signal.SIGKILL)
+        asker.ask(40)
+        cluster.until(lambda: same_head(cluster), "all have the same head")
+        judge_same(bench, cluster, asker)
+        judge_shown(bench, cluster)
+        judge_joined(bench, cluster, asker)
+        judge_written(bench, cluster, asker)
+        judge_secret(bench, cluster)
+
+
+def judge_same(bench, cluster, asker):
+    """The records have each answered command once, with who has asked, why, and the answer; the model gives the same answers."""
+    records = [entries_of(cluster.data(f"node{i}")) for i in range(MACHINES)]
+    bench.same("the record of node 1", records[1], records[0])
+    bench.same("the record of node 2", records[2], records[0])
+    bench.judge("the records", joined(records)[1] + Model().go_on(records[0]))
+    given = {entry.reason: (entry.caller, entry.reason, entry.request, entry.answer) for entry in records[0]}
+    bench.same("no reason comes twice", len(given), len(records[0]))
+    bench.judge("who has asked", [f"{one}: {given.get(one[1])}" for one in asker.answered if given.get(one[1]) != one])
+    bench.same("no answer was found later", {entry.found for entry in records[0]}, {0})
+
+
+def judge_shown(bench, cluster):
+    """Each command about a record works on the folder of a node that runs; the head is in its metrics and in its log."""
+    data = cluster.data("node0")
+    entries = entries_of(data)
+    head = f"{entries[-1].n}:{entries[-1].chain}"
+    bench.same("head", tool(cluster.node, "head", "--data", data), (0, head + "\n", ""))
+    status, out, said = tool(cluster.node, "show", "--data", data, "--caller", "token:boss")
+    wanted = [str(entry.n) for entry in entries if entry.caller == "token:boss"]
+    bench.same("show", (status, [line.split("\t")[0] for line in out.splitlines()], said), (0, wanted, ""))
+    status, out, said = tool(cluster.node, "verify", "--data", data, "--head", head)
+    says = f"entries 1 to {entries[-1].n}: the chain holds, and the program gives the same answers"
+    bench.judge("verify", [] if status == 0 and says in out and "the newest snapshot has the rows" in out else [out + said])
+    text = cluster.get(0, "/metrics", 8081)[1].decode()
+    bench.judge("metrics", [] if "rbac_node_record_entry" in text and "rbac_node_record_failing 0" in text else [text])
+    cluster.nodes[0].stop(signal.SIGTERM)
+    bench.same("the head is logged", f'"entry":{entries[-1].n},"chain":"{entries[-1].chain}"' in log_of(cluster, 0), True)
+    cluster.nodes[0].start()
+    cluster.until(cluster.ready, "the node is ready")
+
+
+def judge_joined(bench, cluster, asker):
+    """A node without its folder has the entries since the snapshot that it has fetched, and says which are missing."""
+    cluster.until(lambda: asker.ask(EVERY) or cluster.read_log()[1], "the log is trimmed")
+    cluster.lose_node(1)
+    cluster.until(cluster.ready, "the node is ready")
+    asker.ask(5)
+    cluster.until(lambda: same_head(cluster), "all have the same head")
+    data = cluster.data("node1")
+    found, whole = entries_of(data), entries_of(cluster.data("node0"))
+    first = whole[-len(found)].n
+    bench.same("what it has", (found, first > 1), (whole[-len(found) :], True))
+    says = f"entries 1 to {first - 1} are not here: this part begins with a snapshot\n"
+    bench.same("show says it", tool(cluster.node, "show", "--data", data)[::2], (0, says))
+    status, out, said = tool(cluster.node, "verify", "--data", data)
+    bench.same("verify says it", (status, out.startswith(says), said), (0, True, ""))
+
+
+# What is done to the record of a node, whether the links are computed anew, and what the node says then.
+WRITTEN = [
+    ("an entry is edited", "UPDATE entry SET reason = 'another' WHERE n = 9", False, "the chain breaks at entry 9"),
+    ("an entry is left out", "DELETE FROM entry WHERE n = 9", False, "the chain breaks at entry 9"),
+    ("the links are computed anew", "UPDATE entry SET caller = 'token:other' WHERE n = 9", True, "is not the one that the snapshot has"),
+    ("the end is cut off", "DELETE FROM entry WHERE n > 9", False, "it ends at entry 9"),
+]
+
+
+def write(data, statement, is_anew):
+    """Changes the record of a node behind its back, and may compute all links anew. Returns the entries."""
+    with closing(sqlite3.connect(f"{data}/record/record.db")) as opened:
+        opened.execute(statement)
+        before, found = "", []
+        for row in opened.execute("SELECT * FROM entry ORDER BY n").fetchall():
+            entry = Entry(*row)
+            before = link(before, entry) if is_anew else entry.chain
+            opened.execute("UPDATE entry SET chain = ? WHERE n = ?", (before, entry.n))
+            found.append(entry._replace(chain=before))
+        opened.commit()
+    return found
+
+
+def judge_written(bench, cluster, asker):
+    """A node whose record somebody has written does not start, or is outvoted. The others go on."""
+    asker.ask(2 * EVERY)
+    cluster.until(lambda: same_head(cluster), "all have the same head")
+    data = cluster.data("node2")
+    cluster.nodes[2].stop(signal.SIGTERM)
+    kept = Path(data, "record/record.db").read_bytes()
+    for what, statement, is_anew, says in WRITTEN:
+        write(data, statement, is_anew)
+        begin = len(log_of(cluster, 2))
+        cluster.nodes[2].start()
+        cluster.until(lambda begin=begin, says=says: says in log_of(cluster, 2)[begin:], f"{what}: {says}")
+        cluster.nodes[2].stop()
+        bench.judge(f"{what}: it is not ready", [] if not cluster.status(2).get("ready") else ["it is"])
+        Path(data, "record/record.db").write_bytes(kept)
+    # Whoever computes all links anew may give the snapshots other names, too.
+    entries = {entry.n: entry for entry in write(data, "UPDATE entry SET caller = 'token:other' WHERE n IN (8, 9)", True)}
+    for says, path in snapshots_of(cluster, 2).values():
+        number = int(says["record"].split(":")[0])
+        path.rename(path.with_name(path.name.replace(says["record"], f"{number}:{entries[number].chain}")))
+    cluster.nodes[2].start()
+    cluster.until(lambda: "differs" in cluster.status(2).get("why", ""), "the node is outvoted")
+    asker.cluster.nodes[2].stop()
+    for i in range(2):
+        bench.same(f"node {i} goes on", cluster.status(i).get("ready"), True)
+    cluster.ctl("del", f"{PREFIX}/nodes/n2")
+    cluster.lose_node(2)
+    cluster.until(cluster.ready, "the node is ready again")
+    asker.ask(3)
+    cluster.until(lambda: same_head(cluster), "all have the same head")
+
+
+def judge_secret(bench, cluster):
+    """No name of a session is in a record, in what a node logs, or in what a command about a record says."""
+    for i in range(MACHINES):
+        data = cluster.data(f"node{i}")
+        said = "".join(str(tool(cluster.node, *words, "--data", data)) for words in (["show"], ["verify"], ["head"]))
+        bench.judge(f"node {i} has digests", [] if digest(SECRETS[0]) in said else [said[:300]])
+        for name in SECRETS:
+            found = files_with(f"{data}/record", name) + [name for text in (said, log_of(cluster, i)) if name in text]
+            bench.judge(f"node {i} has no name of a session", found)
+    office = files_with(cluster.data("node0/office"), SECRETS[0]) + files_with(cluster.data("node0/snapshots"), SECRETS[0])
+    bench.judge("the office has it", [] if office else ["the test finds nothing"])

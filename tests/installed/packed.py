@@ -1,0 +1,58 @@
+"""What is in the packages, and that they are made of the same bytes each time."""
+
+import os
+import shutil
+import subprocess
+from pathlib import Path
+
+from .running import MADE, RELEASE, ROOT, made, make
+
+
+def output(*words):
+    """What a command prints."""
+    return subprocess.run(list(map(str, words)), capture_output=True, text=True, check=True).stdout
+
+
+def check_same_bytes(bench):
+    """Made again with another time, mask, language and folder, both packages have the same bytes."""
+    again = bench.folder / "again"
+    settings = {"TZ": "Asia/Tokyo", "LC_ALL": "C.UTF-8", "TMPDIR": bench.path("")}
+    before = os.umask(0o077)
+    try:
+        make(again, os.environ[RELEASE], **settings)
+    finally:
+        os.umask(before)
+    for package in made():
+        bench.same(f"whether {package.name} is the same", (again / package.name).read_bytes() == package.read_bytes(), True)
+    bench.same("what is beside them", sorted(os.listdir(os.environ[MADE])), sorted(package.name for package in made()))
+
+
+def check_lint(bench):
+    """lintian finds no error, and warns of nothing."""
+    if not shutil.which("lintian"):
+        print("left out: what lintian finds, since it is not installed: bin/setup package", flush=True)
+        return
+    allow = ["--allow-root"] if os.geteuid() == 0 else []
+    done = subprocess.run(["lintian", *allow, *map(str, made())], capture_output=True, text=True, check=False)
+    bench.same("what lintian finds", (done.returncode, done.stdout), (0, ""))
+
+
+def check_node(bench):
+    """The front is for any address, needs SQLite and the C library alone, and the program of the same version."""
+    _, node = made()
+    root = bench.folder / "root"
+    output("dpkg-deb", "-x", node, root)
+    files = {str(path.relative_to(root)) for path in root.rglob("*") if path.is_file()}
+    wanted = {"usr/bin/rbac-node", "lib/systemd/system/rbac-node@.service", "usr/share/man/man8/rbac-node.8.gz"}
+    bench.same("files that are missing", wanted - files, set())
+    needed = output("readelf", "-d", root / "usr/bin/rbac-node")
+    libraries = {line.split("[")[1].rstrip("]") for line in needed.splitlines() if "(NEEDED)" in line}
+    bench.same("the libraries", libraries, {"libsqlite3.so.0", "libc.so.6"})
+    bench.same("whether it is position independent", ("PIE" in needed, "BIND_NOW" in needed or "NOW" in needed), (True, True))
+    depends = output("dpkg-deb", "-f", node, "Depends").strip().split(", ")
+    version = output("dpkg-deb", "-f", node, "Version").strip()
+    bench.same("what it depends on", {one.split()[0] for one in depends}, {"rbac", "libc6", "libsqlite3-0"})
+    bench.same("the program that it needs", f"rbac (= {version})" in depends, True)
+    text = (Path(root) / "usr/bin/rbac-node").read_bytes()
+    here = [path for path in (ROOT, os.environ[MADE], bench.folder) if str(path).encode() in text]
+    bench.same("paths of this machine in it", here, [])

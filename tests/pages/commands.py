@@ -1,0 +1,44 @@
+"""The tables of commands: those that scripts write are up to date, and each file that names all commands but a few is found."""
+
+import re
+import subprocess
+
+from . import markdown, sources
+
+ROOT = sources.ROOT
+PAGE = markdown.page("EXTENDING.md")
+
+# Files outside crates/ that are written by hand, and files in it: `bin/commands` finds both if they lack a command.
+FOUND = ["crates/admin_mgr/specs/Verdict.antt", "crates/role_json/src/calls.rt", "docs/API.md", "tests/machine/commands.py"]
+
+
+def listed(*words):
+    """What bin/commands prints, and its status."""
+    ended = subprocess.run([str(ROOT / "bin/commands"), *words], capture_output=True, text=True, check=False)
+    return ended.stdout + ended.stderr, ended.returncode
+
+
+def check_tables(bench):
+    """No table of commands is stale, and no file lacks a few of the commands."""
+    bench.same("bin/commands --check", listed("--check"), ("", 0))
+
+
+def check_missing(bench):
+    """The files of a command that doesn't exist are those of all others, and none of them is a benchmark or a row."""
+    if not (ROOT / ".git").exists():
+        print("commands: this is no working copy of git: the files of a command are not looked for")
+        return
+    said, status = listed("fly")
+    found = re.findall(r"^(\S+) lacks fly(?: \(a script writes it\))?$", said, re.M)
+    bench.same("each line is a file that lacks the command", (len(found), status), (len(said.splitlines()), 0))
+    bench.same("files that are not found", sorted(set(FOUND) - set(found)), [])
+    bench.same("benchmarks and rows", [path for path in found if path.startswith(("bench/", "tests/rows/"))], [])
+
+
+def check_page(bench):
+    """Each file and each script that the page names exists."""
+    paths = [path for path in re.findall(r"(?<![\w/.-])(?:bin|deploy|docs|tests|tools)/[\w./-]*\w", PAGE) if "NAME" not in path]
+    bench.same("paths of EXTENDING.md to nothing", [path for path in paths if not (ROOT / path).exists()], [])
+    lemmas = markdown.page("LEMMAS.md")
+    named = re.findall(r"\b([A-Z]\w+(?:Laws|Plans|Turns)|Refusing|Commanded)\b", PAGE)
+    bench.same("lemma files that do not exist", [name for name in named if f"| {name} |" not in lemmas], [])
