@@ -283,4 +283,4 @@ def undisturbed(bench, language):
     return {f"{language}, undisturbed: {name}": count for name, count in rounds(bench, language, False).items()}
 
 
-JOBS = jobs(disturbed, undisturbed)
+JOBS = jobs(disturbed, undisturbed) if os.environ.get(LONG) else jobs(disturbed)
