@@ -11,7 +11,7 @@ from pages import markdown
 from program.bench import TESTS
 from program.offices import Office
 
-from .driving import jobs
+from .driving import GO_TAGS, jobs
 
 # Programs are built and run on the disk: a file system in memory may forbid running them.
 ON_DISK = True
@@ -70,7 +70,7 @@ def the_page(bench, language):
             bench.same("bin/library", (status, error), (0, ""))
             go = {name: value for name, value in environment().items() if not name.startswith(("CGO_", "LD_"))}
             text = f"go mod init app 2> made\n{block('sh', 1)}./app"
-            status, said, error = sh(text, app, RBAC=str(repository), GOPROXY=go["GOPROXY"], GOFLAGS="", LD_LIBRARY_PATH="")
+            status, said, error = sh(text, app, RBAC=str(repository), GOPROXY=go["GOPROXY"], GOFLAGS=GO_TAGS, LD_LIBRARY_PATH="")
         bench.same(f"what the example prints: {error[-2000:]}", (status, said), (0, PRINTED))
 
 
