@@ -46,7 +46,7 @@ def clean_repository(bench):
     for name in ("clients", "library"):
         ignored = shutil.ignore_patterns("_library*.so", "__pycache__", "target", "build")
         shutil.copytree(TOP / name, folder / name, ignore=ignored)
-    for name in ("bin", "release"):
+    for name in ("bin", "release", "VERSION"):
         (folder / name).symlink_to(TOP / name)
     return folder
 
