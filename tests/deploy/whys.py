@@ -162,6 +162,15 @@ CASES = [
         r"office: office-wal is in use by python3 .*",
     ),
     Case(
+        "a shell of SQLite",
+        """mkfifo -m 644 "$said.pipe"; $user sqlite3 office < "$said.pipe" > "$said.sql" & holder=$!
+exec 9> "$said.pipe"; printf 'SELECT * FROM meta_row;\\n.shell touch %s\\n' "$said.holds" >&9
+until test -e "$said.holds"; do sleep 0.05; done""",
+        STORE,
+        r"office: office is in use by sqlite3 \(process \d+, user \w+\)",
+        "sqlite3",
+    ),
+    Case(
         "a front",
         "as_user touch office.lock\n" + HOLDS % ("flock", "office.lock"),
         GOOD,
@@ -247,6 +256,13 @@ CASES = [
     Case(
         "a full disk",
         TMPFS % "size=400k" + "cat /dev/zero > filler 2> /dev/null || true",
+        STORE,
+        "office: the disk of @ is full: there is no room",
+        "mount",
+    ),
+    Case(
+        "a full disk, with a log and a folder that may not be written",
+        TMPFS % "size=400k" + "as_user touch office-wal; chmod 555 .; cat /dev/zero > filler 2> /dev/null || true",
         STORE,
         "office: the disk of @ is full: there is no room",
         "mount",
