@@ -16,6 +16,7 @@ from program.bench import PROGRAM, TESTS, Bench
 OF_SOURCES = ["sources"]
 OF_CLUSTERS = [
     "program", "page", "booted", "answers", "secured", "callers", "hung", "full", "keeping", "records", "upgrading", "stated", "judged",
+    "wrongnodes",
 ]  # fmt: skip
 
 NEEDED = ["go.etcd.io/etcd/clientv3", "go.uber.org/zap", "golang.org/x/sync/errgroup"]

@@ -66,11 +66,28 @@ def check_lists(bench):
         bench.same("sessions were ended by some command", len(ended) > 2, True)
 
 
+def judge_reports(bench, front):
+    """Trials and reviews are only for one machine. A ticket for a report is of use at the node that gave it, and reports are the same."""
+    line, texts = json.dumps({"fn": "addUser", "user": "ann"}), set()
+    review = json.dumps({"review": "Q4", "sha256": "0" * 64, "kept": 0, "removed": 0, "open": 0})
+    bench.same("addUser", batch(front, line)[0], 200)
+    for machine, node in enumerate(front.each):
+        bench.same(f"a trial at node {machine}", node.exchange("POST", "/what-if", line)[0], 404)
+        bench.same(f"the end of a review at node {machine}", node.exchange("POST", "/reviews", review)[0], 404)
+        ticket = json.loads(node.exchange("POST", "/reports/dump")[1])["value"]["ticket"]
+        other = front.each[(machine + 1) % MACHINES]
+        bench.same(f"the ticket of node {machine} at another one", other.exchange("GET", f"/reports/{ticket}")[0], 404)
+        status, text = node.exchange("GET", f"/reports/{ticket}")
+        bench.same(f"a report at node {machine}", (status, line.replace(" ", "") in text), (200, True))
+        texts.add(text)
+    bench.same("the reports of all nodes", len(texts), 1)
+
+
 def check_batches(bench):
     """Batches at any node have nothing between their lines, and decide at their place; sessions are the greedy choice of the model."""
     with Cluster(bench.folder, build(bench.shared)) as cluster:
         front = Nodes(cluster)
-        for judge in (judge_lines, judge_limits, judge_order, judge_others, judge_decisions):
+        for judge in (judge_lines, judge_limits, judge_order, judge_others, judge_decisions, judge_reports):
             judge(bench, front)
             clear(front)
         long = [{"fn": "importAssignments", "csv": "user,role\n" + "a,b\n" * 9_000}] * 20
@@ -81,9 +98,9 @@ def check_batches(bench):
             same_lists(bench, node, f"after that at node {machine}")
 
 
-def check_conditions(bench):
+def check_conditions(bench, node=None):
     """Of writers at all nodes that name the same revision of the policy one is accepted, also at nodes that were started again."""
-    with Cluster(bench.folder, build(bench.shared), every=150) as cluster:
+    with Cluster(bench.folder, node or build(bench.shared), every=150) as cluster:
         front, old = Nodes(cluster), f"{PREFIX}/nodes/old"
         judge_writers(bench, front)
         cluster.heal()
@@ -196,7 +213,7 @@ def check_rights(bench):
     }
     bench.write("callers.jsonl", rules(rights).encode())
     bench.write("tokens", tokens(desk="secret", admin="another").encode())
-    words = ("--callers", bench.path("callers.jsonl"), "--tokens", bench.path("tokens"))
+    words = ("--callers", bench.path("callers.jsonl"), "--tokens", bench.path("tokens"), "--etcd-open")
     with Cluster(bench.folder, build(bench.shared), more=words) as cluster:
         front, admin, desk = Nodes(cluster), bearer("another"), bearer("secret")
         for function, values in [
