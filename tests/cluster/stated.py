@@ -25,6 +25,9 @@ from .running import build
 # How many random offices the lists and the sessions are judged in.
 OFFICES, SESSION_OFFICES = 4, 3
 
+# How long a request waits for its answer if no machine fails, so that a busy machine refuses none.
+PATIENT = "30s"
+
 
 def clear(front):
     """Deletes all that an office has, as its lists say."""
@@ -43,7 +46,7 @@ def check_lists(bench):
     """After random commands at any node the lists of each node are what SQL reads from its rows."""
     seed = random.randrange(1_000_000_000)
     print(f"the seed of the offices for lists over etcd is {seed}")
-    with Cluster(bench.folder, build(bench.shared), every=150) as cluster:
+    with Cluster(bench.folder, build(bench.shared), every=150, timeout=PATIENT) as cluster:
         front = Nodes(cluster)
         ended = {}
         for number in range(OFFICES):
@@ -85,7 +88,7 @@ def judge_reports(bench, front):
 
 def check_batches(bench):
     """Batches at any node have nothing between their lines, and decide at their place; sessions are the greedy choice of the model."""
-    with Cluster(bench.folder, build(bench.shared)) as cluster:
+    with Cluster(bench.folder, build(bench.shared), timeout=PATIENT) as cluster:
         front = Nodes(cluster)
         for judge in (judge_lines, judge_limits, judge_order, judge_others, judge_decisions, judge_reports):
             judge(bench, front)
@@ -100,7 +103,7 @@ def check_batches(bench):
 
 def check_conditions(bench, node=None):
     """Of writers at all nodes that name the same revision of the policy one is accepted, also at nodes that were started again."""
-    with Cluster(bench.folder, node or build(bench.shared), every=150) as cluster:
+    with Cluster(bench.folder, node or build(bench.shared), every=150, timeout=PATIENT) as cluster:
         front, old = Nodes(cluster), f"{PREFIX}/nodes/old"
         judge_writers(bench, front)
         cluster.heal()
@@ -119,7 +122,7 @@ def check_conditions(bench, node=None):
 def check_old_nodes(bench):
     """While a node of an earlier program is registered, what it can't judge is refused, and nothing of it is done."""
     words = '{"name":"old","peer":"http://127.0.0.1:1","snapshots":[]}'
-    cluster = Cluster(bench.folder, build(bench.shared))
+    cluster = Cluster(bench.folder, build(bench.shared), timeout=PATIENT)
     for member in cluster.members:
         member.start()
     cluster.until(lambda: cluster.does("put", f"{PREFIX}/nodes/old", words), "etcd answers")
@@ -143,7 +146,7 @@ def check_old_nodes(bench):
 def check_followers(bench):
     """Followers that start anywhere and change nodes end with the rows of the office, while nodes end and lose their folders."""
     stop, counts = threading.Event(), {}
-    with Cluster(bench.folder, build(bench.shared), every=150) as cluster:
+    with Cluster(bench.folder, build(bench.shared), every=150, timeout=PATIENT) as cluster:
         front, draws = Nodes(cluster), Draws(random.randrange(1_000_000_000))
         followers = [Follower(bench, front, number, stop, has_gaps=True) for number in range(4)]
         sent = 0
