@@ -29,6 +29,12 @@ OFFICES, SESSION_OFFICES = 4, 3
 PATIENT = "30s"
 
 
+def await_rules(cluster, front):
+    """Waits until each node knows that all others can judge conditions."""
+    line = {"fn": "deleteUser", "user": "nobody"}
+    cluster.until(lambda: all(batch(node, [line], "?stop=first")[0] == 200 for node in front.each), "conditions are judged")
+
+
 def clear(front):
     """Deletes all that an office has, as its lists say."""
     lines = [{"fn": "deleteUser", "user": user} for user in whole(front, "users", 1_000)]
@@ -90,6 +96,7 @@ def check_batches(bench):
     """Batches at any node have nothing between their lines, and decide at their place; sessions are the greedy choice of the model."""
     with Cluster(bench.folder, build(bench.shared), timeout=PATIENT) as cluster:
         front = Nodes(cluster)
+        await_rules(cluster, front)
         for judge in (judge_lines, judge_limits, judge_order, judge_others, judge_decisions, judge_reports):
             judge(bench, front)
             clear(front)
@@ -105,6 +112,7 @@ def check_conditions(bench, node=None):
     """Of writers at all nodes that name the same revision of the policy one is accepted, also at nodes that were started again."""
     with Cluster(bench.folder, node or build(bench.shared), every=150, timeout=PATIENT) as cluster:
         front, old = Nodes(cluster), f"{PREFIX}/nodes/old"
+        await_rules(cluster, front)
         judge_writers(bench, front)
         cluster.heal()
         for node in cluster.nodes:
@@ -115,6 +123,7 @@ def check_conditions(bench, node=None):
         revisions = {asked(node, "ssdRoleSets", {})[2] for node in front.each}
         bench.same("the revision at each node", len(revisions), 1)
         bench.same("its number", {snapshot(node)[1:] for node in front.each} == {snapshot(front)[1:]}, True)
+        await_rules(cluster, front)
         clear(front)
         judge_writers(bench, front)
 
@@ -188,6 +197,7 @@ def check_expiry(bench):
     with Cluster(bench.folder, build(bench.shared), more=("--session-age", "3s")) as cluster:
         front = Nodes(cluster)
         batch(front, [{"fn": "addUser", "user": "ann"}, {"fn": "addRole", "role": "r"}, {"fn": "assignUser", "user": "ann", "role": "r"}])
+        await_rules(cluster, front)
         for down in (None, 0):
             if down is not None:
                 cluster.nodes[down].stop()

@@ -24,7 +24,7 @@ WRONG = {
 	}
 """),
     "each node makes the number of the first command by itself": (
-        stated.check_conditions, "writers", "node/recovery.go", "n.shared.First(ctx)", "n.start.UnixNano(), error(nil)",
+        stated.check_conditions, "the revision at each node", "node/recovery.go", "n.shared.First(ctx)", "n.start.UnixNano(), error(nil)",
     ),
 }  # fmt: skip
 
