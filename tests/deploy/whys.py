@@ -10,7 +10,7 @@ from typing import NamedTuple
 from program.bench import PROGRAM, SECONDS
 from program.web import free_port
 
-from .common import DEPLOY, has, run
+from .common import DEPLOY, can_mount, has, run
 
 WHY = DEPLOY / "why"
 STORE, GOOD = '{"code":41,"error":"Store"}', ""
@@ -314,11 +314,6 @@ CASES = [
 ]
 
 
-def can_mount():
-    """Whether this process may mount a file system that nobody else sees."""
-    return os.geteuid() == 0 and run(["unshare", "-m", "mount", "-t", "tmpfs", "tmpfs", "/mnt"]).status == 0
-
-
 def is_left_out(case, mounts):
     """Whether a case can't be tried here. If so, prints why."""
     needs = case.needs.split()
@@ -367,7 +362,7 @@ def causes(bench):
     """Each cause that can be made here is named, and nothing else is."""
     if not has("setpriv", "python3"):
         return
-    mounts = can_mount()
+    mounts = os.geteuid() == 0 and can_mount()
     for case in CASES:
         if not is_left_out(case, mounts):
             try_case(bench, case)
