@@ -74,6 +74,8 @@ class Writer:
                 self.answered(lines, answers)
             else:
                 self.find_out(lines)
+            if killer or status != 200:
+                self.begin_again()
                 start = time.monotonic() - sent / RATE
             sent += len(lines)
         kept.close()
@@ -90,8 +92,8 @@ class Writer:
 
     def find_out(self, lines):
         """After a kill: how many of the commands were done, by what is in the office now."""
-        until(lambda: self.front.exchange("GET", "/healthz")[0] == 200, "the front answers again")
-        number, found = self.snapshot()
+        self.wait()
+        _, found = self.snapshot()
         states = self.drawn.states[self.done : self.done + len(lines) + 1]
         held = facts_of_lines(found)
         done = next((at for at, state in enumerate(states) if facts_of_state(state) == held), None)
@@ -99,8 +101,15 @@ class Writer:
             self.faults.append("the office is that of no beginning of the commands")
             done = 0
         self.done += done
-        self.epochs.append((number, self.done))
         self.note()
+
+    def begin_again(self):
+        """After a kill the numbers go on from another one, even if the last batch was answered before."""
+        self.wait()
+        self.epochs.append((self.number(), self.done))
+
+    def wait(self):
+        until(lambda: self.front.exchange("GET", "/healthz")[0] == 200, "the front answers again")
 
     def state_at(self, number):
         """How many commands had been done at a number, or nothing if there is no such number."""
