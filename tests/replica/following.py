@@ -42,12 +42,21 @@ class Writer:
         self.times, self.counts = [], []
 
     def snapshot(self):
-        connection = self.front.connection()
-        connection.request("GET", "/snapshot")
-        reply = connection.getresponse()
-        found = int(reply.headers["Office-Number"]), [json.loads(line) for line in reply.read().splitlines()]
-        connection.close()
-        return found
+        """The number and the lines of a snapshot, as soon as the front answers: its replay may just have been killed."""
+        found = []
+
+        def is_there():
+            connection = self.front.connection()
+            connection.request("GET", "/snapshot")
+            reply = connection.getresponse()
+            lines = reply.read().splitlines()
+            connection.close()
+            if reply.status == 200:
+                found.append((int(reply.headers["Office-Number"]), [json.loads(line) for line in lines]))
+            return found
+
+        until(is_there, "the front answers again")
+        return found[0]
 
     def number(self):
         return self.snapshot()[0]
@@ -92,7 +101,6 @@ class Writer:
 
     def find_out(self, lines):
         """After a kill: how many of the commands were done, by what is in the office now."""
-        self.wait()
         _, found = self.snapshot()
         states = self.drawn.states[self.done : self.done + len(lines) + 1]
         held = facts_of_lines(found)
@@ -105,11 +113,7 @@ class Writer:
 
     def begin_again(self):
         """After a kill the numbers go on from another one, even if the last batch was answered before."""
-        self.wait()
         self.epochs.append((self.number(), self.done))
-
-    def wait(self):
-        until(lambda: self.front.exchange("GET", "/healthz")[0] == 200, "the front answers again")
 
     def state_at(self, number):
         """How many commands had been done at a number, or nothing if there is no such number."""
