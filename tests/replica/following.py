@@ -42,12 +42,21 @@ class Writer:
         self.times, self.counts = [], []
 
     def snapshot(self):
-        connection = self.front.connection()
-        connection.request("GET", "/snapshot")
-        reply = connection.getresponse()
-        found = int(reply.headers["Office-Number"]), [json.loads(line) for line in reply.read().splitlines()]
-        connection.close()
-        return found
+        """The number and the lines of a snapshot, as soon as the front answers: its replay may just have been killed."""
+        found = []
+
+        def is_there():
+            connection = self.front.connection()
+            connection.request("GET", "/snapshot")
+            reply = connection.getresponse()
+            lines = reply.read().splitlines()
+            connection.close()
+            if reply.status == 200:
+                found.append((int(reply.headers["Office-Number"]), [json.loads(line) for line in lines]))
+            return found
+
+        until(is_there, "the front answers again")
+        return found[0]
 
     def number(self):
         return self.snapshot()[0]
@@ -74,6 +83,8 @@ class Writer:
                 self.answered(lines, answers)
             else:
                 self.find_out(lines)
+            if killer or status != 200:
+                self.begin_again()
                 start = time.monotonic() - sent / RATE
             sent += len(lines)
         kept.close()
@@ -90,8 +101,7 @@ class Writer:
 
     def find_out(self, lines):
         """After a kill: how many of the commands were done, by what is in the office now."""
-        until(lambda: self.front.exchange("GET", "/healthz")[0] == 200, "the front answers again")
-        number, found = self.snapshot()
+        _, found = self.snapshot()
         states = self.drawn.states[self.done : self.done + len(lines) + 1]
         held = facts_of_lines(found)
         done = next((at for at, state in enumerate(states) if facts_of_state(state) == held), None)
@@ -99,8 +109,11 @@ class Writer:
             self.faults.append("the office is that of no beginning of the commands")
             done = 0
         self.done += done
-        self.epochs.append((number, self.done))
         self.note()
+
+    def begin_again(self):
+        """After a kill the numbers go on from another one, even if the last batch was answered before."""
+        self.epochs.append((self.number(), self.done))
 
     def state_at(self, number):
         """How many commands had been done at a number, or nothing if there is no such number."""
