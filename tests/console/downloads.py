@@ -74,7 +74,11 @@ def compare(bench, what, front, copy):
                     continue
                 wanted = [one for one in rows if values[key] in [one[place] for place in places]]
                 text, told = report(front, name, values)
-                bench.same(f"{name} of {what} by {values}", (rows_of(text)[1:], told["lines"]), ([as_text(one) for one in wanted], len(wanted)))
+                bench.same(
+                    f"{name} of {what} by {values}",
+                    (rows_of(text)[1:], told["lines"]),
+                    ([as_text(one) for one in wanted], len(wanted)),
+                )
     heading, *rows = rows_of(run_tool("room", copy).out.decode())
     bench.same(f"room of {what}", rows_of(report(front, "room")[0]), [heading[1:], *(row[1:] for row in rows)])
     bench.same(f"dump of {what}", report(front, "dump")[0].encode() == run_tool("dump", copy).out, True)
@@ -121,7 +125,9 @@ def check_tickets(bench):
                                      ("GET", "", 404), ("GET", "dump", 404), ("HEAD", told["ticket"], 401), ("DELETE", told["ticket"], 401)]:  # fmt: skip
             bench.same(f"{method} {path[:9]}", front.exchange(method, f"/reports/{path}")[0], status)
         front.ask("addUser", {"user": "bob"}, **ADMIN)
-        bench.same("its report, of when it was asked for", file_of(front, told["ticket"]), (200, '{"fn":"addUser","user":"ann"}\n'))
+        bench.same(
+            "its report, of when it was asked for", file_of(front, told["ticket"]), (200, '{"fn":"addUser","user":"ann"}\n')
+        )
         bench.same("twice", file_of(front, told["ticket"])[0], 404)
         bench.same("twice, with the token", file_of(front, told["ticket"], **ADMIN)[0], 404)
         first, second = (ticket_for(front, name, **ADMIN)[1]["ticket"] for name in ("room", "dump"))
@@ -173,7 +179,10 @@ def reload(bench, front, rights, **names):
 
 def check_rights(bench):
     """A ticket is of no use after its caller's right is gone, or its token."""
-    for rights, names, status in [({**RIGHTS, "token:admin": [("lists", "office")]}, {"admin": "another"}, 403), (RIGHTS, {"admin": "new"}, 401)]:
+    for rights, names, status in [
+        ({**RIGHTS, "token:admin": [("lists", "office")]}, {"admin": "another"}, 403),
+        (RIGHTS, {"admin": "new"}, 401),
+    ]:
         with secured(bench, "--no-record", rights=RIGHTS, name=f"office{status}") as front:
             ticket = ticket_for(front, "room", **ADMIN)[1]["ticket"]
             reload(bench, front, rights, **names)
@@ -192,7 +201,11 @@ def long_office(bench, front):
     lines += [{"fn": "assignUser", "user": f"a user with a long name {i:05}", "role": "clerk"} for i in range(MANY_USERS)]
     for i in range(MANY_GRANTS):
         permission = {"object": f"an object with a long name {i:05}", "operation": "read"}
-        lines += [{"fn": "addPermObj", "object": permission["object"]}, {"fn": "addPermission", **permission}, {"fn": "grantPermission", **permission, "role": "clerk"}]
+        lines += [
+            {"fn": "addPermObj", "object": permission["object"]},
+            {"fn": "addPermission", **permission},
+            {"fn": "grantPermission", **permission, "role": "clerk"},
+        ]
     text = "".join(json.dumps(line) + "\n" for line in lines).encode()
     for words, given in ((["init", front.office], b""), (["replay", front.office], text)):
         subprocess.run([RBAC, *words], input=given, capture_output=True, check=True)

@@ -1,9 +1,17 @@
 """A front that goes away and comes back while somebody uses the console."""
 
+from front.program import until
+
 from .browser import Browser, bank
 from .pages import value_rows
 
 LOST = "The front doesn't answer. What you asked for may or may not have been done: look again when it answers."
+
+
+def start_again(front):
+    """Starts a front that was killed, and waits until its office answers: it listens earlier."""
+    front.start()
+    until(lambda: front.exchange("GET", "/healthz")[0] == 200, "the office answers")
 
 
 def check_lost(bench):
@@ -14,7 +22,7 @@ def check_lost(bench):
         bench.same("an action", page.submit("Assign", "Assign a role", Role="cashier"), LOST)
         page.go("roles")
         bench.same("a page", LOST in page.text(), True)
-        front.start()
+        start_again(front)
         page.follow("Try again")
         bench.same("the page again", "Hierarchy" in page.text(), True)
         page.go("users", "frank")

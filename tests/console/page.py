@@ -11,7 +11,7 @@ from pages.shell import Shell
 from program.bench import TESTS
 
 PAGE = markdown.page("CONSOLE.md")
-MOST_BYTES, MOST_BYTES_OF_PICTURES, MOST_BYTES_OF_FIRST = 20_000, 700_000, 100_000
+MOST_BYTES, MOST_BYTES_OF_PICTURES, MOST_BYTES_OF_FIRST = 20_000, 850_000, 100_000
 
 
 def check_commands(bench):

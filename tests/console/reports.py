@@ -13,7 +13,7 @@ from front.program import Front
 from .browser import Browser, bank
 from .downloads import report, rows_of
 from .hostile import MARKUP, NAMES
-from .lost import LOST
+from .lost import LOST, start_again
 from .rights import AUDITOR, DESK, front_of_bank
 
 # The rows of the table as they are shown.
@@ -32,6 +32,7 @@ def allow_downloads(bench, page):
 
 def downloaded(page, folder):
     """Waits for the one file that the browser has got, and returns its name and its text."""
+
     def whole():
         names = os.listdir(folder)
         return names[0] if len(names) == 1 and not names[0].endswith(".crdownload") else None
@@ -55,7 +56,11 @@ def check_pages(bench):
             page.click("Download CSV")
             found, text = downloaded(page, folder)
             bench.same(f"the file of {name}", rows_of(text)[1:], wanted)
-            bench.same(f"its name {found}", found.startswith(f"{name}-2") and found.endswith(f"-revision-{told_revision(page)}.csv"), True)
+            bench.same(
+                f"its name {found}",
+                found.startswith(f"{name}-2") and found.endswith(f"-revision-{told_revision(page)}.csv"),
+                True,
+            )
             bench.same("what is said", page.notice(), f"A file of {len(wanted)} lines is being downloaded.")
         page.go("reports", "room")
         bench.same("room", page.run(ROWS)[0], ["Users", "7", "20000", "19993"])
@@ -70,7 +75,9 @@ def check_pages(bench):
         page.fill("Operation", "post", form)
         page.follow("Show", f'form[aria-label="{form}"]')
         rows = page.run(ROWS)
-        bench.same("chosen", rows, [[user, "no", "account 17", "post", "branch manager", "teller", ""] for user in ("ann", "carol")])
+        bench.same(
+            "chosen", rows, [[user, "no", "account 17", "post", "branch manager", "teller", ""] for user in ("ann", "carol")]
+        )
         bench.same("it is said", ", role teller, operation post" in page.text("#about"), True)
         page.click("Download CSV")
         bench.same("the chosen file", rows_of(downloaded(page, folder)[1])[1:], rows)
@@ -80,7 +87,9 @@ def check_pages(bench):
         bench.same("nobody", "There is no such line." in page.text(), True)
         page.go("reports", "planets")
         bench.same("no such report", "There is no such report." in page.text(), True)
-        bench.same("no ticket is left in an address", "reports/" in page.run("return location.href").partition("#/reports")[2], False)
+        bench.same(
+            "no ticket is left in an address", "reports/" in page.run("return location.href").partition("#/reports")[2], False
+        )
         bench.same("complaints", page.complaints(), [])
 
 
@@ -192,13 +201,21 @@ def check_rights(bench):
 
 def check_names(bench):
     """Names that are markup, formulas or can't be seen are text on each report, and no formula in a file."""
-    formulas = ["=HYPERLINK(\"x\")", "+1", "-2+3", "@SUM(1)", "'=1"]
+    formulas = ['=HYPERLINK("x")', "+1", "-2+3", "@SUM(1)", "'=1"]
     names = [*NAMES, *formulas]
     with Front(bench, "--no-record") as front, Browser(bench, front) as page:
-        lines = [{"fn": function, key: name} for function, key in (("addUser", "user"), ("addRole", "role"), ("addPermObj", "object")) for name in names]
+        lines = [
+            {"fn": function, key: name}
+            for function, key in (("addUser", "user"), ("addRole", "role"), ("addPermObj", "object"))
+            for name in names
+        ]
         for name in names:
             permission = {"object": name, "operation": name}
-            lines += [{"fn": "addPermission", **permission}, {"fn": "grantPermission", **permission, "role": name}, {"fn": "assignUser", "user": name, "role": name}]
+            lines += [
+                {"fn": "addPermission", **permission},
+                {"fn": "grantPermission", **permission, "role": name},
+                {"fn": "assignUser", "user": name, "role": name},
+            ]
         lines.append({"fn": "createSsdSet", "set": names[0], "roles": names[:9], "cardinality": 9})
         for i in range(0, len(lines), 90):
             bench.same("the office", {*batch(front, lines[i : i + 90])[1]}, {'{"ok":true}'})
@@ -224,6 +241,6 @@ def check_lost(bench):
         bench.same("a download", page.notice(), LOST)
         page.go("reports", "near")
         bench.same("a page", LOST in page.text(), True)
-        front.start()
+        start_again(front)
         page.follow("Try again")
         bench.same("the page again", len(page.run(ROWS)), 5)
