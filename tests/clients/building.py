@@ -7,7 +7,7 @@ import subprocess
 import sys
 from pathlib import Path
 
-from program.bench import SECONDS, TESTS
+from program.bench import TESTS
 from program.offices import small_office
 from program.web import HOST, Server
 
@@ -206,7 +206,7 @@ def go_installed(bench):
     ):
         status, said = run("go", *words, cwd=folder, env=go_environment())
         bench.judge(f"go {' '.join(words)}", [] if status == 0 else [said])
-    asked(bench, "the installed client in Go", folder / "asking", seconds=SECONDS)
+    asked(bench, "the installed client in Go", folder / "asking")
 
 
 def typescript_form(bench):
@@ -294,7 +294,7 @@ def node_installed(bench):
         return
     words = ["--strict", "--module", "node16", "--moduleResolution", "node16", "--target", "es2022", "--lib", "es2022"]
     bench.same("what tsc finds in a program that uses it", run("tsc", *words, "asking.ts", cwd=folder), (0, ""))
-    asked(bench, "the installed client for Node", "node", "asking.js", cwd=folder, seconds=SECONDS)
+    asked(bench, "the installed client for Node", "node", "asking.js", cwd=folder)
 
 
 def java_installed(bench):
@@ -316,7 +316,7 @@ def java_installed(bench):
     (folder / "Asking.java").write_text(ASKING["java"], encoding="utf-8")
     words = ["javac", "-Xlint:all", "-Werror", "--release", "11", "-cp", own, "Asking.java"]
     bench.same("what javac finds in a program that uses it", run(*words, cwd=folder), (0, ""))
-    asked(bench, "the installed client in Java", "java", "-cp", f"{own}:.", "Asking", cwd=folder, seconds=SECONDS)
+    asked(bench, "the installed client in Java", "java", "-cp", f"{own}:.", "Asking", cwd=folder)
 
 
 JOBS = [

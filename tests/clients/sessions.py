@@ -100,7 +100,8 @@ def opened_by_the_front(bench, name):
         bench.same("the end by the digest", driver.do("end", digest=digest_of(session)), {"value": None})
         bench.same("after it", driver.do("ask", operation="correct", object="drawer")["reason"], "ended_session")
         bench.same("the end by its own digest", driver.do("end")["refusal"]["code"], 26)
-        bench.same("no digest", driver.do("end", digest="../v1/addUser").get("reason", "invalid_request"), "invalid_request")
+        invalid = {"reason": "invalid_request", "may_be_done": False}
+        bench.same("no digest", driver.do("end", digest="../v1/addUser"), invalid)
         bench.same(
             "a role of somebody else", driver.do("login", user="ann", roles=["auditor"], renews=False)["refusal"]["code"], 29
         )

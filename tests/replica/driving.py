@@ -27,6 +27,14 @@ from program.bench import SECONDS, TESTS
 DRIVERS = TESTS / "replica/drivers"
 LONG = "RBAC_REPLICA_LONG"
 
+# Go's own packages call no C then: otherwise they would be built again for each folder in which the library is.
+GO_TAGS = "-tags=netgo,osusergo"
+
+
+def go_environment():
+    """The environment of Go: it fetches nothing, and calls C for the library alone."""
+    return {**building.environment(), "GOFLAGS": f"-mod=mod {GO_TAGS}"}
+
 
 def build(folder):
     """Builds the library, the module in Python and the driver in Go into a folder."""
@@ -37,7 +45,7 @@ def build(folder):
         shutil.copytree(building.TOP / "clients/python/rbac_client", Path(folder) / "python/rbac_client")
     else:
         print("skipped: the replica in Python, whose headers are not installed")
-    building.run(["go", "build", "-o", Path(folder) / "driver", "."], cwd=DRIVERS / "go", env=building.environment())
+    building.run(["go", "build", "-o", Path(folder) / "driver", "."], cwd=DRIVERS / "go", env=go_environment())
 
 
 def languages():

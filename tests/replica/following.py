@@ -55,7 +55,8 @@ class Writer:
     def run(self, seconds, disturb):
         """Sends commands for some seconds; `disturb` does something to the front before some of the batches."""
         start, kept, sent = time.monotonic(), self.front.connection(), 0
-        while (now := time.monotonic()) < start + seconds and self.done < len(self.drawn.lines):
+        end = start + seconds  # Nobody decides later, however long the front takes to start again.
+        while (now := time.monotonic()) < end and self.done < len(self.drawn.lines):
             due = start + sent / RATE
             if now < due:
                 time.sleep(due - now)
@@ -73,7 +74,7 @@ class Writer:
                 self.answered(lines, answers)
             else:
                 self.find_out(lines)
-                start, sent = time.monotonic() - sent / RATE, sent
+                start = time.monotonic() - sent / RATE
             sent += len(lines)
         kept.close()
 
@@ -283,4 +284,4 @@ def undisturbed(bench, language):
     return {f"{language}, undisturbed: {name}": count for name, count in rounds(bench, language, False).items()}
 
 
-JOBS = jobs(disturbed, undisturbed)
+JOBS = jobs(disturbed, undisturbed) if os.environ.get(LONG) else jobs(disturbed)

@@ -11,14 +11,14 @@ from pages import markdown
 from program.bench import TESTS
 from program.offices import Office
 
-from .driving import jobs
+from .driving import GO_TAGS, jobs
 
 # Programs are built and run on the disk: a file system in memory may forbid running them.
 ON_DISK = True
 
 SECTION = markdown.section(markdown.page("INTEGRATING.md"), "## 7. A replica in the process")
 BANK = (TESTS.parent / "examples/bank.jsonl").read_bytes().splitlines(keepends=True)
-PRINTED = "allowed True\n"
+PRINTED = {"python": "allowed True\n", "go": "allowed true\n"}
 
 
 def block(language, number=0):
@@ -46,7 +46,7 @@ def clean_repository(bench):
     for name in ("clients", "library"):
         ignored = shutil.ignore_patterns("_library*.so", "__pycache__", "target", "build")
         shutil.copytree(TOP / name, folder / name, ignore=ignored)
-    for name in ("bin", "release"):
+    for name in ("bin", "release", "VERSION"):
         (folder / name).symlink_to(TOP / name)
     return folder
 
@@ -70,8 +70,10 @@ def the_page(bench, language):
             bench.same("bin/library", (status, error), (0, ""))
             go = {name: value for name, value in environment().items() if not name.startswith(("CGO_", "LD_"))}
             text = f"go mod init app 2> made\n{block('sh', 1)}./app"
-            status, said, error = sh(text, app, RBAC=str(repository), GOPROXY=go["GOPROXY"], GOFLAGS="", LD_LIBRARY_PATH="")
-        bench.same(f"what the example prints: {error[-2000:]}", (status, said), (0, PRINTED))
+            status, said, error = sh(
+                text, app, RBAC=str(repository), GOPROXY=go["GOPROXY"], GOFLAGS=GO_TAGS, LD_LIBRARY_PATH=""
+            )
+        bench.same(f"what the example prints: {error[-2000:]}", (status, said), (0, PRINTED[language]))
 
 
 JOBS = [job for job in jobs(the_page) if job[1] == "go" or has_python()]

@@ -183,10 +183,11 @@ def keeps(bench, language, what, given, watched):
 def ages(bench, language):
     """A front that says the same number all the time is believed only for the time at which it said it."""
     good = snapshot(POLICY.replace(b"DIGEST", DIGEST))
-    late = WATCH + newest(7, 0) + newest(7, 10**9)
+    late = WATCH + newest(7, 0) + newest(7, 10**9) + event(8, USER)
     with Fake(good, late) as fake, Driven(bench, language) as driver:
         driver.open(fake.address, oldest=600, silence=600)
-        until(lambda: driver.reason(*ASKED) == "allowed", "it decides")
+        until(lambda: driver.do("status")["number"] == 8, "it has read what the front said")
+        bench.same("it decides", driver.reason(*ASKED), "allowed")
         time.sleep(1)
         bench.same("a time in the future counts as now", driver.check(*ASKED)["age"] >= 0.9, True)
     with Fake(good, WATCH + b"event: newest\ndata: 7\n\n" * 50) as fake, Driven(bench, language) as driver:

@@ -139,7 +139,7 @@ func (w *Watch) Next() (Event, error) {
 		case "id":
 			number = append(number, value...)
 		case "data":
-			event.Line = append([]byte(nil), value...)
+			event.Line = append([]byte{}, value...) // An empty one is a command too: one that no office accepts.
 		case "elapsed":
 			milliseconds, err := strconv.ParseUint(string(value), 10, 62)
 			if err != nil {

@@ -80,13 +80,14 @@ func (r *Replica) troubled(err error) int {
 	if !errors.As(err, &own) {
 		own = &rbacclient.Error{Reason: rbacclient.Unexpected, Err: err}
 	}
-	if isNoRight(own.Reason) || errors.Is(err, errDiverged) {
-		r.drop(own)
-	}
 	r.mu.Lock()
 	defer r.mu.Unlock()
 	if r.trouble == nil || r.trouble.Error() != own.Error() {
 		r.config.Log.Printf("the replica is cut off: %v", own)
+	}
+	if isNoRight(own.Reason) || errors.Is(err, errDiverged) {
+		r.forget()
+		r.hasChanged()
 	}
 	if own.Code == rbacclient.Outdated {
 		r.place = -1

@@ -76,11 +76,15 @@ public final class Driver {
             case "opened":
                 return opened();
             case "end":
-                return result(() -> {
-                    var digest = line.get("digest") == null ? Session.digest(session.name()) : text(line, "digest");
-                    client.endSession(digest);
-                    return null;
-                });
+                var digest = line.get("digest") == null ? Session.digest(session.name()) : text(line, "digest");
+                try {
+                    return result(() -> {
+                        client.endSession(digest);
+                        return null;
+                    });
+                } catch (IllegalArgumentException error) {
+                    return new LinkedHashMap<>(Map.of("reason", "invalid_request", "may_be_done", false));
+                }
             case "ask":
                 var found = shown(session.check(text(line, "operation"), text(line, "object")));
                 found.put("name", session.name());
@@ -201,6 +205,8 @@ public final class Driver {
                 refusal.put("error", error.refusal());
                 shown.put("refusal", refusal);
             }
+        } catch (RuntimeException error) {
+            throw error;
         } catch (Exception error) {
             throw new IllegalStateException(error);
         }
