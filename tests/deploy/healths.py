@@ -7,6 +7,7 @@ import threading
 import time
 
 from clients.fakes import RESET, Fake
+from program.bench import SECONDS
 from program.offices import small_office
 from program.web import Server, free_port, reply
 
@@ -49,9 +50,9 @@ def answering(bench):
         bench.same("it is paused", wait_until(is_paused, server.process.pid), True)
         start = time.monotonic()
         bench.same("a paused server", said(server.port, 1), (1, "", "health: no answer in 1 seconds\n"))
-        bench.same("it ends in time", time.monotonic() - start < 3, True)
+        bench.same("it ends in time", time.monotonic() - start < SECONDS / 2, True)
         server.process.send_signal(signal.SIGCONT)
-        bench.same("a server that continues", said(server.port), (0, "", ""))
+        bench.same("a server that continues", said(server.port, SECONDS), (0, "", ""))
     bench.same("no server", said(server.port), (1, "", f"health: nobody listens on port {server.port}\n"))
 
 
@@ -61,10 +62,10 @@ def wrong_answers(bench):
         return
     for name, (answer, why) in WRONG.items():
         with Fake([answer]) as fake:
-            status, out, err = said(fake.port, 1)
+            status, out, err = said(fake.port, 1 if "1 seconds" in why else SECONDS)
         bench.same(name, (status, out, why in err, err.count("\n")), (1, "", True, 1))
     with Fake([reply(200, GOOD)]) as fake:
-        bench.same("the right answer", said(fake.port, 1), (0, "", ""))
+        bench.same("the right answer", said(fake.port, SECONDS), (0, "", ""))
 
 
 # Answers at the socket of a front, each with whether they are good.

@@ -87,7 +87,10 @@ def front_of(bench):
     """A front in a container, or None if nothing can run the image here."""
     for folder in (bench.folder.parent, bench.folder):
         folder.chmod(0o755)
-    runner = runners(bench.folder) if shutil.which("openssl") else None
+    has_keys = bool(shutil.which("openssl"))
+    if not has_keys:
+        print("left out: the image, since there is no openssl to make its keys: bin/setup image", flush=True)
+    runner = runners(bench.folder) if has_keys else None
     if not runner:
         yield None
         return

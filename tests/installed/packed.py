@@ -15,7 +15,10 @@ def output(*words):
 
 
 def check_same_bytes(bench):
-    """Made again with another time, mask, language and folder, both packages have the same bytes."""
+    """Made again with another time, mask, language and folder, both packages have the same bytes.
+
+    Go takes what it compiled before from its cache. With an empty one, which is two minutes of a processor, the bytes are the same.
+    """
     again = bench.folder / "again"
     settings = {"TZ": "Asia/Tokyo", "LC_ALL": "C.UTF-8", "TMPDIR": bench.path("")}
     before = os.umask(0o077)
