@@ -9,7 +9,8 @@ from .running import build_wrong
 
 # By what a node does wrong: the check that has to fail, what it has to say, the file of the sources, and its edit.
 WRONG = {
-    "it judges a condition when it writes the entry": (stated.check_conditions, "and the policy had", "node/requests.go", "	n.touch(b.Calls)\n", """
+    "it judges a condition when it writes the entry": (
+        stated.check_conditions, "and the policy had", "node/requests.go", "	n.touch(b.Calls)\n", """
 	if b.Kind == api.Command && b.Rule.Policy > 0 {
 		if b.Rule.Policy != n.state.Numbers().Policy {
 			return api.Answers{}, api.Outdated
@@ -17,12 +18,15 @@ WRONG = {
 		b.Rule.Policy = 0
 	}
 	n.touch(b.Calls)
-"""),
-    "node 1 leaves a caller out of its record": (records.check_records, "all have the same head", "node/record.go", "	record.Room()\n", """	record.Room()
+""",
+    ),
+    "node 1 leaves a caller out of its record": (
+        records.check_records, "different entries of one number", "node/record.go", "	record.Room()\n", """	record.Room()
 	if n.options.Name == "n1" && unit.Caller == "token:desk" {
 		unit.Caller = ""
 	}
-"""),
+""",
+    ),
     "each node makes the number of the first command by itself": (
         stated.check_conditions, "the revision at each node", "node/recovery.go", "n.shared.First(ctx)", "n.start.UnixNano(), error(nil)",
     ),
