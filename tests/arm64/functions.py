@@ -1,11 +1,10 @@
 """The functions in C that the program for arm64 is linked with do what their comments say. They are built for this machine too,
 since nothing in them depends on the processor."""
 
-import shutil
 import subprocess
 from pathlib import Path
 
-from . import CROSS, QEMU, has_qemu
+from . import CROSS, QEMU, has_compiler, has_qemu
 
 HERE = Path(__file__).resolve().parent
 TOP = HERE.parent.parent
@@ -24,7 +23,9 @@ def check_functions(bench, compiler="cc", runner=()):
 
 def check_functions_for_arm64(bench):
     """The same, built for arm64."""
-    if shutil.which(f"{CROSS}-gcc") and has_qemu():
+    if has_compiler() and has_qemu():
         check_functions(bench, f"{CROSS}-gcc", QEMU)
     else:
-        print("left out: the functions for arm64, since gcc-aarch64-linux-gnu or qemu-user-static is not installed")
+        print(
+            "left out: the functions for arm64, since its compiler, libc6-dev-arm64-cross or qemu-user-static is not installed"
+        )

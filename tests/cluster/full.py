@@ -16,11 +16,16 @@ def import_of(number):
     return post("importAssignments", f"user,role\n{number},r\n".encode() + b"u,r\n" * 9_400)
 
 
+def is_full(cluster):
+    """Whether etcd says so. A busy machine may have refused a command before."""
+    return "NOSPACE" in cluster.ctl("alarm", "list")
+
+
 def check_full(bench):
     """A full etcd refuses commands. Questions are answered, and nodes start. With more room everything goes on."""
     with Cluster(bench.folder, build(bench.shared), timeout="5s", of_etcd=["--quota-backend-bytes", str(QUOTA)]) as cluster:
         bench.same("a command", exchange(cluster, post("addUser", b'{"user":"ann"}'))[0], 200)
-        sent = next(number for number in range(400) if exchange(cluster, import_of(number))[0] != 200)
+        sent = next(number for number in range(400) if exchange(cluster, import_of(number))[0] != 200 and is_full(cluster))
         bench.judge("it gets full", [] if sent > 40 else [f"after {sent} imports"])
         bench.same("a command", exchange(cluster, post("addUser", b'{"user":"bob"}')), REFUSED)
         question = post("assignedRoles", b'{"user":"ann"}')

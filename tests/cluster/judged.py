@@ -110,28 +110,38 @@ WRONG = {
     "twice": ([Faults.pause_member], "ledger/ledger.go", "return t.If(clientv3.Compare", """defer func() { key += "x" }()
 return t.If(clientv3.Compare"""),
     # It answers questions from its own state at once.
-    "stale": ([Faults.pause_node], "node/requests.go", "if kind == api.Local &&", """if kind == api.Question {
-kind = api.Local
+    "stale": ([Faults.pause_node], "node/requests.go", "n.touch(b.Calls)\n", """if b.Kind == api.Question {
+b.Kind = api.Local
 }
-if kind == api.Local &&"""),
+n.touch(b.Calls)
+"""),
     # It answers before the log has the command.
-    "early": ([Faults.pause_member], "node/requests.go", "r := &request{within.Done(), call, make(chan api.Answer, 1)}", """
-r := &request{ctx.Done(), call, make(chan api.Answer, 1)}
-if kind == api.Command {
-n.asked[kind] <- r
-return api.Answer{Text: []byte(`{"ok":true}`), Revision: n.applied.Load().revision + 1}, nil
+    "early": ([Faults.pause_member], "node/requests.go", "r := &request{within.Done(), b, make(chan reply, 1)}", """
+r := &request{ctx.Done(), b, make(chan reply, 1)}
+if b.Kind == api.Command {
+n.asked[b.Kind] <- r
+texts := make([][]byte, len(b.Calls))
+for i := range texts {
+texts[i] = []byte(`{"ok":true}`)
+}
+return api.Answers{Texts: texts, Point: api.Point{Revision: n.applied.Load().revision + 1}}, nil
 }"""),
     # It takes an answer to be as new as its question was.
-    "aged": ([Faults.pause_replay], "node/node.go", """		n.send(q.call.Line, func(text []byte) {
-			reply <- api.Answer{Text: text, Revision: revision, Newest: n.newest()}""", """		newest, posed := n.newest(), time.Now()
-		n.send(q.call.Line, func(text []byte) {
-			reply <- api.Answer{Text: text, Revision: revision, Newest: newest.Add(time.Since(posed))}"""),
+    "aged": ([Faults.pause_replay], "node/node.go", """		for i, call := range q.batch.Calls {
+			i := i
+			n.ask(call, func(text []byte) {
+				if texts[i] = text; i == len(texts)-1 {
+					at := api.Point{Revision: revision, Newest: n.newest(), Policy""", """		newest, posed := n.newest(), time.Now()
+		for i, call := range q.batch.Calls {
+			i := i
+			n.ask(call, func(text []byte) {
+				if texts[i] = text; i == len(texts)-1 {
+					at := api.Point{Revision: revision, Newest: newest.Add(time.Since(posed)), Policy"""),
     # It keeps running after its replay has ended.
     "endless": ([Faults.kill_busy_replay], "node/node.go", """if err := n.replay.Close(); err != nil {
 				return err
 			}
-			return errors.New("the replay has ended")""", """n.replay, n.err = n.open()
-_ = errors.New"""),
+			return errReplayEnded""", "n.replay, n.err = n.open()"),
 }  # fmt: skip
 
 

@@ -180,7 +180,7 @@ def make_wrong(cluster, i):
             path.unlink()
         if revision == wrong:
             tamper(path)
-            path.rename(path.with_name("-".join([str(revision), str(says["commands"]), digest_of(path), f"record{says['record']}"])))
+            path.rename(path.with_name(path.name.replace(says["digest"], digest_of(path))))
     cluster.nodes[i].start()
 
 

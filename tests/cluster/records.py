@@ -86,6 +86,28 @@ def joined(records):
     return [found[n] for n in sorted(found)], faults
 
 
+def unlike(commands, wanted, judge):
+    """How the entries of commands differ from the lines of a log, and from what was asked and answered. If all nodes have lost the
+    beginning of their records, the entries are those of the last lines."""
+    faults, by_reason, recorded = [], {one.reason: one for one in judge.asked}, set()
+    for entry, (revision, place, line) in zip(reversed(commands), reversed(wanted)):
+        asked = judge.asked_at.get((revision, place))
+        if asked is None or not asked.is_answered:  # Of several that are the same and were not answered it may be any.
+            asked = by_reason.get(entry.reason)
+        if entry.request != recorded_text(line):
+            faults.append(f"{entry} is not the command at {revision}, {place}: {line}")
+        elif not asked or (entry.caller, entry.reason) != (asked.caller, asked.reason):
+            faults.append(f"{entry} was asked for by {asked}")
+        elif json.loads(entry.request) != json.loads(recorded_text(json.dumps(asked.line))):
+            faults.append(f"{entry} is not what was asked for: {asked}")
+        elif asked.is_answered and entry.answer.encode() != asked.answer:
+            faults.append(f"{entry} has another answer than {asked}")
+        elif entry.reason in recorded:
+            faults.append(f"{entry} is recorded once more: {asked}")
+        recorded.add(entry.reason)
+    return faults
+
+
 def faults_of(cluster, judge):
     """What is wrong with the records of a cluster whose nodes have ended, when a judge has compared its log with the answers."""
     raised = raised_at(cluster)
@@ -100,20 +122,7 @@ def faults_of(cluster, judge):
     print(f"{len(commands):9,}  commands in the records, of {len(wanted):,} since they began", flush=True)
     if len(commands) == len(entries) - 1 and len(commands) != len(wanted):
         faults.append(f"the records have {len(commands)} commands, and the log {len(wanted)} since they began")
-    by_reason = {one.reason: one for one in judge.asked}
-    # If all have lost their beginning, they have the last commands.
-    for entry, (revision, place, line) in zip(reversed(commands), reversed(wanted)):
-        asked = judge.asked_at.get((revision, place))
-        if asked is None or not asked.is_answered:  # Of several that are the same and were not answered it may be any.
-            asked = by_reason.get(entry.reason)
-        if entry.request != recorded_text(line):
-            faults.append(f"{entry} is not the command at {revision}, {place}: {line}")
-        elif not asked or (entry.caller, entry.reason) != (asked.caller, asked.reason):
-            faults.append(f"{entry} was asked for by {asked}")
-        elif json.loads(entry.request) != json.loads(recorded_text(json.dumps(asked.line))):
-            faults.append(f"{entry} is not what was asked for: {asked}")
-        elif asked.is_answered and entry.answer.encode() != asked.answer:
-            faults.append(f"{entry} has another answer than {asked}")
+    faults += unlike(commands, wanted, judge)
     for i in range(MACHINES):
         status, out, said = tool(cluster.node, "verify", "--data", cluster.data(f"node{i}"))
         if (status, said) != (0, "") and commands:
@@ -169,14 +178,14 @@ def same_head(cluster):
     return len(heads) == 1 and cluster.ready() and len({cluster.status(i)["commands"] for i in range(MACHINES)}) == 1
 
 
-def check_records(bench):
+def check_records(bench, node=None):
     """All nodes have the same record, with callers and reasons, whatever is killed. It is known from where one begins."""
     bench.write("callers.jsonl", rules({f"token:{name}": [(one, "office") for one in ALLOWED] for name in CALLERS}).encode())
     bench.write("tokens", tokens(**CALLERS).encode())
     words = ("--callers", bench.path("callers.jsonl"), "--tokens", bench.path("tokens"), "--etcd-open")
     seed = random.randrange(10**6)
     print(f"seed {seed}")
-    with Cluster(bench.folder, build(bench.shared), every=EVERY, more=words) as cluster:
+    with Cluster(bench.folder, node or build(bench.shared), every=EVERY, more=words) as cluster:
         asker = Asker(cluster, seed)
         cluster.until(lambda: raised_at(cluster), "the log says who asks")
         for _ in range(6):

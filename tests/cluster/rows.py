@@ -31,13 +31,19 @@ def sorted_rows(state):
     return {table: sorted(found) for table, found in rows(state).items()}
 
 
+# How the names of files end that SQLite has beside one that is read.
+OF_SQLITE = ("-wal", "-shm", "-journal")
+
+
 def snapshots_of(cluster, i):
     """The snapshots of a node by their revisions: what their names contain, and their files."""
     found = {}
     for path in Path(cluster.data(f"node{i}")).glob("snapshots/[0-9]*"):
-        revision, commands, digest, *head = path.name.removesuffix("-copied").split("-")
+        revision, commands, digest, *more = path.name.removesuffix("-copied").split("-")
+        if path.name.endswith(OF_SQLITE):
+            continue
         about = {"revision": int(revision), "commands": int(commands), "digest": digest}
-        about.update({"record": one.removeprefix("record") for one in head})
+        about.update({"record": one.removeprefix("record") for one in more if one.startswith("record")})
         found[int(revision)] = (about, path)
     return found
 

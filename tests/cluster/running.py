@@ -13,9 +13,10 @@ from pathlib import Path
 from program.bench import PROGRAM, TESTS, Bench
 
 # What needs nothing but the sources, and what needs etcd and a built node.
-OF_SOURCES = ["sources"]
+OF_SOURCES = ["sources", "matching"]
 OF_CLUSTERS = [
     "program", "page", "booted", "answers", "secured", "callers", "hung", "full", "keeping", "records", "upgrading", "stated", "judged",
+    "wrongnodes",
 ]  # fmt: skip
 
 NEEDED = ["go.etcd.io/etcd/clientv3", "go.uber.org/zap", "golang.org/x/sync/errgroup"]

@@ -5,6 +5,7 @@ import os
 import shutil
 import subprocess
 import time
+from functools import lru_cache
 from pathlib import Path
 
 from program.bench import PROGRAM, SECONDS, TESTS, Done
@@ -31,12 +32,21 @@ def untested():
         yield "left out: what only root can do, such as the commands of docs/NGINX.md"
 
 
+@lru_cache
+def can_mount():
+    """Returns whether this process may mount a file system that nobody else sees."""
+    words = ["unshare", "-m", "mount", "-t", "tmpfs", "tmpfs", "/mnt"]
+    return bool(shutil.which("unshare")) and subprocess.run(words, capture_output=True, check=False).returncode == 0
+
+
 def has(*programs):
-    """Returns whether all of these programs are installed. If one is not, prints the job that is left out."""
-    missing = [program for program in programs if not shutil.which(program)]
-    for program in missing:
-        print(f"left out, since there is no {program}: {inspect.stack()[1].function}", flush=True)
-    return not missing
+    """Returns whether all of these programs are installed, and can do their work. If not, prints the job that is left out."""
+    reasons = [f"there is no {program}" for program in programs if not shutil.which(program)]
+    if not reasons and "unshare" in programs and not can_mount():
+        reasons = ["nothing can be mounted here"]
+    for reason in reasons:
+        print(f"left out, since {reason}: {inspect.stack()[1].function}", flush=True)
+    return not reasons
 
 
 def is_root():

@@ -10,7 +10,7 @@ from typing import NamedTuple
 from program.bench import PROGRAM, SECONDS
 from program.web import free_port
 
-from .common import DEPLOY, has, run
+from .common import DEPLOY, can_mount, has, run
 
 WHY = DEPLOY / "why"
 STORE, GOOD = '{"code":41,"error":"Store"}', ""
@@ -162,6 +162,15 @@ CASES = [
         r"office: office-wal is in use by python3 .*",
     ),
     Case(
+        "a shell of SQLite",
+        """mkfifo -m 644 "$said.pipe"; $user sqlite3 office < "$said.pipe" > "$said.sql" & holder=$!
+exec 9> "$said.pipe"; printf 'SELECT * FROM meta_row;\\n.shell touch %s\\n' "$said.holds" >&9
+until test -e "$said.holds"; do sleep 0.05; done""",
+        STORE,
+        r"office: office is in use by sqlite3 \(process \d+, user \w+\)",
+        "sqlite3",
+    ),
+    Case(
         "a front",
         "as_user touch office.lock\n" + HOLDS % ("flock", "office.lock"),
         GOOD,
@@ -252,6 +261,13 @@ CASES = [
         "mount",
     ),
     Case(
+        "a full disk, with a log and a folder that may not be written",
+        TMPFS % "size=400k" + "as_user touch office-wal; chmod 555 .; cat /dev/zero > filler 2> /dev/null || true",
+        STORE,
+        "office: the disk of @ is full: there is no room",
+        "mount",
+    ),
+    Case(
         "no room for files",
         TMPFS % "size=1m,nr_inodes=8" + "touch 1 2 3 4 5 6 7 8 9 2> /dev/null || true",
         STORE,
@@ -314,11 +330,6 @@ CASES = [
 ]
 
 
-def can_mount():
-    """Whether this process may mount a file system that nobody else sees."""
-    return os.geteuid() == 0 and run(["unshare", "-m", "mount", "-t", "tmpfs", "tmpfs", "/mnt"]).status == 0
-
-
 def is_left_out(case, mounts):
     """Whether a case can't be tried here. If so, prints why."""
     needs = case.needs.split()
@@ -367,7 +378,7 @@ def causes(bench):
     """Each cause that can be made here is named, and nothing else is."""
     if not has("setpriv", "python3"):
         return
-    mounts = can_mount()
+    mounts = os.geteuid() == 0 and can_mount()
     for case in CASES:
         if not is_left_out(case, mounts):
             try_case(bench, case)

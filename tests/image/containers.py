@@ -10,7 +10,7 @@ from pathlib import Path
 
 from program.bench import SECONDS
 
-from .contents import opened
+from .contents import OPTIONS, opened
 from .running import IMAGE, VERSION
 
 NAME = f"localhost/rbac-node:{VERSION}"
@@ -65,7 +65,7 @@ class Podman:
         Only systemd runs health checks by themselves.
         """
         return [
-            "--health-interval=disable", "--read-only", "--cap-drop=all", "--security-opt=no-new-privileges", "--network=slirp4netns", *hard_limits(),
+            "--health-interval=disable", *OPTIONS, "--network=slirp4netns", *hard_limits(),
             f"--publish=127.0.0.1:{port}:8443",
             f"--volume={volume}:/var/lib/rbac", f"--volume={settings}:/etc/rbac:ro",
         ]  # fmt: skip
@@ -109,9 +109,7 @@ class Podman:
 
     def changes(self):
         """What has changed in the root, besides the places at which podman mounts something."""
-        return [
-            line for line in self.call("diff", self.name).stdout.splitlines() if line.split()[1] not in MADE
-        ]
+        return [line for line in self.call("diff", self.name).stdout.splitlines() if line.split()[1] not in MADE]
 
     def close(self):
         """Ends what runs, and removes the store."""

@@ -2,6 +2,7 @@
 
 import json
 import os
+import re
 import subprocess
 import tarfile
 from pathlib import Path
@@ -34,6 +35,9 @@ FILES = [
     "var/lib/rbac/",
 ]
 LICENCES = "usr/share/doc/"
+
+# With which rights the image is run.
+OPTIONS = ["--read-only", "--cap-drop=all", "--security-opt=no-new-privileges"]
 
 # The most bytes that the layer may have.
 MOST_BYTES = 20_000_000
@@ -102,6 +106,23 @@ def check_settings(bench):
     size = len(layer.read())
     bench.judge("the size", [] if size <= MOST_BYTES else [f"{size:,} bytes"])
     return {"bytes in the layer of the image": size}
+
+
+def check_page(bench):
+    """docs/IMAGE.md runs the image as the test does, by its name, and has the sizes of what is in it, or nearly."""
+    page = (ROOT / "docs/IMAGE.md").read_text(encoding="utf-8")
+    command = re.search(r"^podman run ((?:.*\\\n)*.*)$", page, re.M)[1].replace("\\\n", " ").split()
+    bench.same("the name of the image", command[-1], f"localhost/rbac-node:{VERSION}")
+    bench.same("the file", f"podman load -i out/rbac-node-image_{VERSION}_amd64.tar" in page, True)
+    targets = [word.split(":", 1)[1] for word in command if word.startswith(("--publish", "--volume"))]
+    bench.same("the port and the volumes", targets, ["8443", "/var/lib/rbac", "/etc/rbac:ro"])
+    bench.same("the options", [word for word in command if word in OPTIONS], OPTIONS)
+    archive = tarfile.open(fileobj=opened()[2])
+    sizes = {one.name.lstrip("./"): one.size for one in archive if one.isfile()}
+    for folder, told in re.findall(r"^\| (/\S+?)(?:, /usr/lib64)? \| .* \| ([\d,]+) \|$", page, re.M):
+        size = sum(size for path, size in sizes.items() if f"/{path}/".startswith((f"{folder}/", f"{folder}64/")))
+        number = int(told.replace(",", ""))
+        bench.judge(f"the size of {folder}", [] if abs(size - number) <= number // 10 else [f"{size:,} and not {told}"])
 
 
 def check_same(bench):

@@ -16,14 +16,16 @@ VERSION = (ROOT / "VERSION").read_text(encoding="ascii").strip()
 # Where the image is, for the processes that check it.
 IMAGE = "RBAC_IMAGE"
 
-# What builds the image: programs, and the library of SQLite for Go.
+# What builds the image: programs, and the libraries of Go for what its front can do.
 NEEDED = ["go", "gcc", "buildah", "strip", "dpkg-query"]
-SQLITE = Path("/usr/share/gocode/src/github.com/mattn/go-sqlite3")
+FEATURES = {"jose", "sqlite"}
 
 
 def missing():
     """What the build needs and is not installed."""
-    return [name for name in NEEDED if not shutil.which(name)] + ([] if SQLITE.is_dir() else ["library of SQLite for Go"])
+    said = subprocess.run([ROOT / "bin/node", "--features"], capture_output=True, text=True, check=True).stdout
+    lacking = sorted(FEATURES - set(said.strip().split(",")))
+    return [name for name in NEEDED if not shutil.which(name)] + [f"library of Go for {name}" for name in lacking]
 
 
 def recorded(folder):

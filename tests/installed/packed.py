@@ -1,6 +1,7 @@
 """What is in the packages, and that they are made of the same bytes each time."""
 
 import os
+import re
 import shutil
 import subprocess
 from pathlib import Path
@@ -38,10 +39,11 @@ def check_lint(bench):
 
 
 def check_node(bench):
-    """The front is for any address, needs SQLite and the C library alone, and the program of the same version."""
-    _, node = made()
-    root = bench.folder / "root"
+    """The front is for any address and any number of machines, needs SQLite and the C library alone, and the program of its version."""
+    rbac, node = made()
+    root, other = bench.folder / "root", bench.folder / "other"
     output("dpkg-deb", "-x", node, root)
+    output("dpkg-deb", "-x", rbac, other)
     files = {str(path.relative_to(root)) for path in root.rglob("*") if path.is_file()}
     wanted = {"usr/bin/rbac-node", "lib/systemd/system/rbac-node@.service", "usr/share/man/man8/rbac-node.8.gz"}
     bench.same("files that are missing", wanted - files, set())
@@ -54,5 +56,10 @@ def check_node(bench):
     bench.same("what it depends on", {one.split()[0] for one in depends}, {"rbac", "libc6", "libsqlite3-0"})
     bench.same("the program that it needs", f"rbac (= {version})" in depends, True)
     text = (Path(root) / "usr/bin/rbac-node").read_bytes()
+    done = subprocess.run([root / "usr/bin/rbac-node", "serve", "--help"], capture_output=True, text=True, check=False)
+    bench.same("whether it serves several machines", bool(re.search(r"^ +--?etcd ", done.stdout + done.stderr, re.M)), True)
+    unit = (other / "usr/share/rbac/deploy/rbac-node.service").read_text(encoding="utf-8")
+    started = re.findall(r"^ExecStart=(\S+) serve .* --program (\S+) ", unit, re.M)
+    bench.same("the programs of the unit for several machines", started, [("/usr/bin/rbac-node", "/usr/bin/rbac")])
     here = [path for path in (ROOT, os.environ[MADE], bench.folder) if str(path).encode() in text]
     bench.same("paths of this machine in it", here, [])

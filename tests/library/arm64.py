@@ -1,20 +1,19 @@
 """The library for arm64, linked by Debian's compiler for it and run by QEMU. The archive is the one that RBAC_ARCHIVE_ARM64 names."""
 
 import os
-import shutil
 import subprocess
+
+from arm64 import CROSS, QEMU, has_compiler, has_qemu
 
 from .answers import random_script
 from .building import HERE, TOP, built, run, run_language
 
 ARCHIVE = os.environ.get("RBAC_ARCHIVE_ARM64", "")
-CROSS = "aarch64-linux-gnu"
-QEMU = ["qemu-aarch64-static", "-L", f"/usr/{CROSS}"]
 
 
 def is_there():
     """Returns whether there is an archive with what links and runs it; otherwise it says what is left out."""
-    if os.path.isfile(ARCHIVE) and shutil.which(f"{CROSS}-gcc") and shutil.which(QEMU[0]):
+    if os.path.isfile(ARCHIVE) and has_compiler() and has_qemu():
         return True
     print("left out: arm64, whose archive, compiler or emulator is not there")
     return False

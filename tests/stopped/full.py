@@ -79,7 +79,7 @@ def fill_disks(bench, name):
     """Runs a story on a file system with no page free, then with one, and so on, until it is done there."""
     counts = Counter()
     if not can_mount():
-        return {"file systems that could not be mounted": 1}
+        return {"left out, since nothing can be mounted here: file systems without room": 1}
     with mounted(bench, f"size={SIZE}"):
         content, story = story_named(bench, name, beside(bench, "records.csv"))
         for pages in range(MOST_PAGES):
@@ -112,7 +112,7 @@ def refuses_all(bench, content, what):
 def lack_files(bench):
     """On file systems that accept no further file, or are mounted read-only, all is refused and stays as it is."""
     if not can_mount():
-        return {"file systems that could not be mounted": 1}
+        return {"left out, since nothing can be mounted here: file systems without room": 1}
     content, story = story_named(bench, "import", beside(bench, "records.csv"))
     with mounted(bench, "nr_inodes=2"):
         path = lay(bench, content)
@@ -122,7 +122,7 @@ def lack_files(bench):
     with mounted(bench, "nr_inodes=1"):
         bench.ends(["init", path], err=REFUSED, status=1, what="init with no further file")
     if os.environ["OWN_MOUNTS"] != "root":
-        return {"file systems that accept no further file": 2, "file systems that could not be mounted": 1}
+        return {"file systems that accept no further file": 2, "left out, since nothing can be mounted here: file systems that are read-only": 1}
     with mounted(bench, f"size={SIZE}"):
         lay(bench, content)
         subprocess.run(["mount", "-o", "remount,ro", str(bench.folder)], check=True)

@@ -12,6 +12,7 @@ import (
 	"os"
 	"os/exec"
 	"path/filepath"
+	"regexp"
 	"sort"
 	"strconv"
 	"strings"
@@ -136,19 +137,23 @@ func nameOf(s Snapshot) string {
 	return name
 }
 
+// nameForm is the form of these names. What SQLite puts beside a file that somebody reads has another one, such as NAME-wal.
+var nameForm = regexp.MustCompile(`^(\d+)-(\d+)-([0-9a-f]+)(?:` + policyMark + `(\d+))?(?:` + recordMark + `(` + NoRecord +
+	`|\d+:[0-9a-f]+))?(` + copiedSuffix + `)?$`)
+
 func parse(name string) (s Snapshot, err error) {
-	plain := strings.TrimSuffix(name, copiedSuffix)
-	if _, err := fmt.Sscanf(plain, "%d-%d-%s", &s.Revision, &s.Count, &s.Digest); err != nil {
-		return s, fmt.Errorf("%q is not the name of a snapshot: %w", name, err)
+	parts := nameForm.FindStringSubmatch(name)
+	if parts == nil {
+		return s, fmt.Errorf("%q is not the name of a snapshot", name)
 	}
-	s.Copied = plain != name
-	var policy string
-	s.Digest, s.Record, _ = strings.Cut(s.Digest, recordMark)
-	if s.Digest, policy, _ = strings.Cut(s.Digest, policyMark); policy == "" {
-		return s, nil
-	}
-	if s.Policy, err = strconv.ParseInt(policy, 10, 64); err != nil {
-		return s, fmt.Errorf("%q is not the name of a snapshot: %w", name, err)
+	s.Digest, s.Record, s.Copied = parts[3], parts[5], parts[6] != ""
+	for i, number := range map[int]*int64{1: &s.Revision, 2: &s.Count, 4: &s.Policy} {
+		if parts[i] == "" {
+			continue
+		}
+		if *number, err = strconv.ParseInt(parts[i], 10, 64); err != nil {
+			return s, fmt.Errorf("%q is not the name of a snapshot: %w", name, err)
+		}
 	}
 	return s, nil
 }

@@ -5,6 +5,7 @@ import (
 	"errors"
 	"net/http"
 	"net/http/httptest"
+	"os"
 	"path/filepath"
 	"testing"
 
@@ -59,6 +60,40 @@ func TestStore(t *testing.T) {
 	}
 	if left, _ := filepath.Glob(filepath.Join(s.dir.Name(), unfinishedPrefix+"*")); len(left) > 0 {
 		t.Errorf("%v is left", left)
+	}
+}
+
+func TestNames(t *testing.T) {
+	for _, s := range []Snapshot{
+		{Revision: 12, Count: 7, Digest: "0a"},
+		{Revision: 12, Count: 7, Digest: "0a", Copied: true},
+		{Revision: 12, Count: 7, Digest: "0a", Policy: 9, Record: "5:0b"},
+		{Revision: 12, Count: 7, Digest: "0a", Record: NoRecord, Copied: true},
+	} {
+		if found, err := parse(nameOf(s)); err != nil || found != s {
+			t.Errorf("%s is read as %+v, %v", nameOf(s), found, err)
+		}
+		for _, name := range []string{nameOf(s) + "-wal", nameOf(s) + "-shm", nameOf(s) + "-journal", "x" + nameOf(s)} {
+			if found, err := parse(name); err == nil {
+				t.Errorf("%s is read as %+v", name, found)
+			}
+		}
+	}
+}
+
+// Files of SQLite beside a snapshot, which somebody reads, are no snapshots: none makes a node differ from others or delete an older one.
+func TestFilesBeside(t *testing.T) {
+	s := newStore(t)
+	kept := add(t, s, 8)
+	for _, revision := range []int64{9, 10} {
+		for _, suffix := range []string{"-wal", "-shm"} {
+			if err := os.WriteFile(s.Path(add(t, s, revision))+suffix, nil, 0o600); err != nil {
+				t.Fatal(err)
+			}
+		}
+	}
+	if found, err := s.List(); err != nil || len(found) != maxSnapshots || found[2] != kept {
+		t.Errorf("there are %+v, %v", found, err)
 	}
 }
 
