@@ -27,8 +27,9 @@ WRONG = {
 	}
 """,
     ),
+    # The nodes notice this one themselves: their snapshots have different revisions of the policy.
     "each node makes the number of the first command by itself": (
-        stated.check_conditions, "the revision at each node", "node/recovery.go", "n.shared.First(ctx)", "n.start.UnixNano(), error(nil)",
+        stated.check_conditions, '"error":"Diverged"', "node/recovery.go", "n.shared.First(ctx)", "n.start.UnixNano(), error(nil)",
     ),
 }  # fmt: skip
 

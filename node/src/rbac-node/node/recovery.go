@@ -11,7 +11,8 @@ import (
 	"rbac-node/office"
 )
 
-// resume makes the office in use from the newest snapshot. It writes nothing to etcd, which may be full.
+// resume makes the office in use from the newest snapshot. It writes nothing to etcd, which may be full,
+// but the number of the first command, if the log has none yet.
 func (n *Node) resume(ctx context.Context) error {
 	base, err := n.base(ctx)
 	if err != nil {
