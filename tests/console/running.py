@@ -2,6 +2,7 @@
 
 import os
 import shutil
+import subprocess
 import sys
 import tempfile
 from importlib.util import find_spec
@@ -18,6 +19,19 @@ WORKERS = 2
 # The variable that says where the pictures of the pages are written.
 PICTURES = "RBAC_CONSOLE_PICTURES"
 
+# A network with nothing but the loopback device, and the variable that says that this process has it.
+APART = ["unshare", "--net", "sh", "-c", 'ip link set lo up && exec "$@"', "sh"]
+IS_APART = "RBAC_CONSOLE_APART"
+
+
+def go_apart() -> None:
+    """Goes on in a network of its own, if that is allowed: Chromium cuts off its requests when other checks make a device."""
+    if os.environ.get(IS_APART) or os.geteuid() != 0 or not shutil.which("unshare") or not shutil.which("ip"):
+        return
+    if subprocess.run([*APART, "true"], capture_output=True, check=False).returncode == 0:
+        os.environ[IS_APART] = "yes"
+        os.execvp(APART[0], [*APART, sys.executable, *sys.argv])
+
 
 def missing() -> list[str]:
     """The programs and the library that are missing for a browser."""
@@ -29,6 +43,7 @@ def main(words: list[str]) -> int:
     """Runs the checks that have these words in their names, and returns the exit status."""
     if not find_spec("selenium") and os.access(DEBIAN_PYTHON, os.X_OK) and sys.executable != DEBIAN_PYTHON:
         os.execv(DEBIAN_PYTHON, [DEBIAN_PYTHON, *sys.argv])
+    go_apart()
     if not shutil.which("go") or "sqlite" not in features():
         print("left out: what needs a front, since there is no Go or no library of SQLite for it: bin/setup console")
         return run_all(checks_of("console", ["sources"]), words)
