@@ -69,7 +69,7 @@ type Event struct {
 	Moment time.Time
 }
 
-// Watch has the commands that an office accepts after a number, as they come. Its methods are for one goroutine, but for Close.
+// Watch has the commands that an office accepts after a number, as they come. Only Close may be called by another goroutine.
 type Watch struct {
 	Asked time.Time // when it was asked for
 

@@ -52,7 +52,7 @@ func (r *Replica) run(ctx context.Context) {
 	}
 }
 
-// pause waits after so many attempts that have failed, and reports whether there is to be another one.
+// pause waits after failed attempts, longer after each, and reports whether there is to be another one.
 func (r *Replica) pause(ctx context.Context) bool {
 	r.mu.Lock()
 	failures := r.failures

@@ -34,7 +34,7 @@ _MOST_DIGESTS = 16_384
 # For how many seconds a watch is followed: until then the clocks of two machines differ by less than a millisecond or so.
 _LONGEST_WATCH = 600.0
 
-# The pauses before the front is asked again, in seconds: the first one is none, and each is twice as long as the one before.
+# The pauses before the front is asked again, in seconds: none at first, and each is twice the one before.
 _PAUSE, _LONGEST_PAUSE = 0.05, 1.0
 
 # The commands that the revision of the policy doesn't count.
@@ -275,7 +275,7 @@ class Replica(Office):
                 self._troubled(_Diverged(repr(error)))
 
     def _pause(self) -> float:
-        """For how long the next attempt waits, after so many that have failed."""
+        """How long to wait before the next attempt: longer after each that failed."""
         longest = min(_PAUSE * 2.0 ** min(self._failures - 2, 9), _LONGEST_PAUSE)
         return 0.0 if self._failures < 2 else longest * random.uniform(0.5, 1.0)
 

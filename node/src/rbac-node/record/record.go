@@ -46,7 +46,7 @@ type Options struct {
 	Every   int64
 	Log     *logs.Logger
 	Metrics *metrics.Registry
-	// Say is told what a start does. It may be nil.
+	// Say is called with what a start does. It may be nil.
 	Say func(stage string)
 }
 
