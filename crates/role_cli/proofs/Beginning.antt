@@ -18,7 +18,7 @@ use Rattle.role_cli.specs.Environment.{Environment, ReadFailed, WriteFailed}
 use Rattle.role_cli.specs.FailureCause.{IsCaused, IsOpeningFailure}
 use Rattle.role_cli.specs.MemoryReplay.{FailsInMemory}
 use Rattle.role_cli.specs.ProgramOutcome.{FailsBy, IsDone, is_memory_replay}
-use Rattle.role_cli.specs.Work.{Begins, DoesOverSome, FailsWhatever, IsUnopened, NoneBeginsOverRefused, StartsWell}
+use Rattle.role_cli.specs.Work.{BeginsRun, DoesOverSomeState, FailsOrFindsNoOffice, IsUnopened, NoneBeginsOverRefused, StartsWell}
 use Rattle.role_cli.specs.declared.choice.Choice.{Choice}
 use Rattle.role_cli.specs.declared.choice.Choice.TheVariants as choice
 use Rattle.role_cli.specs.declared.choice.Place.TheVariants as place
@@ -36,10 +36,10 @@ module _ (chosen : Choice) (never_makes : (x : String Global) → chosen ≡ cho
       go (choice.Migrate x) makes migrates = absurd (migrates x refl)
       go _ makes migrates = tt
 
-  pub begins_open : {C : Type 0} (shown : Held C → State) (before : State) (office : OfficeModel C) → ReadsState before (shown office.conn) office.facts → WhateverIsDurable before (λ S. IsInRun shown S [] office) → Begins shown chosen before office
+  pub begins_open : {C : Type 0} (shown : Held C → State) (before : State) (office : OfficeModel C) → ReadsState before (shown office.conn) office.facts → WhateverIsDurable before (λ S. IsInRun shown S [] office) → BeginsRun shown chosen before office
   begins_open shown before office reads runs = go chosen never_makes never_migrates
     where
-      go : (c : Choice) → ((x : String Global) → c ≡ choice.Init x → ⊥) → ((x : String Global) → c ≡ choice.Migrate x → ⊥) → Begins shown c before office
+      go : (c : Choice) → ((x : String Global) → c ≡ choice.Init x → ⊥) → ((x : String Global) → c ≡ choice.Migrate x → ⊥) → BeginsRun shown c before office
       go (choice.Init x) makes migrates = absurd (makes x refl)
       go (choice.Migrate x) makes migrates = absurd (migrates x refl)
       go _ makes migrates = (reads, runs)
@@ -71,7 +71,7 @@ none_begins none shown _ old office refusal opens other refuses begins = none (c
 
 -- what was done over an office in a file was done
 pub of_file : (in_memory : Ghosts MemoryFile) {F : Type 0} (on_disk : Ghosts F) (chosen : Choice) (from to : Environment) → is_memory_replay chosen ≡ false
-    → DoesOverSome (state (over_files {g = on_disk})) chosen from to → IsDone in_memory on_disk chosen from to
+    → DoesOverSomeState (state (over_files {g = on_disk})) chosen from to → IsDone in_memory on_disk chosen from to
 of_file in_memory on_disk (choice.Replay place.Memory) _ _ is_not done = absurd (true≢false is_not)
 of_file in_memory on_disk (choice.Replay (place.File f)) _ _ is_not done = done
 of_file in_memory on_disk (choice.Init f) _ _ is_not done = done
@@ -97,7 +97,7 @@ fails_in_memory in_memory on_disk (choice.Migrate f) failure Kept Untouched from
 
 -- what failed over an office in a file, failed
 pub fails_in_file : (in_memory : Ghosts MemoryFile) {F : Type 0} (on_disk : Ghosts F) (chosen : Choice) (failure : Failure) (untouched : Type 0) (from to : Environment) → is_memory_replay chosen ≡ false
-    → FailsWhatever (state (over_files {g = on_disk})) chosen failure untouched from to → FailsBy in_memory on_disk chosen failure untouched from to
+    → FailsOrFindsNoOffice (state (over_files {g = on_disk})) chosen failure untouched from to → FailsBy in_memory on_disk chosen failure untouched from to
 fails_in_file in_memory on_disk (choice.Replay place.Memory) failure untouched from to is_not fails = absurd (true≢false is_not)
 fails_in_file in_memory on_disk (choice.Replay (place.File f)) failure untouched from to is_not fails = fails
 fails_in_file in_memory on_disk (choice.Init f) failure untouched from to is_not fails = fails
@@ -109,7 +109,7 @@ fails_in_file in_memory on_disk (choice.Check f) failure untouched from to is_no
 fails_in_file in_memory on_disk (choice.Migrate f) failure untouched from to is_not fails = fails
 
 -- who touched nothing touched less
-whatever_less : {C : Type 0} (shown : Held C → State) (chosen : Choice) (failure : Failure) (Kept Untouched : Type 0) (from to : Environment) → (Kept → Untouched) → FailsWhatever shown chosen failure Kept from to → FailsWhatever shown chosen failure Untouched from to
+whatever_less : {C : Type 0} (shown : Held C → State) (chosen : Choice) (failure : Failure) (Kept Untouched : Type 0) (from to : Environment) → (Kept → Untouched) → FailsOrFindsNoOffice shown chosen failure Kept from to → FailsOrFindsNoOffice shown chosen failure Untouched from to
 whatever_less shown chosen failure Kept Untouched from to keeps fails = elim fails [ inl over ↦ inl over | inr (is, kept) ↦ inr (is, keeps kept) ]
 
 pub fails_less : (in_memory : Ghosts MemoryFile) {F : Type 0} (on_disk : Ghosts F) (chosen : Choice) (failure : Failure) (Kept Untouched : Type 0) (from to : Environment) → (Kept → Untouched)

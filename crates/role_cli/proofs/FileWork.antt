@@ -20,7 +20,7 @@ use Rattle.role_tables.specs.Durability.{HoldsWhatWasLeft, IsDurable}
 use Rattle.role_tables.specs.Office.{OfficeModel}
 use Rattle.role_tables.specs.Runs.{IsInRun}
 use Rattle.role_cli.specs.FileWork.{ClosesOver, DoneWorkIsStored, EndsStored, FailedWorkIsStored, HoldsCommit, NewOfficeIsStored, StoresAlone, StoresState, WorksAndCloses}
-use Rattle.role_cli.specs.Work.{Begins, Does, Fails, Works, makes}
+use Rattle.role_cli.specs.Work.{BeginsRun, DoesSubcommand, FailsSubcommand, WorksOnConnection, makes}
 use Rattle.role_cli.specs.declared.choice.Choice.{Choice}
 use Rattle.role_cli.specs.declared.choice.Choice.TheVariants as choice
 
@@ -46,14 +46,14 @@ closes_over conn files copied settled = record {
 }
 
 -- what began a run over a state that was durable began with it
-begins_with : {C : Type 0} (shown : Held C → State) (chosen : Choice) (before : State) (office : OfficeModel C) (S : RbacState) → makes chosen ≡ false → IsGood S → AreNamed S → IsDurable before S → Begins shown chosen before office → IsInRun shown S [] office
+begins_with : {C : Type 0} (shown : Held C → State) (chosen : Choice) (before : State) (office : OfficeModel C) (S : RbacState) → makes chosen ≡ false → IsGood S → AreNamed S → IsDurable before S → BeginsRun shown chosen before office → IsInRun shown S [] office
 begins_with shown (choice.Init path) before office S makes good named durable begins = absurd (true≢false makes)
 begins_with shown (choice.Migrate path) before office S makes good named durable begins = absurd (true≢false makes)
 begins_with shown _ before office S makes good named durable begins = begins.1 S good named durable
 
 module _ {D : Type 0} (g : Ghosts D) where
   ends_stored : (chosen : Choice) (image : Image) (files : Files D) (Work : OfficeModel (FileStore D g) → OfficeModel (FileStore D g) → Type 0) (S : RbacState) → makes chosen ≡ false → IsGood S → AreNamed S → StoresState image S
-      → WorksAndCloses g image files (λ before conn. Works (state over_files) chosen before Work conn) → EndsStored g files S Work
+      → WorksAndCloses g image files (λ before conn. WorksOnConnection (state over_files) chosen before Work conn) → EndsStored g files S Work
   ends_stored chosen image files Work S makes good named stored (conn, on_files, closes) =
       let works = on_files.work in
       let run = begins_with (state over_files) chosen (file_state on_files.opened) works.first S makes good named (on_files.durable S stored) works.begins in
@@ -61,10 +61,10 @@ module _ {D : Type 0} (g : Ghosts D) where
       (works.first, works.last, run.state, works.work, closes.stored S later.0 works.last works.is_last works.is_outside later.1)
 
   pub done_stored : DoneWorkIsStored g
-  done_stored chosen image files from to S = ends_stored chosen image files (λ first last. Does (state over_files) chosen first from to last) S
+  done_stored chosen image files from to S = ends_stored chosen image files (λ first last. DoesSubcommand (state over_files) chosen first from to last) S
 
   pub failed_stored : FailedWorkIsStored g
-  failed_stored chosen image files failure from to S = ends_stored chosen image files (λ first last. Fails (state over_files) chosen failure first from to last) S
+  failed_stored chosen image files failure from to S = ends_stored chosen image files (λ first last. FailsSubcommand (state over_files) chosen failure first from to last) S
 
   pub new_stored : NewOfficeIsStored g
   new_stored path image files from to (conn, on_files, closes) =

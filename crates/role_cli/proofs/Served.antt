@@ -21,7 +21,7 @@ use Rattle.role_wire.specs.declared.lines.Cause.TheVariants as cause
 use Rattle.role_wire.proofs.Performed.{same_run}
 use Rattle.role_wire.proofs.Replayed.{runs_then}
 use Rattle.role_cli.specs.Hosts.{clients_in_memory, known_clients}
-use Rattle.role_cli.specs.ServedConnections.{AreServed, Clients, IsNextServed, IsServed, IsServedOver, IsServedSomehow, ServedAreAccepted, Serves, TakesNext, is_closing, nothing_of}
+use Rattle.role_cli.specs.ServedConnections.{AreServed, Clients, IsNextServed, IsServed, IsServedOver, IsServedSomehow, ServedAreAccepted, ServesConnections, TakesNext, is_closing, nothing_of}
 use Rattle.role_cli.specs.declared.memory_host.MemoryHost.{MemoryHost}
 
 -- a connection that closes the office was answered with status 500
@@ -187,5 +187,5 @@ module _ {S : Type 0} (shown : Held S → State) where
   all_continue before now old new (status ∷ rest) (between, next, served, later) =
       continues_then old next new (served_continues (before.waiting ≡ None) served.sent served.left served.reply old next status served.served) (all_continue between now next new rest later)
 
-  pub server_continues : (Ends : List (Option ℕ) → Clients → Clients → Type 0) (before now : Clients) (old new : OfficeModel S) → Serves shown Ends before now old new → Continues shown old new
+  pub server_continues : (Ends : List (Option ℕ) → Clients → Clients → Type 0) (before now : Clients) (old new : OfficeModel S) → ServesConnections shown Ends before now old new → Continues shown old new
   server_continues Ends before now old new (statuses, last, served, _) = all_continue before last old new statuses served

@@ -10,7 +10,7 @@ use Rattle.rbac_sets.proofs.Known.{Appends-none}
 use Rattle.role_json.specs.RequestContent.{Change}
 use Rattle.role_tables.specs.Office.{OfficeModel}
 use Rattle.role_wire.specs.Continuation.{Continues}
-use Rattle.role_wire.specs.OfficeRequest.{Declines, Performs}
+use Rattle.role_wire.specs.OfficeRequest.{RefusesRequest, DoesRequest}
 use Rattle.role_wire.specs.OfficeReplay.{IsHalted, LeavesNext}
 use Rattle.role_wire.specs.declared.lines.Cause.{Cause}
 use Rattle.role_wire.specs.declared.lines.Cause.TheVariants as cause
@@ -44,10 +44,10 @@ module _ {S : Type 0} (shown : Held S → State) where
     | inr (_, reaches, _) ↦ reaches_continues shown old new _ reaches
   ]
 
-  performs_continues : (old new : OfficeModel S) (pairs : List Pair) (line : List ℕ) → Performs shown old (Change (Import pairs)) line new → Continues shown old new
+  performs_continues : (old new : OfficeModel S) (pairs : List Pair) (line : List ℕ) → DoesRequest shown old (Change (Import pairs)) line new → Continues shown old new
   performs_continues old new pairs line performs = reaches_continues shown old new _ performs.reaches
 
-  declines_continues : (old new : OfficeModel S) (pairs : List Pair) (refusal : Refusal) → Declines shown old (Change (Import pairs)) refusal new → Continues shown old new
+  declines_continues : (old new : OfficeModel S) (pairs : List Pair) (refusal : Refusal) → RefusesRequest shown old (Change (Import pairs)) refusal new → Continues shown old new
   declines_continues old new pairs refusal (inl (_, same)) = same_continues shown old new same
   declines_continues old new pairs refusal (inr (inl (_, at))) = breaks_continues shown old new _ _ at.breaks
   declines_continues old new pairs refusal (inr (inr (inl (_, _, same)))) = same_continues shown old new same

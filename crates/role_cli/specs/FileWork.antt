@@ -20,7 +20,7 @@ use Rattle.role_tables.specs.Durability.{LeavesState, IsDurable}
 use Rattle.role_tables.specs.Office.{OfficeModel}
 use Rattle.role_tables.specs.Runs.{IsInRun}
 use Rattle.role_cli.specs.Environment.{Environment}
-use Rattle.role_cli.specs.Work.{Does, Fails, Works, makes}
+use Rattle.role_cli.specs.Work.{DoesSubcommand, FailsSubcommand, WorksOnConnection, makes}
 use Rattle.role_cli.specs.declared.choice.Choice.{Choice}
 use Rattle.role_cli.specs.declared.choice.Choice.TheVariants.{Init}
 use Rattle.role_cli.specs.declared.failure.Failure.{Failure}
@@ -68,16 +68,16 @@ EndsStored {D} g files S Work = (first last : OfficeModel (FileStore D g)) × (f
 -- was done over this state, and the closed database file stores what it led to. The same holds if it failed.
 abbrev pub DoneWorkIsStored : {D : Type 0} → Ghosts D → Type 0
 DoneWorkIsStored {D} g = (chosen : Choice) (image : Image) (files : Files D) (from to : Environment) (S : RbacState) → makes chosen ≡ false → IsGood S → AreNamed S → StoresState image S
-    → WorksAndCloses g image files (λ before conn. Works (state over_files) chosen before (λ first last. Does (state over_files) chosen first from to last) conn)
-    → EndsStored g files S (λ first last. Does (state over_files) chosen first from to last)
+    → WorksAndCloses g image files (λ before conn. WorksOnConnection (state over_files) chosen before (λ first last. DoesSubcommand (state over_files) chosen first from to last) conn)
+    → EndsStored g files S (λ first last. DoesSubcommand (state over_files) chosen first from to last)
 
 abbrev pub FailedWorkIsStored : {D : Type 0} → Ghosts D → Type 0
 FailedWorkIsStored {D} g = (chosen : Choice) (image : Image) (files : Files D) (failure : Failure) (from to : Environment) (S : RbacState) → makes chosen ≡ false → IsGood S → AreNamed S → StoresState image S
-    → WorksAndCloses g image files (λ before conn. Works (state over_files) chosen before (λ first last. Fails (state over_files) chosen failure first from to last) conn)
-    → EndsStored g files S (λ first last. Fails (state over_files) chosen failure first from to last)
+    → WorksAndCloses g image files (λ before conn. WorksOnConnection (state over_files) chosen before (λ first last. FailsSubcommand (state over_files) chosen failure first from to last) conn)
+    → EndsStored g files S (λ first last. FailsSubcommand (state over_files) chosen failure first from to last)
 
 -- A new office is stored, empty.
 abbrev pub NewOfficeIsStored : {D : Type 0} → Ghosts D → Type 0
 NewOfficeIsStored {D} g = (path : String Global) (image : Image) (files : Files D) (from to : Environment)
-    → WorksAndCloses g image files (λ before conn. Works (state over_files) (Init path) before (λ first last. Does (state over_files) (Init path) first from to last) conn)
+    → WorksAndCloses g image files (λ before conn. WorksOnConnection (state over_files) (Init path) before (λ first last. DoesSubcommand (state over_files) (Init path) first from to last) conn)
     → StoresAlone g files (empty_state 2)

@@ -6,7 +6,7 @@ use Rattle.sqlite_disk.specs.declared.Disk.{Ghosts}
 use Rattle.role_cli.specs.Environment.{Environment, ReadFailed, WriteFailed}
 use Rattle.role_cli.specs.FailureCause.{IsCaused}
 use Rattle.role_cli.specs.MemoryReplay.{FailsInMemory, ReplaysInMemory}
-use Rattle.role_cli.specs.Work.{DoesOverSome, FailsWhatever}
+use Rattle.role_cli.specs.Work.{DoesOverSomeState, FailsOrFindsNoOffice}
 use Rattle.role_cli.specs.declared.choice.Choice.{Choice}
 use Rattle.role_cli.specs.declared.choice.Choice.TheVariants as choice
 use Rattle.role_cli.specs.declared.choice.Place.TheVariants.{Memory}
@@ -22,11 +22,11 @@ is_memory_replay _ = false
 -- The contract of `run_on_path`, which hands the connection back, says which state it was.
 abbrev pub IsDone : Ghosts MemoryFile → {F : Type 0} → Ghosts F → Choice → Environment → Environment → Type 0
 IsDone in_memory on_disk (choice.Replay Memory) from to = ReplaysInMemory in_memory from.remaining to.remaining from.written to.written
-IsDone in_memory on_disk chosen from to = DoesOverSome (state (over_files {g = on_disk})) chosen from to
+IsDone in_memory on_disk chosen from to = DoesOverSomeState (state (over_files {g = on_disk})) chosen from to
 
 -- The choice failed by this failure: a replay in memory over a new office, anything else over an office of some good state, or no
 -- office was created, migrated or opened and nothing was touched.
 abbrev pub FailsBy : Ghosts MemoryFile → {F : Type 0} → Ghosts F → Choice → Failure → (untouched : Type 0) → Environment → Environment → Type 0
 FailsBy in_memory on_disk (choice.Replay Memory) failure untouched from to =
     FailsInMemory in_memory failure untouched from.remaining to.remaining from.written to.written × IsCaused failure (WriteFailed from to) (ReadFailed from to)
-FailsBy in_memory on_disk chosen failure untouched from to = FailsWhatever (state (over_files {g = on_disk})) chosen failure untouched from to
+FailsBy in_memory on_disk chosen failure untouched from to = FailsOrFindsNoOffice (state (over_files {g = on_disk})) chosen failure untouched from to

@@ -113,5 +113,5 @@ module _ {S : Type 0} (shown : Held S → State) where
       → before.accepted + length statuses < 2 ^ 64 → now.accepted ≡ before.accepted + length statuses
 
   -- connections were served, one after another, and then the server ended so
-  abbrev pub Serves : (List (Option ℕ) → Clients → Clients → Type 0) → Clients → Clients → OfficeModel S → OfficeModel S → Type 0
-  Serves Ends before now old new = (statuses : List (Option ℕ)) × (last : Clients) × AreServed before last old statuses new × Ends statuses last now
+  abbrev pub ServesConnections : (List (Option ℕ) → Clients → Clients → Type 0) → Clients → Clients → OfficeModel S → OfficeModel S → Type 0
+  ServesConnections Ends before now old new = (statuses : List (Option ℕ)) × (last : Clients) × AreServed before last old statuses new × Ends statuses last now

@@ -26,12 +26,12 @@ use Rattle.role_tables.specs.Durability.{HoldsAsBefore, LeavesBeforeOr, LeavesOn
 use Rattle.role_wire.specs.Continuation.{Continues, ReachesState}
 use Rattle.role_wire.specs.Lines.{line_feed}
 use Rattle.role_wire.specs.Outcome.{after_lines, asking_lines}
-use Rattle.role_wire.specs.OfficeRequest.{Declines, Performs}
+use Rattle.role_wire.specs.OfficeRequest.{RefusesRequest, DoesRequest}
 use Rattle.role_wire.specs.OfficeReplay.{IsAnswered, IsHalted}
 use Rattle.role_wire.specs.declared.lines.Cause.TheVariants.{Read}
 use Rattle.role_cli.specs.Environment.{CsvFailed, Environment, IsReadOf, ReadFailed, WriteFailed}
 use Rattle.role_cli.specs.FailureCause.{IsCaused, IsOpeningFailure, IsUnwritten}
-use Rattle.role_cli.specs.ServedConnections.{AllServed, CallFails, Clients, EndsBy, Listens, Serves}
+use Rattle.role_cli.specs.ServedConnections.{AllServed, CallFails, Clients, EndsBy, Listens, ServesConnections}
 use Rattle.role_cli.specs.declared.choice.Choice.{Choice}
 use Rattle.role_cli.specs.declared.choice.Choice.TheVariants as choice
 use Rattle.role_cli.specs.declared.failure.Failure.{Failure}
@@ -95,7 +95,7 @@ module _ {C : Type 0} (shown : Held C → State) where
   -- the pairs of the text of a file were imported, and the answer was written as a line
   abbrev pub Imports : (file : Option (List ℕ)) → OfficeModel C → Option (List ℕ) → Option (List ℕ) → OfficeModel C → Type 0
   Imports file old written now_written new = (text : List ℕ) × (pairs : List Pair) × (line : List ℕ)
-      × IsReadOf file text × (assignments text ≡ Ok pairs) × Performs shown old (Change (Import pairs)) line new × Appends written now_written (line ++ line_feed ∷ [])
+      × IsReadOf file text × (assignments text ≡ Ok pairs) × DoesRequest shown old (Change (Import pairs)) line new × Appends written now_written (line ++ line_feed ∷ [])
 
   -- the file was not read or its text was refused, which changes nothing; or the office refused to import its pairs; or it
   -- imported them, and the answer line was not written whole, because an allocation or the output failed
@@ -103,9 +103,9 @@ module _ {C : Type 0} (shown : Held C → State) where
   FailsToImport file old failure write_failed csv_failed written now_written new =
       ((IsUnread csv_failed failure ⊎ ((text : List ℕ) × (refusal : Refusal) × IsReadOf file text × (failure ≡ Refused refusal) × RefusesText text refusal)) × (new ≡ old) × (now_written ≡ written))
       ⊎ ((text : List ℕ) × (pairs : List Pair) × (refusal : Refusal) × IsReadOf file text × (assignments text ≡ Ok pairs) × (failure ≡ Refused refusal)
-      × ((Declines shown old (Change (Import pairs)) refusal new × (now_written ≡ written))
-      ⊎ ((refusal ≡ Memory) × (now_written ≡ written) × ((line : List ℕ) × Performs shown old (Change (Import pairs)) line new))
-      ⊎ ((refusal ≡ Store) × write_failed × ((line : List ℕ) × Performs shown old (Change (Import pairs)) line new × WritesPart (line ++ line_feed ∷ []) written now_written))))
+      × ((RefusesRequest shown old (Change (Import pairs)) refusal new × (now_written ≡ written))
+      ⊎ ((refusal ≡ Memory) × (now_written ≡ written) × ((line : List ℕ) × DoesRequest shown old (Change (Import pairs)) line new))
+      ⊎ ((refusal ≡ Store) × write_failed × ((line : List ℕ) × DoesRequest shown old (Change (Import pairs)) line new × WritesPart (line ++ line_feed ∷ []) written now_written))))
 
   -- ---- a server
 
@@ -117,53 +117,53 @@ module _ {C : Type 0} (shown : Held C → State) where
       ⊎ ((ready : Clients) × Listens port clients ready
       × (((failure ≡ Refused Memory) × (now_clients ≡ ready) × (new ≡ old) × (now_written ≡ written))
       ⊎ (((failure ≡ Refused Store) × write_failed × (now_clients ≡ ready) × (new ≡ old) × WritesPart (listening_line port) written now_written)
-      ⊎ (Appends written now_written (listening_line port) × Serves shown (EndsBy limit failure) ready now_clients old new))))
+      ⊎ (Appends written now_written (listening_line port) × ServesConnections shown (EndsBy limit failure) ready now_clients old new))))
 
   -- It listens on its port, wrote the line that says so, and served all connections.
   abbrev pub ServesAll : (port limit : ℕ) → Clients → Clients → OfficeModel C → Option (List ℕ) → Option (List ℕ) → OfficeModel C → Type 0
   ServesAll port limit clients now_clients old written now_written new =
-      (ready : Clients) × Listens port clients ready × Appends written now_written (listening_line port) × Serves shown (AllServed limit) ready now_clients old new
+      (ready : Clients) × Listens port clients ready × Appends written now_written (listening_line port) × ServesConnections shown (AllServed limit) ready now_clients old new
 
   -- ---- any subcommand
 
   -- The work was done over an open office, from what it reads and writes at first to what that is at last, and led to this office.
-  abbrev pub Does : Choice → OfficeModel C → Environment → Environment → OfficeModel C → Type 0
-  Does (choice.Init _) old from to new = (to.written ≡ from.written) × (new ≡ old)
-  Does (choice.Migrate _) old from to new = (to.written ≡ from.written) × (new ≡ old)
-  Does (choice.Replay _) old from to new = AnswersInput old from.remaining to.remaining from.written to.written new
-  Does (choice.Serve _ port limit) old from to new = ServesAll port limit from.clients to.clients old from.written to.written new
-  Does (choice.Import _ path) old from to new = Imports (from.csv_at (string_bytes path)) old from.written to.written new
-  Does (choice.Export _) old from to new = Appends from.written to.written (exported old.facts) × (new ≡ old)
-  Does (choice.Report _) old from to new = Appends from.written to.written (report old.facts) × (new ≡ old)
-  Does (choice.Check _) old from to new = Appends from.written to.written (codes "good\n") × (new ≡ old)
+  abbrev pub DoesSubcommand : Choice → OfficeModel C → Environment → Environment → OfficeModel C → Type 0
+  DoesSubcommand (choice.Init _) old from to new = (to.written ≡ from.written) × (new ≡ old)
+  DoesSubcommand (choice.Migrate _) old from to new = (to.written ≡ from.written) × (new ≡ old)
+  DoesSubcommand (choice.Replay _) old from to new = AnswersInput old from.remaining to.remaining from.written to.written new
+  DoesSubcommand (choice.Serve _ port limit) old from to new = ServesAll port limit from.clients to.clients old from.written to.written new
+  DoesSubcommand (choice.Import _ path) old from to new = Imports (from.csv_at (string_bytes path)) old from.written to.written new
+  DoesSubcommand (choice.Export _) old from to new = Appends from.written to.written (exported old.facts) × (new ≡ old)
+  DoesSubcommand (choice.Report _) old from to new = Appends from.written to.written (report old.facts) × (new ≡ old)
+  DoesSubcommand (choice.Check _) old from to new = Appends from.written to.written (codes "good\n") × (new ≡ old)
 
   -- The work failed over an open office, and led to this one.
-  abbrev pub Fails : Choice → Failure → OfficeModel C → Environment → Environment → OfficeModel C → Type 0
-  Fails (choice.Init _) failure old from to new = ⊥
-  Fails (choice.Migrate _) failure old from to new = ⊥
-  Fails (choice.Replay _) (Stopped stop) old from to new =
+  abbrev pub FailsSubcommand : Choice → Failure → OfficeModel C → Environment → Environment → OfficeModel C → Type 0
+  FailsSubcommand (choice.Init _) failure old from to new = ⊥
+  FailsSubcommand (choice.Migrate _) failure old from to new = ⊥
+  FailsSubcommand (choice.Replay _) (Stopped stop) old from to new =
       (taken : List ℕ) × Consumes from.remaining to.remaining taken × IsHalted shown old new taken (IsAtEnd to.remaining) from.written to.written stop.cause stop.answered
       × IsCaused (Stopped stop) (WriteFailed from to) (ReadFailed from to)
-  Fails (choice.Replay _) failure old from to new = ⊥
-  Fails (choice.Serve _ port limit) failure old from to new = FailsToServe port limit from.clients to.clients old failure (WriteFailed from to) from.written to.written new
-  Fails (choice.Import _ path) failure old from to new = FailsToImport (from.csv_at (string_bytes path)) old failure (WriteFailed from to) (CsvFailed from to) from.written to.written new
-  Fails (choice.Export _) failure old from to new = IsUnwritten failure (WriteFailed from to) × WritesPart (exported old.facts) from.written to.written × (new ≡ old)
-  Fails (choice.Report _) failure old from to new = IsUnwritten failure (WriteFailed from to) × WritesPart (report old.facts) from.written to.written × (new ≡ old)
-  Fails (choice.Check _) failure old from to new = (failure ≡ Refused Store) × WriteFailed from to × WritesPart (codes "good\n") from.written to.written × (new ≡ old)
+  FailsSubcommand (choice.Replay _) failure old from to new = ⊥
+  FailsSubcommand (choice.Serve _ port limit) failure old from to new = FailsToServe port limit from.clients to.clients old failure (WriteFailed from to) from.written to.written new
+  FailsSubcommand (choice.Import _ path) failure old from to new = FailsToImport (from.csv_at (string_bytes path)) old failure (WriteFailed from to) (CsvFailed from to) from.written to.written new
+  FailsSubcommand (choice.Export _) failure old from to new = IsUnwritten failure (WriteFailed from to) × WritesPart (exported old.facts) from.written to.written × (new ≡ old)
+  FailsSubcommand (choice.Report _) failure old from to new = IsUnwritten failure (WriteFailed from to) × WritesPart (report old.facts) from.written to.written × (new ≡ old)
+  FailsSubcommand (choice.Check _) failure old from to new = (failure ≡ Refused Store) × WriteFailed from to × WritesPart (codes "good\n") from.written to.written × (new ≡ old)
 
   -- ---- over a connection
 
   -- The office begins a run over what the connection held: a new office if one could be created, or the one whose state was read
   -- from the rows that were stored there, migrated if that was asked for. What was read is the state that was durable, if one was.
-  abbrev pub Begins : Choice → State → OfficeModel C → Type 0
-  Begins (choice.Init _) before office = MayCreate 2 before × IsInRun shown (empty_state 2) [] office
-  Begins (choice.Migrate _) before office = IsMigratedFrom before.now office.facts × WhateverIsDurable before (λ S. (S.version ≡ 1) × IsInRun shown (migrated_to_version_2 S) [] office)
-  Begins _ before office = ReadsState before (shown office.conn) office.facts × WhateverIsDurable before (λ S. IsInRun shown S [] office)
+  abbrev pub BeginsRun : Choice → State → OfficeModel C → Type 0
+  BeginsRun (choice.Init _) before office = MayCreate 2 before × IsInRun shown (empty_state 2) [] office
+  BeginsRun (choice.Migrate _) before office = IsMigratedFrom before.now office.facts × WhateverIsDurable before (λ S. (S.version ≡ 1) × IsInRun shown (migrated_to_version_2 S) [] office)
+  BeginsRun _ before office = ReadsState before (shown office.conn) office.facts × WhateverIsDurable before (λ S. IsInRun shown S [] office)
 
   -- if an opening is refused because of what a connection holds, no office begins a run over it, unless it is a new one
   abbrev pub NoneBeginsOverRefused : Type 0
   NoneBeginsOverRefused = (chosen : Choice) (old : Held C) (office : OfficeModel C) (refusal : Refusal) → creates chosen ≡ false → refusal ≢ Memory
-      → RefusesContents (contents_of (shown old).now) refusal → Begins chosen (shown old) office → ⊥
+      → RefusesContents (contents_of (shown old).now) refusal → BeginsRun chosen (shown old) office → ⊥
 
   -- No office was created, migrated or opened: why, what the connection holds now, and what a crash would leave.
   abbrev pub IsUnopened : Choice → State → Refusal → State → Type 0
@@ -174,32 +174,32 @@ module _ {C : Type 0} (shown : Held C → State) where
 
   -- Work that led from the first office to the last: the first began a run over what the connection held, the last continues it,
   -- and its connection was handed back, outside a transaction.
-  pub record Works (chosen : Choice) (before : State) (Work : OfficeModel C → OfficeModel C → Type 0) (handed_back : Held C) : Type 0 where
+  pub record WorksOnConnection (chosen : Choice) (before : State) (Work : OfficeModel C → OfficeModel C → Type 0) (handed_back : Held C) : Type 0 where
     pub first : OfficeModel C
     pub last : OfficeModel C
     pub is_open : first.is_closed ≡ false
-    pub begins : Begins chosen before first
+    pub begins : BeginsRun chosen before first
     pub work : Work first last
     pub continues : Continues shown first last
     pub is_last : handed_back ≡ last.conn
     pub is_outside : handed_back.in_transaction ≡ false
 
   -- the work failed, or there was no office to work on
-  abbrev pub FailsOn : Choice → State → Failure → (untouched : Type 0) → Environment → Environment → Held C → Type 0
-  FailsOn chosen before failure untouched from to after =
-      Works chosen before (λ first last. Fails chosen failure first from to last) after
+  abbrev pub FailsOnConnection : Choice → State → Failure → (untouched : Type 0) → Environment → Environment → Held C → Type 0
+  FailsOnConnection chosen before failure untouched from to after =
+      WorksOnConnection chosen before (λ first last. FailsSubcommand chosen failure first from to last) after
       ⊎ ((refusal : Refusal) × (failure ≡ Refused refusal) × untouched × IsUnopened chosen before refusal (shown after))
 
   -- the work was done over an office of some good state, whatever the disk returned
-  abbrev pub DoesOverSome : Choice → Environment → Environment → Type 0
-  DoesOverSome chosen from to = (first last : OfficeModel C) × (first.is_closed ≡ false)
-      × IsGood first.facts × AreNamed first.facts × StartsWell chosen first.facts × Does chosen first from to last
+  abbrev pub DoesOverSomeState : Choice → Environment → Environment → Type 0
+  DoesOverSomeState chosen from to = (first last : OfficeModel C) × (first.is_closed ≡ false)
+      × IsGood first.facts × AreNamed first.facts × StartsWell chosen first.facts × DoesSubcommand chosen first from to last
 
   -- the work failed over an office of some good state, whatever the disk returned
-  abbrev pub FailsOverSome : Choice → Failure → Environment → Environment → Type 0
-  FailsOverSome chosen failure from to = (first last : OfficeModel C) × (first.is_closed ≡ false)
-      × IsGood first.facts × AreNamed first.facts × StartsWell chosen first.facts × Fails chosen failure first from to last
+  abbrev pub FailsOverSomeState : Choice → Failure → Environment → Environment → Type 0
+  FailsOverSomeState chosen failure from to = (first last : OfficeModel C) × (first.is_closed ≡ false)
+      × IsGood first.facts × AreNamed first.facts × StartsWell chosen first.facts × FailsSubcommand chosen failure first from to last
 
   -- it failed so, or there was no office to work on, and nothing was read or written
-  abbrev pub FailsWhatever : Choice → Failure → (untouched : Type 0) → Environment → Environment → Type 0
-  FailsWhatever chosen failure untouched from to = FailsOverSome chosen failure from to ⊎ (IsOpeningFailure chosen failure × untouched)
+  abbrev pub FailsOrFindsNoOffice : Choice → Failure → (untouched : Type 0) → Environment → Environment → Type 0
+  FailsOrFindsNoOffice chosen failure untouched from to = FailsOverSomeState chosen failure from to ⊎ (IsOpeningFailure chosen failure × untouched)

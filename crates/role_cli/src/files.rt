@@ -11,7 +11,7 @@ ghost use Rattle.role_wire.specs.Replay.{most_reads};
 ghost use Rattle.role_cli.specs.Environment.{environment};
 ghost use Rattle.role_cli.specs.FailureCause.{IsOpeningFailure};
 ghost use Rattle.role_cli.specs.FileWork.{HoldsCommit, WorksAndCloses, WorksOnFiles};
-ghost use Rattle.role_cli.specs.Work.{Does, DoesOverSome, FailsOn, FailsWhatever, Works, asks_host, reads_input};
+ghost use Rattle.role_cli.specs.Work.{DoesSubcommand, DoesOverSomeState, FailsOnConnection, FailsOrFindsNoOffice, WorksOnConnection, asks_host, reads_input};
 
 use crate::choice::Choice;
 use crate::failure::Failure;
@@ -44,19 +44,19 @@ pub fn run_on_path<D: Start, H: Accept + CsvFiles, R: Source, W: Sink>(
     out: &mut W,
 ) -> Result<(Result<(), Failure>, Connection<FileStore<FileFrom<D>>>), Failure>
     ensures done { IfOk result (λ worked. HasCleanDisk (file_state worked.1) → OnOk worked.0 (WorksOnFiles ⟦<FileFrom<D> as Disk>⟧ (image_at D.Start)
-        (λ before. Works (state (over_files {g = ⟦<FileFrom<D> as Disk>⟧})) choice.now before (λ first last. Does (state (over_files {g = ⟦<FileFrom<D> as Disk>⟧})) choice.now first
+        (λ before. WorksOnConnection (state (over_files {g = ⟦<FileFrom<D> as Disk>⟧})) choice.now before (λ first last. DoesSubcommand (state (over_files {g = ⟦<FileFrom<D> as Disk>⟧})) choice.now first
         (environment (R.remaining source.old) (R.reads source.old) (R.failed source.old) (W.written out.old) (W.failed out.old) (W.idle out.old) (H.csv_at host.old) (H.failed_csv host.old) (H.clients host.old))
         (environment (R.remaining source.new) (R.reads source.new) (R.failed source.new) (W.written out.new) (W.failed out.new) (W.idle out.new) (H.csv_at host.new) (H.failed_csv host.new) (H.clients host.new)) last) worked.1))) }
     ensures failed { IfOk result (λ worked. HasCleanDisk (file_state worked.1) → IfErr worked.0 (λ failure. WorksOnFiles ⟦<FileFrom<D> as Disk>⟧ (image_at D.Start)
-        (λ before. FailsOn (state (over_files {g = ⟦<FileFrom<D> as Disk>⟧})) choice.now before failure ((source.new ≡ source.old) × (out.new ≡ out.old) × (host.new ≡ host.old))
+        (λ before. FailsOnConnection (state (over_files {g = ⟦<FileFrom<D> as Disk>⟧})) choice.now before failure ((source.new ≡ source.old) × (out.new ≡ out.old) × (host.new ≡ host.old))
         (environment (R.remaining source.old) (R.reads source.old) (R.failed source.old) (W.written out.old) (W.failed out.old) (W.idle out.old) (H.csv_at host.old) (H.failed_csv host.old) (H.clients host.old))
         (environment (R.remaining source.new) (R.reads source.new) (R.failed source.new) (W.written out.new) (W.failed out.new) (W.idle out.new) (H.csv_at host.new) (H.failed_csv host.new) (H.clients host.new)) worked.1))) }
 
     // Whatever the disk returns, the work is done over an office of some good state.
-    ensures some { IfOk result (λ worked. OnOk worked.0 (DoesOverSome (state (over_files {g = ⟦<FileFrom<D> as Disk>⟧})) choice.now
+    ensures some { IfOk result (λ worked. OnOk worked.0 (DoesOverSomeState (state (over_files {g = ⟦<FileFrom<D> as Disk>⟧})) choice.now
         (environment (R.remaining source.old) (R.reads source.old) (R.failed source.old) (W.written out.old) (W.failed out.old) (W.idle out.old) (H.csv_at host.old) (H.failed_csv host.old) (H.clients host.old))
         (environment (R.remaining source.new) (R.reads source.new) (R.failed source.new) (W.written out.new) (W.failed out.new) (W.idle out.new) (H.csv_at host.new) (H.failed_csv host.new) (H.clients host.new)))) }
-    ensures some_failed { IfOk result (λ worked. IfErr worked.0 (λ failure. FailsWhatever (state (over_files {g = ⟦<FileFrom<D> as Disk>⟧})) choice.now failure ((source.new ≡ source.old) × (out.new ≡ out.old) × (host.new ≡ host.old))
+    ensures some_failed { IfOk result (λ worked. IfErr worked.0 (λ failure. FailsOrFindsNoOffice (state (over_files {g = ⟦<FileFrom<D> as Disk>⟧})) choice.now failure ((source.new ≡ source.old) × (out.new ≡ out.old) × (host.new ≡ host.old))
         (environment (R.remaining source.old) (R.reads source.old) (R.failed source.old) (W.written out.old) (W.failed out.old) (W.idle out.old) (H.csv_at host.old) (H.failed_csv host.old) (H.clients host.old))
         (environment (R.remaining source.new) (R.reads source.new) (R.failed source.new) (W.written out.new) (W.failed out.new) (W.idle out.new) (H.csv_at host.new) (H.failed_csv host.new) (H.clients host.new)))) }
     ensures unopened { IfErr result (λ failure. (failure ≡ Failure.Refused Refusal.Store) × (source.new ≡ source.old) × (out.new ≡ out.old) × (host.new ≡ host.old)) }
@@ -95,19 +95,19 @@ pub fn run_in_file<D: Start, H: Accept + CsvFiles, R: Source, W: Sink>(
     out: &mut W,
 ) -> (Result<(), Failure>, Option<Files<FileFrom<D>>>)
     ensures done { IfSome result.1 (λ files. AreClean ⟦<FileFrom<D> as Disk>⟧ files.log files.db → OnOk result.0 (WorksAndCloses ⟦<FileFrom<D> as Disk>⟧ (image_at D.Start) files
-        (λ before conn. Works (state (over_files {g = ⟦<FileFrom<D> as Disk>⟧})) choice.now before (λ first last. Does (state (over_files {g = ⟦<FileFrom<D> as Disk>⟧})) choice.now first
+        (λ before conn. WorksOnConnection (state (over_files {g = ⟦<FileFrom<D> as Disk>⟧})) choice.now before (λ first last. DoesSubcommand (state (over_files {g = ⟦<FileFrom<D> as Disk>⟧})) choice.now first
         (environment (R.remaining source.old) (R.reads source.old) (R.failed source.old) (W.written out.old) (W.failed out.old) (W.idle out.old) (H.csv_at host.old) (H.failed_csv host.old) (H.clients host.old))
         (environment (R.remaining source.new) (R.reads source.new) (R.failed source.new) (W.written out.new) (W.failed out.new) (W.idle out.new) (H.csv_at host.new) (H.failed_csv host.new) (H.clients host.new)) last) conn))) }
     ensures failed { IfSome result.1 (λ files. AreClean ⟦<FileFrom<D> as Disk>⟧ files.log files.db → IfErr result.0 (λ failure. WorksAndCloses ⟦<FileFrom<D> as Disk>⟧ (image_at D.Start) files
-        (λ before conn. FailsOn (state (over_files {g = ⟦<FileFrom<D> as Disk>⟧})) choice.now before failure ((source.new ≡ source.old) × (out.new ≡ out.old) × (host.new ≡ host.old))
+        (λ before conn. FailsOnConnection (state (over_files {g = ⟦<FileFrom<D> as Disk>⟧})) choice.now before failure ((source.new ≡ source.old) × (out.new ≡ out.old) × (host.new ≡ host.old))
         (environment (R.remaining source.old) (R.reads source.old) (R.failed source.old) (W.written out.old) (W.failed out.old) (W.idle out.old) (H.csv_at host.old) (H.failed_csv host.old) (H.clients host.old))
         (environment (R.remaining source.new) (R.reads source.new) (R.failed source.new) (W.written out.new) (W.failed out.new) (W.idle out.new) (H.csv_at host.new) (H.failed_csv host.new) (H.clients host.new)) conn))) }
 
     // Whatever the disk returns, the work is done over an office of some good state.
-    ensures some { OnOk result.0 (DoesOverSome (state (over_files {g = ⟦<FileFrom<D> as Disk>⟧})) choice.now
+    ensures some { OnOk result.0 (DoesOverSomeState (state (over_files {g = ⟦<FileFrom<D> as Disk>⟧})) choice.now
         (environment (R.remaining source.old) (R.reads source.old) (R.failed source.old) (W.written out.old) (W.failed out.old) (W.idle out.old) (H.csv_at host.old) (H.failed_csv host.old) (H.clients host.old))
         (environment (R.remaining source.new) (R.reads source.new) (R.failed source.new) (W.written out.new) (W.failed out.new) (W.idle out.new) (H.csv_at host.new) (H.failed_csv host.new) (H.clients host.new))) }
-    ensures some_failed { IfErr result.0 (λ failure. FailsWhatever (state (over_files {g = ⟦<FileFrom<D> as Disk>⟧})) choice.now failure ((source.new ≡ source.old) × (out.new ≡ out.old) × (host.new ≡ host.old))
+    ensures some_failed { IfErr result.0 (λ failure. FailsOrFindsNoOffice (state (over_files {g = ⟦<FileFrom<D> as Disk>⟧})) choice.now failure ((source.new ≡ source.old) × (out.new ≡ out.old) × (host.new ≡ host.old))
         (environment (R.remaining source.old) (R.reads source.old) (R.failed source.old) (W.written out.old) (W.failed out.old) (W.idle out.old) (H.csv_at host.old) (H.failed_csv host.old) (H.clients host.old))
         (environment (R.remaining source.new) (R.reads source.new) (R.failed source.new) (W.written out.new) (W.failed out.new) (W.idle out.new) (H.csv_at host.new) (H.failed_csv host.new) (H.clients host.new))) }
     ensures unread { reads_input choice.now ≡ false → source.new ≡ source.old }

@@ -4,8 +4,8 @@
 //!
 //! 1. `program::run_with`: what the exit status says of the choice, the work, the output and the files. `run`
 //!    says the same of the program's own files and sockets.
-//! 2. `Works`, `Does` and `FailsOn`, in specs/Work.antt: what a subcommand does over the state that a connection
-//!    stores, and what it did if it failed.
+//! 2. `WorksOnConnection`, `DoesSubcommand` and `FailsOnConnection`, in specs/Work.antt: what a subcommand does
+//!    over the state that a connection stores, and what it did if it failed.
 //! 3. `WorksAndCloses`, in specs/FileWork.antt: the same of files, and what the database file alone stores after
 //!    the close.
 //! 4. `laws::work_is_stored`: what was done is in the file.

@@ -12,7 +12,7 @@ ghost use Rattle.role_cli.specs.FileWork.{WorksAndCloses};
 ghost use Rattle.role_cli.specs.Hosts.{OnMachine};
 ghost use Rattle.role_cli.specs.ProgramOutcome.{FailsBy, IsDone, is_memory_replay};
 ghost use Rattle.role_cli.specs.ErrorOutput.{IsLineOf, Says, SaysSome, both_or_neither_line, no_memory_line};
-ghost use Rattle.role_cli.specs.Work.{Does, FailsOn, Works, asks_host, reads_input};
+ghost use Rattle.role_cli.specs.Work.{DoesSubcommand, FailsOnConnection, WorksOnConnection, asks_host, reads_input};
 ghost use Rattle.role_cli.specs.ArgumentChoice.{AsksHelp, Chooses, IsHelp, ReplaysBothOrNeither};
 ghost use Rattle.role_cli.specs.declared.choice.Choice.{Choice};
 ghost use Rattle.role_cli.specs.declared.failure.Failure.{Failure};
@@ -97,7 +97,7 @@ pub fn run_with<D: Start, H: Accept + CsvFiles, R: Source, W: Sink, E: Sink>(
         (environment (R.remaining source.old) (R.reads source.old) (R.failed source.old) (W.written out.old) (W.failed out.old) (W.idle out.old) (H.csv_at host.old) (H.failed_csv host.old) (H.clients host.old))
         (environment (R.remaining source.new) (R.reads source.new) (R.failed source.new) (W.written out.new) (W.failed out.new) (W.idle out.new) (H.csv_at host.new) (H.failed_csv host.new) (H.clients host.new))
         × IfSome result.1 (λ files. AreClean ⟦<FileFrom<D> as Disk>⟧ files.log files.db → WorksAndCloses ⟦<FileFrom<D> as Disk>⟧ (image_at D.Start) files
-        (λ before conn. Works (state (over_files {g = ⟦<FileFrom<D> as Disk>⟧})) choice before (λ first last. Does (state (over_files {g = ⟦<FileFrom<D> as Disk>⟧})) choice first
+        (λ before conn. WorksOnConnection (state (over_files {g = ⟦<FileFrom<D> as Disk>⟧})) choice before (λ first last. DoesSubcommand (state (over_files {g = ⟦<FileFrom<D> as Disk>⟧})) choice first
         (environment (R.remaining source.old) (R.reads source.old) (R.failed source.old) (W.written out.old) (W.failed out.old) (W.idle out.old) (H.csv_at host.old) (H.failed_csv host.old) (H.clients host.old))
         (environment (R.remaining source.new) (R.reads source.new) (R.failed source.new) (W.written out.new) (W.failed out.new) (W.idle out.new) (H.csv_at host.new) (H.failed_csv host.new) (H.clients host.new)) last) conn))) }
     ensures refused { result.0 ≡ 2 → ((source.new ≡ source.old) × (out.new ≡ out.old) × (host.new ≡ host.old)) }
@@ -110,7 +110,7 @@ pub fn run_with<D: Start, H: Accept + CsvFiles, R: Source, W: Sink, E: Sink>(
         (environment (R.remaining source.old) (R.reads source.old) (R.failed source.old) (W.written out.old) (W.failed out.old) (W.idle out.old) (H.csv_at host.old) (H.failed_csv host.old) (H.clients host.old))
         (environment (R.remaining source.new) (R.reads source.new) (R.failed source.new) (W.written out.new) (W.failed out.new) (W.idle out.new) (H.csv_at host.new) (H.failed_csv host.new) (H.clients host.new))
         × IfSome result.1 (λ files. AreClean ⟦<FileFrom<D> as Disk>⟧ files.log files.db → WorksAndCloses ⟦<FileFrom<D> as Disk>⟧ (image_at D.Start) files
-        (λ before conn. FailsOn (state (over_files {g = ⟦<FileFrom<D> as Disk>⟧})) choice before failure ((source.new ≡ source.old) × (out.new ≡ out.old) × (host.new ≡ host.old))
+        (λ before conn. FailsOnConnection (state (over_files {g = ⟦<FileFrom<D> as Disk>⟧})) choice before failure ((source.new ≡ source.old) × (out.new ≡ out.old) × (host.new ≡ host.old))
         (environment (R.remaining source.old) (R.reads source.old) (R.failed source.old) (W.written out.old) (W.failed out.old) (W.idle out.old) (H.csv_at host.old) (H.failed_csv host.old) (H.clients host.old))
         (environment (R.remaining source.new) (R.reads source.new) (R.failed source.new) (W.written out.new) (W.failed out.new) (W.idle out.new) (H.csv_at host.new) (H.failed_csv host.new) (H.clients host.new)) conn)))) }
     ensures silent { result.0 ≡ 0 → err.new ≡ err.old }
@@ -149,11 +149,11 @@ fn run_choice<D: Start, H: Accept + CsvFiles, R: Source, W: Sink>(
         (environment (R.remaining source.old) (R.reads source.old) (R.failed source.old) (W.written out.old) (W.failed out.old) (W.idle out.old) (H.csv_at host.old) (H.failed_csv host.old) (H.clients host.old))
         (environment (R.remaining source.new) (R.reads source.new) (R.failed source.new) (W.written out.new) (W.failed out.new) (W.idle out.new) (H.csv_at host.new) (H.failed_csv host.new) (H.clients host.new))) }
     ensures closed { IfSome result.1 (λ files. AreClean ⟦<FileFrom<D> as Disk>⟧ files.log files.db → OnOk result.0 (WorksAndCloses ⟦<FileFrom<D> as Disk>⟧ (image_at D.Start) files
-        (λ before conn. Works (state (over_files {g = ⟦<FileFrom<D> as Disk>⟧})) choice.now before (λ first last. Does (state (over_files {g = ⟦<FileFrom<D> as Disk>⟧})) choice.now first
+        (λ before conn. WorksOnConnection (state (over_files {g = ⟦<FileFrom<D> as Disk>⟧})) choice.now before (λ first last. DoesSubcommand (state (over_files {g = ⟦<FileFrom<D> as Disk>⟧})) choice.now first
         (environment (R.remaining source.old) (R.reads source.old) (R.failed source.old) (W.written out.old) (W.failed out.old) (W.idle out.old) (H.csv_at host.old) (H.failed_csv host.old) (H.clients host.old))
         (environment (R.remaining source.new) (R.reads source.new) (R.failed source.new) (W.written out.new) (W.failed out.new) (W.idle out.new) (H.csv_at host.new) (H.failed_csv host.new) (H.clients host.new)) last) conn))) }
     ensures closed_failed { IfSome result.1 (λ files. AreClean ⟦<FileFrom<D> as Disk>⟧ files.log files.db → IfErr result.0 (λ failure. WorksAndCloses ⟦<FileFrom<D> as Disk>⟧ (image_at D.Start) files
-        (λ before conn. FailsOn (state (over_files {g = ⟦<FileFrom<D> as Disk>⟧})) choice.now before failure ((source.new ≡ source.old) × (out.new ≡ out.old) × (host.new ≡ host.old))
+        (λ before conn. FailsOnConnection (state (over_files {g = ⟦<FileFrom<D> as Disk>⟧})) choice.now before failure ((source.new ≡ source.old) × (out.new ≡ out.old) × (host.new ≡ host.old))
         (environment (R.remaining source.old) (R.reads source.old) (R.failed source.old) (W.written out.old) (W.failed out.old) (W.idle out.old) (H.csv_at host.old) (H.failed_csv host.old) (H.clients host.old))
         (environment (R.remaining source.new) (R.reads source.new) (R.failed source.new) (W.written out.new) (W.failed out.new) (W.idle out.new) (H.csv_at host.new) (H.failed_csv host.new) (H.clients host.new)) conn))) }
     ensures unread { reads_input choice.now ≡ false → source.new ≡ source.old }

@@ -4,7 +4,7 @@ ghost use Rattle.std.specs.Io.KnownBytes.{Appends};
 ghost use Rattle.sqlite.specs.Held.{state};
 ghost use Rattle.rbac_sets.specs.Stream.{HasRisen};
 ghost use Rattle.role_cli.specs.Environment.{HasFailed};
-ghost use Rattle.role_cli.specs.ServedConnections.{AllServed, EndsBy, IsServedOver, IsServedSomehow, Serves, is_closing, status_in};
+ghost use Rattle.role_cli.specs.ServedConnections.{AllServed, EndsBy, IsServedOver, IsServedSomehow, ServesConnections, is_closing, status_in};
 ghost use Rattle.role_cli.specs.ErrorOutput.{IsLineOf, SaysSome};
 ghost use Rattle.role_cli.specs.Work.{FailsToServe, ServesAll, WritesPart, listening_line};
 ghost use Rattle.role_cli.specs.declared.failure.Failure.{Failure};
@@ -33,8 +33,8 @@ pub fn serve_on<S: Alter, A: Accept, E: Sink>(
     err: &mut E,
 ) -> u8
     ensures status { (result ≡ 0) ⊎ (result ≡ 1) }
-    ensures done { result ≡ 0 → Serves (state S.Store) (AllServed limit) (A.clients host.old) (A.clients host.new) office.old office.new × (err.new ≡ err.old) }
-    ensures failed { result ≡ 1 → (failure : Failure) × Serves (state S.Store) (EndsBy limit failure) (A.clients host.old) (A.clients host.new) office.old office.new
+    ensures done { result ≡ 0 → ServesConnections (state S.Store) (AllServed limit) (A.clients host.old) (A.clients host.new) office.old office.new × (err.new ≡ err.old) }
+    ensures failed { result ≡ 1 → (failure : Failure) × ServesConnections (state S.Store) (EndsBy limit failure) (A.clients host.old) (A.clients host.new) office.old office.new
         × SaysSome (IsLineOf failure) (E.written err.old) (E.written err.new) (HasFailed (E.failed err.old) (E.failed err.new) (E.idle err.old) (E.idle err.new)) }
 {
     match serve_all(alloc, office, host, limit) {
@@ -101,8 +101,8 @@ fn serve_all<S: Alter, A: Accept>(
     host: &mut A,
     limit: u32,
 ) -> Result<(), Failure>
-    ensures all { OnOk result (Serves (state S.Store) (AllServed limit) (A.clients host.old) (A.clients host.new) office.old office.new) }
-    ensures ended { IfErr result (λ failure. Serves (state S.Store) (EndsBy limit failure) (A.clients host.old) (A.clients host.new) office.old office.new) }
+    ensures all { OnOk result (ServesConnections (state S.Store) (AllServed limit) (A.clients host.old) (A.clients host.new) office.old office.new) }
+    ensures ended { IfErr result (λ failure. ServesConnections (state S.Store) (EndsBy limit failure) (A.clients host.old) (A.clients host.new) office.old office.new) }
 {
     let server = match Server::new(alloc) {
         Ok(server) => server,

@@ -14,11 +14,11 @@ ghost use Rattle.role_json.specs.Answer.{import_text};
 ghost use Rattle.role_json.specs.RequestContent.{Change};
 ghost use Rattle.role_tables.specs.Durability.{ForgetsNoFault};
 ghost use Rattle.role_wire.specs.Continuation.{Continues};
-ghost use Rattle.role_wire.specs.OfficeRequest.{Declines, Performs};
+ghost use Rattle.role_wire.specs.OfficeRequest.{RefusesRequest, DoesRequest};
 ghost use Rattle.role_wire.specs.Replay.{most_reads};
 ghost use Rattle.role_cli.specs.Environment.{HasFailed, environment};
 ghost use Rattle.role_cli.specs.FailureCause.{IsOpeningFailure, IsUnwritten};
-ghost use Rattle.role_cli.specs.Work.{Begins, Does, DoesOverSome, Fails, FailsOn, FailsToImport, FailsWhatever, Imports, IsUnopened, RefusesText, StartsWell, Works, WritesPart, asks_host, reads_input};
+ghost use Rattle.role_cli.specs.Work.{BeginsRun, DoesSubcommand, DoesOverSomeState, FailsSubcommand, FailsOnConnection, FailsToImport, FailsOrFindsNoOffice, Imports, IsUnopened, RefusesText, StartsWell, WorksOnConnection, WritesPart, asks_host, reads_input};
 
 use crate::choice::Choice;
 use crate::failure::Failure;
@@ -58,18 +58,18 @@ pub fn run_on_connection<S: Alter, H: Accept + CsvFiles, R: Source, W: Sink>(
     out: &mut W,
 ) -> (Result<(), Failure>, Connection<S>)
     ensures clean { ForgetsNoFault (state S.Store conn) (state S.Store result.1) }
-    ensures done { HasCleanDisk (state S.Store result.1) → OnOk result.0 (Works (state S.Store) choice.now (state S.Store conn) (λ first last. Does (state S.Store) choice.now first
+    ensures done { HasCleanDisk (state S.Store result.1) → OnOk result.0 (WorksOnConnection (state S.Store) choice.now (state S.Store conn) (λ first last. DoesSubcommand (state S.Store) choice.now first
         (environment (R.remaining source.old) (R.reads source.old) (R.failed source.old) (W.written out.old) (W.failed out.old) (W.idle out.old) (H.csv_at host.old) (H.failed_csv host.old) (H.clients host.old))
         (environment (R.remaining source.new) (R.reads source.new) (R.failed source.new) (W.written out.new) (W.failed out.new) (W.idle out.new) (H.csv_at host.new) (H.failed_csv host.new) (H.clients host.new)) last) result.1) }
-    ensures failed { HasCleanDisk (state S.Store result.1) → IfErr result.0 (λ failure. FailsOn (state S.Store) choice.now (state S.Store conn) failure ((source.new ≡ source.old) × (out.new ≡ out.old) × (host.new ≡ host.old))
+    ensures failed { HasCleanDisk (state S.Store result.1) → IfErr result.0 (λ failure. FailsOnConnection (state S.Store) choice.now (state S.Store conn) failure ((source.new ≡ source.old) × (out.new ≡ out.old) × (host.new ≡ host.old))
         (environment (R.remaining source.old) (R.reads source.old) (R.failed source.old) (W.written out.old) (W.failed out.old) (W.idle out.old) (H.csv_at host.old) (H.failed_csv host.old) (H.clients host.old))
         (environment (R.remaining source.new) (R.reads source.new) (R.failed source.new) (W.written out.new) (W.failed out.new) (W.idle out.new) (H.csv_at host.new) (H.failed_csv host.new) (H.clients host.new)) result.1) }
 
     // Whatever the disk returns, the work is done over an office of some good state.
-    ensures some { OnOk result.0 (DoesOverSome (state S.Store) choice.now
+    ensures some { OnOk result.0 (DoesOverSomeState (state S.Store) choice.now
         (environment (R.remaining source.old) (R.reads source.old) (R.failed source.old) (W.written out.old) (W.failed out.old) (W.idle out.old) (H.csv_at host.old) (H.failed_csv host.old) (H.clients host.old))
         (environment (R.remaining source.new) (R.reads source.new) (R.failed source.new) (W.written out.new) (W.failed out.new) (W.idle out.new) (H.csv_at host.new) (H.failed_csv host.new) (H.clients host.new))) }
-    ensures some_failed { IfErr result.0 (λ failure. FailsWhatever (state S.Store) choice.now failure ((source.new ≡ source.old) × (out.new ≡ out.old) × (host.new ≡ host.old))
+    ensures some_failed { IfErr result.0 (λ failure. FailsOrFindsNoOffice (state S.Store) choice.now failure ((source.new ≡ source.old) × (out.new ≡ out.old) × (host.new ≡ host.old))
         (environment (R.remaining source.old) (R.reads source.old) (R.failed source.old) (W.written out.old) (W.failed out.old) (W.idle out.old) (H.csv_at host.old) (H.failed_csv host.old) (H.clients host.old))
         (environment (R.remaining source.new) (R.reads source.new) (R.failed source.new) (W.written out.new) (W.failed out.new) (W.idle out.new) (H.csv_at host.new) (H.failed_csv host.new) (H.clients host.new))) }
     ensures unread { reads_input choice.now ≡ false → source.new ≡ source.old }
@@ -95,7 +95,7 @@ fn office_of<S: Alter>(
     ensures open { IfOk result (λ office. office.is_closed ≡ false) }
     ensures made { IfOk result (λ office. StartsWell choice.now office.facts) }
     ensures clean { MatchResult result (λ office. ForgetsNoFault (state S.Store conn) (state S.Store office.conn)) (λ u. ForgetsNoFault (state S.Store conn) (state S.Store u.conn)) }
-    ensures begins { IfOk result (λ office. HasCleanDisk (state S.Store office.conn) → Begins (state S.Store) choice.now (state S.Store conn) office) }
+    ensures begins { IfOk result (λ office. HasCleanDisk (state S.Store office.conn) → BeginsRun (state S.Store) choice.now (state S.Store conn) office) }
     ensures refusal { IfErr result (λ u. IsOpeningFailure choice.now (Failure.Refused u.refusal)) }
     ensures unopened { IfErr result (λ u. HasCleanDisk (state S.Store u.conn) → IsUnopened (state S.Store) choice.now (state S.Store conn) u.refusal (state S.Store u.conn)) }
 {
@@ -116,10 +116,10 @@ fn run_on_office<S: Alter, H: Accept + CsvFiles, R: Source, W: Sink>(
     out: &mut W,
 ) -> Result<(), Failure>
     requires open { office.old.is_closed ≡ false }
-    ensures done { OnOk result (Does (state S.Store) choice.now office.old
+    ensures done { OnOk result (DoesSubcommand (state S.Store) choice.now office.old
         (environment (R.remaining source.old) (R.reads source.old) (R.failed source.old) (W.written out.old) (W.failed out.old) (W.idle out.old) (H.csv_at host.old) (H.failed_csv host.old) (H.clients host.old))
         (environment (R.remaining source.new) (R.reads source.new) (R.failed source.new) (W.written out.new) (W.failed out.new) (W.idle out.new) (H.csv_at host.new) (H.failed_csv host.new) (H.clients host.new)) office.new) }
-    ensures failed { IfErr result (λ failure. Fails (state S.Store) choice.now failure office.old
+    ensures failed { IfErr result (λ failure. FailsSubcommand (state S.Store) choice.now failure office.old
         (environment (R.remaining source.old) (R.reads source.old) (R.failed source.old) (W.written out.old) (W.failed out.old) (W.idle out.old) (H.csv_at host.old) (H.failed_csv host.old) (H.clients host.old))
         (environment (R.remaining source.new) (R.reads source.new) (R.failed source.new) (W.written out.new) (W.failed out.new) (W.idle out.new) (H.csv_at host.new) (H.failed_csv host.new) (H.clients host.new)) office.new) }
     ensures continues { Continues (state S.Store) office.old office.new }
@@ -219,10 +219,10 @@ fn import<S: Alter, C: CsvFiles, W: Sink>(
 // Imports the assignments of a text, and returns the line of the answer.
 fn imported<S: Alter>(alloc: Global, office: &mut Office<S>, text: &[u8]) -> Result<String, Refusal>
     ensures ok { IfOk result (λ line. (pairs : List Pair) × (answer : List ℕ) × (assignments text.now ≡ Ok pairs)
-        × Performs (state S.Store) office.old (Change (Import pairs)) answer office.new × (string_bytes line ≡ answer ++ (10 ∷ []))) }
+        × DoesRequest (state S.Store) office.old (Change (Import pairs)) answer office.new × (string_bytes line ≡ answer ++ (10 ∷ []))) }
     ensures err { IfErr result (λ refusal. (RefusesText text.now refusal × (office.new ≡ office.old))
-        ⊎ ((pairs : List Pair) × (assignments text.now ≡ Ok pairs) × (Declines (state S.Store) office.old (Change (Import pairs)) refusal office.new
-        ⊎ ((refusal ≡ Refusal.Memory) × ((answer : List ℕ) × Performs (state S.Store) office.old (Change (Import pairs)) answer office.new))))) }
+        ⊎ ((pairs : List Pair) × (assignments text.now ≡ Ok pairs) × (RefusesRequest (state S.Store) office.old (Change (Import pairs)) refusal office.new
+        ⊎ ((refusal ≡ Refusal.Memory) × ((answer : List ℕ) × DoesRequest (state S.Store) office.old (Change (Import pairs)) answer office.new))))) }
 {
     let pairs = read_assignments(alloc, text)?;
     let command = Command::ImportAssignments(pairs);
@@ -238,9 +238,9 @@ fn import_pairs<S: Alter>(
     command: &Command,
 ) -> Result<String, Refusal>
     requires { (pairs : List Pair) × (content_of command.now ≡ Import pairs) }
-    ensures ok { IfOk result (λ line. (answer : List ℕ) × Performs (state S.Store) office.old (Change (content_of command.now)) answer office.new × (string_bytes line ≡ answer ++ (10 ∷ []))) }
-    ensures err { IfErr result (λ refusal. Declines (state S.Store) office.old (Change (content_of command.now)) refusal office.new
-        ⊎ ((refusal ≡ Refusal.Memory) × ((answer : List ℕ) × Performs (state S.Store) office.old (Change (content_of command.now)) answer office.new))) }
+    ensures ok { IfOk result (λ line. (answer : List ℕ) × DoesRequest (state S.Store) office.old (Change (content_of command.now)) answer office.new × (string_bytes line ≡ answer ++ (10 ∷ []))) }
+    ensures err { IfErr result (λ refusal. RefusesRequest (state S.Store) office.old (Change (content_of command.now)) refusal office.new
+        ⊎ ((refusal ≡ Refusal.Memory) × ((answer : List ℕ) × DoesRequest (state S.Store) office.old (Change (content_of command.now)) answer office.new))) }
 {
     let report = office.apply(alloc, command)?;
     import_line(alloc, report)

@@ -19,7 +19,7 @@ use Rattle.review_mgr.specs.declared.query.Query.{Query}
 use Rattle.role_json.specs.Answer.{text_of, told_text}
 use Rattle.role_json.specs.Request.{request}
 use Rattle.role_json.specs.RequestContent.{RequestContent, Change, Ask}
-use Rattle.role_lines.specs.LineAnswer.{AnswersLine, AnswersRequest, Declines, HadNoMemory, Performs, verdict_of_refusal}
+use Rattle.role_lines.specs.LineAnswer.{AnswersLine, AnswersRequest, RefusesRequest, HadNoMemory, DoesRequest, verdict_of_refusal}
 use Rattle.role_lines.specs.Outcome.{accepted_text, outcome_of, state_after, outcome_text, unless, answer_to, after_line}
 use Rattle.role_lines.specs.Revision.{next_revision, revision_after, revision_after_line}
 
@@ -32,7 +32,7 @@ module _ (S : RbacState) (n : ℕ) (command : Command) where
 
   -- a command that was done
   pub command_done : (T : RbacState) (m : ℕ) (told : Tally) (text : List ℕ) → verdict S command ≡ None → T ≡ after S command → m ≡ next_revision n → told ≡ tally S command
-      → text ≡ accepted_text (content_of command) told → Performs S n (Change (content_of command)) text T m
+      → text ≡ accepted_text (content_of command) told → DoesRequest S n (Change (content_of command)) text T m
   unfolding outcome_of state_after revision_after
   command_done T m told text none to counted is text_is = record {
     outcome = rw (accepted none) (ap (λ t. Ok t) (ap (λ n. accepted_text (content_of command) n) (sym (is ∙ law.tally_is)) ∙ sym text_is));
@@ -42,19 +42,19 @@ module _ (S : RbacState) (n : ℕ) (command : Command) where
 
   -- one that was refused
   pub command_refused : (T : RbacState) (m : ℕ) (refusal : Refusal) → T ≡ S → m ≡ n → (refusal ≡ Memory) ⊎ (verdict S command ≡ Some refusal)
-      → Declines S n (Change (content_of command)) refusal T m
+      → RefusesRequest S n (Change (content_of command)) refusal T m
   unfolding outcome_of
   command_refused T m refusal same still (inl memory) = record { state = same; revision = still; cause = inl memory }
   command_refused T m refusal same still (inr is) = record { state = same; revision = still; cause = inr (rw (sym law.verdict_is ∙ is) refl) }
 
 module _ (S : RbacState) (n : ℕ) (query : Query) where
   -- a question that was answered
-  pub question_answered : (told : Told) → refused S query ≡ None → told ≡ value S query → Performs S n (Ask query) (told_text told) S n
+  pub question_answered : (told : Told) → refused S query ≡ None → told ≡ value S query → DoesRequest S n (Ask query) (told_text told) S n
   unfolding outcome_of state_after revision_after
   question_answered told none is = record { outcome = rw none (ap (λ t. Ok (told_text t)) (sym is)); state = refl; revision = refl }
 
   -- one that was refused
-  pub question_refused : (refusal : Refusal) → (refusal ≡ Memory) ⊎ (refused S query ≡ Some refusal) → Declines S n (Ask query) refusal S n
+  pub question_refused : (refusal : Refusal) → (refusal ≡ Memory) ⊎ (refused S query ≡ Some refusal) → RefusesRequest S n (Ask query) refusal S n
   unfolding outcome_of
   question_refused refusal (inl memory) = record { state = refl; revision = refl; cause = inl memory }
   question_refused refusal (inr is) = record { state = refl; revision = refl; cause = inr (rw is refl) }
@@ -77,11 +77,11 @@ module _ (S : RbacState) (n : ℕ) where
   counts_none (Ask query) refusal is = refl
 
 module _ (S : RbacState) (n : ℕ) (asked : RequestContent) where
-  pub request_done : (text : List ℕ) (T : RbacState) (m : ℕ) → Performs S n asked text T m → AnswersRequest S n asked text T m
+  pub request_done : (text : List ℕ) (T : RbacState) (m : ℕ) → DoesRequest S n asked text T m → AnswersRequest S n asked text T m
   request_done text T m done = record { text_is = sym (ap outcome_text done.outcome); state = done.state; revision = done.revision }
 
   -- a request that was declined
-  pub request_declined : (refusal : Refusal) (T : RbacState) (m : ℕ) → Declines S n asked refusal T m
+  pub request_declined : (refusal : Refusal) (T : RbacState) (m : ℕ) → RefusesRequest S n asked refusal T m
       → IfOk (verdict_of_refusal refusal) (λ verdict. AnswersRequest S n asked (text_of verdict) T m) × IfErr (verdict_of_refusal refusal) (λ cause. HadNoMemory S n cause T m)
   unfolding text_of
   request_declined refusal T m declined = elim (cases_Bool (is_memory refusal)) [

@@ -14,13 +14,13 @@ use Rattle.role_lines.specs.Revision.{revision_after, revision_after_line}
 -- S and n are the state and the revision before, T and m those afterwards
 module _ (S : RbacState) (n : ℕ) where
   -- the request was done or answered, with this text
-  pub record Performs (asked : RequestContent) (text : List ℕ) (T : RbacState) (m : ℕ) : Type 0 where
+  pub record DoesRequest (asked : RequestContent) (text : List ℕ) (T : RbacState) (m : ℕ) : Type 0 where
     pub outcome : outcome_of S asked ≡ Ok text
     pub state : T ≡ state_after S asked
     pub revision : m ≡ revision_after S asked n
 
   -- the request was declined, and all is as before: an allocation failed, or the request is refused
-  pub record Declines (asked : RequestContent) (refusal : Refusal) (T : RbacState) (m : ℕ) : Type 0 where
+  pub record RefusesRequest (asked : RequestContent) (refusal : Refusal) (T : RbacState) (m : ℕ) : Type 0 where
     pub state : T ≡ S
     pub revision : m ≡ n
     pub cause : (refusal ≡ Memory) ⊎ (outcome_of S asked ≡ Err refusal)

@@ -4,7 +4,7 @@ ghost use Rattle.rbac_sets.specs.CommandContent.{content_of};
 ghost use Rattle.admin_mgr.specs.PlanEffect.{tally_of_report};
 ghost use Rattle.role_json.specs.Answer.{text_of};
 ghost use Rattle.role_json.specs.RequestContent.{requested, Ask, Change};
-ghost use Rattle.role_lines.specs.LineAnswer.{AnswersLine, AnswersRequest, Declines, HadNoMemory, Performs, verdict_of_refusal};
+ghost use Rattle.role_lines.specs.LineAnswer.{AnswersLine, AnswersRequest, RefusesRequest, HadNoMemory, DoesRequest, verdict_of_refusal};
 ghost use Rattle.role_lines.specs.Outcome.{accepted_text};
 ghost use Rattle.role_lines.specs.Revision.{next_revision};
 
@@ -67,8 +67,8 @@ fn perform(
     revision: &mut u64,
     request: &Request,
 ) -> Result<Verdict, Refusal>
-    ensures done { IfOk result (λ verdict. Performs state.old.facts revision.old (requested request.now) (text_of verdict) state.new.facts revision.new) }
-    ensures declined { IfErr result (λ refusal. Declines state.old.facts revision.old (requested request.now) refusal state.new.facts revision.new) }
+    ensures done { IfOk result (λ verdict. DoesRequest state.old.facts revision.old (requested request.now) (text_of verdict) state.new.facts revision.new) }
+    ensures declined { IfErr result (λ refusal. RefusesRequest state.old.facts revision.old (requested request.now) refusal state.new.facts revision.new) }
 {
     match request {
         Request::Change(command) => change(alloc, state, revision, command),
@@ -78,8 +78,8 @@ fn perform(
 
 // Answers a question.
 fn question(alloc: Global, state: &State, revision: &u64, query: &Query) -> Result<Verdict, Refusal>
-    ensures done { IfOk result (λ verdict. Performs state.now.facts revision.now (Ask query.now) (text_of verdict) state.now.facts revision.now) }
-    ensures declined { IfErr result (λ refusal. Declines state.now.facts revision.now (Ask query.now) refusal state.now.facts revision.now) }
+    ensures done { IfOk result (λ verdict. DoesRequest state.now.facts revision.now (Ask query.now) (text_of verdict) state.now.facts revision.now) }
+    ensures declined { IfErr result (λ refusal. RefusesRequest state.now.facts revision.now (Ask query.now) refusal state.now.facts revision.now) }
 {
     let told = ask(alloc, state, query)?;
     Ok(Verdict::Told(told))
@@ -92,8 +92,8 @@ fn change(
     revision: &mut u64,
     command: &Command,
 ) -> Result<Verdict, Refusal>
-    ensures done { IfOk result (λ verdict. Performs state.old.facts revision.old (Change (content_of command.now)) (text_of verdict) state.new.facts revision.new) }
-    ensures declined { IfErr result (λ refusal. Declines state.old.facts revision.old (Change (content_of command.now)) refusal state.new.facts revision.new) }
+    ensures done { IfOk result (λ verdict. DoesRequest state.old.facts revision.old (Change (content_of command.now)) (text_of verdict) state.new.facts revision.new) }
+    ensures declined { IfErr result (λ refusal. RefusesRequest state.old.facts revision.old (Change (content_of command.now)) refusal state.new.facts revision.new) }
 {
     let plan = state.plan(alloc, command)?;
     state.make_room(&plan)?;

@@ -11,7 +11,7 @@ use Rattle.role_tables.specs.Office.{OfficeModel}
 use Rattle.role_wire.specs.Continuation.{ReachesState}
 use Rattle.role_wire.specs.private.PreparedReply.{AnswersBody, IsReadAs, IsRefusal, ReportsRefusal, is_fixed}
 use Rattle.role_wire.specs.Outcome.{outcome_of, state_after}
-use Rattle.role_wire.specs.OfficeRequest.{IsImport, IsQuestion, Performs, Declines}
+use Rattle.role_wire.specs.OfficeRequest.{IsImport, IsQuestion, DoesRequest, RefusesRequest}
 use Rattle.role_wire.specs.Reply.{reply_of}
 use Rattle.role_wire.specs.ServedRequest.{IsThisReply, IsAnsweredInstead, IsImported, StaysClosed}
 use Rattle.role_wire.specs.declared.prepared_reply.PreparedReply.{PreparedReply}
@@ -53,12 +53,12 @@ module _ {S : Type 0} (shown : Held S → State) where
   )
 
   -- a request that was done or answered
-  pub performed_told : (old new : OfficeModel S) (asked : RequestContent) (text : List ℕ) (status : ℕ) (body : List ℕ) (taken : ℕ) → Performs shown old asked text new → status ≡ 200 → body ≡ text
+  pub performed_told : (old new : OfficeModel S) (asked : RequestContent) (text : List ℕ) (status : ℕ) (body : List ℕ) (taken : ℕ) → DoesRequest shown old asked text new → status ≡ 200 → body ≡ text
       → IsThisReply shown old (reply_of old.facts taken (Ok asked)) status body new
   performed_told old new asked text status body taken performs ok is = rw performs.outcome (ok, is, performs.reaches)
 
   -- a question whose answer text could not be allocated
-  pub question_untold : (old new : OfficeModel S) (asked : RequestContent) (text : List ℕ) (made : PreparedReply) → Performs shown old asked text new → IsQuestion asked → IsRefusal Memory made
+  pub question_untold : (old new : OfficeModel S) (asked : RequestContent) (text : List ℕ) (made : PreparedReply) → DoesRequest shown old asked text new → IsQuestion asked → IsRefusal Memory made
       → AnswersBody shown old (Ok asked) made new
   unfolding state_after
   question_untold old new asked text made performs (query, is) tells = (
@@ -67,12 +67,12 @@ module _ {S : Type 0} (shown : Held S → State) where
   )
 
   -- an import whose answer text could not be allocated
-  pub import_untold : (old new : OfficeModel S) (asked : RequestContent) (text : List ℕ) → Performs shown old asked text new → IsImport asked → IsImported shown old (IsReadAs (Ok asked)) new
+  pub import_untold : (old new : OfficeModel S) (asked : RequestContent) (text : List ℕ) → DoesRequest shown old asked text new → IsImport asked → IsImported shown old (IsReadAs (Ok asked)) new
   import_untold old new asked text performs imports =
       (asked, refl, performs.is_open, (imports, import_accepted old.facts asked text performs.outcome imports), performs.reaches)
 
   -- a request that was not done
-  pub declined_told : (old new : OfficeModel S) (asked : RequestContent) (refusal : Refusal) (made : PreparedReply) → Declines shown old asked refusal new → ReportsRefusal refusal made
+  pub declined_told : (old new : OfficeModel S) (asked : RequestContent) (refusal : Refusal) (made : PreparedReply) → RefusesRequest shown old asked refusal new → ReportsRefusal refusal made
       → AnswersBody shown old (Ok asked) made new
   declined_told old new asked refusal made (inl (is, same)) (inl tells) = memory_refused old new (Ok asked) made same (rw is at tells)
   declined_told old new asked refusal made (inl (is, same)) (inr (tells, plain)) = memory_refused old new (Ok asked) made same tells

@@ -26,7 +26,7 @@ use Rattle.role_tables.specs.Office.{OfficeModel}
 use Rattle.role_wire.specs.Continuation.{ReachesState}
 use Rattle.role_wire.specs.LineAnswer.{AnswersLine, FailsLine, FailsRequest, verdict_of_refusal, unread_verdict}
 use Rattle.role_wire.specs.Outcome.{outcome_of, state_after, outcome_text, unless, answer_to, after_line}
-use Rattle.role_wire.specs.OfficeRequest.{Declines, IsAccepted, IsImport, IsQuestion, Performs}
+use Rattle.role_wire.specs.OfficeRequest.{RefusesRequest, IsAccepted, IsImport, IsQuestion, DoesRequest}
 use Rattle.role_wire.specs.declared.lines.Unanswered.{Unanswered}
 use Rattle.role_wire.specs.declared.lines.Unanswered.TheVariants as unanswered
 use Rattle.role_wire.proofs.Performed.{same_state, stays}
@@ -93,7 +93,7 @@ module _ {S : Type 0} (shown : Held S → State) where
   Untold old asked new verdict = verdict ≢ Done → FailsRequest shown old asked unanswered.Memory new
 
   -- a question that was answered, or an import that was done
-  pub performed_untold : (old new : OfficeModel S) (asked : RequestContent) (text : List ℕ) → Performs shown old asked text new → IsQuestion asked ⊎ IsImport asked → FailsRequest shown old asked unanswered.Memory new
+  pub performed_untold : (old new : OfficeModel S) (asked : RequestContent) (text : List ℕ) → DoesRequest shown old asked text new → IsQuestion asked ⊎ IsImport asked → FailsRequest shown old asked unanswered.Memory new
   unfolding state_after
   performed_untold old new asked text performs (inl (query, is)) = inl (subst (λ T. ReachesState shown old T new) (ap (state_after old.facts) is) performs.reaches)
   performed_untold old new asked text performs (inr imports) = inr ((imports, import_accepted old.facts asked text performs.outcome imports), performs.reaches)
@@ -112,7 +112,7 @@ module _ {S : Type 0} (shown : Held S → State) where
   )
 
   -- a request that was not done
-  pub judged_refusal : (old new : OfficeModel S) (asked : RequestContent) (refusal : Refusal) → Declines shown old asked refusal new
+  pub judged_refusal : (old new : OfficeModel S) (asked : RequestContent) (refusal : Refusal) → RefusesRequest shown old asked refusal new
       → IfOk (verdict_of_refusal refusal) (Told old asked new) × IfOk (verdict_of_refusal refusal) (Untold old asked new)
       × IfErr (verdict_of_refusal refusal) (λ unanswered. FailsRequest shown old asked unanswered new)
   judged_refusal old new asked refusal (inl (is, same)) = rw is (tt, tt, inl (same_state shown old new same))

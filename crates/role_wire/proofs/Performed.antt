@@ -25,7 +25,7 @@ use Rattle.role_tables.specs.Durability.{ForgetsNoFault, HoldsAsBefore, LeavesBy
 use Rattle.role_tables.specs.StoredState.{HoldsState}
 use Rattle.role_wire.specs.Continuation.{StaysDurable, ReachesState, StaysInRun}
 use Rattle.role_wire.specs.Outcome.{accepted_text, outcome_of, state_after}
-use Rattle.role_wire.specs.OfficeRequest.{Performs, StoreFailsFor, Declines}
+use Rattle.role_wire.specs.OfficeRequest.{DoesRequest, StoreFailsFor, RefusesRequest}
 
 module _ {S : Type 0} (shown : Held S → State) where
   -- an office is in its own run, with no event added
@@ -66,7 +66,7 @@ module _ {S : Type 0} (shown : Held S → State) where
     leads none = rw (accepted none) (sym law.after_is)
 
     -- a command that was done
-    pub command_done : (report : Report) → result ≡ Ok report → Performs shown old (Change (content_of command)) (accepted_text (content_of command) (tally_of_report report)) new
+    pub command_done : (report : Report) → result ≡ Ok report → DoesRequest shown old (Change (content_of command)) (accepted_text (content_of command) (tally_of_report report)) new
     unfolding outcome_of
     command_done report is = elim (cases_Bool old.is_closed) [
       | inl shut ↦ absurd (let no = sym is ∙ (closed shut).0 in cc)
@@ -111,7 +111,7 @@ module _ {S : Type 0} (shown : Held S → State) where
           };
         }
 
-    refused_by : old.is_closed ≡ false → (refusal : Refusal) → result ≡ Err refusal → AnswersCommand old command (Err refusal) new → Declines shown old (Change (content_of command)) refusal new
+    refused_by : old.is_closed ≡ false → (refusal : Refusal) → result ≡ Err refusal → AnswersCommand old command (Err refusal) new → RefusesRequest shown old (Change (content_of command)) refusal new
     unfolding outcome_of
     refused_by works Memory is told = inl (refl, told)
     refused_by works Store is told = inr (inl (refl, broken works is))
@@ -119,7 +119,7 @@ module _ {S : Type 0} (shown : Held S → State) where
     refused_by works refusal is told = inr (inr (inr (rw (sym law.verdict_is ∙ told.0) refl, works, told.1)))
 
     -- one that was not done
-    pub command_refused : (refusal : Refusal) → result ≡ Err refusal → Declines shown old (Change (content_of command)) refusal new
+    pub command_refused : (refusal : Refusal) → result ≡ Err refusal → RefusesRequest shown old (Change (content_of command)) refusal new
     command_refused refusal is = elim (cases_Bool old.is_closed) [
       | inl shut ↦ let same : refusal ≡ Closed = let both = sym is ∙ (closed shut).0 in cc in inr (inr (inl (same, shut, (closed shut).1)))
       | inr works ↦ refused_by works refusal is (subst (λ r. AnswersCommand old command r new) is (answers works))
@@ -128,7 +128,7 @@ module _ {S : Type 0} (shown : Held S → State) where
   -- ---- questions
 
   -- one that was answered
-  pub question_answered : (office : OfficeModel S) (query : Query) (told : Told) → office.is_closed ≡ false → refused office.facts query ≡ None → told ≡ value office.facts query → Performs shown office (Ask query) (told_text told) office
+  pub question_answered : (office : OfficeModel S) (query : Query) (told : Told) → office.is_closed ≡ false → refused office.facts query ≡ None → told ≡ value office.facts query → DoesRequest shown office (Ask query) (told_text told) office
   unfolding outcome_of state_after
   question_answered office query told works accepted is = record {
     is_open = works;
@@ -137,7 +137,7 @@ module _ {S : Type 0} (shown : Held S → State) where
   }
 
   -- one that was not
-  pub question_refused : (office : OfficeModel S) (query : Query) (refusal : Refusal) → office.is_closed ≡ false → (refusal ≡ Memory) ⊎ (refused office.facts query ≡ Some refusal) → Declines shown office (Ask query) refusal office
+  pub question_refused : (office : OfficeModel S) (query : Query) (refusal : Refusal) → office.is_closed ≡ false → (refusal ≡ Memory) ⊎ (refused office.facts query ≡ Some refusal) → RefusesRequest shown office (Ask query) refusal office
   unfolding outcome_of
   question_refused office query refusal works (inl memory) = inl (memory, refl)
   question_refused office query refusal works (inr is) = inr (inr (inr (rw is refl, works, refl)))

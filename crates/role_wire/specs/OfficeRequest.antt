@@ -40,7 +40,7 @@ AsksImport S line = (asked : RequestContent) × (request line ≡ Ok asked) × I
 
 module _ {S : Type 0} (shown : Held S → State) where
   -- an open office did the command or answered the question, and this is the answer text
-  pub record Performs (old : OfficeModel S) (requested : RequestContent) (text : List ℕ) (new : OfficeModel S) : Type 0 where
+  pub record DoesRequest (old : OfficeModel S) (requested : RequestContent) (text : List ℕ) (new : OfficeModel S) : Type 0 where
     pub is_open : old.is_closed ≡ false
     pub outcome : outcome_of old.facts requested ≡ Ok text
     pub reaches : ReachesState shown old (state_after old.facts requested) new
@@ -52,8 +52,8 @@ module _ {S : Type 0} (shown : Held S → State) where
     pub breaks : StoreFails shown old old.facts (state_after old.facts requested) new
 
   -- the request was declined: an allocation failed, the store failed, the office is closed, or an open office refuses the request
-  abbrev pub Declines : OfficeModel S → RequestContent → Refusal → OfficeModel S → Type 0
-  Declines old requested refusal new =
+  abbrev pub RefusesRequest : OfficeModel S → RequestContent → Refusal → OfficeModel S → Type 0
+  RefusesRequest old requested refusal new =
       ((refusal ≡ Memory) × (new ≡ old))
       ⊎ (((refusal ≡ Store) × StoreFailsFor old requested new)
       ⊎ (((refusal ≡ Closed) × (old.is_closed ≡ true) × (new ≡ old))

@@ -6,7 +6,7 @@ ghost use Rattle.role_json.specs.Answer.{text_of};
 ghost use Rattle.role_json.specs.RequestContent.{requested, Change, Ask};
 ghost use Rattle.admin_mgr.specs.PlanEffect.{tally_of_report};
 ghost use Rattle.role_wire.specs.Outcome.{accepted_text};
-ghost use Rattle.role_wire.specs.OfficeRequest.{Declines, IsImport, IsQuestion, Performs};
+ghost use Rattle.role_wire.specs.OfficeRequest.{RefusesRequest, IsImport, IsQuestion, DoesRequest};
 
 use admin_mgr::Report;
 use rbac_sets::{Command, Refusal};
@@ -23,9 +23,9 @@ pub(crate) fn perform<S: Alter>(
     office: &mut Office<S>,
     request: &Request,
 ) -> Result<Verdict, Refusal>
-    ensures done { IfOk result (λ verdict. Performs (state S.Store) office.old (requested request.now) (text_of verdict) office.new) }
+    ensures done { IfOk result (λ verdict. DoesRequest (state S.Store) office.old (requested request.now) (text_of verdict) office.new) }
     ensures other { IfOk result (λ verdict. verdict ≢ Verdict.Done → IsQuestion (requested request.now) ⊎ IsImport (requested request.now)) }
-    ensures refused { IfErr result (λ refusal. Declines (state S.Store) office.old (requested request.now) refusal office.new) }
+    ensures refused { IfErr result (λ refusal. RefusesRequest (state S.Store) office.old (requested request.now) refusal office.new) }
 {
     match request {
         Request::Change(command) => change(alloc, office, command),
@@ -39,9 +39,9 @@ fn change<S: Alter>(
     office: &mut Office<S>,
     command: &Command,
 ) -> Result<Verdict, Refusal>
-    ensures done { IfOk result (λ verdict. Performs (state S.Store) office.old (Change (content_of command.now)) (text_of verdict) office.new) }
+    ensures done { IfOk result (λ verdict. DoesRequest (state S.Store) office.old (Change (content_of command.now)) (text_of verdict) office.new) }
     ensures other { IfOk result (λ verdict. verdict ≢ Verdict.Done → IsImport (Change (content_of command.now))) }
-    ensures refused { IfErr result (λ refusal. Declines (state S.Store) office.old (Change (content_of command.now)) refusal office.new) }
+    ensures refused { IfErr result (λ refusal. RefusesRequest (state S.Store) office.old (Change (content_of command.now)) refusal office.new) }
 {
     let report = office.apply(alloc, command)?;
     Ok(verdict_on(command, report))
@@ -61,8 +61,8 @@ fn verdict_on(command: &Command, report: Report) -> Verdict
 
 // Answers a question.
 fn answer<S: Alter>(alloc: Global, office: &Office<S>, query: &Query) -> Result<Verdict, Refusal>
-    ensures done { IfOk result (λ verdict. Performs (state S.Store) office.now (Ask query.now) (text_of verdict) office.now) }
-    ensures refused { IfErr result (λ refusal. Declines (state S.Store) office.now (Ask query.now) refusal office.now) }
+    ensures done { IfOk result (λ verdict. DoesRequest (state S.Store) office.now (Ask query.now) (text_of verdict) office.now) }
+    ensures refused { IfErr result (λ refusal. RefusesRequest (state S.Store) office.now (Ask query.now) refusal office.now) }
 {
     let state = office.state()?;
     let answer = ask(alloc, state, query)?;

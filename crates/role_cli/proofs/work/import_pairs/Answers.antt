@@ -5,7 +5,7 @@ use Rattle.admin_mgr.specs.PlanEffect.{tally_of_report}
 use Rattle.role_json.specs.Answer.{import_text}
 use Rattle.role_json.specs.RequestContent.{Change}
 use Rattle.role_wire.specs.Outcome.{accepted_text}
-use Rattle.role_wire.specs.OfficeRequest.{Performs}
+use Rattle.role_wire.specs.OfficeRequest.{DoesRequest}
 use Rattle.role_wire.proofs.Performed.{command_done, command_refused}
 use Rattle.role_wire.proofs.Results.{if_err-then, if_ok-then}
 use Rattle.role_cli.proofs.work.import_pairs.Goals as goal
@@ -18,7 +18,7 @@ returns-clause-ok g c =
     let accepts : accepted_text (content_of c.args.command.now) (tally_of_report c.in_ok-report.report) ≡ import_text (tally_of_report c.in_ok-report.report) = rw c.requires.1 refl in
     if_ok-then c.import_line.result _ _ c.import_line.ensures.ok (λ line text. (
       import_text (tally_of_report c.in_ok-report.report),
-      subst (λ answer. Performs (state g.S.Store) c.args.office.now (Change (content_of c.args.command.now)) answer c.apply.new.self) accepts
+      subst (λ answer. DoesRequest (state g.S.Store) c.args.office.now (Change (content_of c.args.command.now)) answer c.apply.new.self) accepts
           (command_done (state g.S.Store) c.args.office.now c.apply.new.self c.args.command.now c.apply.result e.closed e.answers e.clean e.done e.undone e.crash e.run c.in_ok-report.report is),
       text,
     ))

@@ -4,7 +4,7 @@ use Rattle.admin_mgr.specs.After.{after}
 use Rattle.admin_mgr.specs.PlanEffect.{LeadsTo, tally_of_report}
 use Rattle.role_json.specs.Answer.{text_of}
 use Rattle.role_json.specs.RequestContent.{Change}
-use Rattle.role_lines.specs.LineAnswer.{Declines}
+use Rattle.role_lines.specs.LineAnswer.{RefusesRequest}
 use Rattle.role_lines.proofs.Judging.{command_done, command_refused}
 use Rattle.role_lines.proofs.answering.change.Goals as goal
 
@@ -18,7 +18,7 @@ returns-in_err-plan-clause-declined c =
     let S = c.args.state.now.facts in
     let n = c.args.revision.now in
     let told : c.from_residual.result ≡ Err c.in_err-plan.field-0.0 = search rules in
-    subst (λ r. IfErr r (λ refusal. Declines S n (Change (content_of c.args.command.now)) refusal S n)) (sym told)
+    subst (λ r. IfErr r (λ refusal. RefusesRequest S n (Change (content_of c.args.command.now)) refusal S n)) (sym told)
     (command_refused S n c.args.command.now S n c.in_err-plan.field-0.0 refl refl c.in_err-plan.ensures.refused)
 
 pub returns-clause-done : goal.returns-clause-done

@@ -2,7 +2,7 @@ use Rattle.std.proofs.Common.{◌≡◌, Err, IfErr, rules, sym, subst}
 use Rattle.review_mgr.specs.Answering.{told}
 use Rattle.role_json.specs.Answer.{text_of}
 use Rattle.role_json.specs.RequestContent.{Ask}
-use Rattle.role_lines.specs.LineAnswer.{Declines}
+use Rattle.role_lines.specs.LineAnswer.{RefusesRequest}
 use Rattle.role_lines.proofs.Judging.{question_answered, question_refused}
 use Rattle.role_lines.proofs.answering.question.Goals as goal
 
@@ -11,7 +11,7 @@ returns-in_err-told-clause-declined c =
     let S = c.args.state.now.facts in
     let n = c.args.revision.now in
     let is : c.from_residual.result ≡ Err c.in_err-told.field-0.0 = search rules in
-    subst (λ r. IfErr r (λ refusal. Declines S n (Ask c.args.query.now) refusal S n)) (sym is)
+    subst (λ r. IfErr r (λ refusal. RefusesRequest S n (Ask c.args.query.now) refusal S n)) (sym is)
     (question_refused S n c.args.query.now c.in_err-told.field-0.0 c.in_err-told.ensures.refused)
 
 pub returns-clause-done : goal.returns-clause-done

@@ -5,7 +5,7 @@ use Rattle.review_mgr.specs.Answering.{told, value}
 use Rattle.review_mgr.specs.Questions.{refused}
 use Rattle.role_json.specs.Answer.{text_of}
 use Rattle.role_json.specs.RequestContent.{Ask}
-use Rattle.role_wire.specs.OfficeRequest.{Declines}
+use Rattle.role_wire.specs.OfficeRequest.{RefusesRequest}
 use Rattle.role_wire.proofs.Performed.{question_answered, question_refused}
 use Rattle.role_wire.proofs.office_request.answer.Goals as goal
 
@@ -14,7 +14,7 @@ returns-in_err-answer-clause-refused g c =
     let told : c.from_residual-in_err-answer.result ≡ Err c.in_err-answer.field-0.0 = search rules in
     let facts : c.in_ok-state.state.now.facts ≡ c.args.office.now.facts = search rules in
     let works : c.args.office.now.is_closed ≡ false = search rules in
-    subst (λ r. IfErr r (λ refusal. Declines (state g.S.Store) c.args.office.now (Ask c.args.query.now) refusal c.args.office.now)) (sym told)
+    subst (λ r. IfErr r (λ refusal. RefusesRequest (state g.S.Store) c.args.office.now (Ask c.args.query.now) refusal c.args.office.now)) (sym told)
     (question_refused (state g.S.Store) c.args.office.now c.args.query.now c.in_err-answer.field-0.0 works
     (subst (λ S. (c.in_err-answer.field-0.0 ≡ Memory) ⊎ (refused S c.args.query.now ≡ Some c.in_err-answer.field-0.0)) facts c.in_err-answer.ensures.refused))
 
