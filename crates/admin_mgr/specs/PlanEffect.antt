@@ -1,8 +1,7 @@
 -- Which state a plan leads to, what it reports, and the room that it needs.
 use Rattle.std.specs.Prelude.{◌≡◌, Option, Some, None}
 use Rattle.rbac_sets.specs.declared.command.Command.{Command}
-use Rattle.role_order.specs.Planned.{Order, Fits, changed}
-use Rattle.role_order.specs.Planned.{Plan as OrderPlan, HasRoom as OrderHasRoom}
+use Rattle.role_order.specs.Planned.{Order, OrderHasRoom, Fits, changed, Plan as OrderPlan}
 use Rattle.admin_mgr.specs.declared.plan.Plan.{Plan}
 use Rattle.admin_mgr.specs.declared.plan.Report.{Report}
 use Rattle.admin_mgr.specs.RbacState.{RbacState}

@@ -2,11 +2,13 @@
 //!
 //! There is one function for each command, or for the same command on static and on dynamic sets, and
 //! `judge` for any. The result is the verdict: the first of the command's refusals that applies, or `None`
-//! if the command is accepted. The state is never copied: whether the state after the command violates a
-//! separation of duty set is computed from the state before it. An assignment, an activated role and an
-//! inheritance are checked against each set of the kind of which the role (of an inheritance, the descendant) or
-//! a junior of it is a member; a new session is checked against every dynamic set, and a command on one set
-//! against that set.
+//! if the command is accepted. `refusals`, in specs/Verdict.antt, lists them in their order, and so does
+//! docs/API.md. A function that may have to copy the name of a violated set fails if that allocation does.
+//!
+//! The state is never copied: whether the state after the command violates a separation of duty set is
+//! computed from the state before it. An assignment, an activated role and an inheritance are checked
+//! against each set of the kind of which the role (of an inheritance, the descendant) or a junior of it is a
+//! member; a new session is checked against every dynamic set, and a command on one set against that set.
 ghost use Rattle.std.specs.Prelude.{◌≡◌, IfOk};
 ghost use Rattle.admin_mgr.specs.Verdict.{verdict};
 
@@ -26,7 +28,7 @@ use crate::judge::separation::{
 use crate::judge::sessions::{
     judge_add_active_role, judge_create_session, judge_delete_session, judge_drop_active_role,
 };
-use crate::separation_of_duty::SeparationOfDuty;
+use crate::separation_of_duty::SeparationOfDuty::{Dynamic, Static};
 use crate::state::State;
 use rbac_sets::{Command, Refusal};
 use std::alloc::{AllocError, Global};
@@ -82,72 +84,40 @@ pub(crate) fn judge(
             set,
             roles,
             cardinality,
-        } => judge_create_set(
-            alloc,
-            state,
-            SeparationOfDuty::Static,
-            set,
-            roles,
-            *cardinality,
-        ),
+        } => judge_create_set(alloc, state, Static, set, roles, *cardinality),
         Command::AddSsdRoleMember { set, role } => judge_add_member(
-            alloc,
-            state,
-            SeparationOfDuty::Static,
-            set,
-            role,
+            alloc, state, Static, set, role,
         ),
         Command::DeleteSsdRoleMember { set, role } => Ok(judge_delete_member(
-            state,
-            SeparationOfDuty::Static,
-            set,
-            role,
+            state, Static, set, role,
         )),
         Command::SetSsdSetCardinality { set, cardinality } => judge_set_cardinality(
             alloc,
             state,
-            SeparationOfDuty::Static,
+            Static,
             set,
             *cardinality,
         ),
-        Command::DeleteSsdSet { set } => Ok(judge_delete_set(state, SeparationOfDuty::Static, set)),
+        Command::DeleteSsdSet { set } => Ok(judge_delete_set(state, Static, set)),
         Command::CreateDsdSet {
             set,
             roles,
             cardinality,
-        } => judge_create_set(
-            alloc,
-            state,
-            SeparationOfDuty::Dynamic,
-            set,
-            roles,
-            *cardinality,
-        ),
+        } => judge_create_set(alloc, state, Dynamic, set, roles, *cardinality),
         Command::AddDsdRoleMember { set, role } => judge_add_member(
-            alloc,
-            state,
-            SeparationOfDuty::Dynamic,
-            set,
-            role,
+            alloc, state, Dynamic, set, role,
         ),
         Command::DeleteDsdRoleMember { set, role } => Ok(judge_delete_member(
-            state,
-            SeparationOfDuty::Dynamic,
-            set,
-            role,
+            state, Dynamic, set, role,
         )),
         Command::SetDsdSetCardinality { set, cardinality } => judge_set_cardinality(
             alloc,
             state,
-            SeparationOfDuty::Dynamic,
+            Dynamic,
             set,
             *cardinality,
         ),
-        Command::DeleteDsdSet { set } => Ok(judge_delete_set(
-            state,
-            SeparationOfDuty::Dynamic,
-            set,
-        )),
+        Command::DeleteDsdSet { set } => Ok(judge_delete_set(state, Dynamic, set)),
         Command::CreateSession {
             user,
             roles,

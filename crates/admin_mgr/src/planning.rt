@@ -1,8 +1,8 @@
 //! The plan of each command.
 //!
 //! A plan is made for a command that was judged before and is accepted. There is one function for each
-//! command, and `make` for any. A plan lists the rows to take and then those to put; the state is never
-//! copied.
+//! command that does more than to put or take one row, and `make` for any. A plan lists the rows to take and
+//! then those to put; the state is never copied.
 ghost use Rattle.std.specs.Prelude.{◌≡◌, ◌⊎◌, Some, None, IfOk, IfErr};
 ghost use Rattle.admin_mgr.specs.Verdict.{verdict};
 ghost use Rattle.admin_mgr.specs.PlanEffect.{IsPlanOf};
@@ -10,24 +10,22 @@ ghost use Rattle.admin_mgr.specs.PlanEffect.{IsPlanOf};
 use crate::judge::judge;
 use crate::plan::Plan;
 use crate::planning::core_rbac::{
-    plan_add_perm_obj, plan_add_permission, plan_add_role, plan_add_user, plan_assign_user,
-    plan_deassign_user, plan_delete_perm_obj, plan_delete_permission, plan_delete_role,
-    plan_delete_user, plan_grant_permission, plan_lock_user_account, plan_revoke_permission,
-    plan_unlock_user_account,
+    plan_deassign_user, plan_delete_permission, plan_delete_role, plan_delete_user,
+    plan_lock_user_account, plan_unlock_user_account,
 };
 use crate::planning::hierarchy::{
     plan_add_ascendant, plan_add_descendant, plan_add_inheritance, plan_delete_inheritance,
 };
 use crate::planning::importing::plan_import_assignments;
+use crate::planning::making::one_row;
+use crate::planning::rows::grant_row;
 use crate::planning::separation::{
     plan_add_member, plan_create_set, plan_delete_member, plan_delete_set, plan_set_cardinality,
 };
-use crate::planning::sessions::{
-    plan_add_active_role, plan_create_session, plan_delete_session, plan_drop_active_role,
-};
-use crate::separation_of_duty::SeparationOfDuty;
+use crate::planning::sessions::{plan_create_session, plan_delete_session};
+use crate::separation_of_duty::SeparationOfDuty::{Dynamic, Static};
 use crate::state::State;
-use rbac_sets::{Command, Refusal};
+use rbac_sets::{Change, Command, Refusal, Row};
 use std::alloc::Global;
 
 mod core_rbac;
@@ -49,7 +47,7 @@ impl State {
     ///
     /// # Errors
     ///
-    /// The first of the command's refusals that applies, in the order of docs/MODEL.md. `Memory` if an
+    /// The first of the command's refusals that applies, in the order of docs/API.md. `Memory` if an
     /// allocation failed. The state stays as it is in any case.
     pub fn plan(&self, alloc: Global, command: &Command) -> Result<Plan, Refusal>
         ensures accepted { IfOk result (λ plan. verdict self.now.facts command.now ≡ None) }
@@ -63,21 +61,30 @@ impl State {
     }
 }
 
-// The plan of an accepted command.
+// The plan of an accepted command. A command that only puts or takes one row needs no function of its own.
+#[tactic(auto, using(crate::proofs::PlanRows::AdditionPlans::done_add_user, crate::proofs::PlanRows::AdditionPlans::done_add_role, crate::proofs::PlanRows::AdditionPlans::done_add_perm_obj, crate::proofs::PlanRows::AdditionPlans::done_add_permission, crate::proofs::PlanRows::AdditionPlans::done_grant_permission, crate::proofs::PlanRows::AdditionPlans::done_add_active_role, crate::proofs::PlanRows::AssignPlans::done_assign_user, crate::proofs::PlanRows::RemovalPlans::done_delete_perm_obj, crate::proofs::PlanRows::RemovalPlans::done_revoke_permission, crate::proofs::PlanRows::RemovalPlans::done_drop_active_role,))]
 fn make(alloc: Global, state: &State, command: &Command) -> Result<Plan, Refusal>
     requires accepted { verdict state.now.facts command.now ≡ None }
     ensures planned { IfOk result (IsPlanOf state.now.facts command.now) }
     ensures cause { IfErr result (λ refusal. refusal ≡ Refusal.Memory) }
 {
+    state.recall_good();
     match command {
-        Command::AddUser { user } => plan_add_user(alloc, state, user),
+        Command::AddUser { user } => one_row(alloc, Change::Put(Row::user(user.copy(alloc)?))),
         Command::DeleteUser { user } => plan_delete_user(alloc, state, user),
-        Command::AddRole { role } => plan_add_role(alloc, state, role),
+        Command::AddRole { role } => one_row(alloc, Change::Put(Row::role(role.copy(alloc)?))),
         Command::DeleteRole { role } => plan_delete_role(alloc, state, role),
-        Command::AddPermObj { object } => plan_add_perm_obj(alloc, state, object),
-        Command::DeletePermObj { object } => plan_delete_perm_obj(alloc, state, object),
-        Command::AddPermission { object, operation } => plan_add_permission(
-            alloc, state, object, operation,
+        Command::AddPermObj { object } => one_row(
+            alloc,
+            Change::Put(Row::object(object.copy(alloc)?)),
+        ),
+        Command::DeletePermObj { object } => one_row(
+            alloc,
+            Change::Take(Row::object(object.copy(alloc)?)),
+        ),
+        Command::AddPermission { object, operation } => one_row(
+            alloc,
+            Change::Put(Row::permission(object.copy(alloc)?, operation.copy(alloc)?)),
         ),
         Command::DeletePermission { object, operation } => plan_delete_permission(
             alloc, state, object, operation,
@@ -86,13 +93,22 @@ fn make(alloc: Global, state: &State, command: &Command) -> Result<Plan, Refusal
             object,
             operation,
             role,
-        } => plan_grant_permission(alloc, state, object, operation, role),
+        } => one_row(
+            alloc,
+            Change::Put(grant_row(alloc, object, operation, role)?),
+        ),
         Command::RevokePermission {
             object,
             operation,
             role,
-        } => plan_revoke_permission(alloc, state, object, operation, role),
-        Command::AssignUser { user, role } => plan_assign_user(alloc, state, user, role),
+        } => one_row(
+            alloc,
+            Change::Take(grant_row(alloc, object, operation, role)?),
+        ),
+        Command::AssignUser { user, role } => one_row(
+            alloc,
+            Change::Put(Row::assignment(user.copy(alloc)?, role.copy(alloc)?)),
+        ),
         Command::DeassignUser { user, role } => plan_deassign_user(alloc, state, user, role),
         Command::AddInheritance { asc, desc } => plan_add_inheritance(alloc, state, asc, desc),
         Command::DeleteInheritance { asc, desc } => plan_delete_inheritance(
@@ -104,80 +120,38 @@ fn make(alloc: Global, state: &State, command: &Command) -> Result<Plan, Refusal
             set,
             roles,
             cardinality,
-        } => plan_create_set(
-            alloc,
-            state,
-            SeparationOfDuty::Static,
-            set,
-            roles,
-            *cardinality,
-        ),
-        Command::AddSsdRoleMember { set, role } => plan_add_member(
-            alloc,
-            state,
-            SeparationOfDuty::Static,
-            set,
-            role,
-        ),
+        } => plan_create_set(alloc, state, Static, set, roles, *cardinality),
+        Command::AddSsdRoleMember { set, role } => plan_add_member(alloc, state, Static, set, role),
         Command::DeleteSsdRoleMember { set, role } => plan_delete_member(
-            alloc,
-            state,
-            SeparationOfDuty::Static,
-            set,
-            role,
+            alloc, state, Static, set, role,
         ),
         Command::SetSsdSetCardinality { set, cardinality } => plan_set_cardinality(
             alloc,
             state,
-            SeparationOfDuty::Static,
+            Static,
             set,
             *cardinality,
         ),
-        Command::DeleteSsdSet { set } => plan_delete_set(
-            alloc,
-            state,
-            SeparationOfDuty::Static,
-            set,
-        ),
+        Command::DeleteSsdSet { set } => plan_delete_set(alloc, state, Static, set),
         Command::CreateDsdSet {
             set,
             roles,
             cardinality,
-        } => plan_create_set(
-            alloc,
-            state,
-            SeparationOfDuty::Dynamic,
-            set,
-            roles,
-            *cardinality,
-        ),
+        } => plan_create_set(alloc, state, Dynamic, set, roles, *cardinality),
         Command::AddDsdRoleMember { set, role } => plan_add_member(
-            alloc,
-            state,
-            SeparationOfDuty::Dynamic,
-            set,
-            role,
+            alloc, state, Dynamic, set, role,
         ),
         Command::DeleteDsdRoleMember { set, role } => plan_delete_member(
-            alloc,
-            state,
-            SeparationOfDuty::Dynamic,
-            set,
-            role,
+            alloc, state, Dynamic, set, role,
         ),
         Command::SetDsdSetCardinality { set, cardinality } => plan_set_cardinality(
             alloc,
             state,
-            SeparationOfDuty::Dynamic,
+            Dynamic,
             set,
             *cardinality,
         ),
-        Command::DeleteDsdSet { set } => plan_delete_set(
-            alloc,
-            state,
-            SeparationOfDuty::Dynamic,
-            set,
-        ),
+        Command::DeleteDsdSet { set } => plan_delete_set(alloc, state, Dynamic, set),
         Command::CreateSession {
             user,
             roles,
@@ -186,16 +160,14 @@ fn make(alloc: Global, state: &State, command: &Command) -> Result<Plan, Refusal
         Command::DeleteSession { user, session } => plan_delete_session(
             alloc, state, user, session,
         ),
-        Command::AddActiveRole {
-            user,
-            session,
-            role,
-        } => plan_add_active_role(alloc, state, user, session, role),
-        Command::DropActiveRole {
-            user,
-            session,
-            role,
-        } => plan_drop_active_role(alloc, state, user, session, role),
+        Command::AddActiveRole { session, role, .. } => one_row(
+            alloc,
+            Change::Put(Row::activated_role(session.copy(alloc)?, role.copy(alloc)?)),
+        ),
+        Command::DropActiveRole { session, role, .. } => one_row(
+            alloc,
+            Change::Take(Row::activated_role(session.copy(alloc)?, role.copy(alloc)?)),
+        ),
         Command::LockUserAccount { user } => plan_lock_user_account(alloc, state, user),
         Command::UnlockUserAccount { user } => plan_unlock_user_account(alloc, state, user),
         Command::ImportAssignments(pairs) => plan_import_assignments(alloc, state, pairs),

@@ -49,7 +49,7 @@ abbrev pub pairs_at : Pairs → Bytes → Bytes → ℕ
 pairs_at edges asc desc = (1 + len (seniors edges asc)) * (1 + len (juniors edges desc))
 
 -- the plan is one to add the edge, or to remove it
-pub record IsPlanOf (edges : Pairs) (adds : Bool) (asc desc : Bytes) (plan : Plan) : Type 0 where
+pub record IsOrderPlanOf (edges : Pairs) (adds : Bool) (asc desc : Bytes) (plan : Plan) : Type 0 where
   pub same_kind : plan.adds ≡ adds
   pub same_asc : plan.asc ≡ asc
   pub same_desc : plan.desc ≡ desc
@@ -57,6 +57,6 @@ pub record IsPlanOf (edges : Pairs) (adds : Bool) (asc desc : Bytes) (plan : Pla
   pub judged : plan.judged ≡ pairs_at edges asc desc
 
 -- there is room for what the plan adds
-pub record HasRoom (order : Order) (plan : Plan) : Type 0 where
+pub record OrderHasRoom (order : Order) (plan : Plan) : Type 0 where
   pub edge : plan.adds ≡ true → 1 ≤ order.edge_room
   pub pairs : len plan.puts ≤ order.pair_room

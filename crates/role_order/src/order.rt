@@ -4,7 +4,7 @@ ghost use Rattle.std.specs.List.{IsDistinct};
 ghost use Rattle.rbac_sets.specs.Sets.{Bytes, name_cmp, pair_cmp, empty, contains, insert, len, same_name};
 ghost use Rattle.rbac_sets.specs.SortedSet.{set_of};
 ghost use Rattle.role_order.specs.Order.{HasPair, Geq, geq, IsAcyclic, IsClosure, seniors, juniors};
-ghost use Rattle.role_order.specs.Planned.{changed, Fits, IsPlanOf, HasRoom};
+ghost use Rattle.role_order.specs.Planned.{changed, Fits, IsOrderPlanOf, OrderHasRoom};
 ghost use Rattle.role_order.specs.private.Removal.{AreJuniorsFirst};
 
 use crate::building::{crossed_pairs, set_of_firsts, set_of_seconds};
@@ -163,7 +163,7 @@ impl RoleOrder {
         ensures exists { (result ≡ Err Refusal.EdgeExists) ↔ HasPair self.now.edges asc.now desc.now }
         ensures cycle { (result ≡ Err Refusal.Cycle) ↔ ((HasPair self.now.edges asc.now desc.now → ⊥) × Geq self.now.edges desc.now asc.now) }
         ensures only { OnErr result ((result ≡ Err Refusal.EdgeExists) ⊎ ((result ≡ Err Refusal.Cycle) ⊎ (result ≡ Err Refusal.Memory))) }
-        ensures planned { IfOk result (IsPlanOf self.now.edges true asc.now desc.now) }
+        ensures planned { IfOk result (IsOrderPlanOf self.now.edges true asc.now desc.now) }
     {
         if self.has_edge(asc, desc) {
             return Err(Refusal::EdgeExists);
@@ -201,7 +201,7 @@ impl RoleOrder {
     pub fn plan_remove(&self, alloc: Global, asc: &Name, desc: &Name) -> Result<OrderPlan, Refusal>
         ensures absent { (result ≡ Err Refusal.NoEdge) ↔ (HasPair self.now.edges asc.now desc.now → ⊥) }
         ensures only { OnErr result ((result ≡ Err Refusal.NoEdge) ⊎ (result ≡ Err Refusal.Memory)) }
-        ensures planned { IfOk result (IsPlanOf self.now.edges false asc.now desc.now) }
+        ensures planned { IfOk result (IsOrderPlanOf self.now.edges false asc.now desc.now) }
     {
         if !self.has_edge(asc, desc) {
             return Err(Refusal::NoEdge);
@@ -233,7 +233,7 @@ impl RoleOrder {
     /// `Memory` if allocation failed. The edges are kept in any case.
     pub fn make_room(&mut self, plan: &OrderPlan) -> Result<(), Refusal>
         ensures edges { self.new.edges ≡ self.old.edges }
-        ensures ok { OnOk result (HasRoom self.new plan.now) }
+        ensures ok { OnOk result (OrderHasRoom self.new plan.now) }
         ensures cause { IfErr result (λ refusal. refusal ≡ Refusal.Memory) }
     {
         self.pairs.reserve(plan.puts.len())?;
@@ -249,7 +249,7 @@ impl RoleOrder {
     /// and can't fail.
     pub fn commit(&mut self, plan: OrderPlan)
         requires fits { Fits self.old.edges plan }
-        requires room { HasRoom self.old plan }
+        requires room { OrderHasRoom self.old plan }
         ensures { self.new.edges ≡ changed self.old.edges plan }
     {
         let OrderPlan {

@@ -11,7 +11,7 @@ use Rattle.rbac_sets.specs.declared.row.TheConstants.Row.{ROLE}
 use Rattle.rbac_sets.specs.declared.row.Change.{Change}
 use Rattle.rbac_sets.specs.declared.row.Change.TheVariants.{Put}
 use Rattle.role_order.specs.Order.{Geq, geq, IsGained}
-use Rattle.role_order.specs.Planned.{Plan, IsPlanOf, changed as changed_edges}
+use Rattle.role_order.specs.Planned.{Plan, IsOrderPlanOf, changed as changed_edges}
 use Rattle.role_order.proofs.Deciding.{geq-Decides}
 use Rattle.role_order.proofs.Planning.{changed-adds, changed-takes}
 use Rattle.admin_mgr.specs.RbacState.{RbacState}
@@ -37,17 +37,17 @@ use Rattle.admin_mgr.proofs.PlanRows.OrderTurns.{turns_adding_edge, turns_taking
 -- ---- the edge of a plan for this ascendant and descendant
 
 -- the edges after a plan that adds the edge
-pub edges_with : (edges : Pairs) (asc desc : Bytes) (plan : Plan) → IsPlanOf edges true asc desc plan → changed_edges edges plan ≡ insert edges (asc, desc)
+pub edges_with : (edges : Pairs) (asc desc : Bytes) (plan : Plan) → IsOrderPlanOf edges true asc desc plan → changed_edges edges plan ≡ insert edges (asc, desc)
 edges_with edges asc desc plan planned = changed-adds edges plan asc desc planned.same_kind planned.same_asc planned.same_desc
 
 -- the edges after a plan that removes the edge
-pub edges_without : (edges : Pairs) (asc desc : Bytes) (plan : Plan) → IsPlanOf edges false asc desc plan → changed_edges edges plan ≡ remove edges (asc, desc)
+pub edges_without : (edges : Pairs) (asc desc : Bytes) (plan : Plan) → IsOrderPlanOf edges false asc desc plan → changed_edges edges plan ≡ remove edges (asc, desc)
 edges_without edges asc desc plan planned = changed-takes edges plan asc desc planned.same_kind planned.same_asc planned.same_desc
 
 -- rows are inserted, and then those of the edge and of the pairs that the order gains
 pub turns_with_edge :
     {S T : RbacState} {changes : List Change} (asc desc : Bytes) (plan : Plan)
-    → IsPlanOf S.edges true asc desc plan → Steps putting S changes T
+    → IsOrderPlanOf S.edges true asc desc plan → Steps putting S changes T
     → Turns S (changes ++ order_puts asc desc plan.puts) (with_edges T (insert S.edges (asc, desc)))
 turns_with_edge {S} {T} {changes} asc desc plan planned steps =
     subst (λ (rows : List Change). Turns S rows (with_edges T (insert S.edges (asc, desc)))) (λ i. changes ++ order_puts (planned.same_asc i) (planned.same_desc i) plan.puts)
@@ -57,7 +57,7 @@ turns_with_edge {S} {T} {changes} asc desc plan planned steps =
 -- the rows of the edge and of the pairs that the order loses are removed, and then other rows
 pub turns_without_edge :
     {S T : RbacState} {changes : List Change} (asc desc : Bytes) (plan : Plan)
-    → IsPlanOf S.edges false asc desc plan → contains S.edges (asc, desc) ≡ true → Steps taking S changes T
+    → IsOrderPlanOf S.edges false asc desc plan → contains S.edges (asc, desc) ≡ true → Steps taking S changes T
     → Turns S (order_takes asc desc plan.takes ++ changes) (with_edges T (remove S.edges (asc, desc)))
 turns_without_edge {S} {T} {changes} asc desc plan planned there steps =
     subst (λ (rows : List Change). Turns S rows (with_edges T (remove S.edges (asc, desc)))) (λ i. order_takes (planned.same_asc i) (planned.same_desc i) plan.takes ++ changes)
@@ -114,7 +114,7 @@ descendant_makes_no_cycle S good asc desc accepted = not_above S.edges desc asc 
 
 module _ (S : RbacState) (good : IsGood S) (asc desc : Bytes) (plan : Plan) where
   -- an immediate inheritance is deleted, with the pairs that the order loses and the sessions that depended on them
-  module _ (accepted : verdict S (DeleteInheritance asc desc) ≡ None) (planned : IsPlanOf S.edges false asc desc plan) where
+  module _ (accepted : verdict S (DeleteInheritance asc desc) ≡ None) (planned : IsOrderPlanOf S.edges false asc desc plan) where
     -- the state without the edge, before sessions end
     without : RbacState
     without = changed S (DeleteInheritance asc desc)
@@ -142,7 +142,7 @@ module _ (S : RbacState) (good : IsGood S) (asc desc : Bytes) (plan : Plan) wher
     unfolding after end_sessions changed
     edges_delete_inheritance = edges_without S.edges asc desc plan planned
 
-  module _ (planned : IsPlanOf S.edges true asc desc plan) where
+  module _ (planned : IsOrderPlanOf S.edges true asc desc plan) where
     -- an immediate inheritance is added, with the pairs that the order gains
     pub turns_add_inheritance : verdict S (AddInheritance asc desc) ≡ None → Turns S (order_puts asc desc plan.puts) (after S (AddInheritance asc desc))
     unfolding changed

@@ -17,8 +17,6 @@ use rbac_sets::{Kind, Name, Refusal, has_first, has_second};
 use std::alloc::{AllocError, Global};
 
 // The verdict on AddUser.
-//
-// Refused by `UserExists` if there is such a user, then by `TooMany` if the limit of users is reached.
 #[tactic(auto, unfolding(crate::specs::Verdict::verdict, crate::specs::Verdict::refusals))]
 pub(crate) fn judge_add_user(state: &State, user: &Name) -> Option<Refusal>
     ensures { result ≡ verdict state.now.facts (AddUser user.now) }
@@ -33,8 +31,6 @@ pub(crate) fn judge_add_user(state: &State, user: &Name) -> Option<Refusal>
 }
 
 // The verdict on DeleteUser.
-//
-// Refused by `NoUser` if there is no such user.
 #[tactic(auto, unfolding(crate::specs::Verdict::verdict, crate::specs::Verdict::refusals))]
 pub(crate) fn judge_delete_user(state: &State, user: &Name) -> Option<Refusal>
     ensures { result ≡ verdict state.now.facts (DeleteUser user.now) }
@@ -46,8 +42,6 @@ pub(crate) fn judge_delete_user(state: &State, user: &Name) -> Option<Refusal>
 }
 
 // The verdict on AddRole.
-//
-// Refused by `RoleExists` if there is such a role, then by `TooMany` if the limit of roles is reached.
 #[tactic(auto, unfolding(crate::specs::Verdict::verdict, crate::specs::Verdict::refusals))]
 pub(crate) fn judge_add_role(state: &State, role: &Name) -> Option<Refusal>
     ensures { result ≡ verdict state.now.facts (AddRole role.now) }
@@ -62,9 +56,6 @@ pub(crate) fn judge_add_role(state: &State, role: &Name) -> Option<Refusal>
 }
 
 // The verdict on DeleteRole.
-//
-// Refused by `NoRole` if there is no such role, then by `RoleInUse` if the role has an immediate
-// inheritance or is a member of a separation of duty set.
 #[tactic(auto, unfolding(crate::specs::Verdict::verdict, crate::specs::Verdict::refusals))]
 pub(crate) fn judge_delete_role(state: &State, role: &Name) -> Option<Refusal>
     ensures { result ≡ verdict state.now.facts (DeleteRole role.now) }
@@ -89,9 +80,6 @@ fn is_in_use(state: &State, role: &Name) -> bool
 }
 
 // The verdict on AddPermObj.
-//
-// Refused by `ObjectExists` if there is such an object, then by `TooMany` if the limit of objects is
-// reached.
 #[tactic(auto, unfolding(crate::specs::Verdict::verdict, crate::specs::Verdict::refusals))]
 pub(crate) fn judge_add_perm_obj(state: &State, object: &Name) -> Option<Refusal>
     ensures { result ≡ verdict state.now.facts (AddPermObj object.now) }
@@ -106,8 +94,6 @@ pub(crate) fn judge_add_perm_obj(state: &State, object: &Name) -> Option<Refusal
 }
 
 // The verdict on DeletePermObj.
-//
-// Refused by `NoObject` if there is no such object, then by `ObjectInUse` if it has a permission.
 #[tactic(auto, unfolding(crate::specs::Verdict::verdict, crate::specs::Verdict::refusals))]
 pub(crate) fn judge_delete_perm_obj(state: &State, object: &Name) -> Option<Refusal>
     ensures { result ≡ verdict state.now.facts (DeletePermObj object.now) }
@@ -122,9 +108,6 @@ pub(crate) fn judge_delete_perm_obj(state: &State, object: &Name) -> Option<Refu
 }
 
 // The verdict on AddPermission.
-//
-// Refused by `NoObject` if there is no such object, then by `PermissionExists` if there is such a
-// permission, then by `TooMany` if the limit of permissions is reached.
 #[tactic(auto, unfolding(crate::specs::Verdict::verdict, crate::specs::Verdict::refusals))]
 pub(crate) fn judge_add_permission(
     state: &State,
@@ -146,9 +129,6 @@ pub(crate) fn judge_add_permission(
 }
 
 // The verdict on DeletePermission.
-//
-// Refused by `NoObject` if there is no such object, then by `NoPermission` if there is no such
-// permission.
 #[tactic(auto, unfolding(crate::specs::Verdict::verdict, crate::specs::Verdict::refusals))]
 pub(crate) fn judge_delete_permission(
     state: &State,
@@ -167,10 +147,6 @@ pub(crate) fn judge_delete_permission(
 }
 
 // The verdict on GrantPermission.
-//
-// Refused by `NoObject`, then `NoPermission`, then `NoRole` if there is no such object, permission or
-// role, then by `AlreadyGranted` if the permission is granted to the role, then by `TooMany` if the limit
-// of grants is reached.
 #[tactic(auto, unfolding(crate::specs::Verdict::verdict, crate::specs::Verdict::refusals))]
 pub(crate) fn judge_grant_permission(
     state: &State,
@@ -199,9 +175,6 @@ pub(crate) fn judge_grant_permission(
 }
 
 // The verdict on RevokePermission.
-//
-// Refused by `NoObject`, then `NoPermission`, then `NoRole` if there is no such object, permission or
-// role, then by `NotGranted` if the permission isn't granted to the role.
 #[tactic(auto, unfolding(crate::specs::Verdict::verdict, crate::specs::Verdict::refusals))]
 pub(crate) fn judge_revoke_permission(
     state: &State,
@@ -227,12 +200,6 @@ pub(crate) fn judge_revoke_permission(
 }
 
 // The verdict on AssignUser.
-//
-// Refused by `NoUser`, then `NoRole` if there is no such user or role, then by `AlreadyAssigned` if the
-// user is assigned to the role, then by `TooMany` if the limit of assignments is reached, then by
-// `StaticSeparation` with the first static set in byte order that the user would violate.
-//
-// It is an error if the allocation of the set's name failed.
 #[tactic(auto, unfolding(crate::specs::Verdict::verdict, crate::specs::Verdict::refusals, crate::specs::Assignment::assignment_refusals))]
 pub(crate) fn judge_assign_user(
     alloc: Global,
@@ -273,9 +240,6 @@ fn refuse_assignment(state: &State, user: &Name, role: &Name) -> Option<Refusal>
 }
 
 // The verdict on DeassignUser.
-//
-// Refused by `NoUser`, then `NoRole` if there is no such user or role, then by `NotAssigned` if the user
-// isn't assigned to the role.
 #[tactic(auto, unfolding(crate::specs::Verdict::verdict, crate::specs::Verdict::refusals))]
 pub(crate) fn judge_deassign_user(state: &State, user: &Name, role: &Name) -> Option<Refusal>
     ensures { result ≡ verdict state.now.facts (DeassignUser user.now role.now) }
@@ -293,8 +257,6 @@ pub(crate) fn judge_deassign_user(state: &State, user: &Name, role: &Name) -> Op
 }
 
 // The verdict on an import of assignments. Its records are judged one by one when its plan is made.
-//
-// Refused by `TooMany` if it has more records than an import may have.
 #[tactic(auto, unfolding(crate::specs::Verdict::verdict, crate::specs::Verdict::refusals))]
 pub(crate) fn judge_import_assignments(state: &State, pairs: &Vec<(Name, Name)>) -> Option<Refusal>
     ensures { result ≡ verdict state.now.facts (ImportAssignments pairs.now) }
@@ -306,8 +268,6 @@ pub(crate) fn judge_import_assignments(state: &State, pairs: &Vec<(Name, Name)>)
 }
 
 // The verdict on LockUserAccount.
-//
-// Refused by `Version(1)` in version 1, then by `NoUser` if there is no such user.
 #[tactic(auto, unfolding(crate::specs::Verdict::verdict, crate::specs::Verdict::refusals))]
 pub(crate) fn judge_lock_user_account(state: &State, user: &Name) -> Option<Refusal>
     ensures { result ≡ verdict state.now.facts (LockUserAccount user.now) }
@@ -322,8 +282,6 @@ pub(crate) fn judge_lock_user_account(state: &State, user: &Name) -> Option<Refu
 }
 
 // The verdict on UnlockUserAccount.
-//
-// Refused by `Version(1)` in version 1, then by `NoUser` if there is no such user.
 #[tactic(auto, unfolding(crate::specs::Verdict::verdict, crate::specs::Verdict::refusals))]
 pub(crate) fn judge_unlock_user_account(state: &State, user: &Name) -> Option<Refusal>
     ensures { result ≡ verdict state.now.facts (UnlockUserAccount user.now) }

@@ -17,15 +17,6 @@ use rbac_sets::{Kind, Name, Refusal};
 use std::alloc::{AllocError, Global};
 
 // The verdict on AddInheritance.
-//
-// Refused by `NoRole` if one of the roles doesn't exist, then by `EdgeExists` if `asc` is an immediate
-// ascendant of `desc`, then by `Cycle` if `desc` is `asc` or a senior of it, then by `TooMany` if the limit
-// of immediate inheritances is reached, then by `StaticSeparation` with the first static set in byte order
-// that some user would violate, then by `DynamicSeparation` with the first dynamic set in byte order that
-// some session would violate.
-//
-// It is an error if an allocation failed: for the name of the set, or for the check of who would violate a
-// set.
 #[tactic(auto, unfolding(crate::specs::Verdict::verdict, crate::specs::Verdict::refusals))]
 pub(crate) fn judge_add_inheritance(
     alloc: Global,
@@ -94,9 +85,6 @@ fn refuse_inheritance(state: &State, asc: &Name, desc: &Name) -> Option<Refusal>
 }
 
 // The verdict on DeleteInheritance.
-//
-// Refused by `NoRole` if one of the roles doesn't exist, then by `NoEdge` if `asc` isn't an immediate
-// ascendant of `desc`.
 #[tactic(auto, unfolding(crate::specs::Verdict::verdict, crate::specs::Verdict::refusals))]
 pub(crate) fn judge_delete_inheritance(state: &State, asc: &Name, desc: &Name) -> Option<Refusal>
     ensures { result ≡ verdict state.now.facts (DeleteInheritance asc.now desc.now) }
@@ -114,9 +102,6 @@ pub(crate) fn judge_delete_inheritance(state: &State, asc: &Name, desc: &Name) -
 }
 
 // The verdict on AddAscendant.
-//
-// Refused by `NoRole` if there is no role `desc`, then by `RoleExists` if there is a role `asc`, then by
-// `TooMany` if the limit of roles, and then if the limit of immediate inheritances, is reached.
 #[tactic(auto, unfolding(crate::specs::Verdict::verdict, crate::specs::Verdict::refusals))]
 pub(crate) fn judge_add_ascendant(state: &State, asc: &Name, desc: &Name) -> Option<Refusal>
     ensures { result ≡ verdict state.now.facts (AddAscendant asc.now desc.now) }
@@ -137,9 +122,6 @@ pub(crate) fn judge_add_ascendant(state: &State, asc: &Name, desc: &Name) -> Opt
 }
 
 // The verdict on AddDescendant.
-//
-// Refused by `NoRole` if there is no role `asc`, then by `RoleExists` if there is a role `desc`, then by
-// `TooMany` if the limit of roles, and then if the limit of immediate inheritances, is reached.
 #[tactic(auto, unfolding(crate::specs::Verdict::verdict, crate::specs::Verdict::refusals))]
 pub(crate) fn judge_add_descendant(state: &State, asc: &Name, desc: &Name) -> Option<Refusal>
     ensures { result ≡ verdict state.now.facts (AddDescendant asc.now desc.now) }

@@ -13,14 +13,6 @@ use rbac_sets::{Name, NameSet, Refusal};
 use std::alloc::{AllocError, Global};
 
 // The verdict on CreateSsdSet or CreateDsdSet.
-//
-// Refused by `NoRole` if one of the roles doesn't exist, then by `SetExists` if there is such a set, then
-// by `BadCardinality` if the cardinality isn't at least 2 and at most the number of roles, then by `TooMany`
-// if the limit of sets of the kind is reached, and then if there are more roles than a set may have, then
-// by `StaticSeparation` with the set if some user would violate it, or by `DynamicSeparation` if some
-// session would.
-//
-// It is an error if the allocation of the set's name failed.
 #[tactic(auto, unfolding(crate::specs::Verdict::verdict, crate::specs::Verdict::refusals))]
 pub(crate) fn judge_create_set(
     alloc: Global,
@@ -49,12 +41,6 @@ pub(crate) fn judge_create_set(
 }
 
 // The verdict on AddSsdRoleMember or AddDsdRoleMember.
-//
-// Refused by `NoSet`, then `NoRole` if there is no such set or role, then by `MemberExists` if the role is
-// a member of the set, then by `TooMany` if the limit of members is reached, then by `StaticSeparation` with
-// the set if some user would violate it, or by `DynamicSeparation` if some session would.
-//
-// It is an error if the allocation of the set's name failed.
 #[tactic(auto, unfolding(crate::specs::Verdict::verdict, crate::specs::Verdict::refusals))]
 pub(crate) fn judge_add_member(
     alloc: Global,
@@ -82,9 +68,6 @@ pub(crate) fn judge_add_member(
 }
 
 // The verdict on DeleteSsdRoleMember or DeleteDsdRoleMember.
-//
-// Refused by `NoSet`, then `NoRole` if there is no such set or role, then by `NoMember` if the role is no
-// member of the set, then by `BadCardinality` if the set has no more members than its cardinality.
 #[tactic(auto, unfolding(crate::specs::Verdict::verdict, crate::specs::Verdict::refusals))]
 pub(crate) fn judge_delete_member(
     state: &State,
@@ -104,12 +87,6 @@ pub(crate) fn judge_delete_member(
 }
 
 // The verdict on SetSsdSetCardinality or SetDsdSetCardinality.
-//
-// Refused by `NoSet` if there is no such set, then by `BadCardinality` if the cardinality isn't at least 2
-// and at most the number of its roles, then by `StaticSeparation` with the set if some user would violate
-// it, or by `DynamicSeparation` if some session would.
-//
-// It is an error if the allocation of the set's name failed.
 #[tactic(auto, unfolding(crate::specs::Verdict::verdict, crate::specs::Verdict::refusals))]
 pub(crate) fn judge_set_cardinality(
     alloc: Global,
@@ -136,8 +113,6 @@ pub(crate) fn judge_set_cardinality(
 }
 
 // The verdict on DeleteSsdSet or DeleteDsdSet.
-//
-// Refused by `NoSet` if there is no such set.
 #[tactic(auto, unfolding(crate::specs::Verdict::verdict, crate::specs::Verdict::refusals, rbac_sets::specs::Sets::any))]
 pub(crate) fn judge_delete_set(state: &State, duty: SeparationOfDuty, set: &Name) -> Option<Refusal>
     ensures { result ≡ verdict state.now.facts (delete_set duty set.now) }

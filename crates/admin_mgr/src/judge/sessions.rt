@@ -19,14 +19,6 @@ use rbac_sets::{Kind, Name, NameSet, Refusal, has_first};
 use std::alloc::{AllocError, Global};
 
 // The verdict on CreateSession.
-//
-// Refused by `NoUser` if there is no such user, then by `NoRole` if one of the roles doesn't exist, then
-// by `SessionExists` if there is such a session, then by `NotAuthorized` if the user isn't authorized for
-// one of the roles, then by `UserLocked` if the user is locked, then by `TooMany` if the limit of sessions
-// is reached, and then if these are more roles than may be activated in one session, then by
-// `DynamicSeparation` with the first dynamic set in byte order that the session would violate.
-//
-// It is an error if the allocation of the set's name failed.
 #[tactic(auto, unfolding(crate::specs::Verdict::verdict, crate::specs::Verdict::refusals))]
 pub(crate) fn judge_create_session(
     alloc: Global,
@@ -93,9 +85,6 @@ fn is_authorized(state: &State, user: &Name, role: &Name) -> bool
 }
 
 // The verdict on DeleteSession.
-//
-// Refused by `NoUser`, then `NoSession` if there is no such user or session, then by `NotOwner` if the
-// session has another user.
 #[tactic(auto, unfolding(crate::specs::Verdict::verdict, crate::specs::Verdict::refusals))]
 pub(crate) fn judge_delete_session(state: &State, user: &Name, session: &Name) -> Option<Refusal>
     ensures { result ≡ verdict state.now.facts (DeleteSession user.now session.now) }
@@ -113,14 +102,6 @@ pub(crate) fn judge_delete_session(state: &State, user: &Name, session: &Name) -
 }
 
 // The verdict on AddActiveRole.
-//
-// Refused by `NoUser`, then `NoSession`, then `NoRole` if there is no such user, session or role, then by
-// `NotOwner` if the session has another user, then by `AlreadyActive` if the role was activated in it, then
-// by `NotAuthorized` if the user isn't authorized for the role, then by `TooMany` if the limit of activated
-// roles is reached, then by `DynamicSeparation` with the first dynamic set in byte order that the session
-// would violate.
-//
-// It is an error if the allocation of the set's name failed.
 #[tactic(auto, unfolding(crate::specs::Verdict::verdict, crate::specs::Verdict::refusals))]
 pub(crate) fn judge_add_active_role(
     alloc: Global,
@@ -175,9 +156,6 @@ fn refuse_activation(state: &State, user: &Name, session: &Name, role: &Name) ->
 }
 
 // The verdict on DropActiveRole.
-//
-// Refused by `NoUser`, then `NoSession`, then `NoRole` if there is no such user, session or role, then by
-// `NotOwner` if the session has another user, then by `NotActive` if the role wasn't activated in it.
 #[tactic(auto, unfolding(crate::specs::Verdict::verdict, crate::specs::Verdict::refusals))]
 pub(crate) fn judge_drop_active_role(
     state: &State,

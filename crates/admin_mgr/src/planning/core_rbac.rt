@@ -1,30 +1,20 @@
-//! The plans of the commands of core RBAC except those on sessions, and of the commands on locks.
+//! The plans of the commands of core RBAC, except those on sessions, and of the commands on locks. Commands that only
+//! put or take one row have no plan of their own here.
 ghost use Rattle.std.specs.Prelude.{◌≡◌, ◌++◌, None, IfOk, IfErr, OnOk};
-ghost use Rattle.rbac_sets.specs.declared.command.Command.TheVariants.{AddUser, DeleteUser, AddRole, DeleteRole, AddPermObj, DeletePermObj, AddPermission, DeletePermission, GrantPermission, RevokePermission, AssignUser, DeassignUser, LockUserAccount, UnlockUserAccount};
+ghost use Rattle.rbac_sets.specs.declared.command.Command.TheVariants.{DeleteUser, DeleteRole, DeletePermission, DeassignUser, LockUserAccount, UnlockUserAccount};
 ghost use Rattle.admin_mgr.specs.private.PlanChanges.{lock_rows, new_lock_rows};
 ghost use Rattle.admin_mgr.specs.Verdict.{verdict};
 ghost use Rattle.admin_mgr.specs.PlanEffect.{IsPlanOf};
 
 use crate::plan::Plan;
 use crate::planning::ending::{Loss, take_ended};
-use crate::planning::making::{one_put, one_take, plain};
+use crate::planning::making::plain;
 use crate::planning::rows::{
     put, take, take_grants, take_grants_of_role, take_pairs, take_pairs_with_second,
 };
 use crate::state::State;
 use rbac_sets::{Change, Name, Refusal, Row};
 use std::alloc::Global;
-
-// The plan of AddUser.
-#[tactic(auto, using(crate::proofs::PlanRows::AdditionPlans::done_add_user))]
-pub(crate) fn plan_add_user(alloc: Global, state: &State, user: &Name) -> Result<Plan, Refusal>
-    requires accepted { verdict state.now.facts (AddUser user.now) ≡ None }
-    ensures planned { IfOk result (IsPlanOf state.now.facts (AddUser user.now)) }
-    ensures cause { IfErr result (λ refusal. refusal ≡ Refusal.Memory) }
-{
-    state.recall_good();
-    one_put(alloc, Row::user(user.copy(alloc)?))
-}
 
 // The plan of DeleteUser: it removes the user, its lock, its assignments and its sessions.
 pub(crate) fn plan_delete_user(alloc: Global, state: &State, user: &Name) -> Result<Plan, Refusal>
@@ -46,17 +36,6 @@ pub(crate) fn plan_delete_user(alloc: Global, state: &State, user: &Name) -> Res
     Ok(plain(alloc, changes))
 }
 
-// The plan of AddRole.
-#[tactic(auto, using(crate::proofs::PlanRows::AdditionPlans::done_add_role))]
-pub(crate) fn plan_add_role(alloc: Global, state: &State, role: &Name) -> Result<Plan, Refusal>
-    requires accepted { verdict state.now.facts (AddRole role.now) ≡ None }
-    ensures planned { IfOk result (IsPlanOf state.now.facts (AddRole role.now)) }
-    ensures cause { IfErr result (λ refusal. refusal ≡ Refusal.Memory) }
-{
-    state.recall_good();
-    one_put(alloc, Row::role(role.copy(alloc)?))
-}
-
 // The plan of DeleteRole: it removes the role, its assignments and its grants, and sessions may end.
 pub(crate) fn plan_delete_role(alloc: Global, state: &State, role: &Name) -> Result<Plan, Refusal>
     requires accepted { verdict state.now.facts (DeleteRole role.now) ≡ None }
@@ -76,55 +55,6 @@ pub(crate) fn plan_delete_role(alloc: Global, state: &State, role: &Name) -> Res
     take_grants_of_role(alloc, &mut changes, state.grants().as_slice(), role)?;
     take_ended(alloc, &mut changes, state, Loss::Role(role))?;
     Ok(plain(alloc, changes))
-}
-
-// The plan of AddPermObj.
-#[tactic(auto, using(crate::proofs::PlanRows::AdditionPlans::done_add_perm_obj))]
-pub(crate) fn plan_add_perm_obj(
-    alloc: Global,
-    state: &State,
-    object: &Name,
-) -> Result<Plan, Refusal>
-    requires accepted { verdict state.now.facts (AddPermObj object.now) ≡ None }
-    ensures planned { IfOk result (IsPlanOf state.now.facts (AddPermObj object.now)) }
-    ensures cause { IfErr result (λ refusal. refusal ≡ Refusal.Memory) }
-{
-    state.recall_good();
-    one_put(alloc, Row::object(object.copy(alloc)?))
-}
-
-// The plan of DeletePermObj.
-#[tactic(auto, using(crate::proofs::PlanRows::RemovalPlans::done_delete_perm_obj))]
-pub(crate) fn plan_delete_perm_obj(
-    alloc: Global,
-    state: &State,
-    object: &Name,
-) -> Result<Plan, Refusal>
-    requires accepted { verdict state.now.facts (DeletePermObj object.now) ≡ None }
-    ensures planned { IfOk result (IsPlanOf state.now.facts (DeletePermObj object.now)) }
-    ensures cause { IfErr result (λ refusal. refusal ≡ Refusal.Memory) }
-{
-    state.recall_good();
-    one_take(alloc, Row::object(object.copy(alloc)?))
-}
-
-// The plan of AddPermission.
-#[tactic(auto, using(crate::proofs::PlanRows::AdditionPlans::done_add_permission))]
-pub(crate) fn plan_add_permission(
-    alloc: Global,
-    state: &State,
-    object: &Name,
-    operation: &Name,
-) -> Result<Plan, Refusal>
-    requires accepted { verdict state.now.facts (AddPermission object.now operation.now) ≡ None }
-    ensures planned { IfOk result (IsPlanOf state.now.facts (AddPermission object.now operation.now)) }
-    ensures cause { IfErr result (λ refusal. refusal ≡ Refusal.Memory) }
-{
-    state.recall_good();
-    one_put(
-        alloc,
-        Row::permission(object.copy(alloc)?, operation.copy(alloc)?),
-    )
 }
 
 // The plan of DeletePermission: it removes the permission and its grants.
@@ -150,70 +80,6 @@ pub(crate) fn plan_delete_permission(
         state.grants().with_first((object, operation)),
     )?;
     Ok(plain(alloc, changes))
-}
-
-// The plan of GrantPermission.
-#[tactic(auto, using(crate::proofs::PlanRows::AdditionPlans::done_grant_permission))]
-pub(crate) fn plan_grant_permission(
-    alloc: Global,
-    state: &State,
-    object: &Name,
-    operation: &Name,
-    role: &Name,
-) -> Result<Plan, Refusal>
-    requires accepted { verdict state.now.facts (GrantPermission object.now operation.now role.now) ≡ None }
-    ensures planned { IfOk result (IsPlanOf state.now.facts (GrantPermission object.now operation.now role.now)) }
-    ensures cause { IfErr result (λ refusal. refusal ≡ Refusal.Memory) }
-{
-    state.recall_good();
-    one_put(
-        alloc,
-        Row::grant(
-            object.copy(alloc)?,
-            operation.copy(alloc)?,
-            role.copy(alloc)?,
-        ),
-    )
-}
-
-// The plan of RevokePermission.
-#[tactic(auto, using(crate::proofs::PlanRows::RemovalPlans::done_revoke_permission))]
-pub(crate) fn plan_revoke_permission(
-    alloc: Global,
-    state: &State,
-    object: &Name,
-    operation: &Name,
-    role: &Name,
-) -> Result<Plan, Refusal>
-    requires accepted { verdict state.now.facts (RevokePermission object.now operation.now role.now) ≡ None }
-    ensures planned { IfOk result (IsPlanOf state.now.facts (RevokePermission object.now operation.now role.now)) }
-    ensures cause { IfErr result (λ refusal. refusal ≡ Refusal.Memory) }
-{
-    state.recall_good();
-    one_take(
-        alloc,
-        Row::grant(
-            object.copy(alloc)?,
-            operation.copy(alloc)?,
-            role.copy(alloc)?,
-        ),
-    )
-}
-
-// The plan of AssignUser.
-#[tactic(auto, using(crate::proofs::PlanRows::AssignPlans::done_assign_user))]
-pub(crate) fn plan_assign_user(
-    alloc: Global,
-    state: &State,
-    user: &Name,
-    role: &Name,
-) -> Result<Plan, Refusal>
-    requires accepted { verdict state.now.facts (AssignUser user.now role.now) ≡ None }
-    ensures planned { IfOk result (IsPlanOf state.now.facts (AssignUser user.now role.now)) }
-    ensures cause { IfErr result (λ refusal. refusal ≡ Refusal.Memory) }
-{
-    state.recall_good();
-    one_put(alloc, Row::assignment(user.copy(alloc)?, role.copy(alloc)?))
 }
 
 // The plan of DeassignUser: sessions of the user may end.

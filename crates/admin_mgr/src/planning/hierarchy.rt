@@ -2,7 +2,7 @@
 ghost use Rattle.std.specs.Prelude.{◌≡◌, ◌++◌, true, false, None, IfOk, IfErr, OnOk};
 ghost use Rattle.rbac_sets.specs.Sets.{contains};
 ghost use Rattle.role_order.specs.Order.{geq};
-ghost use Rattle.role_order.specs.Planned.{IsPlanOf as IsOrderPlanOf};
+ghost use Rattle.role_order.specs.Planned.{IsOrderPlanOf};
 ghost use Rattle.rbac_sets.specs.declared.command.Command.TheVariants.{AddInheritance, DeleteInheritance, AddAscendant, AddDescendant};
 ghost use Rattle.admin_mgr.specs.private.PlanChanges.{order_puts, order_takes};
 ghost use Rattle.admin_mgr.specs.Verdict.{verdict};

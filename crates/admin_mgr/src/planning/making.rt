@@ -1,13 +1,11 @@
 //! Plans from their changes.
 ghost use Rattle.std.specs.Prelude.{◌≡◌, ◌∷◌, [], None, Some, IfOk, IfErr};
-ghost use Rattle.rbac_sets.specs.declared.row.Change.TheVariants.{Put, Take};
 ghost use Rattle.admin_mgr.specs.Assignment.{no_tally};
 ghost use Rattle.admin_mgr.specs.private.PlainPlan.{IsPlain};
 ghost use Rattle.admin_mgr.specs.PlanEffect.{tally_of_report};
 
 use crate::plan::{Plan, Report};
-use crate::planning::rows::{put, take};
-use rbac_sets::{Change, Refusal, Row};
+use rbac_sets::{Change, Refusal};
 use role_order::OrderPlan;
 use std::alloc::Global;
 
@@ -24,23 +22,13 @@ pub(crate) fn plain(alloc: Global, changes: Vec<Change>) -> Plan
     }
 }
 
-// The plan of a command that puts one row.
-pub(crate) fn one_put(alloc: Global, row: Row) -> Result<Plan, Refusal>
-    ensures ok { IfOk result (IsPlain (Put row ∷ [])) }
+// The plan of a command that puts or takes one row.
+pub(crate) fn one_row(alloc: Global, change: Change) -> Result<Plan, Refusal>
+    ensures ok { IfOk result (IsPlain (change ∷ [])) }
     ensures cause { IfErr result (λ refusal. refusal ≡ Refusal.Memory) }
 {
     let mut changes = Vec::new(alloc);
-    put(&mut changes, row)?;
-    Ok(plain(alloc, changes))
-}
-
-// The plan of a command that takes one row.
-pub(crate) fn one_take(alloc: Global, row: Row) -> Result<Plan, Refusal>
-    ensures ok { IfOk result (IsPlain (Take row ∷ [])) }
-    ensures cause { IfErr result (λ refusal. refusal ≡ Refusal.Memory) }
-{
-    let mut changes = Vec::new(alloc);
-    take(&mut changes, row)?;
+    changes.push(change)?;
     Ok(plain(alloc, changes))
 }
 

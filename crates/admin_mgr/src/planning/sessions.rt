@@ -1,12 +1,12 @@
-//! The plans of the commands on sessions.
+//! The plans of the commands on sessions that put or take more than one row.
 ghost use Rattle.std.specs.Prelude.{◌≡◌, None, IfOk, IfErr};
-ghost use Rattle.rbac_sets.specs.declared.command.Command.TheVariants.{CreateSession, DeleteSession, AddActiveRole, DropActiveRole};
+ghost use Rattle.rbac_sets.specs.declared.command.Command.TheVariants.{CreateSession, DeleteSession};
 ghost use Rattle.admin_mgr.specs.Verdict.{verdict};
 ghost use Rattle.admin_mgr.specs.PlanEffect.{IsPlanOf};
 
 use crate::plan::Plan;
 use crate::planning::ending::take_session;
-use crate::planning::making::{one_put, one_take, plain};
+use crate::planning::making::plain;
 use crate::planning::rows::{put, put_paired};
 use crate::state::State;
 use rbac_sets::{Name, NameSet, Refusal, Row};
@@ -55,44 +55,4 @@ pub(crate) fn plan_delete_session(
     let mut changes = Vec::new(alloc);
     take_session(alloc, &mut changes, state, session, user)?;
     Ok(plain(alloc, changes))
-}
-
-// The plan of AddActiveRole.
-#[tactic(auto, using(crate::proofs::PlanRows::AdditionPlans::done_add_active_role))]
-pub(crate) fn plan_add_active_role(
-    alloc: Global,
-    state: &State,
-    user: &Name,
-    session: &Name,
-    role: &Name,
-) -> Result<Plan, Refusal>
-    requires accepted { verdict state.now.facts (AddActiveRole user.now session.now role.now) ≡ None }
-    ensures planned { IfOk result (IsPlanOf state.now.facts (AddActiveRole user.now session.now role.now)) }
-    ensures cause { IfErr result (λ refusal. refusal ≡ Refusal.Memory) }
-{
-    state.recall_good();
-    one_put(
-        alloc,
-        Row::activated_role(session.copy(alloc)?, role.copy(alloc)?),
-    )
-}
-
-// The plan of DropActiveRole.
-#[tactic(auto, using(crate::proofs::PlanRows::RemovalPlans::done_drop_active_role))]
-pub(crate) fn plan_drop_active_role(
-    alloc: Global,
-    state: &State,
-    user: &Name,
-    session: &Name,
-    role: &Name,
-) -> Result<Plan, Refusal>
-    requires accepted { verdict state.now.facts (DropActiveRole user.now session.now role.now) ≡ None }
-    ensures planned { IfOk result (IsPlanOf state.now.facts (DropActiveRole user.now session.now role.now)) }
-    ensures cause { IfErr result (λ refusal. refusal ≡ Refusal.Memory) }
-{
-    state.recall_good();
-    one_take(
-        alloc,
-        Row::activated_role(session.copy(alloc)?, role.copy(alloc)?),
-    )
 }
