@@ -49,6 +49,9 @@ BY_NAME = {
     },
 }
 
+# The function that plans each command that only puts or takes one row. The others have a plan of their own name.
+ONE_ROW = "planning: make"
+
 # A command on dynamic sets has the tests of its twin, under these words.
 STATIC, DYNAMIC = ("Ssd", "-static"), ("Dsd", "-dynamic")
 
@@ -187,9 +190,10 @@ def of_function(table, row):
         tests = row[2]
         if STATIC[0] in row[0] and DYNAMIC[0] in name:
             tests = tests.replace(STATIC[1], DYNAMIC[1])
+        functions = [one if names_in("function").get(one) or not one.startswith("plan_") else ONE_ROW for one in named_so["function"]]
         # Some questions name nothing that could be missing.
         shared = [test for test in named_so["test"] if f'"{name}"' in text_of(files()[test][0])]
-        yield name, {**named_so, "function": quoted(row[1]) or named_so["function"], "test": [*shared, *quoted(tests)]}
+        yield name, {**named_so, "function": quoted(row[1]) or functions, "test": [*shared, *quoted(tests)]}
 
 
 def of_law(row):

@@ -21,6 +21,9 @@ STEP = re.compile(
     r"|\b(?P<called>(?:refuse|name|read)_\w+)\((?P<handed>[^)]*)"
 )
 
+# A kind of separation of duty that a function is handed.
+DUTY = r"\b(Static|Dynamic)\b"
+
 
 def bodies():
     """The bodies of all functions that judge, by their names."""
@@ -63,7 +66,7 @@ class Judging:
             elif step["read"]:
                 yield self.word("BadName")
             elif step["called"] in self.known:
-                handed = re.search(r"SeparationOfDuty::(\w+)", step["handed"])
+                handed = re.search(DUTY, step["handed"])
                 yield from self.steps(step["called"], handed[1] if handed else duty)
 
     def words(self, function, duty=None):
@@ -77,7 +80,7 @@ def refusals():
     judging, names, told = Judging(), sources.functions(), {}
     pattern = r"Command::(\w+)(?: \{[^}]*\}|\(pairs\)) => (?:Ok\()?(judge_\w+)\(([^;]*?)\),\n"
     for variant, function, handed in sources.found(pattern, "admin_mgr/src/judge.rt"):
-        duty = re.search(r"SeparationOfDuty::(\w+)", handed)
+        duty = re.search(DUTY, handed)
         told[names[variant]] = judging.words(function, duty and duty[1])
     for variant, function in sources.found(r"Query::(\w+)(?: \{[^}]*\})? => (\w+)\(", "review_mgr/src/asking.rt"):
         told[names[variant]] = judging.words(function)
