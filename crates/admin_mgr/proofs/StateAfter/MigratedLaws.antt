@@ -1,6 +1,7 @@
 -- A good state of version 1 that is migrated to version 2 is good, and its names stay valid.
-use Rattle.std.proofs.Common.{◌≤◌, ℕ, refl, sym, ◌∙◌, subst, inr, arith}
-use Rattle.rbac_sets.specs.Sets.{name_cmp, len}
+use Rattle.std.proofs.Common.{◌≡◌, ◌≤◌, ℕ, false, refl, sym, ◌∙◌, subst, inr, arith}
+use Rattle.std.specs.Prelude.{IsTrue, ◌⊎◌}
+use Rattle.rbac_sets.specs.Sets.{Bytes, name_cmp, contains, empty, len}
 use Rattle.rbac_sets.specs.Kind.{limit_of}
 use Rattle.rbac_sets.specs.declared.kind.Kind.TheVariants.{User, Role, Edge}
 use Rattle.rbac_sets.specs.declared.row.Row.TheVariants.{NameRow, PairRow, GrantRow, SetRow, LockedRow}
@@ -24,8 +25,8 @@ migrated_good S good first =
     let none = λ (user : Bytes). contains-empty name_cmp user in
     let locked : (user : Bytes) → IsTrue (contains (empty {R = name_cmp}) user) → IsTrue (contains S.users user) = λ user h. absurd (true≢false (sym h ∙ none user)) in
     let unlocked : (session user : Bytes) → IsTrue (contains S.sessions (session, user)) → contains (empty {R = name_cmp}) user ≡ false = λ session user h. none user in
-    let version : (2 ≡ 1) ⊎ (2 ≡ 2) = inr refl in
-    let no_locks : 2 ≡ 1 → empty ≡ empty {R = name_cmp} = λ h. refl in
+    let version : ((migrated_to_version_2 S).version ≡ 1) ⊎ ((migrated_to_version_2 S).version ≡ 2) = inr refl in
+    let no_locks : (migrated_to_version_2 S).version ≡ 1 → (migrated_to_version_2 S).locked ≡ empty = λ h. refl in
     assumption
 
 -- its rows are those of the state, without the locks
