@@ -25,7 +25,7 @@ use Rattle.admin_mgr.proofs.StateAfter.EffectLaws.{import_keeps}
 use Rattle.admin_mgr.proofs.StateAfter.EndLaws.{count-fewer}
 use Rattle.admin_mgr.proofs.StateAfter.GoodAssignment.{room_for_assignment, assigned_user, assigned_role}
 use Rattle.admin_mgr.proofs.Imports.ImportLaws.{one_if, counted, record_kept}
-use Rattle.admin_mgr.proofs.StateAfter.PartLaws.{IsSubset, whole, authorized-fewer}
+use Rattle.admin_mgr.proofs.StateAfter.PartLaws.{IsSubset, authorized-fewer}
 use Rattle.admin_mgr.proofs.Verdicts.SeparationLaws.{least_violated-None, kept_statically}
 use Rattle.admin_mgr.proofs.StateAfter.SessionLaws.{none_ends_where}
 use Rattle.admin_mgr.proofs.Verdicts.VerdictLaws.{passed}
@@ -81,7 +81,7 @@ import_grows S (pair ∷ pairs) p there = import_grows (after_record S pair) pai
 module _ (S : RbacState) (few many : Pairs) (within : IsSubset few many) where
   -- with more assignments nobody is authorized for less
   authorized_more : (user role : Bytes) → IsTrue (is_authorized (holding S few) user role) → IsTrue (is_authorized (holding S many) user role)
-  authorized_more = authorized-fewer (holding S many) (record (whole (holding S many)) { assignments = few; assignments_within = within })
+  authorized_more = authorized-fewer (holding S many) (holding S few) (assumption within)
 
   -- so if no static set is violated with more assignments, none is with fewer
   none_before : violates_static (holding S many) ≡ None → violates_static (holding S few) ≡ None

@@ -88,38 +88,19 @@ has_row-with S (NameRow k a) (NameRow l x) plain =
     plain_names (λ kind. has_row (with_row S (NameRow k a)) (NameRow kind x) ≡ (has_row S (NameRow kind x) || same_row (NameRow k a) (NameRow kind x)))
     (insert_if name_total (nat_eq k USER) S.users a x) (insert_if name_total (nat_eq k ROLE) S.roles a x) (insert_if name_total (nat_eq k OBJECT) S.objects a x)
     l plain
-has_row-with S (NameRow k a) (PairRow l x y) plain = or_false (has_row S (PairRow l x y))
-has_row-with S (NameRow k a) (GrantRow x y z) plain = or_false (has_row S (GrantRow x y z))
-has_row-with S (NameRow k a) (SetRow l x n) plain = or_false (has_row S (SetRow l x n))
-has_row-with S (NameRow k a) (LockedRow x) plain = or_false (has_row S (LockedRow x))
-has_row-with S (PairRow k a b) (NameRow l x) plain = or_false (has_row S (NameRow l x))
 has_row-with S (PairRow k a b) (PairRow l x y) plain =
     plain_pairs (λ kind. has_row (with_row S (PairRow k a b)) (PairRow kind x y) ≡ (has_row S (PairRow kind x y) || same_row (PairRow k a b) (PairRow kind x y)))
     (insert_if pair_total (nat_eq k PERMISSION) S.permissions (a, b) (x, y)) (insert_if pair_total (nat_eq k ASSIGNMENT) S.assignments (a, b) (x, y))
     (insert_if pair_total (nat_eq k STATIC_MEMBER) S.ssd.members (a, b) (x, y)) (insert_if pair_total (nat_eq k DYNAMIC_MEMBER) S.dsd.members (a, b) (x, y))
     (insert_if pair_total (nat_eq k SESSION) S.sessions (a, b) (x, y)) (insert_if pair_total (nat_eq k ACTIVATED_ROLE) S.active (a, b) (x, y))
     l plain
-has_row-with S (PairRow k a b) (GrantRow x y z) plain = or_false (has_row S (GrantRow x y z))
-has_row-with S (PairRow k a b) (SetRow l x n) plain = or_false (has_row S (SetRow l x n))
-has_row-with S (PairRow k a b) (LockedRow x) plain = or_false (has_row S (LockedRow x))
-has_row-with S (GrantRow a b c) (NameRow l x) plain = or_false (has_row S (NameRow l x))
-has_row-with S (GrantRow a b c) (PairRow l x y) plain = or_false (has_row S (PairRow l x y))
 has_row-with S (GrantRow a b c) (GrantRow x y z) plain = insert_if triple_total true S.grants (a, b, c) (x, y, z)
-has_row-with S (GrantRow a b c) (SetRow l x n) plain = or_false (has_row S (SetRow l x n))
-has_row-with S (GrantRow a b c) (LockedRow x) plain = or_false (has_row S (LockedRow x))
-has_row-with S (SetRow k a m) (NameRow l x) plain = or_false (has_row S (NameRow l x))
-has_row-with S (SetRow k a m) (PairRow l x y) plain = or_false (has_row S (PairRow l x y))
-has_row-with S (SetRow k a m) (GrantRow x y z) plain = or_false (has_row S (GrantRow x y z))
 has_row-with S (SetRow k a m) (SetRow l x n) plain =
     plain_sets (λ kind. has_row (with_row S (SetRow k a m)) (SetRow kind x n) ≡ (has_row S (SetRow kind x n) || same_row (SetRow k a m) (SetRow kind x n)))
     (insert_if cardinality_total (nat_eq k STATIC_CARDINALITY) S.ssd.cardinalities (a, m) (x, n)) (insert_if cardinality_total (nat_eq k DYNAMIC_CARDINALITY) S.dsd.cardinalities (a, m) (x, n))
     l plain
-has_row-with S (SetRow k a m) (LockedRow x) plain = or_false (has_row S (LockedRow x))
-has_row-with S (LockedRow a) (NameRow l x) plain = or_false (has_row S (NameRow l x))
-has_row-with S (LockedRow a) (PairRow l x y) plain = or_false (has_row S (PairRow l x y))
-has_row-with S (LockedRow a) (GrantRow x y z) plain = or_false (has_row S (GrantRow x y z))
-has_row-with S (LockedRow a) (SetRow l x n) plain = or_false (has_row S (SetRow l x n))
 has_row-with S (LockedRow a) (LockedRow x) plain = insert_if name_total true S.locked a x
+has_row-with S row other plain = or_false (has_row S other)
 
 -- after a row is removed, the rows are those before without this one
 pub has_row-without : (S : RbacState) (row other : Row) → is_plain other ≡ true → has_row (without_row S row) other ≡ (has_row S other && not (same_row row other))
@@ -128,38 +109,19 @@ has_row-without S (NameRow k a) (NameRow l x) plain =
     plain_names (λ kind. has_row (without_row S (NameRow k a)) (NameRow kind x) ≡ (has_row S (NameRow kind x) && not (same_row (NameRow k a) (NameRow kind x))))
     (remove_if name_total (nat_eq k USER) S.users a x) (remove_if name_total (nat_eq k ROLE) S.roles a x) (remove_if name_total (nat_eq k OBJECT) S.objects a x)
     l plain
-has_row-without S (NameRow k a) (PairRow l x y) plain = and_true (has_row S (PairRow l x y))
-has_row-without S (NameRow k a) (GrantRow x y z) plain = and_true (has_row S (GrantRow x y z))
-has_row-without S (NameRow k a) (SetRow l x n) plain = and_true (has_row S (SetRow l x n))
-has_row-without S (NameRow k a) (LockedRow x) plain = and_true (has_row S (LockedRow x))
-has_row-without S (PairRow k a b) (NameRow l x) plain = and_true (has_row S (NameRow l x))
 has_row-without S (PairRow k a b) (PairRow l x y) plain =
     plain_pairs (λ kind. has_row (without_row S (PairRow k a b)) (PairRow kind x y) ≡ (has_row S (PairRow kind x y) && not (same_row (PairRow k a b) (PairRow kind x y))))
     (remove_if pair_total (nat_eq k PERMISSION) S.permissions (a, b) (x, y)) (remove_if pair_total (nat_eq k ASSIGNMENT) S.assignments (a, b) (x, y))
     (remove_if pair_total (nat_eq k STATIC_MEMBER) S.ssd.members (a, b) (x, y)) (remove_if pair_total (nat_eq k DYNAMIC_MEMBER) S.dsd.members (a, b) (x, y))
     (remove_if pair_total (nat_eq k SESSION) S.sessions (a, b) (x, y)) (remove_if pair_total (nat_eq k ACTIVATED_ROLE) S.active (a, b) (x, y))
     l plain
-has_row-without S (PairRow k a b) (GrantRow x y z) plain = and_true (has_row S (GrantRow x y z))
-has_row-without S (PairRow k a b) (SetRow l x n) plain = and_true (has_row S (SetRow l x n))
-has_row-without S (PairRow k a b) (LockedRow x) plain = and_true (has_row S (LockedRow x))
-has_row-without S (GrantRow a b c) (NameRow l x) plain = and_true (has_row S (NameRow l x))
-has_row-without S (GrantRow a b c) (PairRow l x y) plain = and_true (has_row S (PairRow l x y))
 has_row-without S (GrantRow a b c) (GrantRow x y z) plain = remove_if triple_total true S.grants (a, b, c) (x, y, z)
-has_row-without S (GrantRow a b c) (SetRow l x n) plain = and_true (has_row S (SetRow l x n))
-has_row-without S (GrantRow a b c) (LockedRow x) plain = and_true (has_row S (LockedRow x))
-has_row-without S (SetRow k a m) (NameRow l x) plain = and_true (has_row S (NameRow l x))
-has_row-without S (SetRow k a m) (PairRow l x y) plain = and_true (has_row S (PairRow l x y))
-has_row-without S (SetRow k a m) (GrantRow x y z) plain = and_true (has_row S (GrantRow x y z))
 has_row-without S (SetRow k a m) (SetRow l x n) plain =
     plain_sets (λ kind. has_row (without_row S (SetRow k a m)) (SetRow kind x n) ≡ (has_row S (SetRow kind x n) && not (same_row (SetRow k a m) (SetRow kind x n))))
     (remove_if cardinality_total (nat_eq k STATIC_CARDINALITY) S.ssd.cardinalities (a, m) (x, n)) (remove_if cardinality_total (nat_eq k DYNAMIC_CARDINALITY) S.dsd.cardinalities (a, m) (x, n))
     l plain
-has_row-without S (SetRow k a m) (LockedRow x) plain = and_true (has_row S (LockedRow x))
-has_row-without S (LockedRow a) (NameRow l x) plain = and_true (has_row S (NameRow l x))
-has_row-without S (LockedRow a) (PairRow l x y) plain = and_true (has_row S (PairRow l x y))
-has_row-without S (LockedRow a) (GrantRow x y z) plain = and_true (has_row S (GrantRow x y z))
-has_row-without S (LockedRow a) (SetRow l x n) plain = and_true (has_row S (SetRow l x n))
 has_row-without S (LockedRow a) (LockedRow x) plain = remove_if name_total true S.locked a x
+has_row-without S row other plain = and_true (has_row S other)
 
 -- ---- a list of changes
 
@@ -167,11 +129,8 @@ has_row-without S (LockedRow a) (LockedRow x) plain = remove_if name_total true 
 put_first : (has same taken put : Bool) → (taken && (same || put)) ≡ false → ((has || same) && not taken || put) ≡ (has && not taken || (same || put))
 put_first has true true put h = cc
 put_first true true false put h = refl
-put_first false true false put h = refl
-put_first true false true put h = refl
-put_first true false false put h = refl
-put_first false false true put h = refl
-put_first false false false put h = refl
+put_first true false taken put h = refl
+put_first false same taken put h = refl
 
 take_first : (has same taken put : Bool) → ((has && not same) && not taken || put) ≡ (has && not (same || taken) || put)
 take_first true true taken put = refl

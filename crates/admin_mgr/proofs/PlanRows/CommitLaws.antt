@@ -48,26 +48,7 @@ same_row-is (SetRow k a m) (SetRow l x n) h =
     let entry = (tie_Decides cardinality_total cardinality_exact (x, n) (a, m)).0 parts.1 in
     λ i. SetRow (sym (eqb-true k l parts.0) i) (entry i).0 (entry i).1
 same_row-is (LockedRow a) (LockedRow x) h = ap LockedRow ((tie_Decides name_total name_exact x a).0 h)
-same_row-is (NameRow k a) (PairRow l x y) h = cc
-same_row-is (NameRow k a) (GrantRow x y z) h = cc
-same_row-is (NameRow k a) (SetRow l x n) h = cc
-same_row-is (NameRow k a) (LockedRow x) h = cc
-same_row-is (PairRow k a b) (NameRow l x) h = cc
-same_row-is (PairRow k a b) (GrantRow x y z) h = cc
-same_row-is (PairRow k a b) (SetRow l x n) h = cc
-same_row-is (PairRow k a b) (LockedRow x) h = cc
-same_row-is (GrantRow a b c) (NameRow l x) h = cc
-same_row-is (GrantRow a b c) (PairRow l x y) h = cc
-same_row-is (GrantRow a b c) (SetRow l x n) h = cc
-same_row-is (GrantRow a b c) (LockedRow x) h = cc
-same_row-is (SetRow k a m) (NameRow l x) h = cc
-same_row-is (SetRow k a m) (PairRow l x y) h = cc
-same_row-is (SetRow k a m) (GrantRow x y z) h = cc
-same_row-is (SetRow k a m) (LockedRow x) h = cc
-same_row-is (LockedRow a) (NameRow l x) h = cc
-same_row-is (LockedRow a) (PairRow l x y) h = cc
-same_row-is (LockedRow a) (GrantRow x y z) h = cc
-same_row-is (LockedRow a) (SetRow l x n) h = cc
+same_row-is row other h = cc
 
 -- ---- what changes of rows leave unchanged
 
@@ -75,29 +56,17 @@ same_row-is (LockedRow a) (SetRow l x n) h = cc
 pub edges_stay : (S : RbacState) (change : Change) → (after_change S change).edges ≡ S.edges
 unfolding with_row without_row
 edges_stay S (Put (NameRow k a)) = refl
-edges_stay S (Put (PairRow k a b)) = refl
-edges_stay S (Put (GrantRow a b c)) = refl
-edges_stay S (Put (SetRow k a n)) = refl
-edges_stay S (Put (LockedRow a)) = refl
+edges_stay S (Put _) = refl
 edges_stay S (Take (NameRow k a)) = refl
-edges_stay S (Take (PairRow k a b)) = refl
-edges_stay S (Take (GrantRow a b c)) = refl
-edges_stay S (Take (SetRow k a n)) = refl
-edges_stay S (Take (LockedRow a)) = refl
+edges_stay S (Take _) = refl
 
 -- and the version
 pub version_stays : (S : RbacState) (change : Change) → (after_change S change).version ≡ S.version
 unfolding with_row without_row
 version_stays S (Put (NameRow k a)) = refl
-version_stays S (Put (PairRow k a b)) = refl
-version_stays S (Put (GrantRow a b c)) = refl
-version_stays S (Put (SetRow k a n)) = refl
-version_stays S (Put (LockedRow a)) = refl
+version_stays S (Put _) = refl
 version_stays S (Take (NameRow k a)) = refl
-version_stays S (Take (PairRow k a b)) = refl
-version_stays S (Take (GrantRow a b c)) = refl
-version_stays S (Take (SetRow k a n)) = refl
-version_stays S (Take (LockedRow a)) = refl
+version_stays S (Take _) = refl
 
 -- a list of changes leaves the edges unchanged
 pub edges-changes : (S : RbacState) (changes : List Change) → (after_changes S changes).edges ≡ S.edges

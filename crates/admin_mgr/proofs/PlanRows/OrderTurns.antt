@@ -188,29 +188,23 @@ module _ (S : RbacState) (asc desc : Bytes) (pairs : Pairs) where
     -- the rows after: those before, and those that are listed
     rows_put : (row : Row) → has_row (with_edges S more) row ≡ (has_row S row || is_listed asc desc pairs row)
     unfolding has_row
-    rows_put (NameRow k x) = sym (or-false _) ∙ ap (λ b. has_row S (NameRow k x) || b) (sym (no_row))
     rows_put (PairRow k x y) = by_kind (λ kind. has_row (with_edges S more) (PairRow kind x y) ≡ (has_row S (PairRow kind x y) || is_listed asc desc pairs (PairRow kind x y)))
         (contains-insert pair_total S.edges (asc, desc) (x, y) ∙ or_comm (eq_by_cmp pair_cmp (x, y) (asc, desc)) (contains S.edges (x, y))
         ∙ ap (λ b. contains S.edges (x, y) || b) (sym (listed_edge asc desc pairs x y)))
         (above_put x y ∙ ap (λ b. (geq S.edges x y && not (same_name x y)) || b) (sym (listed_pair asc desc pairs x y)))
         (λ kind no_edge no_pair. others_stay S more kind x y no_edge no_pair ∙ sym (or-false _) ∙ ap (λ b. has_row S (PairRow kind x y) || b) (sym (listed_other asc desc pairs kind x y no_edge no_pair)))
         k
-    rows_put (GrantRow x y z) = sym (or-false _) ∙ ap (λ b. has_row S (GrantRow x y z) || b) (sym (no_row))
-    rows_put (SetRow k x n) = sym (or-false _) ∙ ap (λ b. has_row S (SetRow k x n) || b) (sym (no_row))
-    rows_put (LockedRow x) = sym (or-false _) ∙ ap (λ b. has_row S (LockedRow x) || b) (sym (no_row))
+    rows_put row = sym (or-false _) ∙ ap (λ b. has_row S row || b) (sym (no_row))
 
     -- no listed row was there
     listed_absent : (row : Row) → is_listed asc desc pairs row ≡ true → has_row S row ≡ false
     unfolding has_row
-    listed_absent (NameRow k x) = λ h. absurd (true≢false (sym h ∙ no_row))
     listed_absent (PairRow k x y) = by_kind (λ kind. is_listed asc desc pairs (PairRow kind x y) ≡ true → has_row S (PairRow kind x y) ≡ false)
         (λ h. ap (contains S.edges) ((tie_Decides pair_total pair_exact (x, y) (asc, desc)).0 (sym (listed_edge asc desc pairs x y) ∙ h)) ∙ absent)
         (λ h. false_from_ne_true (geq S.edges x y && not (same_name x y)) (λ was. ((gained x y).0 (sym (listed_pair asc desc pairs x y) ∙ h)).1 ((geq-Decides S.edges x y).0 (and_parts _ _ was).0)))
         (λ kind no_edge no_pair h. absurd (true≢false (sym h ∙ listed_other asc desc pairs kind x y no_edge no_pair)))
         k
-    listed_absent (GrantRow x y z) = λ h. absurd (true≢false (sym h ∙ no_row))
-    listed_absent (SetRow k x n) = λ h. absurd (true≢false (sym h ∙ no_row))
-    listed_absent (LockedRow x) = λ h. absurd (true≢false (sym h ∙ no_row))
+    listed_absent _ = λ h. absurd (true≢false (sym h ∙ no_row))
 
     -- inserting the rows of a new edge and of the pairs that the order gains leads to the state with this edge
     pub turns_order_puts : Turns S (order_puts asc desc pairs) (with_edges S (insert S.edges (asc, desc)))
@@ -255,29 +249,23 @@ module _ (S : RbacState) (asc desc : Bytes) (pairs : Pairs) where
     -- the rows after: those before, without those that are listed
     rows_take : (row : Row) → has_row (with_edges S left) row ≡ (has_row S row && not (is_listed asc desc pairs row))
     unfolding has_row
-    rows_take (NameRow k x) = and_not_none _ ∙ ap (λ b. has_row S (NameRow k x) && not b) (sym (no_row))
     rows_take (PairRow k x y) = by_kind (λ kind. has_row (with_edges S left) (PairRow kind x y) ≡ (has_row S (PairRow kind x y) && not (is_listed asc desc pairs (PairRow kind x y))))
         (contains-remove pair_total S.edges (asc, desc) (x, y) ∙ and_comm (not (eq_by_cmp pair_cmp (x, y) (asc, desc))) (contains S.edges (x, y))
         ∙ ap (λ b. contains S.edges (x, y) && not b) (sym (listed_edge asc desc pairs x y)))
         (above_take x y ∙ ap (λ b. (geq S.edges x y && not (same_name x y)) && not b) (sym (listed_pair asc desc pairs x y)))
         (λ kind no_edge no_pair. others_stay S left kind x y no_edge no_pair ∙ and_not_none _ ∙ ap (λ b. has_row S (PairRow kind x y) && not b) (sym (listed_other asc desc pairs kind x y no_edge no_pair)))
         k
-    rows_take (GrantRow x y z) = and_not_none _ ∙ ap (λ b. has_row S (GrantRow x y z) && not b) (sym (no_row))
-    rows_take (SetRow k x n) = and_not_none _ ∙ ap (λ b. has_row S (SetRow k x n) && not b) (sym (no_row))
-    rows_take (LockedRow x) = and_not_none _ ∙ ap (λ b. has_row S (LockedRow x) && not b) (sym (no_row))
+    rows_take row = and_not_none _ ∙ ap (λ b. has_row S row && not b) (sym (no_row))
 
     -- each listed row was there
     listed_there : (row : Row) → is_listed asc desc pairs row ≡ true → has_row S row ≡ true
     unfolding has_row
-    listed_there (NameRow k x) = λ h. absurd (true≢false (sym h ∙ no_row))
     listed_there (PairRow k x y) = by_kind (λ kind. is_listed asc desc pairs (PairRow kind x y) ≡ true → has_row S (PairRow kind x y) ≡ true)
         (λ h. ap (contains S.edges) ((tie_Decides pair_total pair_exact (x, y) (asc, desc)).0 (sym (listed_edge asc desc pairs x y) ∙ h)) ∙ there)
         (λ h. (let facts = (lost x y).0 (sym (listed_pair asc desc pairs x y) ∙ h) in and_from _ _ ((geq-Decides S.edges x y).1 facts.0) (other_names left x y facts.1)))
         (λ kind no_edge no_pair h. absurd (true≢false (sym h ∙ listed_other asc desc pairs kind x y no_edge no_pair)))
         k
-    listed_there (GrantRow x y z) = λ h. absurd (true≢false (sym h ∙ no_row))
-    listed_there (SetRow k x n) = λ h. absurd (true≢false (sym h ∙ no_row))
-    listed_there (LockedRow x) = λ h. absurd (true≢false (sym h ∙ no_row))
+    listed_there _ = λ h. absurd (true≢false (sym h ∙ no_row))
 
     -- removing the rows of an edge and of the pairs that the order loses with it leads to the state without this edge
     pub turns_order_takes : Turns S (order_takes asc desc pairs) (with_edges S (remove S.edges (asc, desc)))

@@ -29,10 +29,9 @@ take_first among false taken put = refl
 -- a row is inserted, and none is removed later
 put_first : (among same taken put : Bool) → taken ≡ false → (((same || among) && not taken) || put) ≡ ((among && not taken) || (same || put))
 put_first among same true put none = absurd (true≢false none)
+put_first among false false put none = refl
 put_first true true false put none = refl
 put_first false true false put none = refl
-put_first true false false put none = refl
-put_first false false false put none = refl
 
 -- a row is in the list after the changes exactly if it was and isn't removed, or is inserted
 among_after : (changes : List Change) (rows : List Row) (row : Row) → TakesFirst changes → is_among (rows_after rows changes) row ≡ ((is_among rows row && not (is_taken changes row)) || is_put changes row)

@@ -75,25 +75,16 @@ steps_put S row plain absent = record { fits = ((plain, absent), tt); leads = re
 -- a state with other edges has the same rows of the sets that change row by row
 pub has_row-with_edges : (S : RbacState) (edges : Pairs) (row : Row) → is_plain row ≡ true → has_row (with_edges S edges) row ≡ has_row S row
 unfolding has_row
-has_row-with_edges S edges (NameRow k x) plain = refl
 has_row-with_edges S edges (PairRow k x y) plain = plain_pairs (λ kind. has_row (with_edges S edges) (PairRow kind x y) ≡ has_row S (PairRow kind x y)) refl refl refl refl refl refl k plain
-has_row-with_edges S edges (GrantRow x y z) plain = refl
-has_row-with_edges S edges (SetRow k x n) plain = refl
-has_row-with_edges S edges (LockedRow x) plain = refl
+has_row-with_edges S edges _ plain = refl
 
 -- a change of one row has the same effect on the other sets, whatever the edges are
 edges_apart : (S : RbacState) (edges : Pairs) (change : Change) → after_change (with_edges S edges) change ≡ with_edges (after_change S change) edges
 unfolding with_row without_row
 edges_apart S edges (Put (NameRow k a)) = refl
-edges_apart S edges (Put (PairRow k a b)) = refl
-edges_apart S edges (Put (GrantRow a b c)) = refl
-edges_apart S edges (Put (SetRow k a n)) = refl
-edges_apart S edges (Put (LockedRow a)) = refl
+edges_apart S edges (Put _) = refl
 edges_apart S edges (Take (NameRow k a)) = refl
-edges_apart S edges (Take (PairRow k a b)) = refl
-edges_apart S edges (Take (GrantRow a b c)) = refl
-edges_apart S edges (Take (SetRow k a n)) = refl
-edges_apart S edges (Take (LockedRow a)) = refl
+edges_apart S edges (Take _) = refl
 
 -- a change is fitting whatever the edges are
 fitting_edges : (way : Way) (S : RbacState) (edges : Pairs) (change : Change) → IsFitting way S change → IsFitting way (with_edges S edges) change

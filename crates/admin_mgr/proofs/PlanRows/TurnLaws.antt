@@ -27,16 +27,13 @@ use Rattle.admin_mgr.proofs.PlanRows.StepLaws.{AreFitting, Steps, steps_put}
 
 -- a choice by three tests doesn't depend on their results if none holds
 three : (a b c p q r s t u : Bool) → (a || b || c) ≡ false → (if a then p else if b then q else if c then r else false) ≡ (if a then s else if b then t else if c then u else false)
-three true b c p q r s t u h = cc
-three false true c p q r s t u h = cc
-three false false true p q r s t u h = cc
 three false false false p q r s t u h = refl
+three a b c p q r s t u h = cc
 
 -- the same for two tests
 two : (a b p q s t : Bool) → (a || b) ≡ false → (if a then p else if b then q else false) ≡ (if a then s else if b then t else false)
-two true b p q s t h = cc
-two false true p q s t h = cc
 two false false p q s t h = refl
+two a b p q s t h = cc
 
 -- the same for eight tests, of which the third and the fourth have equal results
 eight :
@@ -44,15 +41,10 @@ eight :
     → (a || b || e || f || g || k) ≡ false
     → (if a then p else if b then q else if c then r else if d then s else if e then t else if f then u else if g then v else if k then w else false)
     ≡ (if a then p' else if b then q' else if c then r else if d then s else if e then t' else if f then u' else if g then v' else if k then w' else false)
-eight true b c d e f g k p q r s t u v w p' q' t' u' v' w' h = cc
-eight false true c d e f g k p q r s t u v w p' q' t' u' v' w' h = cc
 eight false false true d e f g k p q r s t u v w p' q' t' u' v' w' h = refl
 eight false false false true e f g k p q r s t u v w p' q' t' u' v' w' h = refl
-eight false false false false true f g k p q r s t u v w p' q' t' u' v' w' h = cc
-eight false false false false false true g k p q r s t u v w p' q' t' u' v' w' h = cc
-eight false false false false false false true k p q r s t u v w p' q' t' u' v' w' h = cc
-eight false false false false false false false true p q r s t u v w p' q' t' u' v' w' h = cc
 eight false false false false false false false false p q r s t u v w p' q' t' u' v' w' h = refl
+eight a b c d e f g k p q r s t u v w p' q' t' u' v' w' h = cc
 
 -- they depend only on the edges
 pub has_row-edges : (S T : RbacState) (row : Row) → is_plain row ≡ false → S.edges ≡ T.edges → has_row S row ≡ has_row T row
@@ -208,13 +200,10 @@ AreApart takes puts = (row : Row) → (is_taken takes row && is_put puts row) �
 both_rows : (has t p u q : Bool) → (u && p) ≡ false → (t && q) ≡ false → ((has && not t || p) && not u || q) ≡ (has && not (t || u) || (p || q))
 both_rows has t true true q h k = cc
 both_rows has true p u true h k = cc
-both_rows true true true false q h k = refl
-both_rows true true false true false h k = refl
-both_rows true true false false false h k = refl
-both_rows true false true false q h k = refl
-both_rows true false false true q h k = refl
-both_rows true false false false q h k = refl
-both_rows false t true false q h k = refl
+both_rows true true p u q h k = refl
+both_rows true false true u q h k = refl
+both_rows true false false u q h k = refl
+both_rows false t true u q h k = refl
 both_rows false t false u q h k = refl
 
 -- two lists together insert and remove each row once, if no row is inserted by both or removed by both

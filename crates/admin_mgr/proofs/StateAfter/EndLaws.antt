@@ -2,8 +2,10 @@
 use Rattle.std.proofs.Common.{◌≡◌, ◌≤◌, Bool, false, ◌&&◌, sym, ◌∙◌, subst, arith}
 use Rattle.std.specs.Prelude.{IsTrue, ◌⊎◌}
 use Rattle.std.proofs.lemmas.Bool.{and_parts, and_from, not-true}
-use Rattle.rbac_sets.specs.Sets.{Bytes, Names, Pair, any, contains, retain, count, same_name, empty}
+use Rattle.rbac_sets.specs.Sets.{Bytes, Names, Pair, any, contains, retain, count, same_name, empty, len}
+use Rattle.rbac_sets.specs.Kind.{limit_of}
 use Rattle.rbac_sets.specs.NameOrder.{name_total, name_exact, pair_total, pair_exact}
+use Rattle.rbac_sets.specs.declared.kind.Kind.TheVariants.{Session, ActiveRole}
 use Rattle.rbac_sets.proofs.SetLaws.{any-Decides, all-Decides, seconds-Decides, image-Decides, contains-retain, tie_Decides}
 use Rattle.rbac_sets.proofs.Members.{count-len, len-subset}
 use Rattle.role_order.specs.Order.{here, step, Geq, geq, IsAcyclic}
@@ -101,43 +103,21 @@ module _ (S : RbacState) (good : IsGoodApart S) where
   pub good_ended : IsGood (end_sessions S)
   unfolding end_sessions authorized_users
   good_ended =
-      let limits = good.limits in
       let T = end_sessions S in
-      record {
-        well_formed = record {
-          permissions = good.permissions;
-          assignments = good.assignments;
-          grants = good.grants;
-          edges = good.edges;
-          sessions = λ session user h. (goes_on_parts (session, user) (kept_session (session, user) h).1).0;
-          one_owner = λ session user other a b. good.one_owner session user other (kept_session (session, user) a).0 (kept_session (session, other) b).0;
-          active = λ session role h. (let kept = kept_active (session, role) h in authorized-role kept.1.0 role ((goes_on_parts (session, kept.1.0) kept.1.2).2 role kept.0));
-          owned = λ session role h. (let kept = kept_active (session, role) h in
-              (kept.1.0, contains-retain pair_total pair_exact S.sessions (may_go_on S) (session, kept.1.0) ∙ and_from _ _ kept.1.1 kept.1.2));
-          locked = good.locked;
-          ssd = good.ssd;
-          dsd = good.dsd;
-        };
-        acyclic = good.acyclic;
-        static_separation = good.static_separation;
-        dynamic_separation = ended_separation;
-        authorized = λ session user role owner active. (goes_on_parts (session, user) (kept_session (session, user) owner).1).2 role (kept_active (session, role) active).0;
-        unlocked = λ session user h. (goes_on_parts (session, user) (kept_session (session, user) h).1).1;
-        limits = record {
-          users = limits.users;
-          roles = limits.roles;
-          objects = limits.objects;
-          permissions = limits.permissions;
-          grants = limits.grants;
-          assignments = limits.assignments;
-          edges = limits.edges;
-          ssd_sets = limits.ssd_sets;
-          dsd_sets = limits.dsd_sets;
-          ssd_members = limits.ssd_members;
-          dsd_members = limits.dsd_members;
-          sessions = (let fewer = len-subset pair_total pair_exact T.sessions S.sessions (λ p h. (kept_session p h).0) in let before = limits.sessions in omega (arith, fewer, before));
-          active_roles = λ session. (let fewer = len-subset name_total name_exact (active_roles T session) (active_roles S session) (fewer_active session) in let before = limits.active_roles session in omega (arith, fewer, before));
-        };
-        version = good.version;
-        no_locks = good.no_locks;
-      }
+      let goes_on = λ (session user : Bytes) (h : IsTrue (contains T.sessions (session, user))). goes_on_parts (session, user) (kept_session (session, user) h).1 in
+      let owner : (session user : Bytes) → IsTrue (contains T.sessions (session, user)) → IsTrue (contains S.users user) = λ session user h. (goes_on session user h).0 in
+      let one_owner : (session user other : Bytes) → IsTrue (contains T.sessions (session, user)) → IsTrue (contains T.sessions (session, other)) → user ≡ other =
+      λ session user other a b. good.one_owner session user other (kept_session (session, user) a).0 (kept_session (session, other) b).0 in
+      let active : (session role : Bytes) → IsTrue (contains T.active (session, role)) → IsTrue (contains S.roles role) = λ session role h.
+      (let kept = kept_active (session, role) h in authorized-role kept.1.0 role ((goes_on_parts (session, kept.1.0) kept.1.2).2 role kept.0)) in
+      let owned : (session role : Bytes) → IsTrue (contains T.active (session, role)) → (user : Bytes) × IsTrue (contains T.sessions (session, user)) = λ session role h.
+      (let kept = kept_active (session, role) h in (kept.1.0, contains-retain pair_total pair_exact S.sessions (may_go_on S) (session, kept.1.0) ∙ and_from _ _ kept.1.1 kept.1.2)) in
+      let dynamic = ended_separation in
+      let authorized : (session user role : Bytes) → IsTrue (contains T.sessions (session, user)) → IsTrue (contains T.active (session, role)) → IsTrue (is_authorized S user role) =
+      λ session user role h has. (goes_on session user h).2 role (kept_active (session, role) has).0 in
+      let unlocked : (session user : Bytes) → IsTrue (contains T.sessions (session, user)) → contains S.locked user ≡ false = λ session user h. (goes_on session user h).1 in
+      let fewer : len T.sessions ≤ limit_of Session S.version =
+      (let less = len-subset pair_total pair_exact T.sessions S.sessions (λ p h. (kept_session p h).0) in let before = good.limits.sessions in omega (arith, less, before)) in
+      let fewer_in : (session : Bytes) → len (active_roles T session) ≤ limit_of ActiveRole S.version = λ session.
+      (let less = len-subset name_total name_exact (active_roles T session) (active_roles S session) (fewer_active session) in let before = good.limits.active_roles session in omega (arith, less, before)) in
+      assumption

@@ -20,6 +20,7 @@ use Rattle.admin_mgr.specs.Verdict.{verdict, refusals}
 use Rattle.admin_mgr.specs.Good.{IsGood, IsWellFormed}
 use Rattle.admin_mgr.proofs.Verdicts.SeparationLaws.{unmapped, static_test}
 use Rattle.admin_mgr.proofs.StateAfter.SessionLaws.{none_ends_where}
+use Rattle.admin_mgr.proofs.StateAfter.LimitLaws.{too_many-None, one_more_within}
 use Rattle.admin_mgr.proofs.Verdicts.TouchLaws.{with_assignment, authorized-assigned}
 use Rattle.admin_mgr.proofs.Verdicts.VerdictLaws.{AllPassed, passed, refuse_if-None, refuse_unless-None}
 
@@ -48,8 +49,7 @@ module _ (S : RbacState) (pair : Pair) (accepted : assignment_verdict S pair ≡
   -- the assignments stay within their limit
   pub room_for_assignment : len S.assignments + 1 ≤ limit_of Assignment S.version
   unfolding assignment_refusals
-  room_for_assignment = ltb-false (limit_of Assignment S.version) (len S.assignments + 1)
-      (refuse_if-None (is_too_many S Assignment (len S.assignments + 1)) (TooMany Assignment) all_passed.1.1.1.0)
+  room_for_assignment = too_many-None S Assignment (len S.assignments + 1) all_passed.1.1.1.0
 
   -- no static set is violated with it
   none_violated : static_violation (with_assignment S pair) ≡ None
@@ -78,56 +78,23 @@ module _ (S : RbacState) (good : IsGood S) (pair : Pair) (accepted : assignment_
   unfolding with_assignment
   well_formed_with =
       let formed = good.well_formed in
-      record {
-        permissions = formed.permissions;
-        assignments = λ user role h. elim ((contains-insert-Decides pair_total pair_exact S.assignments pair (user, role)).0 h) [
-          | inl same ↦ (
-            subst (λ u. IsTrue (contains S.users u)) (ap (λ (p : Pair). p.0) (sym same)) (assigned_user S pair accepted),
-            subst (λ r. IsTrue (contains S.roles r)) (ap (λ (p : Pair). p.1) (sym same)) (assigned_role S pair accepted),
-          )
-          | inr old ↦ formed.assignments user role old
-        ];
-        grants = formed.grants;
-        edges = formed.edges;
-        sessions = formed.sessions;
-        one_owner = formed.one_owner;
-        active = formed.active;
-        owned = formed.owned;
-        locked = formed.locked;
-        ssd = formed.ssd;
-        dsd = formed.dsd;
-      }
+      let assigned : (user role : Bytes) → IsTrue (contains (insert S.assignments pair) (user, role)) → IsTrue (contains S.users user) × IsTrue (contains S.roles role) =
+      λ user role h. elim ((contains-insert-Decides pair_total pair_exact S.assignments pair (user, role)).0 h) [
+        | inl same ↦ (ap (λ (p : Pair). contains S.users p.0) same ∙ assigned_user S pair accepted, ap (λ (p : Pair). contains S.roles p.1) same ∙ assigned_role S pair accepted)
+        | inr old ↦ formed.assignments user role old
+      ] in
+      assumption
 
   -- the state with the assignment is good
   pub good_with_assignment : IsGood (with_assignment S pair)
   unfolding with_assignment
   good_with_assignment =
-      let limits = good.limits in
-      record {
-        well_formed = well_formed_with;
-        acyclic = good.acyclic;
-        static_separation = (static_test (with_assignment S pair) well_formed_with).0 (none_violated S pair accepted);
-        dynamic_separation = good.dynamic_separation;
-        authorized = λ session user role owner active. still_authorized user role (good.authorized session user role owner active);
-        unlocked = good.unlocked;
-        limits = record {
-          users = limits.users;
-          roles = limits.roles;
-          objects = limits.objects;
-          permissions = limits.permissions;
-          grants = limits.grants;
-          assignments = (let more = len-insert-le pair_total S.assignments pair in let room = room_for_assignment S pair accepted in omega (arith, more, room));
-          edges = limits.edges;
-          ssd_sets = limits.ssd_sets;
-          dsd_sets = limits.dsd_sets;
-          ssd_members = limits.ssd_members;
-          dsd_members = limits.dsd_members;
-          sessions = limits.sessions;
-          active_roles = limits.active_roles;
-        };
-        version = good.version;
-        no_locks = good.no_locks;
-      }
+      let formed = well_formed_with in
+      let static = (static_test (with_assignment S pair) formed).0 (none_violated S pair accepted) in
+      let authorized : (session user role : Bytes) → IsTrue (contains S.sessions (session, user)) → IsTrue (contains S.active (session, role)) → IsTrue (is_authorized (with_assignment S pair) user role) =
+      λ session user role owner active. still_authorized user role (good.authorized session user role owner active) in
+      let room = one_more_within pair_total S.assignments pair _ (room_for_assignment S pair accepted) in
+      assumption
 
   -- and it is good
   pub good_assignment : IsGood (after_assignment S pair)

@@ -2,7 +2,7 @@
 use Rattle.std.proofs.Common.{◌≡◌, ◌+◌, ◌≤◌, false, sym, ◌∙◌, ap, subst, arith, inl, inr}
 use Rattle.std.specs.Prelude.{IsTrue, None}
 use Rattle.std.proofs.lemmas.Bool.{ltb-false, true≢false}
-use Rattle.rbac_sets.specs.Sets.{Bytes, Pair, contains, len}
+use Rattle.rbac_sets.specs.Sets.{Bytes, Pair, contains, insert, len}
 use Rattle.rbac_sets.specs.NameOrder.{pair_total, pair_exact}
 use Rattle.rbac_sets.specs.Kind.{limit_of}
 use Rattle.rbac_sets.specs.declared.command.Command.TheVariants.{AddInheritance}
@@ -14,7 +14,7 @@ use Rattle.role_order.specs.Order.{Geq, geq}
 use Rattle.role_order.proofs.Closing.{added_edge}
 use Rattle.role_order.proofs.Deciding.{geq-Decides}
 use Rattle.admin_mgr.specs.RbacState.{RbacState}
-use Rattle.admin_mgr.specs.Authorization.{authorized_users}
+use Rattle.admin_mgr.specs.Authorization.{authorized_users, is_authorized}
 use Rattle.admin_mgr.specs.Separation.{is_kept_statically, static_violation, dynamic_violation}
 use Rattle.admin_mgr.specs.Refusals.{is_too_many, violates_dynamic}
 use Rattle.admin_mgr.specs.Assignment.{end_sessions}
@@ -24,6 +24,7 @@ use Rattle.admin_mgr.specs.Good.{IsGood, IsWellFormed}
 use Rattle.admin_mgr.proofs.Verdicts.InheritLaws.{with_edge, still_authorized, goes_on_below}
 use Rattle.admin_mgr.proofs.Verdicts.SeparationLaws.{unmapped, static_test, dynamic_test}
 use Rattle.admin_mgr.proofs.StateAfter.SessionLaws.{none_ends_where}
+use Rattle.admin_mgr.proofs.StateAfter.LimitLaws.{too_many-None, one_more_within}
 use Rattle.admin_mgr.proofs.Verdicts.VerdictLaws.{AllPassed, passed, refuse_if-None, refuse_unless-None}
 
 -- the conditions that the accepted command meets
@@ -51,8 +52,7 @@ module _ (S : RbacState) (asc desc : Bytes) (accepted : verdict S (AddInheritanc
   -- the edges stay within their limit
   room_for_edge : len S.edges + 1 ≤ limit_of Edge S.version
   unfolding refusals
-  room_for_edge = ltb-false (limit_of Edge S.version) (len S.edges + 1)
-      (refuse_if-None (is_too_many S Edge (len S.edges + 1)) (TooMany Edge) all_passed.1.1.1.1.0)
+  room_for_edge = too_many-None S Edge (len S.edges + 1) all_passed.1.1.1.1.0
 
   -- no static set is violated with it
   none_violated : static_violation (with_edge S asc desc) ≡ None
@@ -77,25 +77,12 @@ module _ (S : RbacState) (good : IsGood S) (asc desc : Bytes) (accepted : verdic
   well_formed_with =
       let formed = good.well_formed in
       let roles = inheriting_roles S asc desc accepted in
-      record {
-        permissions = formed.permissions;
-        assignments = formed.assignments;
-        grants = formed.grants;
-        edges = λ r q h. elim ((contains-insert-Decides pair_total pair_exact S.edges (asc, desc) (r, q)).0 h) [
-          | inl same ↦ (
-            subst (λ x. IsTrue (contains S.roles x)) (ap (λ (p : Pair). p.0) (sym same)) roles.0,
-            subst (λ x. IsTrue (contains S.roles x)) (ap (λ (p : Pair). p.1) (sym same)) roles.1,
-          )
-          | inr old ↦ formed.edges r q old
-        ];
-        sessions = formed.sessions;
-        one_owner = formed.one_owner;
-        active = formed.active;
-        owned = formed.owned;
-        locked = formed.locked;
-        ssd = formed.ssd;
-        dsd = formed.dsd;
-      }
+      let ends : (r q : Bytes) → IsTrue (contains (insert S.edges (asc, desc)) (r, q)) → IsTrue (contains S.roles r) × IsTrue (contains S.roles q) =
+      λ r q h. elim ((contains-insert-Decides pair_total pair_exact S.edges (asc, desc) (r, q)).0 h) [
+        | inl same ↦ (ap (λ (p : Pair). contains S.roles p.0) same ∙ roles.0, ap (λ (p : Pair). contains S.roles p.1) same ∙ roles.1)
+        | inr old ↦ formed.edges r q old
+      ] in
+      assumption
 
   -- no dynamic set is violated with it
   none_violated_dynamically : dynamic_violation (with_edge S asc desc) ≡ None
@@ -107,34 +94,16 @@ module _ (S : RbacState) (good : IsGood S) (asc desc : Bytes) (accepted : verdic
   good_with_edge : IsGood (with_edge S asc desc)
   unfolding with_edge
   good_with_edge =
-      let limits = good.limits in
+      let formed = well_formed_with in
       let back = no_way_back S asc desc accepted in
       let no_cycle : Geq S.edges desc asc → ⊥ = λ leads. true≢false (sym ((geq-Decides S.edges desc asc).1 leads) ∙ back) in
-      record {
-        well_formed = well_formed_with;
-        acyclic = (added_edge S.edges asc desc good.acyclic no_cycle).1;
-        static_separation = (static_test (with_edge S asc desc) well_formed_with).0 (none_violated S asc desc accepted);
-        dynamic_separation = (dynamic_test (with_edge S asc desc)).0 none_violated_dynamically;
-        authorized = λ session user role owner active. still_authorized S good asc desc back user role (good.authorized session user role owner active);
-        unlocked = good.unlocked;
-        limits = record {
-          users = limits.users;
-          roles = limits.roles;
-          objects = limits.objects;
-          permissions = limits.permissions;
-          grants = limits.grants;
-          assignments = limits.assignments;
-          edges = (let more = len-insert-le pair_total S.edges (asc, desc) in let room = room_for_edge S asc desc accepted in omega (arith, more, room));
-          ssd_sets = limits.ssd_sets;
-          dsd_sets = limits.dsd_sets;
-          ssd_members = limits.ssd_members;
-          dsd_members = limits.dsd_members;
-          sessions = limits.sessions;
-          active_roles = limits.active_roles;
-        };
-        version = good.version;
-        no_locks = good.no_locks;
-      }
+      let acyclic = (added_edge S.edges asc desc good.acyclic no_cycle).1 in
+      let static = (static_test (with_edge S asc desc) formed).0 (none_violated S asc desc accepted) in
+      let dynamic = (dynamic_test (with_edge S asc desc)).0 none_violated_dynamically in
+      let authorized : (session user role : Bytes) → IsTrue (contains S.sessions (session, user)) → IsTrue (contains S.active (session, role)) → IsTrue (is_authorized (with_edge S asc desc) user role) =
+      λ session user role owner active. still_authorized S good asc desc back user role (good.authorized session user role owner active) in
+      let room = one_more_within pair_total S.edges (asc, desc) _ (room_for_edge S asc desc accepted) in
+      assumption
 
   -- and the state is good
   pub good_after_add_inheritance : IsGood (after S (AddInheritance asc desc))

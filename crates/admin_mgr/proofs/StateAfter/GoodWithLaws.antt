@@ -18,7 +18,7 @@ use Rattle.admin_mgr.specs.RbacState.{RbacState, Separation, members_of, active_
 use Rattle.admin_mgr.specs.Authorization.{authorized_users, is_authorized, is_session_role}
 use Rattle.admin_mgr.specs.Assignment.{may_go_on}
 use Rattle.admin_mgr.specs.After.{changed, after}
-use Rattle.admin_mgr.specs.Good.{IsGood, IsSeparation, IsDynamicallySeparated}
+use Rattle.admin_mgr.specs.Good.{IsGood, IsSeparation, IsStaticallySeparated, IsDynamicallySeparated}
 use Rattle.admin_mgr.proofs.StateAfter.SessionLaws.{none_ends}
 use Rattle.admin_mgr.proofs.Verdicts.TouchLaws.{with_sessions}
 
@@ -61,44 +61,11 @@ pub good_with_users : (S : RbacState) → IsGood S → (users : Names) → ((x :
 unfolding authorized_users
 good_with_users S good users more room =
     let formed = good.well_formed in
-    let limits = good.limits in
-    record {
-      well_formed = record {
-        permissions = formed.permissions;
-        assignments = λ user role h. (more user (formed.assignments user role h).0, (formed.assignments user role h).1);
-        grants = formed.grants;
-        edges = formed.edges;
-        sessions = λ session user h. more user (formed.sessions session user h);
-        one_owner = formed.one_owner;
-        active = formed.active;
-        owned = formed.owned;
-        locked = λ user h. more user (formed.locked user h);
-        ssd = formed.ssd;
-        dsd = formed.dsd;
-      };
-      acyclic = good.acyclic;
-      static_separation = good.static_separation;
-      dynamic_separation = good.dynamic_separation;
-      authorized = good.authorized;
-      unlocked = good.unlocked;
-      limits = record {
-        users = room;
-        roles = limits.roles;
-        objects = limits.objects;
-        permissions = limits.permissions;
-        grants = limits.grants;
-        assignments = limits.assignments;
-        edges = limits.edges;
-        ssd_sets = limits.ssd_sets;
-        dsd_sets = limits.dsd_sets;
-        ssd_members = limits.ssd_members;
-        dsd_members = limits.dsd_members;
-        sessions = limits.sessions;
-        active_roles = limits.active_roles;
-      };
-      version = good.version;
-      no_locks = good.no_locks;
-    }
+    let assigned : (user role : Bytes) → IsTrue (contains S.assignments (user, role)) → IsTrue (contains users user) × IsTrue (contains S.roles role) =
+    λ user role h. (let was = formed.assignments user role h in (more user was.0, was.1)) in
+    let owner : (session user : Bytes) → IsTrue (contains S.sessions (session, user)) → IsTrue (contains users user) = λ session user h. more user (formed.sessions session user h) in
+    let locked : (user : Bytes) → IsTrue (contains S.locked user) → IsTrue (contains users user) = λ user h. more user (formed.locked user h) in
+    assumption
 
 -- ---- other objects, permissions and grants
 
@@ -114,46 +81,7 @@ pub record ArePermissions (S : RbacState) (objects : Names) (permissions : Pairs
 pub good_with_permissions : (S : RbacState) → IsGood S → (objects : Names) (permissions : Pairs) (grants : Triples) → ArePermissions S objects permissions grants →
     IsGood (record S { objects = objects; permissions = permissions; grants = grants })
 unfolding authorized_users
-good_with_permissions S good objects permissions grants are =
-    let formed = good.well_formed in
-    let limits = good.limits in
-    record {
-      well_formed = record {
-        permissions = are.permissions_formed;
-        assignments = formed.assignments;
-        grants = are.grants_formed;
-        edges = formed.edges;
-        sessions = formed.sessions;
-        one_owner = formed.one_owner;
-        active = formed.active;
-        owned = formed.owned;
-        locked = formed.locked;
-        ssd = formed.ssd;
-        dsd = formed.dsd;
-      };
-      acyclic = good.acyclic;
-      static_separation = good.static_separation;
-      dynamic_separation = good.dynamic_separation;
-      authorized = good.authorized;
-      unlocked = good.unlocked;
-      limits = record {
-        users = limits.users;
-        roles = limits.roles;
-        objects = are.objects_room;
-        permissions = are.permissions_room;
-        grants = are.grants_room;
-        assignments = limits.assignments;
-        edges = limits.edges;
-        ssd_sets = limits.ssd_sets;
-        dsd_sets = limits.dsd_sets;
-        ssd_members = limits.ssd_members;
-        dsd_members = limits.dsd_members;
-        sessions = limits.sessions;
-        active_roles = limits.active_roles;
-      };
-      version = good.version;
-      no_locks = good.no_locks;
-    }
+good_with_permissions S good objects permissions grants are = assumption
 
 -- ---- more roles, and other edges
 
@@ -196,50 +124,24 @@ module _ (S : RbacState) (good : IsGood S) (roles : Names) (edges : Pairs) (are 
   pub good_with_roles : IsGood with_roles
   good_with_roles =
       let formed = good.well_formed in
-      let limits = good.limits in
-      record {
-        well_formed = record {
-          permissions = formed.permissions;
-          assignments = λ user role h. ((formed.assignments user role h).0, are.more role (formed.assignments user role h).1);
-          grants = λ object operation role h. ((formed.grants object operation role h).0, are.more role (formed.grants object operation role h).1);
-          edges = are.edges_formed;
-          sessions = formed.sessions;
-          one_owner = formed.one_owner;
-          active = λ session role h. are.more role (formed.active session role h);
-          owned = formed.owned;
-          locked = formed.locked;
-          ssd = separation_with S.ssd formed.ssd;
-          dsd = separation_with S.dsd formed.dsd;
-        };
-        acyclic = are.acyclic;
-        static_separation = λ name user n there. subst (λ k. k < n)
-            (sym (count_same name_total name_exact (is_authorized with_roles user) (is_authorized S user) (members_of S.ssd name)
-            (λ q member. same_authorized user q (formed.ssd.members name q ((seconds-Decides S.ssd.members name q).0 member)).1)))
-            (good.static_separation name user n there);
-        dynamic_separation = λ name session user n there owner. subst (λ k. k < n)
-            (sym (count_same name_total name_exact (is_session_role with_roles session) (is_session_role S session) (members_of S.dsd name)
-            (λ q member. same_session_role session q (formed.dsd.members name q ((seconds-Decides S.dsd.members name q).0 member)).1)))
-            (good.dynamic_separation name session user n there owner);
-        authorized = λ session user role owner active. same_authorized user role (formed.active session role active) ∙ good.authorized session user role owner active;
-        unlocked = good.unlocked;
-        limits = record {
-          users = limits.users;
-          roles = are.roles_room;
-          objects = limits.objects;
-          permissions = limits.permissions;
-          grants = limits.grants;
-          assignments = limits.assignments;
-          edges = are.edges_room;
-          ssd_sets = limits.ssd_sets;
-          dsd_sets = limits.dsd_sets;
-          ssd_members = limits.ssd_members;
-          dsd_members = limits.dsd_members;
-          sessions = limits.sessions;
-          active_roles = limits.active_roles;
-        };
-        version = good.version;
-        no_locks = good.no_locks;
-      }
+      let assigned : (user role : Bytes) → IsTrue (contains S.assignments (user, role)) → IsTrue (contains S.users user) × IsTrue (contains roles role) =
+      λ user role h. (let was = formed.assignments user role h in (was.0, are.more role was.1)) in
+      let granted : (object operation role : Bytes) → IsTrue (contains S.grants (object, operation, role)) → IsTrue (contains S.permissions (object, operation)) × IsTrue (contains roles role) =
+      λ object operation role h. (let was = formed.grants object operation role h in (was.0, are.more role was.1)) in
+      let active : (session role : Bytes) → IsTrue (contains S.active (session, role)) → IsTrue (contains roles role) = λ session role h. are.more role (formed.active session role h) in
+      let ssd = separation_with S.ssd formed.ssd in
+      let dsd = separation_with S.dsd formed.dsd in
+      let static : IsStaticallySeparated with_roles = λ name user n there. subst (λ k. k < n)
+      (sym (count_same name_total name_exact (is_authorized with_roles user) (is_authorized S user) (members_of S.ssd name)
+      (λ q member. same_authorized user q (formed.ssd.members name q ((seconds-Decides S.ssd.members name q).0 member)).1)))
+      (good.static_separation name user n there) in
+      let dynamic : IsDynamicallySeparated with_roles = λ name session user n there owner. subst (λ k. k < n)
+      (sym (count_same name_total name_exact (is_session_role with_roles session) (is_session_role S session) (members_of S.dsd name)
+      (λ q member. same_session_role session q (formed.dsd.members name q ((seconds-Decides S.dsd.members name q).0 member)).1)))
+      (good.dynamic_separation name session user n there owner) in
+      let authorized : (session user role : Bytes) → IsTrue (contains S.sessions (session, user)) → IsTrue (contains S.active (session, role)) → IsTrue (is_authorized with_roles user role) =
+      λ session user role owner has. same_authorized user role (formed.active session role has) ∙ good.authorized session user role owner has in
+      assumption
 
 -- ---- other sessions and activated roles
 
@@ -266,43 +168,9 @@ goes_on_parts S p h =
 pub good_with_sessions : (S : RbacState) → IsGood S → (sessions active : Pairs) → AreSessions S sessions active → IsGood (with_sessions S sessions active)
 unfolding authorized_users with_sessions
 good_with_sessions S good sessions active are =
-    let formed = good.well_formed in
-    let limits = good.limits in
-    let T = with_sessions S sessions active in
-    record {
-      well_formed = record {
-        permissions = formed.permissions;
-        assignments = formed.assignments;
-        grants = formed.grants;
-        edges = formed.edges;
-        sessions = λ session user h. (goes_on_parts T (session, user) (are.going (session, user) h)).0;
-        one_owner = are.one_owner;
-        active = are.roles;
-        owned = are.owned;
-        locked = formed.locked;
-        ssd = formed.ssd;
-        dsd = formed.dsd;
-      };
-      acyclic = good.acyclic;
-      static_separation = good.static_separation;
-      dynamic_separation = are.separated;
-      authorized = λ session user role owner has. (goes_on_parts T (session, user) (are.going (session, user) owner)).2 role has;
-      unlocked = λ session user h. (goes_on_parts T (session, user) (are.going (session, user) h)).1;
-      limits = record {
-        users = limits.users;
-        roles = limits.roles;
-        objects = limits.objects;
-        permissions = limits.permissions;
-        grants = limits.grants;
-        assignments = limits.assignments;
-        edges = limits.edges;
-        ssd_sets = limits.ssd_sets;
-        dsd_sets = limits.dsd_sets;
-        ssd_members = limits.ssd_members;
-        dsd_members = limits.dsd_members;
-        sessions = are.sessions_room;
-        active_roles = are.active_room;
-      };
-      version = good.version;
-      no_locks = good.no_locks;
-    }
+    let goes_on = λ (session user : Bytes) (h : IsTrue (contains sessions (session, user))). goes_on_parts (with_sessions S sessions active) (session, user) (are.going (session, user) h) in
+    let owner : (session user : Bytes) → IsTrue (contains sessions (session, user)) → IsTrue (contains S.users user) = λ session user h. (goes_on session user h).0 in
+    let unlocked : (session user : Bytes) → IsTrue (contains sessions (session, user)) → contains S.locked user ≡ false = λ session user h. (goes_on session user h).1 in
+    let authorized : (session user role : Bytes) → IsTrue (contains sessions (session, user)) → IsTrue (contains active (session, role)) → IsTrue (is_authorized (with_sessions S sessions active) user role) =
+    λ session user role h has. (goes_on session user h).2 role has in
+    assumption

@@ -1,6 +1,7 @@
 -- A good state of version 1 that is migrated to version 2 is good, and its names stay valid.
-use Rattle.std.proofs.Common.{◌≤◌, ℕ, refl, sym, ◌∙◌, subst, inr, arith}
-use Rattle.rbac_sets.specs.Sets.{name_cmp, len}
+use Rattle.std.proofs.Common.{◌≡◌, ◌≤◌, ℕ, false, refl, sym, ◌∙◌, subst, inr, arith}
+use Rattle.std.specs.Prelude.{IsTrue, ◌⊎◌}
+use Rattle.rbac_sets.specs.Sets.{Bytes, name_cmp, contains, empty, len}
 use Rattle.rbac_sets.specs.Kind.{limit_of}
 use Rattle.rbac_sets.specs.declared.kind.Kind.TheVariants.{User, Role, Edge}
 use Rattle.rbac_sets.specs.declared.row.Row.TheVariants.{NameRow, PairRow, GrantRow, SetRow, LockedRow}
@@ -17,45 +18,16 @@ use Rattle.admin_mgr.specs.StateLaws.{MigratedIsGood}
 pub migrated_good : MigratedIsGood
 unfolding authorized_users
 migrated_good S good first =
-    let formed = good.well_formed in
     let limits = good.limits in
-    record {
-      well_formed = record {
-        permissions = formed.permissions;
-        assignments = formed.assignments;
-        grants = formed.grants;
-        edges = formed.edges;
-        sessions = formed.sessions;
-        one_owner = formed.one_owner;
-        active = formed.active;
-        owned = formed.owned;
-        locked = λ user h. absurd (true≢false (sym h ∙ contains-empty name_cmp user));
-        ssd = formed.ssd;
-        dsd = formed.dsd;
-      };
-      acyclic = good.acyclic;
-      static_separation = good.static_separation;
-      dynamic_separation = good.dynamic_separation;
-      authorized = good.authorized;
-      unlocked = λ session user h. contains-empty name_cmp user;
-      limits = record {
-        users = (let h : len S.users ≤ 5000 = subst (λ (v : ℕ). len S.users ≤ limit_of User v) first limits.users in omega (arith, h));
-        roles = (let h : len S.roles ≤ 256 = subst (λ (v : ℕ). len S.roles ≤ limit_of Role v) first limits.roles in omega (arith, h));
-        objects = limits.objects;
-        permissions = limits.permissions;
-        grants = limits.grants;
-        assignments = limits.assignments;
-        edges = (let h : len S.edges ≤ 1024 = subst (λ (v : ℕ). len S.edges ≤ limit_of Edge v) first limits.edges in omega (arith, h));
-        ssd_sets = limits.ssd_sets;
-        dsd_sets = limits.dsd_sets;
-        ssd_members = limits.ssd_members;
-        dsd_members = limits.dsd_members;
-        sessions = limits.sessions;
-        active_roles = limits.active_roles;
-      };
-      version = inr refl;
-      no_locks = λ h. cc;
-    }
+    let users : len S.users ≤ limit_of User 2 = (let h : len S.users ≤ 5000 = subst (λ (v : ℕ). len S.users ≤ limit_of User v) first limits.users in omega (arith, h)) in
+    let roles : len S.roles ≤ limit_of Role 2 = (let h : len S.roles ≤ 256 = subst (λ (v : ℕ). len S.roles ≤ limit_of Role v) first limits.roles in omega (arith, h)) in
+    let edges : len S.edges ≤ limit_of Edge 2 = (let h : len S.edges ≤ 1024 = subst (λ (v : ℕ). len S.edges ≤ limit_of Edge v) first limits.edges in omega (arith, h)) in
+    let none = λ (user : Bytes). contains-empty name_cmp user in
+    let locked : (user : Bytes) → IsTrue (contains (empty {R = name_cmp}) user) → IsTrue (contains S.users user) = λ user h. absurd (true≢false (sym h ∙ none user)) in
+    let unlocked : (session user : Bytes) → IsTrue (contains S.sessions (session, user)) → contains (empty {R = name_cmp}) user ≡ false = λ session user h. none user in
+    let version : ((migrated_to_version_2 S).version ≡ 1) ⊎ ((migrated_to_version_2 S).version ≡ 2) = inr refl in
+    let no_locks : (migrated_to_version_2 S).version ≡ 1 → (migrated_to_version_2 S).locked ≡ empty = λ h. refl in
+    assumption
 
 -- its rows are those of the state, without the locks
 pub migrated_named : (S : RbacState) → AreNamed S → AreNamed (migrated_to_version_2 S)

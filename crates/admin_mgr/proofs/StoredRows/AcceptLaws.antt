@@ -62,9 +62,6 @@ one_number S good k a m n here there =
 same_set_found : (k : ℕ) (a : Bytes) (m : ℕ) (rows : List Row) → list_any (λ (other : Row). same_key (SetRow k a m) other) rows ≡ true →
     (n : ℕ) × (is_among rows (SetRow k a n) ≡ true) × (m ≡ n → list_any (λ (other : Row). same_row (SetRow k a m) other) rows ≡ true)
 same_set_found k a m [] h = absurd (true≢false (sym h))
-same_set_found k a m (NameRow l x ∷ rows) h = same_set_found k a m rows h
-same_set_found k a m (PairRow l x y ∷ rows) h = same_set_found k a m rows h
-same_set_found k a m (GrantRow x y z ∷ rows) h = same_set_found k a m rows h
 same_set_found k a m (SetRow l x j ∷ rows) h = elim (or_cases (nat_eq k l && same_name x a) (list_any (λ (other : Row). same_key (SetRow k a m) other) rows) h) [
   | inl here ↦
       let parts = and_parts (nat_eq k l) (same_name x a) here in
@@ -76,18 +73,15 @@ same_set_found k a m (SetRow l x j ∷ rows) h = elim (or_cases (nat_eq k l && s
       )
   | inr later ↦ let found = same_set_found k a m rows later in (found.0, or_right _ _ found.1, λ same. or_right _ _ (found.2 same))
 ]
-same_set_found k a m (LockedRow x ∷ rows) h = same_set_found k a m rows h
+same_set_found k a m (_ ∷ rows) h = same_set_found k a m rows h
 
 -- a row of a good state that occurs once has a key of its own
 key_once : (S : RbacState) → IsGood S → (row : Row) (rows : List Row) → has_row S row ≡ true → ((other : Row) → is_among rows other ≡ true → has_row S other ≡ true) →
     list_any (λ (other : Row). same_row row other) rows ≡ false → list_any (λ (other : Row). same_key row other) rows ≡ false
-key_once S good (NameRow k a) rows here there free = free
-key_once S good (PairRow k a b) rows here there free = free
-key_once S good (GrantRow a b c) rows here there free = free
 key_once S good (SetRow k a m) rows here there free = false_from_ne_true _ (λ h.
     (let found = same_set_found k a m rows h in
     true≢false (sym (found.2 (one_number S good k a m found.0 here (there (SetRow k a found.0) found.1))) ∙ free)))
-key_once S good (LockedRow a) rows here there free = free
+key_once S good _ rows here there free = free
 
 -- so keys occur once
 keys_once : (S : RbacState) → IsGood S → (rows : List Row) → ((row : Row) → is_among rows row ≡ true → has_row S row ≡ true) → OccurOnce rows → HaveKeysOnce rows

@@ -29,46 +29,31 @@ longer false x all xs last is = is
 names_more : (kind : ℕ) (rows : List Row) (row : Row) → names_of kind (rows ++ row ∷ []) ≡ names_of kind rows ++ names_of kind (row ∷ [])
 names_more kind [] row = refl
 names_more kind (NameRow k a ∷ rows) row = longer (nat_eq k kind) a _ _ _ (names_more kind rows row)
-names_more kind (PairRow k a b ∷ rows) row = names_more kind rows row
-names_more kind (GrantRow a b c ∷ rows) row = names_more kind rows row
-names_more kind (SetRow k a n ∷ rows) row = names_more kind rows row
-names_more kind (LockedRow a ∷ rows) row = names_more kind rows row
+names_more kind (_ ∷ rows) row = names_more kind rows row
 
 -- the pairs of a kind, with one more row
 pairs_more : (kind : ℕ) (rows : List Row) (row : Row) → pairs_of kind (rows ++ row ∷ []) ≡ pairs_of kind rows ++ pairs_of kind (row ∷ [])
 pairs_more kind [] row = refl
-pairs_more kind (NameRow k a ∷ rows) row = pairs_more kind rows row
 pairs_more kind (PairRow k a b ∷ rows) row = longer (nat_eq k kind) (a, b) _ _ _ (pairs_more kind rows row)
-pairs_more kind (GrantRow a b c ∷ rows) row = pairs_more kind rows row
-pairs_more kind (SetRow k a n ∷ rows) row = pairs_more kind rows row
-pairs_more kind (LockedRow a ∷ rows) row = pairs_more kind rows row
+pairs_more kind (_ ∷ rows) row = pairs_more kind rows row
 
 -- the grants, with one more row
 grants_more : (rows : List Row) (row : Row) → grants_of (rows ++ row ∷ []) ≡ grants_of rows ++ grants_of (row ∷ [])
 grants_more [] row = refl
-grants_more (NameRow k a ∷ rows) row = grants_more rows row
-grants_more (PairRow k a b ∷ rows) row = grants_more rows row
 grants_more (GrantRow a b c ∷ rows) row = ap (λ l. (a, b, c) ∷ l) (grants_more rows row)
-grants_more (SetRow k a n ∷ rows) row = grants_more rows row
-grants_more (LockedRow a ∷ rows) row = grants_more rows row
+grants_more (_ ∷ rows) row = grants_more rows row
 
 -- the cardinalities of a kind of sets, with one more row
 cardinalities_more : (kind : ℕ) (rows : List Row) (row : Row) → cardinalities_of kind (rows ++ row ∷ []) ≡ cardinalities_of kind rows ++ cardinalities_of kind (row ∷ [])
 cardinalities_more kind [] row = refl
-cardinalities_more kind (NameRow k a ∷ rows) row = cardinalities_more kind rows row
-cardinalities_more kind (PairRow k a b ∷ rows) row = cardinalities_more kind rows row
-cardinalities_more kind (GrantRow a b c ∷ rows) row = cardinalities_more kind rows row
 cardinalities_more kind (SetRow k a n ∷ rows) row = longer (nat_eq k kind) (a, n) _ _ _ (cardinalities_more kind rows row)
-cardinalities_more kind (LockedRow a ∷ rows) row = cardinalities_more kind rows row
+cardinalities_more kind (_ ∷ rows) row = cardinalities_more kind rows row
 
 -- the locks, with one more row
 locks_more : (rows : List Row) (row : Row) → locks_of (rows ++ row ∷ []) ≡ locks_of rows ++ locks_of (row ∷ [])
 locks_more [] row = refl
-locks_more (NameRow k a ∷ rows) row = locks_more rows row
-locks_more (PairRow k a b ∷ rows) row = locks_more rows row
-locks_more (GrantRow a b c ∷ rows) row = locks_more rows row
-locks_more (SetRow k a n ∷ rows) row = locks_more rows row
 locks_more (LockedRow a ∷ rows) row = ap (λ l. a ∷ l) (locks_more rows row)
+locks_more (_ ∷ rows) row = locks_more rows row
 
 -- the set of a list to which an item may be appended
 module _ {K : Type 0} {R : K → K → Ordering} (total : IsTotalOrder R) (exact : IsAntisymmetric R) where
@@ -107,54 +92,39 @@ names_put kind rows row = ap from_list (names_more kind rows row) ∙ by row
   where
     by : (row : Row) → from_list (names_of kind rows ++ names_of kind (row ∷ [])) ≡ with_name_of kind (from_list (names_of kind rows)) row
     by (NameRow k a) = put_if name_total name_exact (nat_eq k kind) (names_of kind rows) a
-    by (PairRow k a b) = put_none name_total name_exact (names_of kind rows)
-    by (GrantRow a b c) = put_none name_total name_exact (names_of kind rows)
-    by (SetRow k a n) = put_none name_total name_exact (names_of kind rows)
-    by (LockedRow a) = put_none name_total name_exact (names_of kind rows)
+    by _ = put_none name_total name_exact (names_of kind rows)
 
 -- the set of the pairs of a kind, with one more row
 pairs_put : (kind : ℕ) (rows : List Row) (row : Row) → from_list (pairs_of kind (rows ++ row ∷ [])) ≡ with_pair_of kind (from_list (pairs_of kind rows)) row
 pairs_put kind rows row = ap from_list (pairs_more kind rows row) ∙ by row
   where
     by : (row : Row) → from_list (pairs_of kind rows ++ pairs_of kind (row ∷ [])) ≡ with_pair_of kind (from_list (pairs_of kind rows)) row
-    by (NameRow k a) = put_none pair_total pair_exact (pairs_of kind rows)
     by (PairRow k a b) = put_if pair_total pair_exact (nat_eq k kind) (pairs_of kind rows) (a, b)
-    by (GrantRow a b c) = put_none pair_total pair_exact (pairs_of kind rows)
-    by (SetRow k a n) = put_none pair_total pair_exact (pairs_of kind rows)
-    by (LockedRow a) = put_none pair_total pair_exact (pairs_of kind rows)
+    by _ = put_none pair_total pair_exact (pairs_of kind rows)
 
 -- the set of the grants, with one more row
 grants_put : (rows : List Row) (row : Row) → from_list (grants_of (rows ++ row ∷ [])) ≡ with_grant (from_list (grants_of rows)) row
 grants_put rows row = ap from_list (grants_more rows row) ∙ by row
   where
     by : (row : Row) → from_list (grants_of rows ++ grants_of (row ∷ [])) ≡ with_grant (from_list (grants_of rows)) row
-    by (NameRow k a) = put_none triple_total triple_exact (grants_of rows)
-    by (PairRow k a b) = put_none triple_total triple_exact (grants_of rows)
     by (GrantRow a b c) = put_if triple_total triple_exact true (grants_of rows) (a, b, c)
-    by (SetRow k a n) = put_none triple_total triple_exact (grants_of rows)
-    by (LockedRow a) = put_none triple_total triple_exact (grants_of rows)
+    by _ = put_none triple_total triple_exact (grants_of rows)
 
 -- the set of the cardinalities of a kind of sets, with one more row
 cardinalities_put : (kind : ℕ) (rows : List Row) (row : Row) → from_list (cardinalities_of kind (rows ++ row ∷ [])) ≡ with_cardinality_of kind (from_list (cardinalities_of kind rows)) row
 cardinalities_put kind rows row = ap from_list (cardinalities_more kind rows row) ∙ by row
   where
     by : (row : Row) → from_list (cardinalities_of kind rows ++ cardinalities_of kind (row ∷ [])) ≡ with_cardinality_of kind (from_list (cardinalities_of kind rows)) row
-    by (NameRow k a) = put_none cardinality_total cardinality_exact (cardinalities_of kind rows)
-    by (PairRow k a b) = put_none cardinality_total cardinality_exact (cardinalities_of kind rows)
-    by (GrantRow a b c) = put_none cardinality_total cardinality_exact (cardinalities_of kind rows)
     by (SetRow k a n) = put_if cardinality_total cardinality_exact (nat_eq k kind) (cardinalities_of kind rows) (a, n)
-    by (LockedRow a) = put_none cardinality_total cardinality_exact (cardinalities_of kind rows)
+    by _ = put_none cardinality_total cardinality_exact (cardinalities_of kind rows)
 
 -- the set of the locks, with one more row
 locks_put : (rows : List Row) (row : Row) → from_list (locks_of (rows ++ row ∷ [])) ≡ with_lock (from_list (locks_of rows)) row
 locks_put rows row = ap from_list (locks_more rows row) ∙ by row
   where
     by : (row : Row) → from_list (locks_of rows ++ locks_of (row ∷ [])) ≡ with_lock (from_list (locks_of rows)) row
-    by (NameRow k a) = put_none name_total name_exact (locks_of rows)
-    by (PairRow k a b) = put_none name_total name_exact (locks_of rows)
-    by (GrantRow a b c) = put_none name_total name_exact (locks_of rows)
-    by (SetRow k a n) = put_none name_total name_exact (locks_of rows)
     by (LockedRow a) = put_if name_total name_exact true (locks_of rows) a
+    by _ = put_none name_total name_exact (locks_of rows)
 
 -- the sets of the rows with one more, each with what the row adds to it
 abbrev by_sets : ℕ → List Row → Row → StoredSets
@@ -204,10 +174,7 @@ gathered_more version rows row = all_sets ∙ by row
 
     by : (row : Row) → by_sets version rows row ≡ with_stored (gathered version rows) row
     by (NameRow k a) = refl
-    by (PairRow k a b) = refl
-    by (GrantRow a b c) = refl
-    by (SetRow k a n) = refl
-    by (LockedRow a) = refl
+    by _ = refl
 
 -- ---- keys that occur once
 

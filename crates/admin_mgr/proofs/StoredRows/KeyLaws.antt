@@ -74,46 +74,31 @@ one_more p false x xs rest is = is
 any_names : (kind : ℕ) (x : Bytes) (rows : List Row) → list_any (same_name x) (names_of kind rows) ≡ is_among rows (NameRow kind x)
 any_names kind x [] = refl
 any_names kind x (NameRow k a ∷ rows) = one_more (same_name x) (nat_eq k kind) a (names_of kind rows) _ (any_names kind x rows)
-any_names kind x (PairRow k a b ∷ rows) = any_names kind x rows
-any_names kind x (GrantRow a b c ∷ rows) = any_names kind x rows
-any_names kind x (SetRow k a n ∷ rows) = any_names kind x rows
-any_names kind x (LockedRow a ∷ rows) = any_names kind x rows
+any_names kind x (_ ∷ rows) = any_names kind x rows
 
 -- so is a pair
 any_pairs : (kind : ℕ) (x y : Bytes) (rows : List Row) → list_any (eq_by_cmp pair_cmp (x, y)) (pairs_of kind rows) ≡ is_among rows (PairRow kind x y)
 any_pairs kind x y [] = refl
-any_pairs kind x y (NameRow k a ∷ rows) = any_pairs kind x y rows
 any_pairs kind x y (PairRow k a b ∷ rows) = one_more (eq_by_cmp pair_cmp (x, y)) (nat_eq k kind) (a, b) (pairs_of kind rows) _ (any_pairs kind x y rows)
-any_pairs kind x y (GrantRow a b c ∷ rows) = any_pairs kind x y rows
-any_pairs kind x y (SetRow k a n ∷ rows) = any_pairs kind x y rows
-any_pairs kind x y (LockedRow a ∷ rows) = any_pairs kind x y rows
+any_pairs kind x y (_ ∷ rows) = any_pairs kind x y rows
 
 -- so is a grant
 any_grants : (x y z : Bytes) (rows : List Row) → list_any (eq_by_cmp triple_cmp (x, y, z)) (grants_of rows) ≡ is_among rows (GrantRow x y z)
 any_grants x y z [] = refl
-any_grants x y z (NameRow k a ∷ rows) = any_grants x y z rows
-any_grants x y z (PairRow k a b ∷ rows) = any_grants x y z rows
 any_grants x y z (GrantRow a b c ∷ rows) = ap (λ r. eq_by_cmp triple_cmp (x, y, z) (a, b, c) || r) (any_grants x y z rows)
-any_grants x y z (SetRow k a n ∷ rows) = any_grants x y z rows
-any_grants x y z (LockedRow a ∷ rows) = any_grants x y z rows
+any_grants x y z (_ ∷ rows) = any_grants x y z rows
 
 -- so is a cardinality
 any_cardinalities : (kind : ℕ) (x : Bytes) (n : ℕ) (rows : List Row) → list_any (eq_by_cmp cardinality_cmp (x, n)) (cardinalities_of kind rows) ≡ is_among rows (SetRow kind x n)
 any_cardinalities kind x n [] = refl
-any_cardinalities kind x n (NameRow k a ∷ rows) = any_cardinalities kind x n rows
-any_cardinalities kind x n (PairRow k a b ∷ rows) = any_cardinalities kind x n rows
-any_cardinalities kind x n (GrantRow a b c ∷ rows) = any_cardinalities kind x n rows
 any_cardinalities kind x n (SetRow k a m ∷ rows) = one_more (eq_by_cmp cardinality_cmp (x, n)) (nat_eq k kind) (a, m) (cardinalities_of kind rows) _ (any_cardinalities kind x n rows)
-any_cardinalities kind x n (LockedRow a ∷ rows) = any_cardinalities kind x n rows
+any_cardinalities kind x n (_ ∷ rows) = any_cardinalities kind x n rows
 
 -- so is a lock
 any_locks : (x : Bytes) (rows : List Row) → list_any (same_name x) (locks_of rows) ≡ is_among rows (LockedRow x)
 any_locks x [] = refl
-any_locks x (NameRow k a ∷ rows) = any_locks x rows
-any_locks x (PairRow k a b ∷ rows) = any_locks x rows
-any_locks x (GrantRow a b c ∷ rows) = any_locks x rows
-any_locks x (SetRow k a n ∷ rows) = any_locks x rows
 any_locks x (LockedRow a ∷ rows) = ap (λ r. same_name x a || r) (any_locks x rows)
+any_locks x (_ ∷ rows) = any_locks x rows
 
 -- a name, a pair and so on is in the set of its kind exactly if its row is among the rows
 pub names_among : (kind : ℕ) (rows : List Row) (x : Bytes) → contains (from_list {R = name_cmp} (names_of kind rows)) x ≡ is_among rows (NameRow kind x)
@@ -140,14 +125,8 @@ locks_among rows x = contains-from_list name_total (locks_of rows) x ∙ any_loc
 -- a row that is no cardinality is its own key
 key_of_row : (row : Row) → ((kind : ℕ) (name : Bytes) (n : ℕ) → row ≡ SetRow kind name n → ⊥) → (other : Row) → same_row other row ≡ same_key other row
 key_of_row row plain (NameRow k a) = refl
-key_of_row row plain (PairRow k a b) = refl
-key_of_row row plain (GrantRow a b c) = refl
-key_of_row (NameRow k x) plain (SetRow l a n) = refl
-key_of_row (PairRow k x y) plain (SetRow l a n) = refl
-key_of_row (GrantRow x y z) plain (SetRow l a n) = refl
 key_of_row (SetRow k x m) plain (SetRow l a n) = absurd (plain k x m refl)
-key_of_row (LockedRow x) plain (SetRow l a n) = refl
-key_of_row row plain (LockedRow a) = refl
+key_of_row row plain other = refl
 
 -- so it is among the rows exactly if its key is
 among_by_key : (row : Row) → ((kind : ℕ) (name : Bytes) (n : ℕ) → row ≡ SetRow kind name n → ⊥) → (rows : List Row) → is_among rows row ≡ list_any (λ (other : Row). same_key other row) rows
@@ -157,13 +136,10 @@ among_by_key row plain (first ∷ rows) = λ i. key_of_row row plain first i || 
 -- a set is listed exactly if its key is
 any_sets : (kind : ℕ) (x : Bytes) (n : ℕ) (rows : List Row) → list_any (λ (entry : Cardinality). same_name entry.0 x) (cardinalities_of kind rows) ≡ list_any (λ (other : Row). same_key other (SetRow kind x n)) rows
 any_sets kind x n [] = refl
-any_sets kind x n (NameRow k a ∷ rows) = any_sets kind x n rows
-any_sets kind x n (PairRow k a b ∷ rows) = any_sets kind x n rows
-any_sets kind x n (GrantRow a b c ∷ rows) = any_sets kind x n rows
 any_sets kind x n (SetRow k a m ∷ rows) =
     one_more (λ (entry : Cardinality). same_name entry.0 x) (nat_eq k kind) (a, m) (cardinalities_of kind rows) _ (any_sets kind x n rows)
     ∙ ap (λ b. nat_eq k kind && b || list_any (λ (other : Row). same_key other (SetRow kind x n)) rows) (same_name-flips a x)
-any_sets kind x n (LockedRow a ∷ rows) = any_sets kind x n rows
+any_sets kind x n (_ ∷ rows) = any_sets kind x n rows
 
 module _ {K : Type 0} {R : K → K → Ordering} (total : IsTotalOrder R) (exact : IsAntisymmetric R) where
   -- a test holds of a member of a list's set exactly if it does of an entry of the list

@@ -119,17 +119,11 @@ module _ (version : ℕ) (rows : List Row) (known : IsTrue (list_all (is_known v
 
 -- rows with different keys differ
 other_row : (row other : Row) → same_key row other ≡ false → same_row row other ≡ false
-other_row (NameRow k a) other apart = apart
-other_row (PairRow k a b) other apart = apart
-other_row (GrantRow a b c) other apart = apart
-other_row (SetRow k a m) (NameRow l x) apart = apart
-other_row (SetRow k a m) (PairRow l x y) apart = apart
-other_row (SetRow k a m) (GrantRow x y z) apart = apart
 other_row (SetRow k a m) (SetRow l x n) apart = false_from_ne_true _ (λ same.
     (let parts = and_parts (nat_eq k l) (eq_by_cmp cardinality_cmp (x, n) (a, m)) same in
     true≢false (sym (and_from _ _ parts.0 ((tie_Decides name_total name_exact x a).1 (ap (λ (q : Cardinality). q.0) ((tie_Decides cardinality_total cardinality_exact (x, n) (a, m)).0 parts.1)))) ∙ apart)))
-other_row (SetRow k a m) (LockedRow x) apart = apart
-other_row (LockedRow a) other apart = apart
+other_row (NameRow k a) other apart = apart
+other_row row other apart = apart
 
 -- if no row has the key, none is the row
 none_other : (row : Row) (rows : List Row) → list_any (λ (other : Row). same_key row other) rows ≡ false → list_any (λ (other : Row). same_row row other) rows ≡ false
@@ -149,9 +143,6 @@ occur_once (row ∷ rows) keys = (none_other row rows keys.0, occur_once rows ke
 same_set_later : (kind k : ℕ) (a : Bytes) (m n : ℕ) (rows : List Row) → nat_eq k kind ≡ true → list_any (eq_by_cmp cardinality_cmp (a, n)) (cardinalities_of kind rows) ≡ true →
     list_any (λ (other : Row). same_key (SetRow k a m) other) rows ≡ true
 same_set_later kind k a m n [] here there = absurd (true≢false (sym there))
-same_set_later kind k a m n (NameRow l x ∷ rows) here there = same_set_later kind k a m n rows here there
-same_set_later kind k a m n (PairRow l x y ∷ rows) here there = same_set_later kind k a m n rows here there
-same_set_later kind k a m n (GrantRow x y z ∷ rows) here there = same_set_later kind k a m n rows here there
 same_set_later kind k a m n (SetRow l x j ∷ rows) here there = by (same_set_later kind k a m n rows here) (nat_eq l kind) refl there
   where
     by : (list_any (eq_by_cmp cardinality_cmp (a, n)) (cardinalities_of kind rows) ≡ true → list_any (λ (other : Row). same_key (SetRow k a m) other) rows ≡ true) → (b : Bool) → nat_eq l kind ≡ b → list_any (eq_by_cmp cardinality_cmp (a, n)) (cond b ((x, j) ∷ cardinalities_of kind rows) (cardinalities_of kind rows)) ≡ true
@@ -163,15 +154,12 @@ same_set_later kind k a m n (SetRow l x j ∷ rows) here there = by (same_set_la
       | inr later ↦ or_right _ _ (behind later)
     ]
     by behind false e h = or_right _ _ (behind h)
-same_set_later kind k a m n (LockedRow x ∷ rows) here there = same_set_later kind k a m n rows here there
+same_set_later kind k a m n (_ ∷ rows) here there = same_set_later kind k a m n rows here there
 
 -- two entries of one set are equal
 once : (kind : ℕ) (rows : List Row) (a : Bytes) (m n : ℕ) → HaveKeysOnce rows →
     list_any (eq_by_cmp cardinality_cmp (a, m)) (cardinalities_of kind rows) ≡ true → list_any (eq_by_cmp cardinality_cmp (a, n)) (cardinalities_of kind rows) ≡ true → m ≡ n
 once kind [] a m n keys here there = absurd (true≢false (sym here))
-once kind (NameRow l x ∷ rows) a m n keys here there = once kind rows a m n keys.1 here there
-once kind (PairRow l x y ∷ rows) a m n keys here there = once kind rows a m n keys.1 here there
-once kind (GrantRow x y z ∷ rows) a m n keys here there = once kind rows a m n keys.1 here there
 once kind (SetRow l x j ∷ rows) a m n keys here there = by (once kind rows a m n keys.1) (nat_eq l kind) refl here there
   where
     -- another entry of the set can't follow
@@ -196,7 +184,7 @@ once kind (SetRow l x j ∷ rows) a m n keys here there = by (once kind rows a m
       ]
     ]
     by behind false e h k = behind h k
-once kind (LockedRow x ∷ rows) a m n keys here there = once kind rows a m n keys.1 here there
+once kind (_ ∷ rows) a m n keys here there = once kind rows a m n keys.1 here there
 
 -- two cardinalities of one set are equal
 pub one_cardinality : (kind : ℕ) (rows : List Row) → HaveKeysOnce rows → (name : Bytes) (n other : ℕ) →
@@ -210,12 +198,9 @@ one_cardinality kind rows keys name n other here there = once kind rows name n o
 -- no row that version 1 knows is a lock
 unlocked_rows : (version : ℕ) (rows : List Row) → version ≡ 1 → IsTrue (list_all (is_known version) rows) → locks_of rows ≡ []
 unlocked_rows version [] first known = refl
-unlocked_rows version (NameRow k a ∷ rows) first known = unlocked_rows version rows first (and_parts (is_known version (NameRow k a)) _ known).1
-unlocked_rows version (PairRow k a b ∷ rows) first known = unlocked_rows version rows first (and_parts (is_known version (PairRow k a b)) _ known).1
-unlocked_rows version (GrantRow a b c ∷ rows) first known = unlocked_rows version rows first (and_parts (is_known version (GrantRow a b c)) _ known).1
-unlocked_rows version (SetRow k a n ∷ rows) first known = unlocked_rows version rows first (and_parts (is_known version (SetRow k a n)) _ known).1
 unlocked_rows version (LockedRow a ∷ rows) first known =
     absurd (true≢false (sym (eq-eqb version 1 first) ∙ not-true _ (and_parts (is_known version (LockedRow a)) _ known).0))
+unlocked_rows version (row ∷ rows) first known = unlocked_rows version rows first (and_parts (is_known version row) _ known).1
 
 -- readable rows of version 1 have no lock
 pub no_locks : (version : ℕ) (rows : List Row) → AreReadable version rows → version ≡ 1 → (gathered version rows).facts.locked ≡ empty

@@ -46,8 +46,7 @@ any_crossed p q b (x ∷ xs) = ap (λ rest. (p x || (q x && b)) || rest) (any_cr
     shuffle false true true false e = refl
     shuffle false true false true e = refl
     shuffle false true false false true = refl
-    shuffle false true false false false = refl
-    shuffle false false b d e = refl
+    shuffle false c b d e = refl
 
 module _ (S : RbacState) (good : IsGood S) (asc desc : Bytes) (no_back : geq S.edges desc asc ≡ false) where
   crossed : (r q : Bytes) → geq (insert S.edges (asc, desc)) r q ≡ (geq S.edges r q || (geq S.edges r asc && geq S.edges desc q))
