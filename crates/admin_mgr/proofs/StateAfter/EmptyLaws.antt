@@ -57,21 +57,7 @@ empty_is_good version known = record {
   dynamic_separation = λ name session user n h _. not_there cardinality_cmp (name, n) h;
   authorized = λ session user role h _. not_there pair_cmp (session, user) h;
   unlocked = λ session user h. not_there pair_cmp (session, user) h;
-  limits = record {
-    users = none name_cmp _;
-    roles = none name_cmp _;
-    objects = none name_cmp _;
-    permissions = none pair_cmp _;
-    grants = none triple_cmp _;
-    assignments = none pair_cmp _;
-    edges = none pair_cmp _;
-    ssd_sets = none cardinality_cmp _;
-    dsd_sets = none cardinality_cmp _;
-    ssd_members = λ name. none_behind name _;
-    dsd_members = λ name. none_behind name _;
-    sessions = none pair_cmp _;
-    active_roles = λ session. none_behind session _;
-  };
+  limits = search (none, none_behind);
   version = known;
   no_locks = λ _. refl;
 }

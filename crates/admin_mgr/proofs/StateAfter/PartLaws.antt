@@ -139,21 +139,7 @@ module _ (S T : RbacState) (part : IsPart T S) where
             let fewer = count-fewer (is_session_role T session) (is_session_role S session) (members_of T.dsd name) (members_of S.dsd name)
             (seconds-subset T.dsd.members S.dsd.members name part.dsd_members) (session_role-fewer session) in
             omega (arith, before, fewer);
-        limits = record {
-          users = no_more name_total name_exact T.users S.users User part.users limits.users;
-          roles = no_more name_total name_exact T.roles S.roles Role part.roles limits.roles;
-          objects = no_more name_total name_exact T.objects S.objects Object part.objects limits.objects;
-          permissions = no_more pair_total pair_exact T.permissions S.permissions Permission part.permissions limits.permissions;
-          grants = no_more triple_total triple_exact T.grants S.grants Grant part.grants limits.grants;
-          assignments = no_more pair_total pair_exact T.assignments S.assignments Assignment part.assignments limits.assignments;
-          edges = no_more pair_total pair_exact T.edges S.edges Edge part.edges limits.edges;
-          ssd_sets = no_more cardinality_total cardinality_exact T.ssd.cardinalities S.ssd.cardinalities SsdSet part.ssd_sets limits.ssd_sets;
-          dsd_sets = no_more cardinality_total cardinality_exact T.dsd.cardinalities S.dsd.cardinalities DsdSet part.dsd_sets limits.dsd_sets;
-          ssd_members = λ name. no_more_seconds T.ssd.members S.ssd.members name Member part.ssd_members (limits.ssd_members name);
-          dsd_members = λ name. no_more_seconds T.dsd.members S.dsd.members name Member part.dsd_members (limits.dsd_members name);
-          sessions = no_more pair_total pair_exact T.sessions S.sessions Session part.sessions limits.sessions;
-          active_roles = λ session. no_more_seconds T.active S.active session ActiveRole part.active (limits.active_roles session);
-        };
+        limits = search (part, limits, no_more name_total name_exact, no_more pair_total pair_exact, no_more triple_total triple_exact, no_more cardinality_total cardinality_exact, no_more_seconds, limits.ssd_members, limits.dsd_members, limits.active_roles);
         version = subst (λ (v : ℕ). (v ≡ 1) ⊎ (v ≡ 2)) (sym part.version) good.version;
         no_locks = λ one. none_of name_total name_exact T.locked S.locked part.locked (good.no_locks (sym part.version ∙ one));
       })

@@ -61,68 +61,9 @@ behind_few limit pairs few = false_from_ne_true _ (λ h.
 pub within_limits : (S : RbacState) → first_exceeded S ≡ None → IsWithinLimits S
 within_limits S none =
     let each = none_found (is_exceeded S) limited_kinds none in
-    let users = each.0 in
-    let roles = each.1.0 in
-    let objects = each.1.1.0 in
-    let permissions = each.1.1.1.0 in
-    let grants = each.1.1.1.1.0 in
-    let assignments = each.1.1.1.1.1.0 in
-    let edges = each.1.1.1.1.1.1.0 in
-    let ssd = each.1.1.1.1.1.1.1.0 in
-    let rest = each.1.1.1.1.1.1.1.1 in
-    let members = or_parts (has_more_with_first (limit_of Member S.version) S.ssd.members) (has_more_with_first (limit_of Member S.version) S.dsd.members) rest.1.0 in
-    record {
-      users = ltb-false (limit_of User S.version) (len S.users) users;
-      roles = ltb-false (limit_of Role S.version) (len S.roles) roles;
-      objects = ltb-false (limit_of Object S.version) (len S.objects) objects;
-      permissions = ltb-false (limit_of Permission S.version) (len S.permissions) permissions;
-      grants = ltb-false (limit_of Grant S.version) (len S.grants) grants;
-      assignments = ltb-false (limit_of Assignment S.version) (len S.assignments) assignments;
-      edges = ltb-false (limit_of Edge S.version) (len S.edges) edges;
-      ssd_sets = ltb-false (limit_of SsdSet S.version) (len S.ssd.cardinalities) ssd;
-      dsd_sets = ltb-false (limit_of DsdSet S.version) (len S.dsd.cardinalities) rest.0;
-      ssd_members = few_behind (limit_of Member S.version) S.ssd.members members.0;
-      dsd_members = few_behind (limit_of Member S.version) S.dsd.members members.1;
-      sessions = ltb-false (limit_of Session S.version) (len S.sessions) rest.1.1.0;
-      active_roles = few_behind (limit_of ActiveRole S.version) S.active rest.1.1.1.0;
-    }
+    let members = or_parts (has_more_with_first (limit_of Member S.version) S.ssd.members) _ each.1.1.1.1.1.1.1.1.1.0 in
+    search (each, members, ltb-false, few_behind)
 
 -- if the relations are within all limits, none is exceeded
 pub no_limit_passed : (S : RbacState) (kind : Kind) → IsWithinLimits S → first_exceeded S ≡ Some kind → ⊥
-no_limit_passed S kind within found = one_found (is_exceeded S) limited_kinds kind found (
-  not_more (limit_of User S.version) (len S.users) within.users,
-  (
-    not_more (limit_of Role S.version) (len S.roles) within.roles,
-    (
-      not_more (limit_of Object S.version) (len S.objects) within.objects,
-      (
-        not_more (limit_of Permission S.version) (len S.permissions) within.permissions,
-        (
-          not_more (limit_of Grant S.version) (len S.grants) within.grants,
-          (
-            not_more (limit_of Assignment S.version) (len S.assignments) within.assignments,
-            (
-              not_more (limit_of Edge S.version) (len S.edges) within.edges,
-              (
-                not_more (limit_of SsdSet S.version) (len S.ssd.cardinalities) within.ssd_sets,
-                (
-                  not_more (limit_of DsdSet S.version) (len S.dsd.cardinalities) within.dsd_sets,
-                  (
-                    or_from _ _ (behind_few (limit_of Member S.version) S.ssd.members within.ssd_members) (behind_few (limit_of Member S.version) S.dsd.members within.dsd_members),
-                    (
-                      not_more (limit_of Session S.version) (len S.sessions) within.sessions,
-                      (
-                        behind_few (limit_of ActiveRole S.version) S.active within.active_roles,
-                        tt,
-                      ),
-                    ),
-                  ),
-                ),
-              ),
-            ),
-          ),
-        ),
-      ),
-    ),
-  ),
-)
+no_limit_passed S kind within found = one_found (is_exceeded S) limited_kinds kind found (search (within, not_more, behind_few, or_from) parts 14)

@@ -51,42 +51,13 @@ first_told [] all = tt
 first_told (None ∷ told) all = first_told told all.1
 first_told (Some refusal ∷ told) all = all.0
 
+ruleset may_be_told = (on, off, static, dynamic)
+
 -- each refusal of each command
 all_told : (S : RbacState) (command : Command) → AllByRecursion MayBeTold (refusals S command)
 unfolding refusals assignment_refusals
-all_told S (AddUser user) = (on _ _ refl, (on _ _ refl, tt))
-all_told S (DeleteUser user) = (off _ _ refl, tt)
-all_told S (AddRole role) = (on _ _ refl, (on _ _ refl, tt))
-all_told S (DeleteRole role) = (off _ _ refl, (on _ _ refl, tt))
-all_told S (AddPermObj object) = (on _ _ refl, (on _ _ refl, tt))
-all_told S (DeletePermObj object) = (off _ _ refl, (on _ _ refl, tt))
-all_told S (AddPermission object operation) = (off _ _ refl, (on _ _ refl, (on _ _ refl, tt)))
-all_told S (DeletePermission object operation) = (off _ _ refl, (off _ _ refl, tt))
-all_told S (GrantPermission object operation role) = (off _ _ refl, (off _ _ refl, (off _ _ refl, (on _ _ refl, (on _ _ refl, tt)))))
-all_told S (RevokePermission object operation role) = (off _ _ refl, (off _ _ refl, (off _ _ refl, (off _ _ refl, tt))))
-all_told S (AssignUser user role) = (off _ _ refl, (off _ _ refl, (on _ _ refl, (on _ _ refl, (static _, tt)))))
-all_told S (DeassignUser user role) = (off _ _ refl, (off _ _ refl, (off _ _ refl, tt)))
-all_told S (AddInheritance asc desc) = (off _ _ refl, (off _ _ refl, (on _ _ refl, (on _ _ refl, (on _ _ refl, (static _, (dynamic _, tt)))))))
-all_told S (DeleteInheritance asc desc) = (off _ _ refl, (off _ _ refl, (off _ _ refl, tt)))
-all_told S (AddAscendant asc desc) = (off _ _ refl, (on _ _ refl, (on _ _ refl, (on _ _ refl, tt))))
-all_told S (AddDescendant asc desc) = (off _ _ refl, (on _ _ refl, (on _ _ refl, (on _ _ refl, tt))))
-all_told S (CreateSsdSet name roles n) = (off _ _ refl, (on _ _ refl, (off _ _ refl, (on _ _ refl, (on _ _ refl, (static _, tt))))))
-all_told S (AddSsdRoleMember name role) = (off _ _ refl, (off _ _ refl, (on _ _ refl, (on _ _ refl, (static _, tt)))))
-all_told S (DeleteSsdRoleMember name role) = (off _ _ refl, (off _ _ refl, (off _ _ refl, (off _ _ refl, tt))))
-all_told S (SetSsdSetCardinality name n) = (off _ _ refl, (off _ _ refl, (static _, tt)))
-all_told S (DeleteSsdSet name) = (off _ _ refl, tt)
-all_told S (CreateDsdSet name roles n) = (off _ _ refl, (on _ _ refl, (off _ _ refl, (on _ _ refl, (on _ _ refl, (dynamic _, tt))))))
-all_told S (AddDsdRoleMember name role) = (off _ _ refl, (off _ _ refl, (on _ _ refl, (on _ _ refl, (dynamic _, tt)))))
-all_told S (DeleteDsdRoleMember name role) = (off _ _ refl, (off _ _ refl, (off _ _ refl, (off _ _ refl, tt))))
-all_told S (SetDsdSetCardinality name n) = (off _ _ refl, (off _ _ refl, (dynamic _, tt)))
-all_told S (DeleteDsdSet name) = (off _ _ refl, tt)
-all_told S (CreateSession user roles session) = (off _ _ refl, (off _ _ refl, (on _ _ refl, (off _ _ refl, (on _ _ refl, (on _ _ refl, (on _ _ refl, (dynamic _, tt))))))))
-all_told S (DeleteSession user session) = (off _ _ refl, (off _ _ refl, (off _ _ refl, tt)))
-all_told S (AddActiveRole user session role) = (off _ _ refl, (off _ _ refl, (off _ _ refl, (off _ _ refl, (on _ _ refl, (off _ _ refl, (on _ _ refl, (dynamic _, tt))))))))
-all_told S (DropActiveRole user session role) = (off _ _ refl, (off _ _ refl, (off _ _ refl, (off _ _ refl, (off _ _ refl, tt)))))
-all_told S (ImportAssignments pairs) = (on _ _ refl, tt)
-all_told S (LockUserAccount user) = (on _ _ refl, (off _ _ refl, tt))
-all_told S (UnlockUserAccount user) = (on _ _ refl, (off _ _ refl, tt))
+all_told S (AddUser user) = search may_be_told
+all_told S _ = search may_be_told
 
 -- so a verdict is one of them
 pub verdicts_refuse_commands : VerdictsRefuseCommands
