@@ -67,22 +67,6 @@ good_with_users S good users more room =
     let locked : (user : Bytes) → IsTrue (contains S.locked user) → IsTrue (contains users user) = λ user h. more user (formed.locked user h) in
     assumption
 
--- ---- other objects, permissions and grants
-
--- what has to hold of them
-pub record ArePermissions (S : RbacState) (objects : Names) (permissions : Pairs) (grants : Triples) : Type 0 where
-  pub permissions_formed : (object operation : Bytes) → IsTrue (contains permissions (object, operation)) → IsTrue (contains objects object)
-  pub grants_formed : (object operation role : Bytes) → IsTrue (contains grants (object, operation, role)) → IsTrue (contains permissions (object, operation)) × IsTrue (contains S.roles role)
-  pub objects_room : len objects ≤ limit_of Object S.version
-  pub permissions_room : len permissions ≤ limit_of Permission S.version
-  pub grants_room : len grants ≤ limit_of Grant S.version
-
--- so the state with them is good
-pub good_with_permissions : (S : RbacState) → IsGood S → (objects : Names) (permissions : Pairs) (grants : Triples) → ArePermissions S objects permissions grants →
-    IsGood (record S { objects = objects; permissions = permissions; grants = grants })
-unfolding authorized_users
-good_with_permissions S good objects permissions grants are = assumption
-
 -- ---- more roles, and other edges
 
 -- what has to hold of them: the order of the old roles is as before

@@ -1,6 +1,6 @@
 -- A new ascendant or descendant of a role: the new role is in no relation yet, so the order of the old roles is as before, no
 -- session ends, and the state is good.
-use Rattle.std.proofs.Common.{◌≡◌, ◌+◌, ◌≤◌, false, refl, sym, ◌∙◌, ap, inl, inr}
+use Rattle.std.proofs.Common.{◌≡◌, ◌+◌, ◌≤◌, [], ◌∷◌, false, refl, sym, ◌∙◌, ap, inl, inr}
 use Rattle.std.specs.Prelude.{IsTrue, ◌⊎◌, None}
 use Rattle.std.proofs.lemmas.Bool.{true≢false, false_from_ne_true}
 use Rattle.std.specs.Cmp.{both_ways}
@@ -17,7 +17,8 @@ use Rattle.role_order.proofs.Closing.{added_edge}
 use Rattle.role_order.proofs.Deciding.{geq-Decides}
 use Rattle.admin_mgr.specs.RbacState.{RbacState}
 use Rattle.admin_mgr.specs.After.{changed, after}
-use Rattle.admin_mgr.specs.Verdict.{verdict, refusals}
+use Rattle.admin_mgr.specs.Refusals.{first, too_many}
+use Rattle.admin_mgr.specs.Verdict.{verdict, refusals, wants_role, wants_new_role}
 use Rattle.admin_mgr.specs.Good.{IsGood}
 use Rattle.admin_mgr.proofs.Verdicts.VerdictLaws.{passed, refuse_if-None, refuse_unless-None}
 use Rattle.admin_mgr.proofs.StateAfter.LimitLaws.{too_many-None, one_more_within}
@@ -100,92 +101,77 @@ module _ (S : RbacState) (good : IsGood S) (role asc desc : Bytes) (new : contai
         edges_room = one_more_within pair_total S.edges (asc, desc) _ edge_room;
       })
 
--- ---- a new ascendant
+-- ---- a new ascendant or descendant
+
+-- the role at the other end is there, the new role wasn't there, and there is room for it and for one more edge
+abbrev CanJoin : RbacState → Bytes → Bytes → Type 0
+CanJoin S new other = IsTrue (contains S.roles other) × (contains S.roles new ≡ false) × (len S.roles + 1 ≤ limit_of Role S.version) × (len S.edges + 1 ≤ limit_of Edge S.version)
+
+-- the role can be added if no refusal applies
+can_join : (S : RbacState) (new other : Bytes) → first (wants_role S other ∷ wants_new_role S new ∷ too_many S Role (len S.roles + 1) ∷ too_many S Edge (len S.edges + 1) ∷ []) ≡ None → CanJoin S new other
+can_join S new other accepted =
+    let passes = passed (wants_role S other ∷ wants_new_role S new ∷ too_many S Role (len S.roles + 1) ∷ too_many S Edge (len S.edges + 1) ∷ []) accepted in
+    (refuse_unless-None _ NoRole passes.0, refuse_if-None _ RoleExists passes.1.0, too_many-None S Role _ passes.1.1.0, too_many-None S Edge _ passes.1.1.1.0)
 
 module _ (S : RbacState) (asc desc : Bytes) (accepted : verdict S (AddAscendant asc desc) ≡ None) where
-  -- the descendant is there
-  pub add_ascendant_below : IsTrue (contains S.roles desc)
+  -- the conditions that the command meets
+  can_ascend : CanJoin S asc desc
   unfolding verdict refusals
-  add_ascendant_below = refuse_unless-None (contains S.roles desc) NoRole (passed (refusals S (AddAscendant asc desc)) accepted).0
+  can_ascend = can_join S asc desc accepted
 
   -- the new role wasn't there
   pub add_ascendant_absent : contains S.roles asc ≡ false
-  unfolding verdict refusals
-  add_ascendant_absent = refuse_if-None (contains S.roles asc) RoleExists (passed (refusals S (AddAscendant asc desc)) accepted).1.0
-
-  -- there is room for one more role
-  pub add_ascendant_role_room : len S.roles + 1 ≤ limit_of Role S.version
-  unfolding verdict refusals
-  add_ascendant_role_room = too_many-None S Role (len S.roles + 1) (passed (refusals S (AddAscendant asc desc)) accepted).1.1.0
-
-  -- there is room for one more edge
-  pub add_ascendant_edge_room : len S.edges + 1 ≤ limit_of Edge S.version
-  unfolding verdict refusals
-  add_ascendant_edge_room = too_many-None S Edge (len S.edges + 1) (passed (refusals S (AddAscendant asc desc)) accepted).1.1.1.0
+  add_ascendant_absent = can_ascend.1
 
   -- the changed state is good
   good_changed_ascendant : IsGood S → IsGood (changed S (AddAscendant asc desc))
   unfolding changed
-  good_changed_ascendant good = good_with_role_at S good asc asc desc add_ascendant_absent (inl (refl, add_ascendant_below)) add_ascendant_role_room add_ascendant_edge_room
+  good_changed_ascendant good = good_with_role_at S good asc asc desc can_ascend.1 (inl (refl, can_ascend.0)) can_ascend.2 can_ascend.3
 
   -- the new edge wasn't there
   pub add_ascendant_no_edge : IsGood S → contains S.edges (asc, desc) ≡ false
-  add_ascendant_no_edge good = no_edge_at S good asc asc desc add_ascendant_absent (inl (refl, add_ascendant_below))
+  add_ascendant_no_edge good = no_edge_at S good asc asc desc can_ascend.1 (inl (refl, can_ascend.0))
 
   -- the descendant doesn't dominate the new role
   pub add_ascendant_no_cycle : IsGood S → Geq S.edges desc asc → ⊥
-  add_ascendant_no_cycle good = no_cycle_at S good asc asc desc add_ascendant_absent (inl (refl, add_ascendant_below))
-
--- no session ends
-pub after_add_ascendant : (S : RbacState) → IsGood S → (asc desc : Bytes) → verdict S (AddAscendant asc desc) ≡ None →
-    after S (AddAscendant asc desc) ≡ changed S (AddAscendant asc desc)
-after_add_ascendant S good asc desc accepted = after_is_changed S (AddAscendant asc desc) (good_changed_ascendant S asc desc accepted good)
-
--- the state after it is good
-pub good_after_add_ascendant : (S : RbacState) → IsGood S → (asc desc : Bytes) → verdict S (AddAscendant asc desc) ≡ None → IsGood (after S (AddAscendant asc desc))
-good_after_add_ascendant S good asc desc accepted = good_after S (AddAscendant asc desc) (good_changed_ascendant S asc desc accepted good)
-
--- ---- a new descendant
+  add_ascendant_no_cycle good = no_cycle_at S good asc asc desc can_ascend.1 (inl (refl, can_ascend.0))
 
 module _ (S : RbacState) (asc desc : Bytes) (accepted : verdict S (AddDescendant asc desc) ≡ None) where
-  -- the ascendant is there
-  pub add_descendant_above : IsTrue (contains S.roles asc)
+  -- the conditions that the command meets
+  can_descend : CanJoin S desc asc
   unfolding verdict refusals
-  add_descendant_above = refuse_unless-None (contains S.roles asc) NoRole (passed (refusals S (AddDescendant asc desc)) accepted).0
+  can_descend = can_join S desc asc accepted
 
   -- the new role wasn't there
   pub add_descendant_absent : contains S.roles desc ≡ false
-  unfolding verdict refusals
-  add_descendant_absent = refuse_if-None (contains S.roles desc) RoleExists (passed (refusals S (AddDescendant asc desc)) accepted).1.0
-
-  -- there is room for one more role
-  pub add_descendant_role_room : len S.roles + 1 ≤ limit_of Role S.version
-  unfolding verdict refusals
-  add_descendant_role_room = too_many-None S Role (len S.roles + 1) (passed (refusals S (AddDescendant asc desc)) accepted).1.1.0
-
-  -- there is room for one more edge
-  pub add_descendant_edge_room : len S.edges + 1 ≤ limit_of Edge S.version
-  unfolding verdict refusals
-  add_descendant_edge_room = too_many-None S Edge (len S.edges + 1) (passed (refusals S (AddDescendant asc desc)) accepted).1.1.1.0
+  add_descendant_absent = can_descend.1
 
   -- the changed state is good
   good_changed_descendant : IsGood S → IsGood (changed S (AddDescendant asc desc))
   unfolding changed
-  good_changed_descendant good = good_with_role_at S good desc asc desc add_descendant_absent (inr (add_descendant_above, refl)) add_descendant_role_room add_descendant_edge_room
+  good_changed_descendant good = good_with_role_at S good desc asc desc can_descend.1 (inr (can_descend.0, refl)) can_descend.2 can_descend.3
 
   -- the new edge wasn't there
   pub add_descendant_no_edge : IsGood S → contains S.edges (asc, desc) ≡ false
-  add_descendant_no_edge good = no_edge_at S good desc asc desc add_descendant_absent (inr (add_descendant_above, refl))
+  add_descendant_no_edge good = no_edge_at S good desc asc desc can_descend.1 (inr (can_descend.0, refl))
 
   -- the new role doesn't dominate the ascendant
   pub add_descendant_no_cycle : IsGood S → Geq S.edges desc asc → ⊥
-  add_descendant_no_cycle good = no_cycle_at S good desc asc desc add_descendant_absent (inr (add_descendant_above, refl))
+  add_descendant_no_cycle good = no_cycle_at S good desc asc desc can_descend.1 (inr (can_descend.0, refl))
 
--- no session ends
-pub after_add_descendant : (S : RbacState) → IsGood S → (asc desc : Bytes) → verdict S (AddDescendant asc desc) ≡ None →
-    after S (AddDescendant asc desc) ≡ changed S (AddDescendant asc desc)
-after_add_descendant S good asc desc accepted = after_is_changed S (AddDescendant asc desc) (good_changed_descendant S asc desc accepted good)
+module _ (S : RbacState) (good : IsGood S) (asc desc : Bytes) where
+  -- no session ends
+  pub after_add_ascendant : verdict S (AddAscendant asc desc) ≡ None → after S (AddAscendant asc desc) ≡ changed S (AddAscendant asc desc)
+  after_add_ascendant accepted = after_is_changed S (AddAscendant asc desc) (good_changed_ascendant S asc desc accepted good)
 
--- the state after it is good
-pub good_after_add_descendant : (S : RbacState) → IsGood S → (asc desc : Bytes) → verdict S (AddDescendant asc desc) ≡ None → IsGood (after S (AddDescendant asc desc))
-good_after_add_descendant S good asc desc accepted = good_after S (AddDescendant asc desc) (good_changed_descendant S asc desc accepted good)
+  -- and the state is good
+  pub good_after_add_ascendant : verdict S (AddAscendant asc desc) ≡ None → IsGood (after S (AddAscendant asc desc))
+  good_after_add_ascendant accepted = good_after S (AddAscendant asc desc) (good_changed_ascendant S asc desc accepted good)
+
+  -- no session ends by a new descendant
+  pub after_add_descendant : verdict S (AddDescendant asc desc) ≡ None → after S (AddDescendant asc desc) ≡ changed S (AddDescendant asc desc)
+  after_add_descendant accepted = after_is_changed S (AddDescendant asc desc) (good_changed_descendant S asc desc accepted good)
+
+  -- and the state is good
+  pub good_after_add_descendant : verdict S (AddDescendant asc desc) ≡ None → IsGood (after S (AddDescendant asc desc))
+  good_after_add_descendant accepted = good_after S (AddDescendant asc desc) (good_changed_descendant S asc desc accepted good)

@@ -91,10 +91,6 @@ other_cardinality-from name cardinalities x there apart =
     other_cardinalities name cardinalities x ∙ and_from _ _ there (ap not (false_from_ne_true _ (λ same. apart ((tie_Decides name_total name_exact x.0 name).0 same))))
 
 module _ (separation : Separation) (all_roles : Names) (formed : IsSeparation all_roles separation) (name : Bytes) (before : ℕ) (there : IsTrue (contains separation.cardinalities (name, before))) where
-  -- a set has no other cardinality
-  pub no_second_cardinality : (n : ℕ) → before ≢ n → contains separation.cardinalities (name, n) ≡ false
-  no_second_cardinality n other = false_from_ne_true _ (λ h. other (formed.one_cardinality name before n there h))
-
   -- an entry of this set is its cardinality
   of_this_set : (x : Cardinality) → IsTrue (contains separation.cardinalities x) → x.0 ≡ name → x ≡ (name, before)
   of_this_set x has same =
@@ -158,18 +154,6 @@ found_cardinality separation all_roles formed name n there =
 
 -- ---- the members of one set
 
--- the pairs of a run are those that begin with its name
-pub contains-run : (pairs : Pairs) (name : Bytes) (pair : Pair) → list_any (eq_by_cmp pair_cmp pair) (run_of pairs name) ≡ (contains pairs pair && same_name pair.0 name)
-contains-run pairs name pair =
-    ap (list_any (eq_by_cmp pair_cmp pair)) (sym (members-retain pair_total pair_exact pairs (λ (p : Pair). same_name p.0 name)))
-    ∙ sym (contains-members (retain pairs (λ (p : Pair). same_name p.0 name)) pair)
-    ∙ contains-retain pair_total pair_exact pairs (λ (p : Pair). same_name p.0 name) pair
-
 -- the pairs of other names are those that begin with another name
 pub contains-without_first : (pairs : Pairs) (name : Bytes) (pair : Pair) → contains (without_first name pairs) pair ≡ (contains pairs pair && not (same_name pair.0 name))
 contains-without_first pairs name pair = contains-retain pair_total pair_exact pairs (λ (p : Pair). not (same_name p.0 name)) pair
-
--- a pair of another name is one that is not in the run of this name
-not_in_run : (has same : Bool) → (has && not same) ≡ (has && not (has && same))
-not_in_run true same = refl
-not_in_run false same = refl

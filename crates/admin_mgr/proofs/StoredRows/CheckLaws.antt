@@ -189,8 +189,3 @@ refuses_rows version rows (Damaged number) readable told = by (nat_eq number 1) 
     by false e = (readable, told)
 refuses_rows version rows (TooMany kind) readable told = (readable, told)
 refuses_rows version rows _ readable told = absurd told
-
--- unreadable rows, and a failed allocation
-pub refuses_unreadable : (version : ℕ) (rows : List Row) (refusal : Refusal) → ((refusal ≡ Memory) ⊎ ((refusal ≡ Damaged 1) × (AreReadable version rows → ⊥))) → RefusesRows version rows refusal
-refuses_unreadable version rows refusal (inl memory) = subst (RefusesRows version rows) (sym memory) tt
-refuses_unreadable version rows refusal (inr damaged) = subst (RefusesRows version rows) (sym damaged.0) damaged.1
