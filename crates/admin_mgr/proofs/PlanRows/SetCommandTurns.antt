@@ -44,6 +44,11 @@ kind_of_sets Dynamic = record {
   again = λ S s t. refl;
 }
 
+-- what holds of both kinds holds of either
+by_duty : (P : SeparationOfDuty → Type 0) → P Static → P Dynamic → (duty : SeparationOfDuty) → P duty
+by_duty P static dynamic Static = static
+by_duty P static dynamic Dynamic = dynamic
+
 -- the hierarchy stays the same
 same_edges : (duty : SeparationOfDuty) (S : RbacState) (other : Separation) → S.edges ≡ (with_sets duty S other).edges
 same_edges Static S other = refl
@@ -68,32 +73,20 @@ module _ (duty : SeparationOfDuty) (S : RbacState) (good : IsGood S) (plan : Pla
     pub plan_of_create_set : (roles : Stored Bytes) (n : ℕ) → verdict S (create_set duty name roles n) ≡ None →
         plan.changes.items ≡ Put (SetRow (cardinality_rows duty) name n) ∷ put_all (λ role. PairRow (member_rows duty) name role) (members (set_of name_cmp roles)) → IsPlanOf S (create_set duty name roles n) plan
     unfolding tally
-    plan_of_create_set roles n accepted items = plan_of_sets (create_set duty name roles n) _ _ (untold duty) items (after_create_set duty S good name roles n) (good_after_create_set duty S name good roles n accepted)
+    plan_of_create_set roles n accepted items = plan_of_sets (create_set duty name roles n) _ _ (by_duty (λ kind. tally S (create_set kind name roles n) ≡ no_tally) refl refl duty) items (after_create_set duty S good name roles n) (good_after_create_set duty S name good roles n accepted)
         (turns_create_set (kind_of_sets duty) S sets name S.roles formed (set_of name_cmp roles) n (can_create_set duty S name roles n accepted).absent)
-      where
-        untold : (kind : SeparationOfDuty) → tally S (create_set kind name roles n) ≡ no_tally
-        untold Static = refl
-        untold Dynamic = refl
 
     -- a member is added: its row is inserted
     pub plan_of_add_member : (role : Bytes) → verdict S (add_member duty name role) ≡ None → plan.changes.items ≡ Put (PairRow (member_rows duty) name role) ∷ [] → IsPlanOf S (add_member duty name role) plan
     unfolding tally
-    plan_of_add_member role accepted items = plan_of_sets (add_member duty name role) _ _ (untold duty) items (after_add_member duty S good name role) (good_after_add_member duty S name good role accepted)
+    plan_of_add_member role accepted items = plan_of_sets (add_member duty name role) _ _ (by_duty (λ kind. tally S (add_member kind name role) ≡ no_tally) refl refl duty) items (after_add_member duty S good name role) (good_after_add_member duty S name good role accepted)
         (turns_add_member (kind_of_sets duty) S sets name role (can_add duty S name role accepted).absent)
-      where
-        untold : (kind : SeparationOfDuty) → tally S (add_member kind name role) ≡ no_tally
-        untold Static = refl
-        untold Dynamic = refl
 
     -- a member is deleted: its row is removed
     pub plan_of_delete_member : (role : Bytes) → verdict S (delete_member duty name role) ≡ None → plan.changes.items ≡ Take (PairRow (member_rows duty) name role) ∷ [] → IsPlanOf S (delete_member duty name role) plan
     unfolding tally
-    plan_of_delete_member role accepted items = plan_of_sets (delete_member duty name role) _ _ (untold duty) items (after_delete_member duty S good name role) (good_after_delete_member duty S name good role accepted)
+    plan_of_delete_member role accepted items = plan_of_sets (delete_member duty name role) _ _ (by_duty (λ kind. tally S (delete_member kind name role) ≡ no_tally) refl refl duty) items (after_delete_member duty S good name role) (good_after_delete_member duty S name good role accepted)
         (turns_delete_member (kind_of_sets duty) S sets name role (can_delete duty S name role accepted).is_member)
-      where
-        untold : (kind : SeparationOfDuty) → tally S (delete_member kind name role) ≡ no_tally
-        untold Static = refl
-        untold Dynamic = refl
 
     untold_cardinality : (kind : SeparationOfDuty) (n : ℕ) → tally S (set_cardinality kind name n) ≡ no_tally
     unfolding tally
@@ -118,12 +111,8 @@ module _ (duty : SeparationOfDuty) (S : RbacState) (good : IsGood S) (plan : Pla
     pub plan_of_delete_set : (n : ℕ) → cardinality_of sets name ≡ Some n →
         plan.changes.items ≡ Take (SetRow (cardinality_rows duty) name n) ∷ take_all (pair_row (member_rows duty)) (run_of sets.members name) → IsPlanOf S (delete_set duty name) plan
     unfolding tally
-    plan_of_delete_set n told items = plan_of_sets (delete_set duty name) _ _ (untold duty) items (after_delete_set duty S good name) (good_after_delete_set duty S name good)
+    plan_of_delete_set n told items = plan_of_sets (delete_set duty name) _ _ (by_duty (λ kind. tally S (delete_set kind name) ≡ no_tally) refl refl duty) items (after_delete_set duty S good name) (good_after_delete_set duty S name good)
         (turns_delete_set (kind_of_sets duty) S sets name S.roles formed n told)
-      where
-        untold : (kind : SeparationOfDuty) → tally S (delete_set kind name) ≡ no_tally
-        untold Static = refl
-        untold Dynamic = refl
 
 -- ---- a set that has no cardinality
 

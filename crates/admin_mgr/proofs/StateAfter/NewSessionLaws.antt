@@ -15,12 +15,12 @@ use Rattle.role_order.proofs.Members.{same_or_other}
 use Rattle.admin_mgr.specs.RbacState.{RbacState, has_session, active_roles}
 use Rattle.admin_mgr.specs.Authorization.{is_authorized}
 use Rattle.admin_mgr.specs.Separation.{dynamic_violation}
-use Rattle.admin_mgr.specs.Refusals.{violates_dynamic}
+use Rattle.admin_mgr.specs.Refusals.{first, violates_dynamic}
 use Rattle.admin_mgr.specs.Assignment.{may_go_on, end_sessions}
 use Rattle.admin_mgr.specs.After.{paired, changed, after}
-use Rattle.admin_mgr.specs.Verdict.{verdict, refusals}
+use Rattle.admin_mgr.specs.Verdict.{verdict, refusals, create_session_refusals, add_active_role_refusals}
 use Rattle.admin_mgr.specs.Good.{IsGood, IsDynamicallySeparated}
-use Rattle.admin_mgr.proofs.Verdicts.VerdictLaws.{passed, refuse_if-None, refuse_unless-None}
+use Rattle.admin_mgr.proofs.Verdicts.VerdictLaws.{passed, all_but_last, refuse_if-None, refuse_unless-None}
 use Rattle.admin_mgr.proofs.StateAfter.LimitLaws.{too_many-None, one_more_within}
 use Rattle.admin_mgr.proofs.Verdicts.SeparationLaws.{dynamic_test}
 use Rattle.admin_mgr.proofs.StateAfter.SessionLaws.{none_ends_where}
@@ -39,56 +39,41 @@ separated_where T same none = (dynamic_test T).0 (unnamed (dynamic_violation T) 
 
 -- ---- a new session
 
+-- the conditions that an accepted command meets, besides dynamic separation
+record CanCreate (S : RbacState) (user : Bytes) (roles : Names) (session : Bytes) : Type 0 where
+  is_user : IsTrue (contains S.users user)
+  are_roles : IsTrue (all (contains S.roles) roles)
+  new : has_session S session ≡ false
+  authorized : IsTrue (all (is_authorized S user) roles)
+  unlocked : contains S.locked user ≡ false
+  room : len S.sessions + 1 ≤ limit_of Session S.version
+  roles_room : len roles ≤ limit_of ActiveRole S.version
+
+-- the session can be created if no refusal applies
+can_create : (S : RbacState) (user : Bytes) (roles : Names) (session : Bytes) → first (create_session_refusals S user roles session) ≡ None → CanCreate S user roles session
+can_create S user roles session accepted = search (passed (create_session_refusals S user roles session) accepted, refuse_if-None, refuse_unless-None, too_many-None)
+
 module _ (S : RbacState) (user : Bytes) (roles : Stored Bytes) (session : Bytes) (accepted : verdict S (CreateSession user roles session) ≡ None) where
-  -- the user is there
-  pub create_session_user : IsTrue (contains S.users user)
+  -- the conditions, and that no dynamic set is named
+  created : CanCreate S user (set_of name_cmp roles) session × (violates_dynamic (after S (CreateSession user roles session)) ≡ None)
   unfolding verdict refusals
-  create_session_user = refuse_unless-None (contains S.users user) NoUser (passed (refusals S (CreateSession user roles session)) accepted).0
+  created =
+      let parts = all_but_last (create_session_refusals S user (set_of name_cmp roles) session) (violates_dynamic (after S (CreateSession user roles session))) accepted in
+      (can_create S user (set_of name_cmp roles) session parts.0, parts.1)
 
-  -- the roles are there
-  pub create_session_roles : IsTrue (all (contains S.roles) (set_of name_cmp roles))
-  unfolding verdict refusals
-  create_session_roles = refuse_unless-None (all (contains S.roles) (set_of name_cmp roles)) NoRole (passed (refusals S (CreateSession user roles session)) accepted).1.0
-
-  -- there was no session of the name
-  pub create_session_new : has_session S session ≡ false
-  unfolding verdict refusals
-  create_session_new = refuse_if-None (has_session S session) SessionExists (passed (refusals S (CreateSession user roles session)) accepted).1.1.0
-
-  -- the user is authorized for them
-  pub create_session_authorized : IsTrue (all (is_authorized S user) (set_of name_cmp roles))
-  unfolding verdict refusals
-  create_session_authorized = refuse_unless-None (all (is_authorized S user) (set_of name_cmp roles)) NotAuthorized (passed (refusals S (CreateSession user roles session)) accepted).1.1.1.0
-
-  -- the user is not locked
-  pub create_session_unlocked : contains S.locked user ≡ false
-  unfolding verdict refusals
-  create_session_unlocked = refuse_if-None (contains S.locked user) UserLocked (passed (refusals S (CreateSession user roles session)) accepted).1.1.1.1.0
-
-  -- there is room for one more session
-  pub create_session_room : len S.sessions + 1 ≤ limit_of Session S.version
-  unfolding verdict refusals
-  create_session_room = too_many-None S Session (len S.sessions + 1) (passed (refusals S (CreateSession user roles session)) accepted).1.1.1.1.1.0
-
-  -- and for the roles that are activated in it
-  pub create_session_roles_room : len (set_of name_cmp roles) ≤ limit_of ActiveRole S.version
-  unfolding verdict refusals
-  create_session_roles_room = too_many-None S ActiveRole (len (set_of name_cmp roles)) (passed (refusals S (CreateSession user roles session)) accepted).1.1.1.1.1.1.0
-
-  -- no dynamic set is named
-  pub create_session_kept : violates_dynamic (after S (CreateSession user roles session)) ≡ None
-  unfolding verdict refusals
-  create_session_kept = (passed (refusals S (CreateSession user roles session)) accepted).1.1.1.1.1.1.1.0
+  -- the conditions
+  can : CanCreate S user (set_of name_cmp roles) session
+  can = created.0
 
   module _ (good : IsGood S) where
     -- no user had a session of the name
     pub create_session_absent : (owner : Bytes) → contains S.sessions (session, owner) ≡ false
     create_session_absent owner = false_from_ne_true (contains S.sessions (session, owner))
-        (λ there. not_new S good user (set_of name_cmp roles) session create_session_new session owner there refl)
+        (λ there. not_new S good user (set_of name_cmp roles) session can.new session owner there refl)
 
     -- no role was activated in it
     pub create_session_inactive : (role : Bytes) → contains S.active (session, role) ≡ false
-    create_session_inactive role = false_from_ne_true (contains S.active (session, role)) (none_active S good user (set_of name_cmp roles) session create_session_new role)
+    create_session_inactive role = false_from_ne_true (contains S.active (session, role)) (none_active S good user (set_of name_cmp roles) session can.new role)
 
     -- none of the inserted pairs was there
     pub create_session_apart : IsDisjoint (paired session (set_of name_cmp roles)) S.active
@@ -107,19 +92,19 @@ module _ (S : RbacState) (user : Bytes) (roles : Stored Bytes) (session : Bytes)
     -- the sessions may go on
     new_sessions_go_on : (p : Pair) → IsTrue (contains new_sessions p) → IsTrue (may_go_on (with_sessions S new_sessions new_active) p)
     unfolding new_sessions new_active created_sessions created_active
-    new_sessions_go_on = created_goes_on S good user (set_of name_cmp roles) session create_session_new create_session_user create_session_unlocked create_session_authorized
+    new_sessions_go_on = created_goes_on S good user (set_of name_cmp roles) session can.new can.is_user can.unlocked can.authorized
 
     -- and each activated role belongs to one of them
     new_sessions_owned : (other role : Bytes) → IsTrue (contains new_active (other, role)) → (owner : Bytes) × IsTrue (contains new_sessions (other, owner))
     unfolding new_sessions new_active created_sessions created_active
-    new_sessions_owned = created_owned S good user (set_of name_cmp roles) session create_session_new
+    new_sessions_owned = created_owned S good user (set_of name_cmp roles) session can.new
 
     -- each of the sessions has one user
     one_owner_of_new : (other a b : Bytes) → IsTrue (contains new_sessions (other, a)) → IsTrue (contains new_sessions (other, b)) → a ≡ b
     unfolding new_sessions
     one_owner_of_new other a b is_a is_b =
         let put = contains-insert-Decides pair_total pair_exact S.sessions (session, user) in
-        let old_is_other : ((u : Bytes) → IsTrue (contains S.sessions (other, u)) → other ≡ session → ⊥) = not_new S good user (set_of name_cmp roles) session create_session_new other in
+        let old_is_other : ((u : Bytes) → IsTrue (contains S.sessions (other, u)) → other ≡ session → ⊥) = not_new S good user (set_of name_cmp roles) session can.new other in
         elim ((put (other, a)).0 is_a) [
           | inl same_a ↦ elim ((put (other, b)).0 is_b) [
             | inl same_b ↦ ap (λ (p : Pair). p.1) same_a ∙ sym (ap (λ (p : Pair). p.1) same_b)
@@ -136,7 +121,7 @@ module _ (S : RbacState) (user : Bytes) (roles : Stored Bytes) (session : Bytes)
     unfolding new_active
     new_active_roles other role h = elim (or_cases _ _ (sym (contains-union pair_total pair_exact S.active (paired session (set_of name_cmp roles)) (other, role)) ∙ h)) [
       | inl old ↦ good.well_formed.active other role old
-      | inr own ↦ (all-Decides name_total name_exact (contains S.roles) (set_of name_cmp roles)).0 create_session_roles role ((paired-Decides session (set_of name_cmp roles) other role).0 own).1
+      | inr own ↦ (all-Decides name_total name_exact (contains S.roles) (set_of name_cmp roles)).0 can.are_roles role ((paired-Decides session (set_of name_cmp roles) other role).0 own).1
     ]
 
     -- no session has more than the limit of activated roles
@@ -145,8 +130,8 @@ module _ (S : RbacState) (user : Bytes) (roles : Stored Bytes) (session : Bytes)
     new_active_room other = elim (same_or_other other session) [
       | inl same ↦ subst (λ s. len (seconds (union S.active (paired session (set_of name_cmp roles))) s) ≤ limit_of ActiveRole S.version) (sym same)
           (subst (λ (s : Names). len s ≤ limit_of ActiveRole S.version)
-          (sym (with_paired-own S.active session (set_of name_cmp roles) (none_active S good user (set_of name_cmp roles) session create_session_new)))
-          create_session_roles_room)
+          (sym (with_paired-own S.active session (set_of name_cmp roles) (none_active S good user (set_of name_cmp roles) session can.new)))
+          can.roles_room)
       | inr apart ↦ subst (λ (s : Names). len s ≤ limit_of ActiveRole S.version) (sym (with_paired-others S.active session (set_of name_cmp roles) other apart)) (good.limits.active_roles other)
     ]
 
@@ -158,8 +143,8 @@ module _ (S : RbacState) (user : Bytes) (roles : Stored Bytes) (session : Bytes)
       one_owner = one_owner_of_new;
       roles = new_active_roles;
       owned = new_sessions_owned;
-      separated = separated_where (with_sessions S new_sessions new_active) (none_ends_where (with_sessions S new_sessions new_active) new_sessions_go_on new_sessions_owned) create_session_kept;
-      sessions_room = one_more_within pair_total S.sessions (session, user) _ create_session_room;
+      separated = separated_where (with_sessions S new_sessions new_active) (none_ends_where (with_sessions S new_sessions new_active) new_sessions_go_on new_sessions_owned) created.1;
+      sessions_room = one_more_within pair_total S.sessions (session, user) _ can.room;
       active_room = new_active_room;
     })
 
@@ -175,36 +160,29 @@ good_after_create_session S good user roles session accepted = good_after S (Cre
 
 -- ---- a role is activated
 
+-- the conditions that an accepted command meets, besides dynamic separation
+record CanActivate (S : RbacState) (user session role : Bytes) : Type 0 where
+  is_role : IsTrue (contains S.roles role)
+  owner : IsTrue (contains S.sessions (session, user))
+  absent : contains S.active (session, role) ≡ false
+  authorized : IsTrue (is_authorized S user role)
+  room : len (active_roles S session) + 1 ≤ limit_of ActiveRole S.version
+
+-- the role can be activated if no refusal applies
+can_activate : (S : RbacState) (user session role : Bytes) → first (add_active_role_refusals S user session role) ≡ None → CanActivate S user session role
+can_activate S user session role accepted = search (passed (add_active_role_refusals S user session role) accepted, refuse_if-None, refuse_unless-None, too_many-None)
+
 module _ (S : RbacState) (user session role : Bytes) (accepted : verdict S (AddActiveRole user session role) ≡ None) where
-  -- the role is there
-  pub add_active_role_there : IsTrue (contains S.roles role)
+  -- the conditions, and that no dynamic set is named
+  activated : CanActivate S user session role × (violates_dynamic (after S (AddActiveRole user session role)) ≡ None)
   unfolding verdict refusals
-  add_active_role_there = refuse_unless-None (contains S.roles role) NoRole (passed (refusals S (AddActiveRole user session role)) accepted).1.1.0
+  activated =
+      let parts = all_but_last (add_active_role_refusals S user session role) (violates_dynamic (after S (AddActiveRole user session role))) accepted in
+      (can_activate S user session role parts.0, parts.1)
 
-  -- the session is the user's
-  pub add_active_role_owner : IsTrue (contains S.sessions (session, user))
-  unfolding verdict refusals
-  add_active_role_owner = refuse_unless-None (contains S.sessions (session, user)) NotOwner (passed (refusals S (AddActiveRole user session role)) accepted).1.1.1.0
-
-  -- the role wasn't activated in it
+  -- the role wasn't activated in the session
   pub add_active_role_absent : contains S.active (session, role) ≡ false
-  unfolding verdict refusals
-  add_active_role_absent = refuse_if-None (contains S.active (session, role)) AlreadyActive (passed (refusals S (AddActiveRole user session role)) accepted).1.1.1.1.0
-
-  -- the user is authorized for the role
-  pub add_active_role_authorized : IsTrue (is_authorized S user role)
-  unfolding verdict refusals
-  add_active_role_authorized = refuse_unless-None (is_authorized S user role) NotAuthorized (passed (refusals S (AddActiveRole user session role)) accepted).1.1.1.1.1.0
-
-  -- there is room for one more role in the session
-  pub add_active_role_room : len (active_roles S session) + 1 ≤ limit_of ActiveRole S.version
-  unfolding verdict refusals
-  add_active_role_room = too_many-None S ActiveRole (len (active_roles S session) + 1) (passed (refusals S (AddActiveRole user session role)) accepted).1.1.1.1.1.1.0
-
-  -- no dynamic set is named
-  pub add_active_role_kept : violates_dynamic (after S (AddActiveRole user session role)) ≡ None
-  unfolding verdict refusals
-  add_active_role_kept = (passed (refusals S (AddActiveRole user session role)) accepted).1.1.1.1.1.1.1.0
+  add_active_role_absent = activated.0.absent
 
   module _ (good : IsGood S) where
     -- the activated roles after it
@@ -214,18 +192,18 @@ module _ (S : RbacState) (user session role : Bytes) (accepted : verdict S (AddA
     -- the sessions may go on
     activated_go_on : (p : Pair) → IsTrue (contains S.sessions p) → IsTrue (may_go_on (with_sessions S S.sessions one_more_active) p)
     unfolding one_more_active more_active
-    activated_go_on = activated_goes_on S good user session role add_active_role_owner add_active_role_authorized
+    activated_go_on = activated_goes_on S good user session role activated.0.owner activated.0.authorized
 
     -- and each activated role belongs to one of them
     activated_are_owned : (other q : Bytes) → IsTrue (contains one_more_active (other, q)) → (owner : Bytes) × IsTrue (contains S.sessions (other, owner))
     unfolding one_more_active more_active
-    activated_are_owned = activated_owned S good user session role add_active_role_owner add_active_role_authorized
+    activated_are_owned = activated_owned S good user session role activated.0.owner activated.0.authorized
 
     -- what is activated is a role
     activated_are_roles : (other q : Bytes) → IsTrue (contains one_more_active (other, q)) → IsTrue (contains S.roles q)
     unfolding one_more_active
     activated_are_roles other q h = elim ((contains-insert-Decides pair_total pair_exact S.active (session, role) (other, q)).0 h) [
-      | inl same ↦ ap (λ (p : Pair). contains S.roles p.1) same ∙ add_active_role_there
+      | inl same ↦ ap (λ (p : Pair). contains S.roles p.1) same ∙ activated.0.is_role
       | inr old ↦ good.well_formed.active other q old
     ]
 
@@ -235,7 +213,7 @@ module _ (S : RbacState) (user session role : Bytes) (accepted : verdict S (AddA
     activated_room other = elim (same_or_other other session) [
       | inl same ↦ subst (λ s. len (seconds (insert S.active (session, role)) s) ≤ limit_of ActiveRole S.version) (sym same)
           (subst (λ (s : Names). len s ≤ limit_of ActiveRole S.version) (sym (with_one-own S.active session role))
-          (one_more_within name_total (active_roles S session) role _ add_active_role_room))
+          (one_more_within name_total (active_roles S session) role _ activated.0.room))
       | inr apart ↦ subst (λ (s : Names). len s ≤ limit_of ActiveRole S.version) (sym (with_one-others S.active session role other apart)) (good.limits.active_roles other)
     ]
 
@@ -247,7 +225,7 @@ module _ (S : RbacState) (user session role : Bytes) (accepted : verdict S (AddA
       one_owner = good.well_formed.one_owner;
       roles = activated_are_roles;
       owned = activated_are_owned;
-      separated = separated_where (with_sessions S S.sessions one_more_active) (none_ends_where (with_sessions S S.sessions one_more_active) activated_go_on activated_are_owned) add_active_role_kept;
+      separated = separated_where (with_sessions S S.sessions one_more_active) (none_ends_where (with_sessions S S.sessions one_more_active) activated_go_on activated_are_owned) activated.1;
       sessions_room = good.limits.sessions;
       active_room = activated_room;
     })

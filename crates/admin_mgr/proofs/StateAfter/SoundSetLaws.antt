@@ -70,24 +70,11 @@ can_create S separation kind name roles n accepted =
 
 -- if no refusal applies, the member can be added
 pub can_add_member : (S : RbacState) (separation : Separation) (name role : Bytes) → first (add_member_refusals S separation name role) ≡ None → CanAddMember S separation name role
-can_add_member S separation name role accepted =
-    let all_passed = passed (add_member_refusals S separation name role) accepted in
-    record {
-      there = refuse_unless-None (has_set separation name) NoSet all_passed.0;
-      is_role = refuse_unless-None (contains S.roles role) NoRole all_passed.1.0;
-      absent = refuse_if-None (contains separation.members (name, role)) MemberExists all_passed.1.1.0;
-      room = too_many-None S Member _ all_passed.1.1.1.0;
-    }
+can_add_member S separation name role accepted = search (passed (add_member_refusals S separation name role) accepted, refuse_if-None, refuse_unless-None, too_many-None)
 
 -- if no refusal applies, the member can be deleted
 pub can_delete_member : (S : RbacState) (separation : Separation) (name role : Bytes) → first (delete_member_refusals S separation name role) ≡ None → CanDeleteMember separation name role
-can_delete_member S separation name role accepted =
-    let all_passed = passed (delete_member_refusals S separation name role) accepted in
-    record {
-      there = refuse_unless-None (has_set separation name) NoSet all_passed.0;
-      is_member = refuse_unless-None (contains separation.members (name, role)) NoMember all_passed.1.1.0;
-      below = refuse_unless-None _ BadCardinality all_passed.1.1.1.0;
-    }
+can_delete_member S separation name role accepted = search (passed (delete_member_refusals S separation name role) accepted, refuse_unless-None)
 
 -- if no refusal applies, the cardinality can be set
 pub can_set_cardinality : (separation : Separation) (name : Bytes) (n : ℕ) → first (set_cardinality_refusals separation name n) ≡ None → CanSetCardinality separation name n
