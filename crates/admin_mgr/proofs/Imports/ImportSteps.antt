@@ -80,15 +80,12 @@ module _ (S : RbacState) (all rest : List Pair) (pair : Pair) (number : ℕ) (be
       verdicts_put X stands.good pair rest put ∙ ap (λ Y. None ∷ import_verdicts Y rest) (sym same) in
       let new = (new_to_added S (set_of pair_cmp before.added) pair put).0 in
       let more = assigned.assigned in
-      let few = stands.few_assigned in
       let as_many = assigned.already in
       let few_already = stands.few_already in
       let more_assigned : count_by is_none (import_verdicts X (pair ∷ rest)) ≡ 1 + count_by is_none (import_verdicts (state_now S later) rest) =
       ap (count_by is_none) verdicts ∙ counted is_none None (import_verdicts (state_now S later) rest) in
       let more_already : count_by is_already (import_verdicts X (pair ∷ rest)) ≡ 0 + count_by is_already (import_verdicts (state_now S later) rest) =
       ap (count_by is_already) verdicts ∙ counted is_already None (import_verdicts (state_now S later) rest) in
-      let all_assigned = stands.assigned in
-      let all_already = stands.already in
       record {
         good = subst IsGood (sym same) (good_with_assignment X stands.good pair put);
         apart = λ x there. ap (λ t. contains t x) assigned.added ∙ contains-insert pair_total (set_of pair_cmp before.added) pair x
@@ -97,12 +94,12 @@ module _ (S : RbacState) (all rest : List Pair) (pair : Pair) (number : ℕ) (be
             ∙ append_assoc before.changes.items (put_assignment pair ∷ []) (map put_assignment (accepted (with_assignment X pair) rest))
             ∙ ap (λ ps. before.changes.items ++ map put_assignment ps) (sym (accepted_put X stands.good pair rest put))
             ∙ stands.changes;
-        assigned = omega (arith, more, more_assigned, all_assigned);
-        already = omega (arith, as_many, more_already, all_already);
+        assigned = omega (arith, more, more_assigned, stands.assigned);
+        already = omega (arith, as_many, more_already, stands.already);
         refused = ap (λ l. l ++ left_over (number + 1 + 1) (import_verdicts (state_now S later) rest)) assigned.refused
             ∙ ap (λ vs. before.report.refused.items ++ left_over (number + 1) vs) (sym verdicts)
             ∙ stands.refused;
-        few_assigned = omega (arith, more, few);
+        few_assigned = omega (arith, more, stands.few_assigned);
         few_already = omega (arith, as_many, few_already);
       }
 
@@ -114,15 +111,12 @@ module _ (S : RbacState) (all rest : List Pair) (pair : Pair) (number : ℕ) (be
       let verdicts : import_verdicts X (pair ∷ rest) ≡ Some refusal ∷ import_verdicts (state_now S later) rest =
       verdicts_kept X pair rest refusal is ∙ ap (λ Y. Some refusal ∷ import_verdicts Y rest) (sym same) in
       let as_many = told.assigned in
-      let few = stands.few_assigned in
       let more : later.report.already ≡ before.report.already + one_if (is_already (Some refusal)) = told.already in
       let few_already = stands.few_already in
       let more_assigned : count_by is_none (import_verdicts X (pair ∷ rest)) ≡ 0 + count_by is_none (import_verdicts (state_now S later) rest) =
       ap (count_by is_none) verdicts ∙ counted is_none (Some refusal) (import_verdicts (state_now S later) rest) in
       let more_already : count_by is_already (import_verdicts X (pair ∷ rest)) ≡ one_if (is_already (Some refusal)) + count_by is_already (import_verdicts (state_now S later) rest) =
       ap (count_by is_already) verdicts ∙ counted is_already (Some refusal) (import_verdicts (state_now S later) rest) in
-      let all_assigned = stands.assigned in
-      let all_already = stands.already in
       let at_most : one_if (is_already (Some refusal)) ≤ 1 = one_if_le (is_already (Some refusal)) in
       record {
         good = subst IsGood (sym same) stands.good;
@@ -130,13 +124,13 @@ module _ (S : RbacState) (all rest : List Pair) (pair : Pair) (number : ℕ) (be
         changes = (λ i. told.changes i ++ map put_assignment (accepted (same i) rest))
             ∙ ap (λ ps. before.changes.items ++ map put_assignment ps) (sym (accepted_kept X pair rest refusal is))
             ∙ stands.changes;
-        assigned = omega (arith, as_many, more_assigned, all_assigned);
-        already = omega (arith, more, more_already, all_already);
+        assigned = omega (arith, as_many, more_assigned, stands.assigned);
+        already = omega (arith, more, more_already, stands.already);
         refused = ap (λ l. l ++ left_over (number + 1 + 1) (import_verdicts (state_now S later) rest)) told.refused
             ∙ told_before before.report.refused.items (refused_record (number + 1, Some refusal)) (left_over (number + 1 + 1) (import_verdicts (state_now S later) rest))
             ∙ ap (λ vs. before.report.refused.items ++ left_over (number + 1) vs) (sym verdicts)
             ∙ stands.refused;
-        few_assigned = omega (arith, as_many, few);
+        few_assigned = omega (arith, as_many, stands.few_assigned);
         few_already = omega (arith, more, few_already, at_most);
       }
     where
@@ -161,10 +155,8 @@ ends_with_changes S all number now stands = sym (append-nil now.changes.items) �
 pub ends_with_report : (S : RbacState) (all : List Pair) (number : ℕ) (now : Imported) → Stands S all [] number now → tally_of_report now.report ≡ tally_of (import_verdicts S all)
 unfolding import_verdicts tally_of
 ends_with_report S all number now stands =
-    let all_assigned = stands.assigned in
-    let all_already = stands.already in
-    let assigned : now.report.assigned ≡ count_by is_none (import_verdicts S all) = omega (arith, all_assigned) in
-    let already : now.report.already ≡ count_by is_already (import_verdicts S all) = omega (arith, all_already) in
+    let assigned : now.report.assigned ≡ count_by is_none (import_verdicts S all) = omega (arith, stands.assigned) in
+    let already : now.report.already ≡ count_by is_already (import_verdicts S all) = omega (arith, stands.already) in
     let refused = sym (append-nil now.report.refused.items) ∙ stands.refused in
     λ i. record { assigned = assigned i; already = already i; refused = refused i }
 

@@ -116,10 +116,7 @@ IsBlocked S assignments p = (more : Pairs) → IsSubset assignments more → ass
 -- if the limit of assignments is reached
 blocked_full : (S : RbacState) (assignments : Pairs) (p : Pair) → is_too_many S Assignment (len assignments + 1) ≡ true → IsBlocked S assignments p
 blocked_full S assignments p full more within put =
-    let room = room_for_assignment (holding S more) p put in
-    let over = ltb-true 20000 (len assignments + 1) full in
-    let fewer = len-subset pair_total pair_exact assignments more within in
-    absurd (omega (arith, room, over, fewer))
+    absurd (omega (arith, room_for_assignment (holding S more) p put, ltb-true 20000 (len assignments + 1) full, len-subset pair_total pair_exact assignments more within))
 
 -- if static separation refuses it
 blocked_static : (S : RbacState) (assignments : Pairs) (p : Pair) → (option_map StaticSeparation (named_with S assignments p) ≡ None → ⊥) → IsBlocked S assignments p
@@ -315,10 +312,7 @@ none_assigned [] [] again = refl
 none_assigned [] (w ∷ ws) again = absurd again
 none_assigned (v ∷ vs) [] again = absurd again
 none_assigned (v ∷ vs) (w ∷ ws) again =
-    let more = counted is_none w ws in
-    let one = again_none v w again.0 in
-    let rest = none_assigned vs ws again.1 in
-    omega (arith, more, one, rest)
+    omega (arith, counted is_none w ws, again_none v w again.0, none_assigned vs ws again.1)
 
 -- it counts as assigned before the records that the first import assigned or counted so
 assigned_before : (vs ws : List (Option Refusal)) → AllAgain vs ws → count_by is_already ws ≡ count_by is_none vs + count_by is_already vs
@@ -326,12 +320,7 @@ assigned_before [] [] again = refl
 assigned_before [] (w ∷ ws) again = absurd again
 assigned_before (v ∷ vs) [] again = absurd again
 assigned_before (v ∷ vs) (w ∷ ws) again =
-    let more = counted is_already w ws in
-    let put = counted is_none v vs in
-    let already = counted is_already v vs in
-    let one = again_already v w again.0 in
-    let rest = assigned_before vs ws again.1 in
-    omega (arith, more, put, already, one, rest)
+    omega (arith, counted is_already w ws, counted is_none v vs, counted is_already v vs, again_already v w again.0, assigned_before vs ws again.1)
 
 -- the entry of one record in both reports, before those of the others
 told_again : (n : ℕ) (v w : Option Refusal) (xs ys : List (ℕ × ℕ)) → Again v w → RefuseTheSame xs ys → RefuseTheSame (cons_option (refused_record (n, v)) xs) (cons_option (refused_record (n, w)) ys)

@@ -39,9 +39,7 @@ count-fewer p q part whole within harder =
     let fewer = len-subset name_total name_exact (retain part p) (retain whole q) (λ x h.
     let parts = and_parts _ _ (sym (contains-retain name_total name_exact part p x) ∙ h) in
     contains-retain name_total name_exact whole q x ∙ and_from _ _ (within x parts.0) (harder x parts.1)) in
-    let counted = count-len name_total name_exact p part in
-    let counted_more = count-len name_total name_exact q whole in
-    omega (arith, fewer, counted, counted_more)
+    omega (arith, fewer, count-len name_total name_exact p part, count-len name_total name_exact q whole)
 
 -- if the edges connect roles, what a role dominates is a role
 below_role : (S : RbacState) → ((asc desc : Bytes) → IsTrue (contains S.edges (asc, desc)) → IsTrue (contains S.roles asc) × IsTrue (contains S.roles desc)) →
@@ -95,9 +93,8 @@ module _ (S : RbacState) (good : IsGoodApart S) where
   ended_separation : IsDynamicallySeparated (end_sessions S)
   unfolding end_sessions
   ended_separation name session user n has there =
-      let before = good.dynamic_separation name session user n has (kept_session (session, user) there).0 in
       let fewer = count-fewer (is_session_role (end_sessions S) session) (is_session_role S session) (members_of S.dsd name) (members_of S.dsd name) (λ x member. member) (fewer_roles session) in
-      omega (arith, before, fewer)
+      omega (arith, good.dynamic_separation name session user n has (kept_session (session, user) there).0, fewer)
 
   -- a state that is good except for its sessions is good once those that may not go on have ended
   pub good_ended : IsGood (end_sessions S)

@@ -130,15 +130,13 @@ module _ (S T : RbacState) (part : IsPart T S) where
         dsd = keeps.dsd formed.dsd;
         acyclic = IsAcyclic-subset T.edges S.edges (λ a b. part.edges (a, b)) good.acyclic;
         static_separation = λ name user n has.
-            let before = good.static_separation name user n (part.ssd_sets (name, n) has) in
             let fewer = count-fewer (is_authorized T user) (is_authorized S user) (members_of T.ssd name) (members_of S.ssd name)
             (seconds-subset T.ssd.members S.ssd.members name part.ssd_members) (authorized-fewer user) in
-            omega (arith, before, fewer);
+            omega (arith, good.static_separation name user n (part.ssd_sets (name, n) has), fewer);
         dynamic_separation = λ name session user n has owner.
-            let before = good.dynamic_separation name session user n (part.dsd_sets (name, n) has) (part.sessions (session, user) owner) in
             let fewer = count-fewer (is_session_role T session) (is_session_role S session) (members_of T.dsd name) (members_of S.dsd name)
             (seconds-subset T.dsd.members S.dsd.members name part.dsd_members) (session_role-fewer session) in
-            omega (arith, before, fewer);
+            omega (arith, good.dynamic_separation name session user n (part.dsd_sets (name, n) has) (part.sessions (session, user) owner), fewer);
         limits = search (part, limits, no_more name_total name_exact, no_more pair_total pair_exact, no_more triple_total triple_exact, no_more cardinality_total cardinality_exact, no_more_seconds, limits.ssd_members, limits.dsd_members, limits.active_roles);
         version = subst (λ (v : ℕ). (v ≡ 1) ⊎ (v ≡ 2)) (sym part.version) good.version;
         no_locks = λ one. none_of name_total name_exact T.locked S.locked part.locked (good.no_locks (sym part.version ∙ one));
@@ -147,9 +145,7 @@ module _ (S T : RbacState) (part : IsPart T S) where
       no_more : {K : Type 0} {R : K → K → Ordering} (total : IsTotalOrder R) (exact : IsAntisymmetric R) (small large : FinSet R) (kind : Kind)
           → IsSubset small large → len large ≤ limit_of kind S.version → len small ≤ limit_of kind T.version
       no_more total exact small large kind within below =
-          let fewer = len-subset total exact small large within in
-          let same = ap (limit_of kind) part.version in
-          omega (arith, fewer, below, same)
+          omega (arith, len-subset total exact small large within, below, ap (limit_of kind) part.version)
 
       no_more_seconds : (small large : Pairs) (first : Bytes) (kind : Kind) → IsSubset small large → len (seconds large first) ≤ limit_of kind S.version → len (seconds small first) ≤ limit_of kind T.version
       no_more_seconds small large first kind within = no_more name_total name_exact (seconds small first) (seconds large first) kind (seconds-subset small large first within)

@@ -63,16 +63,12 @@ good_part : (duty : SeparationOfDuty) (S : RbacState) → IsGood S → (other : 
 unfolding authorized_users
 good_part Static S good other sound part = good_both S good other S.dsd sound (sound_sets Dynamic S good)
     (λ name user n there.
-    let before = good.static_separation name user n (part.cardinalities (name, n) there) in
-    let fewer = count_in_part (is_authorized S user) other S.ssd part name in
-    omega (arith, before, fewer))
+    omega (arith, good.static_separation name user n (part.cardinalities (name, n) there), count_in_part (is_authorized S user) other S.ssd part name))
     good.dynamic_separation
 good_part Dynamic S good other sound part = good_both S good S.ssd other (sound_sets Static S good) sound
     good.static_separation
     (λ name session user n there owner.
-    let before = good.dynamic_separation name session user n (part.cardinalities (name, n) there) owner in
-    let fewer = count_in_part (is_session_role S session) other S.dsd part name in
-    omega (arith, before, fewer))
+    omega (arith, good.dynamic_separation name session user n (part.cardinalities (name, n) there) owner, count_in_part (is_session_role S session) other S.dsd part name))
 
 -- ---- the refusals of each command
 

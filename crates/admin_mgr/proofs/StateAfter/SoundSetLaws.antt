@@ -185,8 +185,7 @@ module _ (S : RbacState) (kind : Kind) (separation : Separation) (sound : IsSoun
         sets = sound.sets;
         members = λ x. elim (same_or_other x name) [
           | inl same ↦ (let more = len-insert-le name_total (members_of separation name) role in
-              let room = can.room in
-              subst (λ s. len s ≤ limit_of Member S.version) (sym (ap (members_of T) same ∙ with_one-own separation.members name role)) (omega (arith, more, room)))
+              subst (λ s. len s ≤ limit_of Member S.version) (sym (ap (members_of T) same ∙ with_one-own separation.members name role)) (omega (arith, more, can.room)))
           | inr other ↦ subst (λ s. len s ≤ limit_of Member S.version) (sym (with_one-others separation.members name role x other)) (sound.members x)
         ];
       }
@@ -225,10 +224,9 @@ module _ (S : RbacState) (kind : Kind) (separation : Separation) (sound : IsSoun
         };
         sets = sound.sets;
         members = λ x.
-            let before = sound.members x in
             let fewer = len-subset name_total name_exact (members_of T x) (members_of separation x) (λ q h.
             (seconds-Decides separation.members x q).1 (was x q ((seconds-Decides T.members x q).0 h))) in
-            omega (arith, before, fewer);
+            omega (arith, sound.members x, fewer);
       }
 
   -- sound with another cardinality of a set
@@ -243,7 +241,6 @@ module _ (S : RbacState) (kind : Kind) (separation : Separation) (sound : IsSoun
       ap (λ (s : Separation). len s.cardinalities) (with_same_cardinality separation S.roles sound.formed name before.0 before.1) in
       let rest : len (insert others (name, before.0)) ≡ len others + 1 = len-with others (name, before.0) (false_from_ne_true _ (none before.0)) in
       let more : len (insert others (name, n)) ≤ len others + 1 = len-insert-le cardinality_total others (name, n) in
-      let limit = sound.sets in
       record {
         formed = record {
           members = λ x q h.
@@ -261,7 +258,7 @@ module _ (S : RbacState) (kind : Kind) (separation : Separation) (sound : IsSoun
           one_cardinality = numbered_with others (λ x m other one two.
               sound.formed.one_cardinality x m other (other_cardinality name separation.cardinalities (x, m) one).0 (other_cardinality name separation.cardinalities (x, other) two).0) name n none;
         };
-        sets = omega (arith, whole, rest, more, limit);
+        sets = omega (arith, whole, rest, more, sound.sets);
         members = sound.members;
       }
 
@@ -292,10 +289,9 @@ module _ (S : RbacState) (kind : Kind) (separation : Separation) (sound : IsSoun
         sets = (let fewer = len-subset cardinality_total cardinality_exact T.cardinalities separation.cardinalities (λ x h. (other_cardinality name separation.cardinalities x h).0) in
             let limit = sound.sets in omega (arith, fewer, limit));
         members = λ x.
-            let before = sound.members x in
             let fewer = len-subset name_total name_exact (members_of T x) (members_of separation x) (λ q h.
             (seconds-Decides separation.members x q).1 (was x q ((seconds-Decides T.members x q).0 h)).0) in
-            omega (arith, before, fewer);
+            omega (arith, sound.members x, fewer);
       }
 
 -- ---- fewer roles and sets
@@ -326,6 +322,4 @@ count_in_part p part whole within name =
     let fewer : len (retain (members_of part name) p) ≤ len (retain (members_of whole name) p) = len-subset name_total name_exact _ _ (λ x h.
     let parts = and_parts (contains (members_of part name) x) (p x) (sym (test (members_of part name) x) ∙ h) in
     test (members_of whole name) x ∙ and_from _ _ ((seconds-Decides whole.members name x).1 (within.members (name, x) ((seconds-Decides part.members name x).0 parts.0))) parts.1) in
-    let counted = count-len name_total name_exact p (members_of part name) in
-    let counted_more = count-len name_total name_exact p (members_of whole name) in
-    omega (arith, fewer, counted, counted_more)
+    omega (arith, fewer, count-len name_total name_exact p (members_of part name), count-len name_total name_exact p (members_of whole name))

@@ -12,7 +12,7 @@ use Rattle.role_order.proofs.Ranking.{len-new}
 use Rattle.role_order.proofs.Runs.{all_seconds}
 use Rattle.rbac_sets.specs.declared.refusal.Refusal.{Refusal}
 use Rattle.rbac_sets.specs.declared.refusal.Refusal.TheVariants.{Memory, Damaged}
-use Rattle.admin_mgr.specs.RbacState.{RbacState, Separation, members_of, active_roles}
+use Rattle.admin_mgr.specs.RbacState.{RbacState, Separation, members_of, active_roles, has_session}
 use Rattle.admin_mgr.specs.Authorization.{is_authorized}
 use Rattle.admin_mgr.specs.private.HolderRoles.{run_of, is_reached}
 use Rattle.admin_mgr.specs.Separation.{is_kept_statically, is_kept_dynamically}
@@ -55,6 +55,14 @@ members_there roles separation =
       λ h. and_from _ _ (sets.1 (λ pair there. (h pair.0 pair.1 there).0)) (ends.1 (λ a b there. (h a b there).1)),
     )
 
+-- the first of two tests that both hold
+first_holds : (a b : Bool) → IsTrue (a && b) → IsTrue a
+first_holds a b h = (and_parts a b h).0
+
+-- the second of them
+second_holds : (a b : Bool) → IsTrue (a && b) → IsTrue b
+second_holds a b h = (and_parts a b h).1
+
 -- the test whether what the rows refer to is there
 pub complete : (g : StoredSets) → IsTrue (is_complete g) ↔ IsComplete g
 complete g =
@@ -75,33 +83,11 @@ complete g =
     let opened = all-Decides pair_total pair_exact (λ (pair : Pair). any (λ (session : Pair). same_name session.0 pair.0) S.sessions) S.active in
     let activated = lasts S.roles S.active in (
       λ h.
-          let whole = and_parts (is_core_complete S && is_hierarchy_complete g && are_sets_complete S) (are_sessions_complete S) h in
-          let front = and_parts (is_core_complete S && is_hierarchy_complete g) (are_sets_complete S) whole.0 in
-          let most = and_parts (is_core_complete S) (is_hierarchy_complete g) front.0 in
-          let core5 = and_parts _ (all (contains S.users) S.locked) most.0 in
-          let core4 = and_parts _ (are_seconds_in S.roles S.assignments) core5.0 in
-          let core3 = and_parts _ (are_firsts_in S.users S.assignments) core4.0 in
-          let core2 = and_parts _ (have_roles S) core3.0 in
-          let core1 = and_parts (are_firsts_in S.objects S.permissions) (have_permissions S) core2.0 in
-          let order3 = and_parts _ (are_seconds_in S.roles g.pairs) most.1 in
-          let order2 = and_parts _ (are_firsts_in S.roles g.pairs) order3.0 in
-          let order1 = and_parts (are_firsts_in S.roles S.edges) (are_seconds_in S.roles S.edges) order2.0 in
-          let sets3 = and_parts _ (are_seconds_in S.roles S.dsd.members) front.1 in
-          let sets2 = and_parts _ (have_sets S.dsd) sets3.0 in
-          let sessions2 = and_parts _ (are_seconds_in S.roles S.active) whole.1 in
-          let sessions1 = and_parts (are_seconds_in S.users S.sessions) (have_sessions S) sessions2.0 in
-          record {
-            permissions = permissions.0 core1.0;
-            assignments = λ user role there. (assigned.0 core3.1 user role there, assigned_to.0 core4.1 user role there);
-            grants = λ object operation role there. (granted.0 core1.1 (object, operation, role) there, granted_to.0 core2.1 (object, operation, role) there);
-            edges = λ asc desc there. (ascendants.0 order1.0 asc desc there, descendants.0 order1.1 asc desc there);
-            pairs = λ a b there. (above.0 order2.1 a b there, below.0 order3.1 a b there);
-            ssd = ssd.0 sets2.0;
-            dsd = dsd.0 (and_from _ _ sets2.1 sets3.1);
-            sessions = owners.0 sessions1.0;
-            active = λ session role there. (opened.0 sessions1.1 (session, role) there, activated.0 sessions2.1 session role there);
-            locked = locked.0 core5.1;
-          },
+          let sets : IsTrue (have_sets S.dsd) → IsTrue (are_seconds_in S.roles S.dsd.members) → MembersExist S.roles S.dsd = λ sets roles. dsd.0 (and_from _ _ sets roles) in
+          let allowed : (ob op role : Bytes) → IsTrue (have_permissions S) → IsTrue (contains S.grants (ob, op, role)) → IsTrue (contains S.permissions (ob, op)) = λ ob op role each. granted.0 each (ob, op, role) in
+          let grantees : (ob op role : Bytes) → IsTrue (have_roles S) → IsTrue (contains S.grants (ob, op, role)) → IsTrue (contains S.roles role) = λ ob op role each. granted_to.0 each (ob, op, role) in
+          let in_sessions : (session role : Bytes) → IsTrue (have_sessions S) → IsTrue (contains S.active (session, role)) → IsTrue (has_session S session) = λ session role each. opened.0 each (session, role) in
+          search (first_holds, second_holds, permissions.0, allowed, grantees, assigned.0, assigned_to.0, locked.0, ascendants.0, descendants.0, above.0, below.0, ssd.0, sets, owners.0, in_sessions, activated.0) depth 9,
       λ all.
           let core = and_from _ _ (and_from _ _ (and_from _ _ (and_from _ _ (and_from _ _
           (permissions.1 all.permissions)
@@ -157,8 +143,7 @@ no_two names few x y here there = by (contains {R = name_cmp} (insert empty x) y
       | inr none ↦ absurd (true≢false (sym none ∙ contains-empty name_cmp y))
     ]
     by false e =
-        let most = len-subset name_total name_exact (insert (insert empty x) y) names both in
-        let two = two_names x y e in absurd (omega (arith, most, two, few))
+        let two = two_names x y e in absurd (omega (arith, len-subset name_total name_exact (insert (insert empty x) y) names both, two, few))
 
 -- a set whose names are all equal has at most one
 pub one_at_most : (names : Names) → ((x y : Bytes) → IsTrue (contains names x) → IsTrue (contains names y) → x ≡ y) → len names ≤ 1
@@ -166,9 +151,8 @@ one_at_most names same = elim (cases_lt 0 (len names)) [
   | inl some ↦
       let one = a_member name_total name_exact names some in
       let most = len-subset name_total name_exact names (insert empty one.0) (λ z there. (contains-insert-Decides name_total name_exact empty one.0 z).1 (inl (same z one.0 there one.1))) in
-      let single = len-insert-le name_total empty one.0 in
       let none : len {R = name_cmp} empty ≡ 0 = len-empty name_cmp in
-      omega (arith, most, single, none)
+      omega (arith, most, len-insert-le name_total empty one.0, none)
   | inr none ↦ omega (arith, none)
 ]
 

@@ -54,8 +54,7 @@ few_behind limit pairs none first = elim (cases_lt limit (len (seconds pairs fir
 behind_few : (limit : ℕ) (pairs : Pairs) → ((first : Bytes) → len (seconds pairs first) ≤ limit) → has_more_with_first limit pairs ≡ false
 behind_few limit pairs few = false_from_ne_true _ (λ h.
     (let one = (any-Decides pair_total pair_exact (λ (pair : Pair). nat_lt limit (len (seconds pairs pair.0))) pairs).0 h in
-    let more = ltb-true limit (len (seconds pairs one.0.0)) one.2 in
-    let most = few one.0.0 in absurd (omega (arith, more, most))))
+    let most = few one.0.0 in absurd (omega (arith, ltb-true limit (len (seconds pairs one.0.0)) one.2, most))))
 
 -- if no limit is exceeded, the relations are within all limits
 pub within_limits : (S : RbacState) → first_exceeded S ≡ None → IsWithinLimits S

@@ -107,9 +107,7 @@ each_name : (S : RbacState) → IsWellFormed S → (name user : Bytes) (n : ℕ)
     (b : Bool) → contains S.users user ≡ b → count (is_authorized S user) (members_of S.ssd name) < n
 each_name S formed name user n there kept true is_user = (kept_statically S (members_of S.ssd name) n).0 kept user is_user
 each_name S formed name user n there kept false absent =
-    let two = (formed.ssd.cardinality name n there).0 in
-    let none = nobody S formed user (members_of S.ssd name) absent in
-    omega (arith, two, none)
+    omega (arith, (formed.ssd.cardinality name n there).0, nobody S formed user (members_of S.ssd name) absent)
 
 pub static_test : StaticTest
 static_test S formed =
