@@ -17,7 +17,7 @@ use Rattle.role_order.proofs.Leading.{Leads-from_eq, Leads-mono}
 use Rattle.role_order.proofs.Deciding.{geq-Decides, geq_or_not}
 use Rattle.role_order.proofs.Planning.{changed-adds, changed-takes}
 use Rattle.rbac_sets.specs.declared.row.Row.{Row}
-use Rattle.rbac_sets.specs.declared.row.Row.TheVariants.{NameRow, PairRow, GrantRow, SetRow, LockedRow}
+use Rattle.rbac_sets.specs.declared.row.Row.TheVariants.{PairRow}
 use Rattle.rbac_sets.specs.declared.row.TheConstants.Row.{PERMISSION, ASSIGNMENT, INHERITANCE, CLOSURE_PAIR}
 use Rattle.rbac_sets.specs.declared.row.Change.{Change}
 use Rattle.rbac_sets.specs.declared.row.Change.TheVariants.{Put, Take}

@@ -1,8 +1,7 @@
 -- A new user, role, object, permission or grant: it wasn't there, no session ends, and the state is good.
-use Rattle.std.proofs.Common.{◌≡◌, ◌+◌, ◌≤◌, false, refl, ◌∙◌, ap, inl, inr}
+use Rattle.std.proofs.Common.{◌≡◌, ◌+◌, false, refl, ◌∙◌, ap, inl, inr}
 use Rattle.std.specs.Prelude.{IsTrue, None}
 use Rattle.rbac_sets.specs.Sets.{Bytes, Pair, Triple, contains, insert, len}
-use Rattle.rbac_sets.specs.Kind.{limit_of}
 use Rattle.rbac_sets.specs.NameOrder.{name_total, name_exact, pair_total, pair_exact, triple_total, triple_exact}
 use Rattle.rbac_sets.specs.declared.command.Command.TheVariants.{AddUser, AddRole, AddPermObj, AddPermission, GrantPermission}
 use Rattle.rbac_sets.specs.declared.kind.Kind.TheVariants.{User, Role, Object, Permission, Grant}

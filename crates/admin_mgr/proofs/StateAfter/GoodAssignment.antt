@@ -1,19 +1,17 @@
 -- An accepted assignment leads from a good state to a good one, and no session ends.
-use Rattle.std.proofs.Common.{◌≡◌, ◌+◌, ◌≤◌, false, not, refl, sym, ◌∙◌, ap, subst, arith, inl, inr}
+use Rattle.std.proofs.Common.{◌≡◌, ◌+◌, ◌≤◌, false, not, refl, sym, ◌∙◌, ap, subst, inl, inr}
 use Rattle.std.specs.Prelude.{IsTrue, None}
-use Rattle.std.proofs.lemmas.Bool.{and_from, ltb-false}
+use Rattle.std.proofs.lemmas.Bool.{and_from}
 use Rattle.rbac_sets.specs.Sets.{Bytes, Pair, contains, insert, len}
 use Rattle.rbac_sets.specs.NameOrder.{name_total, name_exact, pair_total, pair_exact}
 use Rattle.rbac_sets.specs.Kind.{limit_of}
 use Rattle.rbac_sets.specs.declared.command.Command.TheVariants.{AssignUser}
 use Rattle.rbac_sets.specs.declared.kind.Kind.TheVariants.{Assignment}
-use Rattle.rbac_sets.specs.declared.refusal.Refusal.TheVariants.{NoUser, NoRole, AlreadyAssigned, TooMany, StaticSeparation}
+use Rattle.rbac_sets.specs.declared.refusal.Refusal.TheVariants.{NoUser, NoRole, AlreadyAssigned, StaticSeparation}
 use Rattle.rbac_sets.proofs.SetLaws.{contains-insert-Decides, all-Decides, seconds-Decides}
-use Rattle.rbac_sets.proofs.Members.{len-insert-le}
 use Rattle.admin_mgr.specs.RbacState.{RbacState, active_roles}
 use Rattle.admin_mgr.specs.Authorization.{authorized_users, is_authorized}
 use Rattle.admin_mgr.specs.Separation.{is_kept_statically, static_violation}
-use Rattle.admin_mgr.specs.Refusals.{is_too_many}
 use Rattle.admin_mgr.specs.Assignment.{may_go_on, end_sessions, after_assignment, assignment_refusals, assignment_verdict}
 use Rattle.admin_mgr.specs.After.{changed, after}
 use Rattle.admin_mgr.specs.Verdict.{verdict, refusals}

@@ -1,22 +1,21 @@
 -- An accepted immediate inheritance leads from a good state to a good one, and no session ends.
-use Rattle.std.proofs.Common.{◌≡◌, ◌+◌, ◌≤◌, false, sym, ◌∙◌, ap, subst, arith, inl, inr}
+use Rattle.std.proofs.Common.{◌≡◌, ◌+◌, ◌≤◌, false, sym, ◌∙◌, ap, subst, inl, inr}
 use Rattle.std.specs.Prelude.{IsTrue, None}
-use Rattle.std.proofs.lemmas.Bool.{ltb-false, true≢false}
+use Rattle.std.proofs.lemmas.Bool.{true≢false}
 use Rattle.rbac_sets.specs.Sets.{Bytes, Pair, contains, insert, len}
 use Rattle.rbac_sets.specs.NameOrder.{pair_total, pair_exact}
 use Rattle.rbac_sets.specs.Kind.{limit_of}
 use Rattle.rbac_sets.specs.declared.command.Command.TheVariants.{AddInheritance}
 use Rattle.rbac_sets.specs.declared.kind.Kind.TheVariants.{Edge}
-use Rattle.rbac_sets.specs.declared.refusal.Refusal.TheVariants.{NoRole, EdgeExists, Cycle, TooMany, StaticSeparation, DynamicSeparation}
+use Rattle.rbac_sets.specs.declared.refusal.Refusal.TheVariants.{NoRole, EdgeExists, Cycle, StaticSeparation, DynamicSeparation}
 use Rattle.rbac_sets.proofs.SetLaws.{contains-insert-Decides}
-use Rattle.rbac_sets.proofs.Members.{len-insert-le}
 use Rattle.role_order.specs.Order.{Geq, geq}
 use Rattle.role_order.proofs.Closing.{added_edge}
 use Rattle.role_order.proofs.Deciding.{geq-Decides}
 use Rattle.admin_mgr.specs.RbacState.{RbacState}
 use Rattle.admin_mgr.specs.Authorization.{authorized_users, is_authorized}
 use Rattle.admin_mgr.specs.Separation.{is_kept_statically, static_violation, dynamic_violation}
-use Rattle.admin_mgr.specs.Refusals.{is_too_many, violates_dynamic}
+use Rattle.admin_mgr.specs.Refusals.{violates_dynamic}
 use Rattle.admin_mgr.specs.Assignment.{end_sessions}
 use Rattle.admin_mgr.specs.After.{changed, after}
 use Rattle.admin_mgr.specs.Verdict.{verdict, refusals}

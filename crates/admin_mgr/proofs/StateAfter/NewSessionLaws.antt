@@ -9,7 +9,7 @@ use Rattle.rbac_sets.specs.Kind.{limit_of}
 use Rattle.rbac_sets.specs.NameOrder.{name_total, name_exact, pair_total, pair_exact}
 use Rattle.rbac_sets.specs.declared.command.Command.TheVariants.{CreateSession, AddActiveRole}
 use Rattle.rbac_sets.specs.declared.kind.Kind.TheVariants.{Session, ActiveRole}
-use Rattle.rbac_sets.specs.declared.refusal.Refusal.TheVariants.{NoUser, NoRole, SessionExists, NotOwner, NotAuthorized, AlreadyActive, UserLocked, DynamicSeparation}
+use Rattle.rbac_sets.specs.declared.refusal.Refusal.TheVariants.{DynamicSeparation}
 use Rattle.rbac_sets.proofs.SetLaws.{contains-union, contains-insert-Decides, all-Decides}
 use Rattle.role_order.proofs.Members.{same_or_other}
 use Rattle.admin_mgr.specs.RbacState.{RbacState, has_session, active_roles}

@@ -8,8 +8,7 @@ use Rattle.std.specs.FinSet.{FinSet}
 use Rattle.std.proofs.lemmas.Bool.{and_parts, and_from, true≢false, false_from_ne_true}
 use Rattle.rbac_sets.specs.Kind.{limit_of}
 use Rattle.rbac_sets.specs.declared.kind.Kind.{Kind}
-use Rattle.rbac_sets.specs.declared.kind.Kind.TheVariants.{User, Role, Object, Permission, Grant, Assignment, Edge, SsdSet, DsdSet, Member, Session, ActiveRole}
-use Rattle.rbac_sets.specs.Sets.{Bytes, Pair, Pairs, Names, Triples, Cardinalities, name_cmp, image, empty, contains, remove, retain, seconds, len}
+use Rattle.rbac_sets.specs.Sets.{Bytes, Pair, Pairs, Names, name_cmp, image, empty, contains, remove, retain, seconds, len}
 use Rattle.rbac_sets.specs.NameOrder.{name_total, name_exact, pair_total, pair_exact, triple_total, triple_exact, cardinality_total, cardinality_exact}
 use Rattle.rbac_sets.proofs.SetLaws.{any-Decides, all-Decides, seconds-Decides, image-Decides, contains-retain, contains-remove, contains-empty, same_set}
 use Rattle.rbac_sets.proofs.Members.{len-subset}

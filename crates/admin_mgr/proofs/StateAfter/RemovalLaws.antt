@@ -1,5 +1,5 @@
 -- The commands that remove something keep the state good.
-use Rattle.std.proofs.Common.{◌≡◌, ◌≢◌, Bool, false, not, ◌&&◌, ◌||◌, refl, sym, ◌∙◌, ap, subst, inl, inr}
+use Rattle.std.proofs.Common.{◌≡◌, ◌≢◌, Bool, false, not, ◌&&◌, ◌||◌, refl, sym, ◌∙◌, ap, inl, inr}
 use Rattle.std.specs.Prelude.{IsTrue, None, nat_eq, pos}
 use Rattle.std.specs.declared.cmp.Ordering.{Ordering}
 use Rattle.std.specs.Cmp.{IsTotalOrder}
@@ -14,7 +14,7 @@ use Rattle.rbac_sets.specs.declared.refusal.Refusal.TheVariants.{NoUser, RoleInU
 use Rattle.rbac_sets.proofs.SetLaws.{any-Decides, contains-retain, contains-remove, contains-insert-Decides, tie_Decides}
 use Rattle.admin_mgr.specs.RbacState.{RbacState, Separation}
 use Rattle.admin_mgr.specs.Authorization.{authorized_users}
-use Rattle.admin_mgr.specs.After.{changed, after, without_first, without_second}
+use Rattle.admin_mgr.specs.After.{changed, after, without_first}
 use Rattle.admin_mgr.specs.Verdict.{verdict, refusals, is_in_use}
 use Rattle.admin_mgr.specs.Good.{IsGood, IsSeparation}
 use Rattle.admin_mgr.proofs.Verdicts.VerdictLaws.{passed, refuse_if-None, refuse_unless-None}

@@ -1,22 +1,21 @@
 -- Which rows of a separation of duty set are there before a command on it inserts or removes some.
-use Rattle.std.proofs.Common.{◌≡◌, ◌≢◌, ℕ, Bool, true, false, not, ◌&&◌, List, [], ◌∷◌, map, refl, sym, ◌∙◌, ap, subst, inl, inr}
+use Rattle.std.proofs.Common.{◌≡◌, ◌≢◌, ℕ, true, false, not, ◌&&◌, List, [], ◌∷◌, map, refl, sym, ◌∙◌, ap, subst, inl, inr}
 use Rattle.std.specs.Prelude.{IsTrue, Option, Some, None, is_some}
-use Rattle.std.specs.List.{list_any, AllByRecursion}
+use Rattle.std.specs.List.{AllByRecursion}
 use Rattle.std.specs.List.Sorted.{IsStrictlySortedBy}
 use Rattle.std.specs.declared.cmp.Ordering.TheVariants.{Less}
-use Rattle.std.specs.Ordering.{ordering_then, eq_by_cmp}
+use Rattle.std.specs.Ordering.{ordering_then}
 use Rattle.std.specs.Cmp.{tied_itself}
 use Rattle.std.proofs.lemmas.Bool.{and_parts, and_from, not-true, true≢false, false_from_ne_true}
-use Rattle.rbac_sets.specs.Sets.{Bytes, Pair, Pairs, Names, Cardinality, Cardinalities, name_cmp, pair_cmp, same_name, contains, members, insert, remove, retain, image, IsDisjoint}
+use Rattle.rbac_sets.specs.Sets.{Bytes, Pair, Pairs, Names, Cardinality, Cardinalities, name_cmp, pair_cmp, same_name, contains, members, insert, remove, image, IsDisjoint}
 use Rattle.rbac_sets.specs.NameOrder.{name_total, name_exact, pair_total, pair_exact, cardinality_total, cardinality_exact}
-use Rattle.rbac_sets.proofs.SetLaws.{tie_Decides, contains-members, contains-retain, contains-remove, contains-insert-Decides, any-Decides, same_members}
-use Rattle.rbac_sets.proofs.Members.{members-retain, members-rise}
+use Rattle.rbac_sets.proofs.SetLaws.{tie_Decides, contains-retain, contains-remove, contains-insert-Decides, any-Decides, same_members}
+use Rattle.rbac_sets.proofs.Members.{members-rise}
 use Rattle.rbac_sets.proofs.InOrder.{members-sorted}
 use Rattle.role_order.proofs.Members.{same_or_other}
 use Rattle.admin_mgr.specs.RbacState.{Separation, has_set, cardinality_of}
 use Rattle.admin_mgr.specs.After.{paired, without_first, without_cardinality, with_cardinality}
 use Rattle.admin_mgr.specs.Good.{IsSeparation}
-use Rattle.admin_mgr.specs.private.HolderRoles.{run_of}
 use Rattle.admin_mgr.proofs.Verdicts.KeepLaws.{cardinality_there}
 use Rattle.admin_mgr.proofs.Verdicts.ViolationLaws.{paired-Decides}
 use Rattle.admin_mgr.proofs.Verdicts.AuthorizationLaws.{is_some_cardinality}

@@ -9,7 +9,7 @@ use Rattle.rbac_sets.specs.Kind.{limit_of}
 use Rattle.rbac_sets.specs.NameOrder.{name_total, name_exact, pair_total, pair_exact, cardinality_total, cardinality_exact}
 use Rattle.rbac_sets.specs.declared.kind.Kind.{Kind}
 use Rattle.rbac_sets.specs.declared.kind.Kind.TheVariants.{Member}
-use Rattle.rbac_sets.specs.declared.refusal.Refusal.TheVariants.{NoRole, NoSet, SetExists, BadCardinality, MemberExists, NoMember}
+use Rattle.rbac_sets.specs.declared.refusal.Refusal.TheVariants.{NoRole, NoSet, SetExists, BadCardinality}
 use Rattle.rbac_sets.proofs.SetLaws.{tie_Decides, contains-union, contains-retain, contains-remove, contains-insert-Decides, all-Decides, seconds-Decides}
 use Rattle.rbac_sets.proofs.Members.{count-len, len-subset, len-insert-le}
 use Rattle.role_order.proofs.Members.{same_or_other}

@@ -19,7 +19,7 @@ use Rattle.admin_mgr.specs.Separation.{is_kept_statically, is_kept_dynamically}
 use Rattle.admin_mgr.specs.Good.{IsWellFormed, IsStaticallySeparated, IsDynamicallySeparated}
 use Rattle.admin_mgr.specs.StoredSets.{StoredSets}
 use Rattle.admin_mgr.specs.RowChecks.{IsComplete, MembersExist, HaveOneUser, HasCardinalities, HaveAuthorizedUsers, HaveUnlockedUsers}
-use Rattle.admin_mgr.specs.private.CheckTests.{are_firsts_in, are_seconds_in, have_sets, have_sessions, have_permissions, have_roles, is_core_complete, is_hierarchy_complete, are_sets_complete, are_sessions_complete, is_complete, have_one_user, has_cardinalities, have_authorized_users, are_kept_statically, are_kept_dynamically, have_unlocked_users}
+use Rattle.admin_mgr.specs.private.CheckTests.{are_firsts_in, are_seconds_in, have_sets, have_sessions, have_permissions, have_roles, is_complete, have_one_user, has_cardinalities, have_authorized_users, are_kept_statically, are_kept_dynamically, have_unlocked_users}
 use Rattle.admin_mgr.proofs.Verdicts.AuthorizationLaws.{authorized_reached}
 use Rattle.admin_mgr.proofs.Verdicts.SeparationLaws.{static_test, dynamic_test, least_violated-None}
 use Rattle.std.specs.declared.cmp.Ordering.{Ordering}

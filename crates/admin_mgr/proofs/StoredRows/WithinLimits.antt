@@ -8,7 +8,7 @@ use Rattle.rbac_sets.proofs.SetLaws.{any-Decides, seconds-Decides}
 use Rattle.rbac_sets.proofs.Members.{a_member}
 use Rattle.rbac_sets.specs.Kind.{limit_of}
 use Rattle.rbac_sets.specs.declared.kind.Kind.{Kind}
-use Rattle.rbac_sets.specs.declared.kind.Kind.TheVariants.{User, Role, Object, Permission, Grant, Assignment, Edge, SsdSet, DsdSet, Member, Session, ActiveRole}
+use Rattle.rbac_sets.specs.declared.kind.Kind.TheVariants.{Member}
 use Rattle.admin_mgr.specs.RbacState.{RbacState}
 use Rattle.admin_mgr.specs.Good.{IsWithinLimits}
 use Rattle.admin_mgr.specs.RowChecks.{first_exceeded, is_exceeded, has_more_with_first, limited_kinds}
