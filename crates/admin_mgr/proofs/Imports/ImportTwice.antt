@@ -1,5 +1,5 @@
 -- An import that is repeated changes nothing, whatever the state.
-use Rattle.std.proofs.Common.{◌≡◌, ℕ, ◌+◌, ◌≤◌, Bool, true, false, cond, List, [], ◌∷◌, map, refl, sym, ◌∙◌, ap, subst, arith, inl, inr}
+use Rattle.std.proofs.Common.{◌≡◌, ℕ, ◌+◌, ◌≤◌, Bool, true, false, cond, not, List, [], ◌∷◌, map, refl, sym, ◌∙◌, ap, subst, arith, inl, inr}
 use Rattle.std.specs.Prelude.{IsTrue, ◌&&◌, Option, Some, None, is_none, nat_lt, nat_eq, count_by}
 use Rattle.std.specs.Option.{option_map}
 use Rattle.std.specs.List.{enumerate_from, filter_map, cons_option}
@@ -22,12 +22,12 @@ use Rattle.admin_mgr.specs.Verdict.{verdict, refusals}
 use Rattle.admin_mgr.specs.Run.{tally}
 use Rattle.admin_mgr.specs.Laws.{IsSameCode, RefuseTheSame, ImportTwice}
 use Rattle.admin_mgr.proofs.StateAfter.EffectLaws.{import_keeps}
-use Rattle.admin_mgr.proofs.StateAfter.EndLaws.{count-fewer}
+use Rattle.admin_mgr.proofs.StateAfter.EndLaws.{count-fewer, ended_session, ended_active, ended_owned}
 use Rattle.admin_mgr.proofs.StateAfter.GoodAssignment.{room_for_assignment, assigned_user, assigned_role}
 use Rattle.admin_mgr.proofs.Imports.ImportLaws.{one_if, counted, record_kept}
 use Rattle.admin_mgr.proofs.StateAfter.PartLaws.{IsSubset, authorized-fewer}
 use Rattle.admin_mgr.proofs.Verdicts.SeparationLaws.{least_violated-None, kept_statically}
-use Rattle.admin_mgr.proofs.StateAfter.SessionLaws.{none_ends_where}
+use Rattle.admin_mgr.proofs.StateAfter.SessionLaws.{none_ends_where, goes_on_parts}
 use Rattle.admin_mgr.proofs.Verdicts.VerdictLaws.{passed}
 
 -- ---- what an import keeps of a state, and what it adds
@@ -352,25 +352,13 @@ refused_the_same n (v ∷ vs) (w ∷ ws) again = told_again n v w _ _ again.0 (r
 kept_session : (S : RbacState) (p : Pair) → IsTrue (contains (end_sessions S).sessions p) → IsTrue (may_go_on (end_sessions S) p)
 unfolding end_sessions may_go_on authorized_users
 kept_session S p h =
-    let first = and_parts _ _ (and_parts _ _ (sym (contains-retain pair_total pair_exact S.sessions (may_go_on S) p) ∙ h)).1 in
-    and_from _ _ first.0 ((all-Decides name_total name_exact (is_authorized S p.1) (active_roles (end_sessions S) p.0)).1 (λ role active.
-    (all-Decides name_total name_exact (is_authorized S p.1) (active_roles S p.0)).0 first.1 role ((seconds-Decides S.active p.0 role).1
-    (and_parts _ _ (sym (contains-retain pair_total pair_exact S.active (λ active. any (λ session. same_name session.0 active.0 && may_go_on S session) S.sessions) (p.0, role))
-    ∙ (seconds-Decides (end_sessions S).active p.0 role).0 active)).0)))
-
--- a role that is left active belongs to a session that is left
-kept_owner : (S : RbacState) (session role : Bytes) → IsTrue (contains (end_sessions S).active (session, role)) → (user : Bytes) × IsTrue (contains (end_sessions S).sessions (session, user))
-unfolding end_sessions
-kept_owner S session role h =
-    let parts = and_parts _ _ (sym (contains-retain pair_total pair_exact S.active (λ active. any (λ session. same_name session.0 active.0 && may_go_on S session) S.sessions) (session, role)) ∙ h) in
-    let owner = (any-Decides pair_total pair_exact (λ (other : Pair). same_name other.0 session && may_go_on S other) S.sessions).0 parts.1 in
-    let tests = and_parts _ _ owner.2 in
-    let same : owner.0 ≡ (session, owner.0.1) = λ i. ((tie_Decides name_total name_exact owner.0.0 session).0 tests.0 i, owner.0.1) in
-    (owner.0.1, subst (λ p. IsTrue (contains (end_sessions S).sessions p)) same (contains-retain pair_total pair_exact S.sessions (may_go_on S) owner.0 ∙ and_from _ _ owner.1 tests.1))
+    let parts = goes_on_parts S p (ended_session S p h).1 in
+    and_from _ _ (and_from _ _ parts.0 (ap not parts.1)) ((all-Decides name_total name_exact (is_authorized S p.1) (active_roles (end_sessions S) p.0)).1 (λ role active.
+    parts.2 role (ended_active S (p.0, role) ((seconds-Decides (end_sessions S).active p.0 role).0 active)).0))
 
 -- so no further session ends
 ended_once : (S : RbacState) → end_sessions (end_sessions S) ≡ end_sessions S
-ended_once S = none_ends_where (end_sessions S) (kept_session S) (kept_owner S)
+ended_once S = none_ends_where (end_sessions S) (kept_session S) (ended_owned S)
 
 -- the verdict on a record is the same after sessions have ended
 verdict_ended : (S : RbacState) (p : Pair) → assignment_verdict (end_sessions S) p ≡ assignment_verdict S p

@@ -21,6 +21,7 @@ use Rattle.admin_mgr.specs.RbacState.{RbacState}
 use Rattle.admin_mgr.specs.private.HolderRoles.{run_of}
 use Rattle.admin_mgr.specs.Assignment.{may_go_on, end_sessions}
 use Rattle.admin_mgr.specs.private.PlanChanges.{pair_row, take_all, session_rows, ended_rows}
+use Rattle.admin_mgr.proofs.StateAfter.GoodWithLaws.{retain_same}
 use Rattle.admin_mgr.proofs.PlanRows.StepLaws.Way.{taking}
 use Rattle.admin_mgr.proofs.PlanRows.StepLaws.{Steps, steps_nothing, steps_append, steps_to}
 use Rattle.admin_mgr.proofs.PlanRows.RunLaws.{remove_all, remove_all-retain, any-retain, all_two, all_of, distinct-filter, steps_take_one, steps_take_some}
@@ -33,14 +34,6 @@ module _ {K : Type 0} {R : K → K → Ordering} (total : IsTotalOrder R) (exact
   pub retain-twice : (s : FinSet R) (p q : K → Bool) → retain (retain s p) q ≡ retain s (λ x. p x && q x)
   retain-twice s p q = same_set total exact _ _ (λ x. contains-retain total exact (retain s p) q x ∙ ap (λ b. b && q x) (contains-retain total exact s p x)
       ∙ and_assoc (contains s x) (p x) (q x) ∙ sym (contains-retain total exact s (λ y. p y && q y) x))
-
-  -- tests that agree on the members retain the same
-  pub retain-same : (s : FinSet R) (p q : K → Bool) → ((x : K) → IsTrue (contains s x) → p x ≡ q x) → retain s p ≡ retain s q
-  retain-same s p q same = same_set total exact _ _ (λ x. contains-retain total exact s p x ∙ by (contains s x) (same x) ∙ sym (contains-retain total exact s q x))
-    where
-      by : {x : K} (b : Bool) → (IsTrue b → p x ≡ q x) → (b && p x) ≡ (b && q x)
-      by true h = h refl
-      by false h = refl
 
 -- ---- one session
 
@@ -70,7 +63,7 @@ other_run : (pairs : Pairs) (first other : Bytes) → same_name first other ≡ 
 other_run pairs first other apart =
     sym (members-retain pair_total pair_exact (retain pairs keeps) (λ pair. same_name pair.0 other))
     ∙ ap members (retain-twice pair_total pair_exact pairs keeps (λ pair. same_name pair.0 other)
-    ∙ retain-same pair_total pair_exact pairs (λ pair. keeps pair && same_name pair.0 other) (λ pair. same_name pair.0 other) (λ pair there. both pair))
+    ∙ retain_same pair_total pair_exact (λ pair. keeps pair && same_name pair.0 other) (λ pair. same_name pair.0 other) pairs (λ pair there. both pair))
     ∙ members-retain pair_total pair_exact pairs (λ pair. same_name pair.0 other)
   where
     keeps : Pair → Bool
@@ -125,7 +118,7 @@ without_all (session ∷ sessions) S = without_all sessions (without_session S s
     roles : retain (retain S.active (λ active. not (same_name active.0 session.0))) (λ active. not (list_any (λ (other : Pair). same_name other.0 active.0) sessions))
         ≡ retain S.active (λ active. not (same_name session.0 active.0 || list_any (λ (other : Pair). same_name other.0 active.0) sessions))
     roles = retain-twice pair_total pair_exact S.active (λ active. not (same_name active.0 session.0)) (λ active. not (rest active))
-        ∙ retain-same pair_total pair_exact S.active _ _ (λ active there. ap (λ b. not b && not (rest active)) (same_name-flips active.0 session.0) ∙ both (same_name session.0 active.0) (rest active))
+        ∙ retain_same pair_total pair_exact _ _ S.active (λ active there. ap (λ b. not b && not (rest active)) (same_name-flips active.0 session.0) ∙ both (same_name session.0 active.0) (rest active))
 
 -- ---- the sessions that end
 
@@ -217,10 +210,10 @@ module _
         twice false = refl
 
         sessions : remove_all S.sessions ended ≡ retain S.sessions goes_on
-        sessions = remove_all-retain pair_total pair_exact S.sessions ends ∙ retain-same pair_total pair_exact S.sessions _ _ (λ session there. twice (goes_on session))
+        sessions = remove_all-retain pair_total pair_exact S.sessions ends ∙ retain_same pair_total pair_exact _ _ S.sessions (λ session there. twice (goes_on session))
 
         active : retain S.active (λ active. not (list_any (λ (session : Pair). same_name session.0 active.0) ended)) ≡ retain S.active (λ active. any (λ session. same_name session.0 active.0 && goes_on session) S.sessions)
-        active = retain-same pair_total pair_exact S.active _ _ stays
+        active = retain_same pair_total pair_exact _ _ S.active stays
 
 -- removing the rows of the sessions that may not go on leads to the state in which they have ended
 pub steps_end_sessions :
@@ -234,5 +227,5 @@ steps_end_sessions S owned one_owner = steps_ended S owned one_owner (may_go_on 
 -- tests that agree on the sessions end the same ones
 pub ended_rows-same : (S : RbacState) (p q : Pair → Bool) → ((session : Pair) → IsTrue (contains S.sessions session) → p session ≡ q session) → ended_rows S p ≡ ended_rows S q
 ended_rows-same S p q same = ap (flat_map (session_rows S)) (sym (members-retain pair_total pair_exact S.sessions (λ session. not (p session)))
-    ∙ ap members (retain-same pair_total pair_exact S.sessions _ _ (λ session there. ap not (same session there)))
+    ∙ ap members (retain_same pair_total pair_exact _ _ S.sessions (λ session there. ap not (same session there)))
     ∙ members-retain pair_total pair_exact S.sessions (λ session. not (q session)))

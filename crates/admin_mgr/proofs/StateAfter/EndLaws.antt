@@ -13,6 +13,7 @@ use Rattle.role_order.proofs.Deciding.{geq-Decides}
 use Rattle.admin_mgr.specs.RbacState.{RbacState, members_of, active_roles}
 use Rattle.admin_mgr.specs.Authorization.{authorized_users, is_authorized, is_session_role}
 use Rattle.admin_mgr.specs.Assignment.{may_go_on, end_sessions}
+use Rattle.admin_mgr.proofs.StateAfter.SessionLaws.{goes_on_parts}
 use Rattle.admin_mgr.specs.Good.{IsGood, IsSeparation, IsStaticallySeparated, IsDynamicallySeparated, IsWithinLimits}
 
 -- The state is good except for its sessions: their users may be missing, locked, or no longer authorized for the active roles.
@@ -47,6 +48,27 @@ below_role : (S : RbacState) → ((asc desc : Bytes) → IsTrue (contains S.edge
 below_role S ends here is = is
 below_role S ends {above} (step {b = m} edge rest) is = below_role S ends rest (ends above m edge).1
 
+module _ (S : RbacState) where
+  -- a session that is left was there and may go on
+  pub ended_session : (p : Pair) → IsTrue (contains (end_sessions S).sessions p) → IsTrue (contains S.sessions p) × IsTrue (may_go_on S p)
+  unfolding end_sessions
+  ended_session p h = and_parts _ _ (sym (contains-retain pair_total pair_exact S.sessions (may_go_on S) p) ∙ h)
+
+  -- a role that is left active was so, in a session that may go on
+  pub ended_active : (p : Pair) → IsTrue (contains (end_sessions S).active p) → IsTrue (contains S.active p) × ((user : Bytes) × IsTrue (contains S.sessions (p.0, user)) × IsTrue (may_go_on S (p.0, user)))
+  unfolding end_sessions
+  ended_active p h =
+      let parts = and_parts _ _ (sym (contains-retain pair_total pair_exact S.active (λ active. any (λ session. same_name session.0 active.0 && may_go_on S session) S.sessions) p) ∙ h) in
+      let owner = (any-Decides pair_total pair_exact (λ (session : Pair). same_name session.0 p.0 && may_go_on S session) S.sessions).0 parts.1 in
+      let tests = and_parts _ _ owner.2 in
+      let same : owner.0 ≡ (p.0, owner.0.1) = λ i. ((tie_Decides name_total name_exact owner.0.0 p.0).0 tests.0 i, owner.0.1) in
+      (parts.0, (owner.0.1, subst (λ s. IsTrue (contains S.sessions s)) same owner.1, subst (λ s. IsTrue (may_go_on S s)) same tests.1))
+
+  -- so it belongs to a session that is left
+  pub ended_owned : (session role : Bytes) → IsTrue (contains (end_sessions S).active (session, role)) → (user : Bytes) × IsTrue (contains (end_sessions S).sessions (session, user))
+  unfolding end_sessions
+  ended_owned session role h = let kept = ended_active (session, role) h in (kept.1.0, contains-retain pair_total pair_exact S.sessions (may_go_on S) (session, kept.1.0) ∙ and_from _ _ kept.1.1 kept.1.2)
+
 module _ (S : RbacState) (good : IsGoodApart S) where
   -- users are only authorized for roles that are there
   authorized-role : (user role : Bytes) → IsTrue (is_authorized S user role) → IsTrue (contains S.roles role)
@@ -56,32 +78,9 @@ module _ (S : RbacState) (good : IsGoodApart S) where
       let parts = and_parts _ _ (sym (contains-retain pair_total pair_exact S.assignments (λ (a : Pair). geq S.edges a.1 role) found.0) ∙ found.1) in
       below_role S good.edges ((geq-Decides S.edges found.0.1 role).0 parts.1) (good.assignments found.0.0 found.0.1 parts.0).1
 
-  -- a session that is left was there and may go on
-  kept_session : (p : Pair) → IsTrue (contains (end_sessions S).sessions p) → IsTrue (contains S.sessions p) × IsTrue (may_go_on S p)
-  unfolding end_sessions
-  kept_session p h = and_parts _ _ (sym (contains-retain pair_total pair_exact S.sessions (may_go_on S) p) ∙ h)
-
-  -- a role that is left active was so, in a session that may go on
-  kept_active : (p : Pair) → IsTrue (contains (end_sessions S).active p) → IsTrue (contains S.active p) × ((user : Bytes) × IsTrue (contains S.sessions (p.0, user)) × IsTrue (may_go_on S (p.0, user)))
-  unfolding end_sessions
-  kept_active p h =
-      let parts = and_parts _ _ (sym (contains-retain pair_total pair_exact S.active (λ active. any (λ session. same_name session.0 active.0 && may_go_on S session) S.sessions) p) ∙ h) in
-      let owner = (any-Decides pair_total pair_exact (λ (session : Pair). same_name session.0 p.0 && may_go_on S session) S.sessions).0 parts.1 in
-      let tests = and_parts _ _ owner.2 in
-      let same : owner.0 ≡ (p.0, owner.0.1) = λ i. ((tie_Decides name_total name_exact owner.0.0 p.0).0 tests.0 i, owner.0.1) in
-      (parts.0, (owner.0.1, subst (λ s. IsTrue (contains S.sessions s)) same owner.1, subst (λ s. IsTrue (may_go_on S s)) same tests.1))
-
-  -- the conditions that a session which may go on meets
-  goes_on_parts : (p : Pair) → IsTrue (may_go_on S p) → IsTrue (contains S.users p.1) × (contains S.locked p.1 ≡ false) × ((role : Bytes) → IsTrue (contains S.active (p.0, role)) → IsTrue (is_authorized S p.1 role))
-  unfolding may_go_on
-  goes_on_parts p h =
-      let parts = and_parts _ _ h in
-      let first = and_parts _ _ parts.0 in
-      (first.0, not-true _ first.1, λ role active. (all-Decides name_total name_exact (is_authorized S p.1) (active_roles S p.0)).0 parts.1 role ((seconds-Decides S.active p.0 role).1 active))
-
   -- no role is activated anew
   fewer_active : (session role : Bytes) → IsTrue (contains (active_roles (end_sessions S) session) role) → IsTrue (contains (active_roles S session) role)
-  fewer_active session role h = (seconds-Decides S.active session role).1 (kept_active (session, role) ((seconds-Decides (end_sessions S).active session role).0 h)).0
+  fewer_active session role h = (seconds-Decides S.active session role).1 (ended_active S (session, role) ((seconds-Decides (end_sessions S).active session role).0 h)).0
 
   fewer_roles : (session role : Bytes) → IsTrue (is_session_role (end_sessions S) session role) → IsTrue (is_session_role S session role)
   unfolding end_sessions
@@ -94,27 +93,26 @@ module _ (S : RbacState) (good : IsGoodApart S) where
   unfolding end_sessions
   ended_separation name session user n has there =
       let fewer = count-fewer (is_session_role (end_sessions S) session) (is_session_role S session) (members_of S.dsd name) (members_of S.dsd name) (λ x member. member) (fewer_roles session) in
-      omega (arith, good.dynamic_separation name session user n has (kept_session (session, user) there).0, fewer)
+      omega (arith, good.dynamic_separation name session user n has (ended_session S (session, user) there).0, fewer)
 
   -- a state that is good except for its sessions is good once those that may not go on have ended
   pub good_ended : IsGood (end_sessions S)
   unfolding end_sessions authorized_users
   good_ended =
       let T = end_sessions S in
-      let goes_on = λ (session user : Bytes) (h : IsTrue (contains T.sessions (session, user))). goes_on_parts (session, user) (kept_session (session, user) h).1 in
+      let goes_on = λ (session user : Bytes) (h : IsTrue (contains T.sessions (session, user))). goes_on_parts S (session, user) (ended_session S (session, user) h).1 in
       let owner : (session user : Bytes) → IsTrue (contains T.sessions (session, user)) → IsTrue (contains S.users user) = λ session user h. (goes_on session user h).0 in
       let one_owner : (session user other : Bytes) → IsTrue (contains T.sessions (session, user)) → IsTrue (contains T.sessions (session, other)) → user ≡ other =
-      λ session user other a b. good.one_owner session user other (kept_session (session, user) a).0 (kept_session (session, other) b).0 in
+      λ session user other a b. good.one_owner session user other (ended_session S (session, user) a).0 (ended_session S (session, other) b).0 in
       let active : (session role : Bytes) → IsTrue (contains T.active (session, role)) → IsTrue (contains S.roles role) = λ session role h.
-      (let kept = kept_active (session, role) h in authorized-role kept.1.0 role ((goes_on_parts (session, kept.1.0) kept.1.2).2 role kept.0)) in
-      let owned : (session role : Bytes) → IsTrue (contains T.active (session, role)) → (user : Bytes) × IsTrue (contains T.sessions (session, user)) = λ session role h.
-      (let kept = kept_active (session, role) h in (kept.1.0, contains-retain pair_total pair_exact S.sessions (may_go_on S) (session, kept.1.0) ∙ and_from _ _ kept.1.1 kept.1.2)) in
+      (let kept = ended_active S (session, role) h in authorized-role kept.1.0 role ((goes_on_parts S (session, kept.1.0) kept.1.2).2 role kept.0)) in
+      let owned = ended_owned S in
       let dynamic = ended_separation in
       let authorized : (session user role : Bytes) → IsTrue (contains T.sessions (session, user)) → IsTrue (contains T.active (session, role)) → IsTrue (is_authorized S user role) =
-      λ session user role h has. (goes_on session user h).2 role (kept_active (session, role) has).0 in
+      λ session user role h has. (goes_on session user h).2 role (ended_active S (session, role) has).0 in
       let unlocked : (session user : Bytes) → IsTrue (contains T.sessions (session, user)) → contains S.locked user ≡ false = λ session user h. (goes_on session user h).1 in
       let fewer : len T.sessions ≤ limit_of Session S.version =
-      (let less = len-subset pair_total pair_exact T.sessions S.sessions (λ p h. (kept_session p h).0) in let before = good.limits.sessions in omega (arith, less, before)) in
+      (let less = len-subset pair_total pair_exact T.sessions S.sessions (λ p h. (ended_session S p h).0) in let before = good.limits.sessions in omega (arith, less, before)) in
       let fewer_in : (session : Bytes) → len (active_roles T session) ≤ limit_of ActiveRole S.version = λ session.
       (let less = len-subset name_total name_exact (active_roles T session) (active_roles S session) (fewer_active session) in let before = good.limits.active_roles session in omega (arith, less, before)) in
       assumption

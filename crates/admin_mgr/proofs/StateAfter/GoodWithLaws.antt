@@ -19,7 +19,7 @@ use Rattle.admin_mgr.specs.Authorization.{authorized_users, is_authorized, is_se
 use Rattle.admin_mgr.specs.Assignment.{may_go_on}
 use Rattle.admin_mgr.specs.After.{changed, after}
 use Rattle.admin_mgr.specs.Good.{IsGood, IsSeparation, IsStaticallySeparated, IsDynamicallySeparated}
-use Rattle.admin_mgr.proofs.StateAfter.SessionLaws.{none_ends}
+use Rattle.admin_mgr.proofs.StateAfter.SessionLaws.{none_ends, goes_on_parts}
 use Rattle.admin_mgr.proofs.Verdicts.TouchLaws.{with_sessions}
 
 -- ---- the state after a command that changes a state into a good one
@@ -138,15 +138,6 @@ pub record AreSessions (S : RbacState) (sessions active : Pairs) : Type 0 where
   pub separated : IsDynamicallySeparated (with_sessions S sessions active)
   pub sessions_room : len sessions ≤ limit_of Session S.version
   pub active_room : (session : Bytes) → len (active_roles (with_sessions S sessions active) session) ≤ limit_of ActiveRole S.version
-
--- a session that may go on has a user who is there, is not locked, and is authorized for what was activated in it
-goes_on_parts : (S : RbacState) (p : Pair) → IsTrue (may_go_on S p) →
-    IsTrue (contains S.users p.1) × (contains S.locked p.1 ≡ false) × ((role : Bytes) → IsTrue (contains S.active (p.0, role)) → IsTrue (is_authorized S p.1 role))
-unfolding may_go_on
-goes_on_parts S p h =
-    let parts = and_parts _ _ h in
-    let first = and_parts _ _ parts.0 in
-    (first.0, not-true _ first.1, λ role active. (all-Decides name_total name_exact (is_authorized S p.1) (active_roles S p.0)).0 parts.1 role ((seconds-Decides S.active p.0 role).1 active))
 
 -- so the state with them is good
 pub good_with_sessions : (S : RbacState) → IsGood S → (sessions active : Pairs) → AreSessions S sessions active → IsGood (with_sessions S sessions active)

@@ -1,7 +1,7 @@
 -- Which sessions end: none of a good state.
-use Rattle.std.proofs.Common.{◌≡◌, not, refl, ap}
+use Rattle.std.proofs.Common.{◌≡◌, false, not, refl, ap}
 use Rattle.std.specs.Prelude.{IsTrue, ◌&&◌}
-use Rattle.std.proofs.lemmas.Bool.{and_from}
+use Rattle.std.proofs.lemmas.Bool.{and_parts, and_from, not-true}
 use Rattle.rbac_sets.specs.Sets.{Bytes, Pair, contains, any, same_name}
 use Rattle.rbac_sets.specs.NameOrder.{name_total, name_exact, pair_total, pair_exact}
 use Rattle.rbac_sets.proofs.SetLaws.{any-Decides, all-Decides, seconds-Decides, retain-all, tie_Decides}
@@ -9,6 +9,15 @@ use Rattle.admin_mgr.specs.RbacState.{RbacState, active_roles}
 use Rattle.admin_mgr.specs.Authorization.{is_authorized}
 use Rattle.admin_mgr.specs.Assignment.{may_go_on, end_sessions}
 use Rattle.admin_mgr.specs.Good.{IsGood}
+
+-- a session that may go on has a user who is there, is not locked, and is authorized for what was activated in it
+pub goes_on_parts : (S : RbacState) (p : Pair) → IsTrue (may_go_on S p) →
+    IsTrue (contains S.users p.1) × (contains S.locked p.1 ≡ false) × ((role : Bytes) → IsTrue (contains S.active (p.0, role)) → IsTrue (is_authorized S p.1 role))
+unfolding may_go_on
+goes_on_parts S p h =
+    let parts = and_parts _ _ h in
+    let first = and_parts _ _ parts.0 in
+    (first.0, not-true _ first.1, λ role active. (all-Decides name_total name_exact (is_authorized S p.1) (active_roles S p.0)).0 parts.1 role ((seconds-Decides S.active p.0 role).1 active))
 
 -- a session of a good state may go on
 pub goes_on : (S : RbacState) → IsGood S → (p : Pair) → IsTrue (contains S.sessions p) → IsTrue (may_go_on S p)

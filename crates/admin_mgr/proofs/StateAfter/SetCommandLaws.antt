@@ -7,7 +7,7 @@ use Rattle.rbac_sets.specs.declared.kind.Kind.TheVariants.{SsdSet, DsdSet}
 use Rattle.rbac_sets.specs.declared.refusal.Refusal.TheVariants.{NoSet, StaticSeparation, DynamicSeparation}
 use Rattle.admin_mgr.specs.declared.separation_of_duty.SeparationOfDuty.{SeparationOfDuty}
 use Rattle.admin_mgr.specs.declared.separation_of_duty.SeparationOfDuty.TheVariants.{Static, Dynamic}
-use Rattle.admin_mgr.specs.RbacState.{RbacState, Separation, has_set, cardinality_of}
+use Rattle.admin_mgr.specs.RbacState.{RbacState, Separation, members_of, has_set, cardinality_of}
 use Rattle.admin_mgr.specs.Authorization.{authorized_users, is_authorized, is_session_role}
 use Rattle.admin_mgr.specs.Separation.{static_violation, dynamic_violation}
 use Rattle.admin_mgr.specs.private.SeparationOfDuty.{sets_of, with_sets, kind_of, violates, create_set, add_member, delete_member, set_cardinality, delete_set}
@@ -18,8 +18,10 @@ use Rattle.admin_mgr.specs.Good.{IsGood, IsWellFormed, IsStaticallySeparated, Is
 use Rattle.admin_mgr.proofs.Verdicts.SeparationLaws.{static_test, dynamic_test, unmapped}
 use Rattle.admin_mgr.proofs.Verdicts.SetCommandViolations.{formed_sets, after_create_set, after_add_member, after_delete_member, after_set_cardinality, after_delete_set}
 use Rattle.admin_mgr.proofs.Verdicts.VerdictLaws.{passed, refuse_unless-None, all_but_last}
+use Rattle.admin_mgr.proofs.StateAfter.EndLaws.{count-fewer}
+use Rattle.admin_mgr.proofs.StateAfter.PartLaws.{seconds-subset}
 use Rattle.admin_mgr.proofs.StateAfter.SetRowLaws.{same_cardinality}
-use Rattle.admin_mgr.proofs.StateAfter.SoundSetLaws.{IsSound, CanCreate, CanAddMember, CanDeleteMember, CanSetCardinality, can_create, can_add_member, can_delete_member, can_set_cardinality, sound_with_set, sound_with_member, sound_without_member, sound_with_cardinality, sound_without_set, IsPartOf, part_without_member, part_without_set, count_in_part}
+use Rattle.admin_mgr.proofs.StateAfter.SoundSetLaws.{IsSound, CanCreate, CanAddMember, CanDeleteMember, CanSetCardinality, can_create, can_add_member, can_delete_member, can_set_cardinality, sound_with_set, sound_with_member, sound_without_member, sound_with_cardinality, sound_without_set, IsPartOf, part_without_member, part_without_set}
 
 -- ---- other sets in a good state
 
@@ -63,12 +65,12 @@ good_part : (duty : SeparationOfDuty) (S : RbacState) → IsGood S → (other : 
 unfolding authorized_users
 good_part Static S good other sound part = good_both S good other S.dsd sound (sound_sets Dynamic S good)
     (λ name user n there.
-    omega (arith, good.static_separation name user n (part.cardinalities (name, n) there), count_in_part (is_authorized S user) other S.ssd part name))
+    omega (arith, good.static_separation name user n (part.cardinalities (name, n) there), count-fewer (is_authorized S user) (is_authorized S user) (members_of other name) (members_of S.ssd name) (seconds-subset other.members S.ssd.members name part.members) (λ x h. h)))
     good.dynamic_separation
 good_part Dynamic S good other sound part = good_both S good S.ssd other (sound_sets Static S good) sound
     good.static_separation
     (λ name session user n there owner.
-    omega (arith, good.dynamic_separation name session user n (part.cardinalities (name, n) there) owner, count_in_part (is_session_role S session) other S.dsd part name))
+    omega (arith, good.dynamic_separation name session user n (part.cardinalities (name, n) there) owner, count-fewer (is_session_role S session) (is_session_role S session) (members_of other name) (members_of S.dsd name) (seconds-subset other.members S.dsd.members name part.members) (λ x h. h)))
 
 -- ---- the refusals of each command
 

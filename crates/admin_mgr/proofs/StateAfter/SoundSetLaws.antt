@@ -21,6 +21,7 @@ use Rattle.admin_mgr.specs.Good.{IsSeparation}
 use Rattle.admin_mgr.proofs.Verdicts.VerdictLaws.{passed, refuse_if-None, refuse_unless-None}
 use Rattle.admin_mgr.proofs.Verdicts.ViolationLaws.{paired-Decides, with_paired-own, with_paired-others, with_one-own, with_one-others}
 use Rattle.admin_mgr.proofs.StateAfter.SetRowLaws.{IsNumberedOnce, has_set-from, numbered_set, no_cardinality, no_members, found_cardinality, other_cardinality, other_cardinality-from, with_same_cardinality, contains-without_first}
+use Rattle.admin_mgr.proofs.Imports.UnionLaws.{len-insert-new}
 use Rattle.admin_mgr.proofs.StateAfter.LimitLaws.{too_many-None}
 
 -- ---- the conditions that an accepted command meets
@@ -109,11 +110,6 @@ numbered_with cardinalities once name n none x m other one two =
         | inr old ↦ once x m other was old
       ]
     ]
-
--- a new cardinality adds one to their number
-len-with : (cardinalities : Cardinalities) (x : Cardinality) → contains cardinalities x ≡ false → len (insert cardinalities x) ≡ len cardinalities + 1
-unfolding len insert contains
-len-with cardinalities x new = finmap.len-insert cardinality_total cardinalities x tt ∙ ap (λ b. cond b (finmap.len cardinalities) (finmap.len cardinalities + 1)) new
 
 -- the cardinality is below the count
 below_number : (o : Option ℕ) (count n : ℕ) → o ≡ Some n → is_below o count ≡ true → n < count
@@ -239,7 +235,7 @@ module _ (S : RbacState) (kind : Kind) (separation : Separation) (sound : IsSoun
       let before = numbered_set separation name can.there in
       let whole : len (insert others (name, before.0)) ≡ len separation.cardinalities =
       ap (λ (s : Separation). len s.cardinalities) (with_same_cardinality separation S.roles sound.formed name before.0 before.1) in
-      let rest : len (insert others (name, before.0)) ≡ len others + 1 = len-with others (name, before.0) (false_from_ne_true _ (none before.0)) in
+      let rest : len (insert others (name, before.0)) ≡ len others + 1 = len-insert-new cardinality_total cardinality_exact others (name, before.0) (false_from_ne_true _ (none before.0)) in
       let more : len (insert others (name, n)) ≤ len others + 1 = len-insert-le cardinality_total others (name, n) in
       record {
         formed = record {
@@ -314,12 +310,3 @@ part_without_set separation name = record {
   members = λ pair h. (and_parts _ _ (sym (contains-without_first separation.members name pair) ∙ h)).0;
   cardinalities = λ x h. (other_cardinality name separation.cardinalities x h).0;
 }
-
--- in a part, no more members of a set pass a test
-pub count_in_part : (p : Bytes → Bool) (part whole : Separation) → IsPartOf part whole → (name : Bytes) → count p (members_of part name) ≤ count p (members_of whole name)
-count_in_part p part whole within name =
-    let test = λ (s : Names) (x : Bytes). contains-retain name_total name_exact s p x in
-    let fewer : len (retain (members_of part name) p) ≤ len (retain (members_of whole name) p) = len-subset name_total name_exact _ _ (λ x h.
-    let parts = and_parts (contains (members_of part name) x) (p x) (sym (test (members_of part name) x) ∙ h) in
-    test (members_of whole name) x ∙ and_from _ _ ((seconds-Decides whole.members name x).1 (within.members (name, x) ((seconds-Decides part.members name x).0 parts.0))) parts.1) in
-    omega (arith, fewer, count-len name_total name_exact p (members_of part name), count-len name_total name_exact p (members_of whole name))

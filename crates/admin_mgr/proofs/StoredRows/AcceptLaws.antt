@@ -1,6 +1,6 @@
 -- The rows of a good state pass every check.
 use Rattle.std.proofs.Common.{◌≡◌, ℕ, ◌<◌, ◌≤◌, Bool, true, false, not, ◌&&◌, List, [], ◌∷◌, refl, sym, ◌∙◌, ap, subst, inl, inr, arith}
-use Rattle.std.specs.Prelude.{nat_eq, is_some}
+use Rattle.std.specs.Prelude.{IsTrue, nat_eq, is_some}
 use Rattle.std.specs.List.{list_any, list_all}
 use Rattle.std.proofs.lemmas.Bool.{or_cases, or_left, or_right, and_parts, and_from, eqb-true, eq-eqb, cases_lt, true≢false, false_from_ne_true}
 use Rattle.rbac_sets.specs.Sets.{Bytes, Pair, Pairs, name_cmp, contains, same_name}
@@ -14,7 +14,7 @@ use Rattle.rbac_sets.specs.declared.refusal.Refusal.TheVariants.{TooMany, Memory
 use Rattle.rbac_sets.specs.Table.{table_of}
 use Rattle.role_order.specs.Order.{HasPair, geq, IsClosure}
 use Rattle.role_order.proofs.Leading.{first_step, last_step}
-use Rattle.admin_mgr.specs.RbacState.{RbacState}
+use Rattle.admin_mgr.specs.RbacState.{RbacState, has_session}
 use Rattle.admin_mgr.specs.Rows.{has_row}
 use Rattle.admin_mgr.specs.Changes.{same_row}
 use Rattle.admin_mgr.specs.Good.{IsGood}
@@ -127,32 +127,23 @@ module _ (S : RbacState) (rows : List Row) (are : AreRowsOf S rows) where
 complete_of_good : (g : StoredSets) → IsGood g.facts → IsClosure g.facts.edges g.pairs → IsComplete g
 complete_of_good g good closed =
     let formed = good.well_formed in
-    record {
-      permissions = formed.permissions;
-      assignments = formed.assignments;
-      grants = formed.grants;
-      edges = formed.edges;
-      pairs = λ a b there.
-          (let above = (closed a b).0 there in (
-            elim (first_step (HasPair g.facts.edges) above.1) [
-              | inl same ↦ absurd (above.0 same)
-              | inr way ↦ (formed.edges a way.0 way.1).0
-            ],
-            elim (last_step (HasPair g.facts.edges) above.1) [
-              | inl same ↦ absurd (above.0 same)
-              | inr way ↦ (formed.edges way.0 b way.1).1
-            ],
-          ));
-      ssd = formed.ssd.members;
-      dsd = formed.dsd.members;
-      sessions = formed.sessions;
-      active = λ session role there.
-          (let owner = formed.owned session role there in (
-            (any-Decides pair_total pair_exact (λ (pair : Pair). same_name pair.0 session) g.facts.sessions).1 ((session, owner.0), owner.1, (tie_Decides name_total name_exact session session).1 refl),
-            formed.active session role there,
-          ));
-      locked = formed.locked;
-    }
+    let pairs : (a b : Bytes) → IsTrue (contains g.pairs (a, b)) → IsTrue (contains g.facts.roles a) × IsTrue (contains g.facts.roles b) = λ a b there.
+    let above = (closed a b).0 there in (
+      elim (first_step (HasPair g.facts.edges) above.1) [
+        | inl same ↦ absurd (above.0 same)
+        | inr way ↦ (formed.edges a way.0 way.1).0
+      ],
+      elim (last_step (HasPair g.facts.edges) above.1) [
+        | inl same ↦ absurd (above.0 same)
+        | inr way ↦ (formed.edges way.0 b way.1).1
+      ],
+    ) in
+    let active : (session role : Bytes) → IsTrue (contains g.facts.active (session, role)) → IsTrue (has_session g.facts session) × IsTrue (contains g.facts.roles role) = λ session role there.
+    let owner = formed.owned session role there in (
+      (any-Decides pair_total pair_exact (λ (pair : Pair). same_name pair.0 session) g.facts.sessions).1 ((session, owner.0), owner.1, (tie_Decides name_total name_exact session session).1 refl),
+      formed.active session role there,
+    ) in
+    assumption
 
 -- a good state passes each check
 passes_of_good : (g : StoredSets) → IsGood g.facts → IsClosure g.facts.edges g.pairs → PassBefore g 12
