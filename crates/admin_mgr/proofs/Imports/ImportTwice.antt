@@ -1,16 +1,16 @@
 -- An import that is repeated changes nothing, whatever the state.
 use Rattle.std.proofs.Common.{◌≡◌, ℕ, ◌+◌, ◌≤◌, Bool, true, false, cond, not, List, [], ◌∷◌, map, refl, sym, ◌∙◌, ap, subst, arith, inl, inr}
-use Rattle.std.specs.Prelude.{IsTrue, ◌&&◌, Option, Some, None, is_none, nat_lt, nat_eq, count_by}
+use Rattle.std.specs.Prelude.{IsTrue, Option, Some, None, is_none, nat_lt, nat_eq, count_by}
 use Rattle.std.specs.Option.{option_map}
 use Rattle.std.specs.List.{enumerate_from, filter_map, cons_option}
-use Rattle.std.proofs.lemmas.Bool.{and_parts, and_from, ltb-true, lt-ltb, true≢false, false_from_ne_true}
+use Rattle.std.proofs.lemmas.Bool.{and_from, ltb-true, lt-ltb, true≢false, false_from_ne_true}
 use Rattle.rbac_sets.specs.Refusal.{code_of}
-use Rattle.rbac_sets.specs.Sets.{Bytes, Pair, Pairs, same_name, empty, any, contains, insert, len}
+use Rattle.rbac_sets.specs.Sets.{Bytes, Pair, Pairs, empty, contains, insert, len}
 use Rattle.rbac_sets.specs.NameOrder.{name_total, name_exact, pair_total, pair_exact}
 use Rattle.rbac_sets.specs.declared.kind.Kind.TheVariants.{Assignment}
 use Rattle.rbac_sets.specs.declared.refusal.Refusal.{Refusal}
 use Rattle.rbac_sets.specs.declared.refusal.Refusal.TheVariants.{NoUser, NoRole, AlreadyAssigned, StaticSeparation, TooMany}
-use Rattle.rbac_sets.proofs.SetLaws.{contains-insert-Decides, contains-retain, tie_Decides, any-Decides, all-Decides, seconds-Decides}
+use Rattle.rbac_sets.proofs.SetLaws.{contains-insert-Decides, all-Decides, seconds-Decides}
 use Rattle.rbac_sets.proofs.Members.{len-subset}
 use Rattle.admin_mgr.specs.RbacState.{RbacState, members_of, active_roles}
 use Rattle.admin_mgr.specs.Authorization.{authorized_users, is_authorized}

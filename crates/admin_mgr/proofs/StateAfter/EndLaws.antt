@@ -1,12 +1,12 @@
 -- What holds once the sessions that may not go on have ended.
 use Rattle.std.proofs.Common.{◌≡◌, ◌≤◌, Bool, false, ◌&&◌, sym, ◌∙◌, subst, arith}
 use Rattle.std.specs.Prelude.{IsTrue, ◌⊎◌}
-use Rattle.std.proofs.lemmas.Bool.{and_parts, and_from, not-true}
+use Rattle.std.proofs.lemmas.Bool.{and_parts, and_from}
 use Rattle.rbac_sets.specs.Sets.{Bytes, Names, Pair, any, contains, retain, count, same_name, empty, len}
 use Rattle.rbac_sets.specs.Kind.{limit_of}
 use Rattle.rbac_sets.specs.NameOrder.{name_total, name_exact, pair_total, pair_exact}
 use Rattle.rbac_sets.specs.declared.kind.Kind.TheVariants.{Session, ActiveRole}
-use Rattle.rbac_sets.proofs.SetLaws.{any-Decides, all-Decides, seconds-Decides, image-Decides, contains-retain, tie_Decides}
+use Rattle.rbac_sets.proofs.SetLaws.{any-Decides, seconds-Decides, image-Decides, contains-retain, tie_Decides}
 use Rattle.rbac_sets.proofs.Members.{count-len, len-subset}
 use Rattle.role_order.specs.Order.{here, step, Geq, geq, IsAcyclic}
 use Rattle.role_order.proofs.Deciding.{geq-Decides}

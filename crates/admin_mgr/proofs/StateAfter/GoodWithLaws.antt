@@ -5,13 +5,13 @@ use Rattle.std.specs.declared.cmp.Ordering.{Ordering}
 use Rattle.std.specs.Cmp.{IsTotalOrder, both_ways}
 use Rattle.std.specs.FinMap.{IsAntisymmetric}
 use Rattle.std.specs.FinSet.{FinSet}
-use Rattle.std.proofs.lemmas.Bool.{and_parts, and_from, not-true}
+use Rattle.std.proofs.lemmas.Bool.{and_parts, and_from}
 use Rattle.rbac_sets.specs.Sets.{Bytes, Pair, Names, Pairs, name_cmp, contains, retain, image, any, count, len}
 use Rattle.rbac_sets.specs.Kind.{limit_of}
 use Rattle.rbac_sets.specs.NameOrder.{name_total, name_exact, pair_total, pair_exact}
 use Rattle.rbac_sets.specs.declared.command.Command.{Command}
 use Rattle.rbac_sets.specs.declared.kind.Kind.TheVariants.{User, Role, Edge, Session, ActiveRole}
-use Rattle.rbac_sets.proofs.SetLaws.{contains-retain, any-Decides, all-Decides, seconds-Decides, same_members}
+use Rattle.rbac_sets.proofs.SetLaws.{contains-retain, any-Decides, seconds-Decides, same_members}
 use Rattle.rbac_sets.proofs.Members.{count-len}
 use Rattle.role_order.specs.Order.{geq, IsAcyclic}
 use Rattle.admin_mgr.specs.RbacState.{RbacState, Separation, members_of, active_roles}

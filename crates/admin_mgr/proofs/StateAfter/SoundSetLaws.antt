@@ -1,17 +1,17 @@
 -- The separation of duty sets after a command on one of them: they are well formed, and within their limits.
-use Rattle.std.proofs.Common.{◌≡◌, ◌≢◌, ℕ, ◌+◌, ◌<◌, ◌≤◌, Bool, true, false, cond, not, refl, sym, ◌∙◌, ap, subst, arith, inl, inr}
+use Rattle.std.proofs.Common.{◌≡◌, ◌≢◌, ℕ, ◌+◌, ◌<◌, ◌≤◌, true, false, not, refl, sym, ◌∙◌, ap, subst, arith, inl, inr}
 use Rattle.std.specs.Prelude.{IsTrue, Option, Some, None}
 use Rattle.std.specs.Ordering.{eq_by_cmp}
 use Rattle.std.specs.FinMap as finmap
 use Rattle.std.proofs.lemmas.Bool.{and_parts, and_from, or_cases, ltb-true, leb-true, not-true, true≢false, false_from_ne_true}
-use Rattle.rbac_sets.specs.Sets.{Bytes, Pair, Names, Cardinality, Cardinalities, pair_cmp, contains, insert, retain, len, count}
+use Rattle.rbac_sets.specs.Sets.{Bytes, Pair, Names, Cardinality, Cardinalities, pair_cmp, contains, insert, len, count}
 use Rattle.rbac_sets.specs.Kind.{limit_of}
 use Rattle.rbac_sets.specs.NameOrder.{name_total, name_exact, pair_total, pair_exact, cardinality_total, cardinality_exact}
 use Rattle.rbac_sets.specs.declared.kind.Kind.{Kind}
 use Rattle.rbac_sets.specs.declared.kind.Kind.TheVariants.{Member}
 use Rattle.rbac_sets.specs.declared.refusal.Refusal.TheVariants.{NoRole, NoSet, SetExists, BadCardinality}
-use Rattle.rbac_sets.proofs.SetLaws.{tie_Decides, contains-union, contains-retain, contains-remove, contains-insert-Decides, all-Decides, seconds-Decides}
-use Rattle.rbac_sets.proofs.Members.{count-len, len-subset, len-insert-le}
+use Rattle.rbac_sets.proofs.SetLaws.{tie_Decides, contains-union, contains-remove, contains-insert-Decides, all-Decides, seconds-Decides}
+use Rattle.rbac_sets.proofs.Members.{len-subset, len-insert-le}
 use Rattle.role_order.proofs.Members.{same_or_other}
 use Rattle.admin_mgr.specs.RbacState.{RbacState, Separation, members_of, has_set, cardinality_of, is_below}
 use Rattle.admin_mgr.specs.Refusals.{first}
