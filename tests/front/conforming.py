@@ -117,7 +117,7 @@ def check_answers(bench):
 
 
 def check_refused(bench):
-    """Without identity and without a right each of them is refused as described, but for the metadata."""
+    """Without identity and without a right each of them is refused as described, except the metadata."""
     with secured(bench, "--public-url", "https://rbac.example", rights={"token:desk": [], "token:admin": []}) as front:
         for method, path, target, body, fields, wanted in REQUESTS:
             if wanted not in (200, 204) or "authzen" in path:

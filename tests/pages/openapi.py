@@ -250,7 +250,7 @@ def check_reason(bench):
 
 
 def check_references(bench):
-    """Each reference leads somewhere, and each shared part is used, but for the answer to another method."""
+    """Each reference leads somewhere, and each shared part is used, except the answer to another method."""
     used = set(references(SPEC))
     for reference in sorted(used):
         bench.same(f"{reference} leads to something", bool(resolved({"$ref": reference})), True)
