@@ -42,10 +42,10 @@ OF_IMPORTS = ["36", "record 2", "record 4", "record 24", "record 32"]
 
 def word_of(answer):
     """How an answer is counted: `ok`, the number of a refusal, or that with its kind."""
-    told = json.loads(answer)
-    if "ok" in told:
+    parsed = json.loads(answer)
+    if "ok" in parsed:
         return "ok"
-    return f"{told['code']}:{told['kind']}" if "kind" in told else str(told["code"])
+    return f"{parsed['code']}:{parsed['kind']}" if "kind" in parsed else str(parsed["code"])
 
 
 def count_answer(counts, function, answer):

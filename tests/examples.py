@@ -66,7 +66,7 @@ def answers_example(bench, name):
     bench.ends(["replay", office.path], wanted, given=b"".join(lines))
     for line in lines:
         office.model.answer(line)
-    office.told()
+    office.compare_with_model()
 
 
 def same_rows(bench, what, given, wanted):
@@ -76,10 +76,10 @@ def same_rows(bench, what, given, wanted):
         bench.same(f"the {what} {wanted_row[0]}", row, wanted_row)
 
 
-def refusal_of(told):
+def refusal_of(answer):
     """A refusal as the page writes it: its code and its name, and the set that it names."""
-    words = f"{told['code']} {told['error']}"
-    return f"{words} `{told['set']}`" if "set" in told else words
+    words = f"{answer['code']} {answer['error']}"
+    return f"{words} `{answer['set']}`" if "set" in answer else words
 
 
 def names_refusals(bench, name):
@@ -87,7 +87,7 @@ def names_refusals(bench, name):
     answers = [json.loads(answer) for answer in answers_of(name).splitlines()]
     functions = [json.loads(line)["fn"] for line in lines_of(name)]
     both = enumerate(zip(functions, answers, strict=True), 1)
-    wanted = [(number, fn, refusal_of(told)) for number, (fn, told) in both if "code" in told]
+    wanted = [(number, fn, refusal_of(answer)) for number, (fn, answer) in both if "code" in answer]
     rows = refused_rows(f"## {name.title()}")
     given = [(number, subject.split()[0].rstrip(":"), word) for number, subject, word in rows]
     same_rows(bench, "refused line", given, wanted)
@@ -116,7 +116,7 @@ def imports_assignments(bench):
         text = export(office.model.state) if text is None else text
         path = bench.write("records.csv", text)
         bench.ends(["import", office.path, path], office.model.answer(import_line(text)) + b"\n")
-        office.told()
+        office.compare_with_model()
 
 
 def names_refused_records(bench):
@@ -148,12 +148,12 @@ def finds_names(bench):
             for end in ("\n", "\r\n"):
                 text = end.join(["user,role", "", "ann,clerk", f"bob,{field}", ""])
                 path = bench.write(f"names{number}.csv", text.encode())
-                told = bench.run(["import", office.path, path])
+                imported = bench.run(["import", office.path, path])
                 done = subprocess.run([EXAMPLES / "names.py", path], capture_output=True, timeout=SECONDS, check=False)
-                wanted = f"{path}: record 2: {name!r}\n" if b'"code":1,' in told.err else ""
+                wanted = f"{path}: record 2: {name!r}\n" if b'"code":1,' in imported.err else ""
                 what = f"what names.py prints of {field!r} before {end!r}"
                 bench.same(what, (done.stdout.decode(), done.stderr, done.returncode), (wanted, b"", 0))
-    office.told()
+    office.compare_with_model()
 
 
 def runs_commands(bench):
@@ -167,8 +167,8 @@ def runs_commands(bench):
     setting = {**os.environ, "PATH": f"{words}:{os.environ['PATH']}"}
     for command, shown in commands():
         shell = ["sh", "-c", command]
-        told = {"cwd": bench.folder, "env": setting, "capture_output": True, "timeout": SECONDS}
-        done = subprocess.run(shell, **told, check=False)
+        options = {"cwd": bench.folder, "env": setting, "capture_output": True, "timeout": SECONDS}
+        done = subprocess.run(shell, **options, check=False)
         bench.same(command, (done.stdout, done.stderr, done.returncode), (shown.encode(), b"", 0))
 
 

@@ -12,7 +12,7 @@ added again, is in the tables or in the export. The jobs are in the folder kille
 
 import sys
 
-from killed import lives, others
+from killed import others, runs
 from stopped.running import is_long, run_all
 
 # The least number of replays that are killed, and of those that are killed before they have answered all of their lines.
@@ -21,13 +21,13 @@ LEAST, LEAST_AMID = 500, 100
 
 def judge(counts):
     """What is wrong with the counts of all jobs: too few kills."""
-    found = counts["kill: lives that ended too early"], counts["kill: lives that ended before all lines were answered"]
+    found = counts["kill: runs that ended too early"], counts["kill: runs that ended before all lines were answered"]
     enough = found[0] >= LEAST and found[1] >= LEAST_AMID
     return [] if enough else [f"{found[0]} kills of a replay, of which {found[1]} before its last answer"]
 
 
 def main(words):
-    jobs = [*others.jobs(is_long(words)), *lives.jobs(is_long(words))]
+    jobs = [*others.jobs(is_long(words)), *runs.jobs(is_long(words))]
     return run_all(jobs, words, judge)
 
 

@@ -124,11 +124,11 @@ def refuse_over_file(bench, name, content, story, numbers):
         path = lay(bench, content)
         return path, refuser.run(story.words(path), story.given, **refuser.settings(number))
 
-    count = number_of_allocations(lambda number: run(number)[1] and refuser.told is not None)
+    count = number_of_allocations(lambda number: run(number)[1] and refuser.report is not None)
     for number in numbers(count):
         path, done = run(number)
         what = f"{name}, allocation {number} of {count} refused"
-        bench.same(f"{what}: it was asked for", refuser.told, "")
+        bench.same(f"{what}: it was asked for", refuser.report, "")
         judge(bench, what, story, done)
         counts[f"{story.word}: ended with {end_of(done)}"] += 1
         counts["runs that left a log beside the file"] += os.path.exists(f"{path}-wal")
@@ -188,11 +188,11 @@ def refuse_row_in_memory(bench, row, most, part=0, parts=1):
     def run(number):
         return refuser.run(["replay", "--memory"], given, **refuser.settings(number))
 
-    count = number_of_allocations(lambda number: run(number) and refuser.told is not None)
+    count = number_of_allocations(lambda number: run(number) and refuser.report is not None)
     for number in tried(count, most, part, parts):
         done = run(number)
         what = f"{row} in memory, allocation {number} of {count} refused"
-        bench.same(f"{what}: it was asked for", refuser.told, "")
+        bench.same(f"{what}: it was asked for", refuser.report, "")
         faults = [] if done == whole else faults_of_replay(whole.out, done)
         bench.judge(f"{what}: what it prints", faults)
         counts[f"replay --memory: ended with {end_of(done)}"] += 1
@@ -235,11 +235,11 @@ def refuse_server(bench, part, most):
         refuser.ask()
         return path, *found
 
-    count = number_of_allocations(lambda number: run(number) and refuser.told is not None)
+    count = number_of_allocations(lambda number: run(number) and refuser.report is not None)
     for number in tried(count, most, part, PARTS):
         path, replies, done = run(number)
         what = f"serve, allocation {number} of {count} refused"
-        bench.same(f"{what}: it was asked for", refuser.told, "")
+        bench.same(f"{what}: it was asked for", refuser.report, "")
         places = judge_server(bench, what, wanted, replies, done)
         statuses = " ".join(one[9:12].decode() or "nothing" for one in replies)
         counts[f"serve: replied {statuses}, ended with {done.err.decode().strip() or 'status 0'}"] += 1

@@ -3,7 +3,7 @@
 
 folder=office
 crates='rbac_sets role_order order_matrix admin_mgr review_mgr role_functions role_csv role_json'
-. "$(dirname "$0")/trying"
+. "$(dirname "$0")/crate_tests"
 
 # The limits take as long as all others, so the two parts run side by side.
 if ! lay_out limits || ! lay_out others; then

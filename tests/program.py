@@ -14,7 +14,7 @@ from stopped.running import checks_of, run_all
 MODULES = [
     "serving",
     "kills",
-    "lives",
+    "runs",
     "damaged",
     "no_offices",
     "migration",

@@ -7,7 +7,7 @@ folder=tables
 crates='rbac_sets role_order order_matrix admin_mgr review_mgr role_tables'
 libraries='sqlite sqlite_disk'
 readers='office/answers office/asking office/beginnings office/script office/showing office/drawn/drawing'
-. "$(dirname "$0")/trying"
+. "$(dirname "$0")/crate_tests"
 
 if ! mkdir "$work/data" || ! python3 "$tests/tables/by_sqlite.py" "$work/data" || ! lay_out all; then
     give_up

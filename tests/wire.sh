@@ -10,7 +10,7 @@ crates='rbac_sets role_order order_matrix admin_mgr review_mgr role_tables role_
 libraries='sqlite sqlite_disk http'
 readers='office/answers office/asking office/beginnings office/narrow office/script office/showing tables/files
     tables/offices'
-. "$(dirname "$0")/trying"
+. "$(dirname "$0")/crate_tests"
 
 # lay_example CRATE: the example of the crate's page, if it has one, as a test.
 lay_example() {

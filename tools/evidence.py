@@ -67,7 +67,7 @@ WITH granted(role, n) AS (
 SELECT total(n) FROM pair_row JOIN given ON role = b WHERE kind = 2 AND (:user IS NULL OR a = :user)
 """
 
-# How sqlite3 is told to show sessions by name, and what evidence.txt says of it.
+# The arguments that make sqlite3 show sessions by name, and what evidence.txt says of it.
 NAMED = ["-cmd", ".parameter set @with_sessions 1"]
 SHOWN = {False: "by the digests of their names", True: "by their names"}
 
@@ -105,7 +105,7 @@ def count_permissions(copy, chosen):
 
 
 def parameter(key, value):
-    """How sqlite3 is told the value of a parameter, whatever it has."""
+    """The argument that gives sqlite3 the value of a parameter, whatever it has."""
     return ["-cmd", f".parameter set @{key} \"CAST(x'{value.encode().hex()}' AS TEXT)\""]
 
 

@@ -25,7 +25,7 @@ static inline int order(const void *a, const void *b)
     return (x > y) - (x < y);
 }
 
-/* The median time of a call, in nanoseconds, over some rounds of so many calls. */
+/* The median time of a call, in nanoseconds, over some rounds of this many calls. */
 static inline double per_call(int rounds, int calls, void (*call)(int))
 {
     double took[MOST_ROUNDS];

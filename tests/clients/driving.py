@@ -1,4 +1,4 @@
-"""Drivers: a program in each language that does with its client what it is told, so that one test fits all clients.
+"""Drivers: a program in each language that does with its client what its input says, so that one test fits all clients.
 
 Each line of a driver's input is an object with the key `do`, and each line of its output says what came of it:
 

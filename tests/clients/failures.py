@@ -73,7 +73,7 @@ def busy_server(bench):
         bench.same("another decision", raised(patient.check_access, "s2", "open", "safe"), "Refused")
         server.ends()
     office.model.answer(USER % b"eve")
-    office.told()
+    office.compare_with_model()
 
 
 def killed_server(bench):
@@ -119,7 +119,7 @@ def stopped_child(bench):
         of_class(bench, "the next decision", lambda: client.check_access(*CHECK), rbac.Unreachable, False)
         of_class(bench, "a command", lambda: client.add_user("eve"), rbac.Unreachable, False)
     bench.same("what `check` prints", bench.run(["check", office.path]).out, b"good\n")
-    office.told()
+    office.compare_with_model()
 
 
 def killed_child(bench):
@@ -183,7 +183,7 @@ def unsendable(bench):
             bench.same(f"CSV of {size} bytes", given, '{"code":34,"error":"BadRequest"}')
         bench.same("a decision after all that", raised(client.check_access, *CHECK), True)
         server.ends()
-    office.told()
+    office.compare_with_model()
 
 
 def refusals(bench):
@@ -213,7 +213,7 @@ def refusals(bench):
             method = getattr(client, re.sub("([A-Z])", r"_\1", function).lower())
             bench.same(line, outcome(method, **arguments).encode(), office.model.answer(line))
         client.close()
-    office.told()
+    office.compare_with_model()
 
 
 def shared_by_threads(bench):

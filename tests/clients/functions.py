@@ -109,7 +109,7 @@ def over_serve(bench, name):
         driver.open(f"http://{HOST}:{server.port}")
         asks(bench, driver, office.model)
     bench.run(["check", office.path])
-    office.told()
+    office.compare_with_model()
 
 
 def over_the_front(bench, name):
@@ -134,8 +134,8 @@ def repeated(bench, driver, request, first, refused):
     function, arguments = request.pop("fn"), request
     again = driver.answer(function, **arguments)
     if function == "importAssignments":
-        told = json.loads(first)["value"]
-        counts = {**told, "already": told["already"] + told["assigned"], "assigned": 0}
+        report = json.loads(first)["value"]
+        counts = {**report, "already": report["already"] + report["assigned"], "assigned": 0}
         bench.same(f"{function} {request} again", json.loads(again)["value"], counts)
     elif refused == "nothing":
         bench.same(f"{function} {request} again", again, first)

@@ -85,19 +85,19 @@ class Losing:
             client.sendall(shown(answer))
 
 
-def is_done(function, told):
+def is_done(function, expected):
     """Whether an answer says that a command is done: it was accepted, or is refused because it had been done."""
-    return "ok" in told or REPEATED.get(function) == told.get("code", -1)
+    return "ok" in expected or REPEATED.get(function) == expected.get("code", -1)
 
 
-def judged(bench, what, function, outcome, told):
+def judged(bench, what, function, outcome, expected):
     """Counts whether what a client has reported is what the model's answer says of the office."""
     if "value" not in outcome:
-        bench.same(what, outcome["refusal"], told)
+        bench.same(what, outcome["refusal"], expected)
     elif function != "importAssignments":
-        bench.same(what, is_done(function, told), True)
+        bench.same(what, is_done(function, expected), True)
     else:
-        report, wanted = outcome["value"], told["value"]
+        report, wanted = outcome["value"], expected["value"]
         bench.same(f"{what}: refused", report["refused"], wanted["refused"])
         counts = [report["already"] + report["assigned"], wanted["already"] + wanted["assigned"]]
         bench.same(f"{what}: counts", counts[0], counts[1])
@@ -115,18 +115,18 @@ def many_commands(bench, name):
             for number in range(COMMANDS):
                 function, arguments = drawn(draws)
                 outcome, what = driver.call(function, **arguments), f"{number}: {function} {arguments}"
-                told = json.loads(draws.replay.answer(json.dumps({"fn": function, **arguments}).encode()))
+                expected = json.loads(draws.replay.answer(json.dumps({"fn": function, **arguments}).encode()))
                 if "value" not in outcome and "refusal" not in outcome:
                     bench.same(f"{what}: {outcome}", outcome["may_be_done"], True)
                     unclear += 1
                     again = json.loads(direct.answer(function, **arguments))
-                    bench.same(f"{what}, repeated", follows(function, again, told), True)
+                    bench.same(f"{what}, repeated", follows(function, again, expected), True)
                 else:
-                    judged(bench, what, function, outcome, told)
+                    judged(bench, what, function, outcome, expected)
             bench.same("some answers are lost, and some commands", min(proxy.counts.values()) > 0 and unclear > 0, True)
     bench.run(["check", office.path])
     office.model = draws.replay
-    office.told()
+    office.compare_with_model()
 
 
 def drawn(draws):
@@ -139,10 +139,10 @@ def drawn(draws):
             return function, values
 
 
-def follows(function, again, told):
-    """Whether the answer to a repeat is what the page says, if the command was to be answered by `told`."""
-    if "ok" not in told:
-        return again == told
+def follows(function, again, expected):
+    """Whether the answer to a repeat is what the page says, if the command was to be answered by `expected`."""
+    if "ok" not in expected:
+        return again == expected
     return "ok" in again or str(again["code"]) == AGAIN[function].split()[0]
 
 

@@ -149,7 +149,7 @@ class Asker:
         ])  # fmt: skip
 
     def ask(self, count):
-        """Sends commands until so many are answered."""
+        """Sends commands until this many are answered."""
         wanted, deadline = len(self.answered) + count, time.monotonic() + 5 * SECONDS
         while len(self.answered) < wanted:
             if time.monotonic() > deadline:

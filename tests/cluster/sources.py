@@ -65,7 +65,6 @@ def check_limits(bench):
         ('"every", 10_000', "After each 10,000 commands"),
         ('"every-bytes", 64<<20', "after each 64 MiB of commands since the last snapshot"),
         ('"hang-timeout", time.Minute', "that answers nothing for a minute"),
-        ("defaultConnections = 20_000", "(default: 20,000, or what the limit of file descriptors allows)"),
         ("maxSnapshots = 3", "A node keeps three snapshots"),
         ("member.Snapshots[1].Revision", "the commands after the last snapshot but one"),
         ('"timeout", 10*time.Second', "mostly within 10 seconds"),

@@ -284,8 +284,8 @@ def check_console(bench):
             bench.same(f"the console at node {machine}", (status, "<title>Office console</title>" in page), (200, True))
             bench.same(f"a trial at node {machine}", node.exchange("POST", "/what-if", '{"fn":"addUser","user":"bob"}'), unknown)
             bench.same(f"the end of a review at node {machine}", node.exchange("POST", "/reviews", ended), unknown)
-            told = json.loads(node.exchange("POST", "/reports/dump", "{}")[1])["value"]
-            text = node.exchange("GET", f"/reports/{told['ticket']}")[1]
+            prepared = json.loads(node.exchange("POST", "/reports/dump", "{}")[1])["value"]
+            text = node.exchange("GET", f"/reports/{prepared['ticket']}")[1]
             bench.same(f"a report at node {machine}", {line for line in text.splitlines() if "ann" in line}, {request_text(line) for line in lines[::2]})
         bench.same("nothing was done", whole(front, "users", 1_000), ["ann"])
 

@@ -84,18 +84,18 @@ def exchange(front, method, target, body, fields):
     return found
 
 
-def conforms(bench, what, told, sort, body):
+def conforms(bench, what, described, sort, body):
     """Counts whether a body has the form that its description has."""
-    if "content" not in told or not body and "/decide" in what:
+    if "content" not in described or not body and "/decide" in what:
         bench.same(f"the body of {what}", body, "")
         return
     if sort != "application/json":
-        bench.same(f"the sort of {what}", [sort], list(told["content"]))
+        bench.same(f"the sort of {what}", [sort], list(described["content"]))
         return
-    value, schema = json.loads(body), media_of(told, sort)["schema"]
+    value, schema = json.loads(body), media_of(described, sort)["schema"]
     faults = faults_of(schema, value)
-    if "x-codes" in told and value["code"] not in told["x-codes"]:
-        faults.append(f"{value['code']} is none of {told['x-codes']}")
+    if "x-codes" in described and value["code"] not in described["x-codes"]:
+        faults.append(f"{value['code']} is none of {described['x-codes']}")
     bench.judge(what, faults)
 
 
@@ -117,7 +117,7 @@ def check_answers(bench):
 
 
 def check_refused(bench):
-    """Without identity and without a right each of them is refused as described, but for the metadata."""
+    """Without identity and without a right each of them is refused as described, except the metadata."""
     with secured(bench, "--public-url", "https://rbac.example", rights={"token:desk": [], "token:admin": []}) as front:
         for method, path, target, body, fields, wanted in REQUESTS:
             if wanted not in (200, 204) or "authzen" in path:

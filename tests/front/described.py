@@ -13,19 +13,19 @@ from .program import HOST, Front, until
 PLAIN = {"user": "ann"}
 
 
-def conforms(bench, what, told, reply, body):
+def conforms(bench, what, described, reply, body):
     """Counts whether an answer has the fields, the code and the form that its description has."""
     faults = []
     answer = json.loads(body)
-    if "x-codes" in told:
-        faults += faults_of(schema_of(told), answer)
-        faults += [] if answer["code"] in told["x-codes"] else [f"{answer['code']} is none of {told['x-codes']}"]
-    for key, header in told.get("headers", {}).items():
+    if "x-codes" in described:
+        faults += faults_of(schema_of(described), answer)
+        faults += [] if answer["code"] in described["x-codes"] else [f"{answer['code']} is none of {described['x-codes']}"]
+    for key, header in described.get("headers", {}).items():
         faults += faults_of(header["schema"], reply.headers[key]) if key in reply.headers else [f"{key} is missing"]
-    if reply.headers["Content-Type"] not in told["content"]:
+    if reply.headers["Content-Type"] not in described["content"]:
         faults.append(f"the content is {reply.headers['Content-Type']}")
     bench.judge(what, faults)
-    bench.same(f"the schema of {what}", schema_of(told), REFUSAL)
+    bench.same(f"the schema of {what}", schema_of(described), REFUSAL)
 
 
 def refused(bench, front, status, name, what, **fields):
@@ -49,7 +49,7 @@ def get(front, path, **fields):
     return found
 
 
-def told_of(path, status):
+def compare_with_state(path, status):
     """The description of an answer at a path of no function."""
     return resolved(SPEC["paths"][path]["get"]["responses"][str(status)])
 
@@ -58,7 +58,7 @@ def same_health(bench, front, status):
     """The health has a status, and the form that is described for it."""
     given, sort, body = get(front, "/healthz")
     bench.same("the status of the health", given, status)
-    bench.judge(f"the health {body}", faults_of(media_of(told_of("/healthz", status), sort)["schema"], json.loads(body)))
+    bench.judge(f"the health {body}", faults_of(media_of(compare_with_state("/healthz", status), sort)["schema"], json.loads(body)))
 
 
 def check_callers(bench):
@@ -70,7 +70,7 @@ def check_callers(bench):
         same_health(bench, front, 200)
         status, sort, body = get(front, "/metrics", Authorization="Bearer wrong")
         bench.same("metrics for nobody", status, 401)
-        bench.judge("the answer", faults_of(media_of(told_of("/metrics", 401), sort)["schema"], json.loads(body)))
+        bench.judge("the answer", faults_of(media_of(compare_with_state("/metrics", 401), sort)["schema"], json.loads(body)))
 
 
 def check_open(bench):
@@ -80,7 +80,7 @@ def check_open(bench):
         refused(bench, front, 421, "ForeignHost", "a foreign host", Host="elsewhere.example")
         same_health(bench, front, 200)
         status, sort, body = get(front, "/metrics")
-        bench.same("the metrics", (status, [sort], "rbac_node_ready 1" in body), (200, list(told_of("/metrics", 200)["content"]), True))
+        bench.same("the metrics", (status, [sort], "rbac_node_ready 1" in body), (200, list(compare_with_state("/metrics", 200)["content"]), True))
         (replay,) = front.replays()
         os.kill(replay, signal.SIGSTOP)
         refused(bench, front, 503, "Unavailable", "a replay that hangs")

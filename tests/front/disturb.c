@@ -5,7 +5,7 @@
  * DISTURB_COUNT=FILE    the number in the file is how many calls are left until the one that is disturbed; each call that counts
  *                       lowers it. There is no file, or the number is 0: none is.
  * DISTURB_LIKE=HOW      a number: the call isn't made, and fails with it as its cause; `exit`: the process ends in its place.
- * DISTURB_TIMES=N       so many calls from that one on fail.
+ * DISTURB_TIMES=N       this many calls fail, from that one on.
  */
 #define _GNU_SOURCE
 #include <errno.h>

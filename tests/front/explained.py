@@ -153,19 +153,22 @@ def explanation_of(state, kind, subject, op, ob, possible):
     if kind == "session":
         user, active = state.sessions[subject]
         own = granted & session_roles(state, subject)
-        told = {"allowed": bool(own)}
-        told["by"] = [source_of(state, role, user, active) for role in sorted(own)]
-        told["inactive"] = [
+        explanation = {"allowed": bool(own)}
+        explanation["by"] = [source_of(state, role, user, active) for role in sorted(own)]
+        explanation["inactive"] = [
             source_of(state, role, user, active) for role in sorted((granted & authorized_roles(state, user)) - own)
         ]
     else:
         own = granted & authorized_roles(state, subject)
-        told = {"allowed": (ob, op) in possible[subject] and subject not in state.locked, "locked": subject in state.locked}
-        told["by"] = [source_of(state, role, subject) for role in sorted(own) if not blocked_of(state, role)]
-        told["blocked"] = [one for role in sorted(own) if (one := blocked_of(state, role))]
+        explanation = {
+            "allowed": (ob, op) in possible[subject] and subject not in state.locked,
+            "locked": subject in state.locked,
+        }
+        explanation["by"] = [source_of(state, role, subject) for role in sorted(own) if not blocked_of(state, role)]
+        explanation["blocked"] = [one for role in sorted(own) if (one := blocked_of(state, role))]
         if not own:
-            told.pop("locked") if subject not in state.locked else None
-    return {key: value for key, value in told.items() if value or key == "allowed"}
+            explanation.pop("locked") if subject not in state.locked else None
+    return {key: value for key, value in explanation.items() if value or key == "allowed"}
 
 
 def explain_some(bench, front, kept, draws, possible):
@@ -214,9 +217,9 @@ def check_never(bench):
             bench.same(
                 f"{operation} in some session", given, (200, json.dumps({"ok": True, "value": wanted}, separators=(",", ":")))
             )
-        told = json.loads(front.exchange("POST", "/explain", json.dumps({**dave, "operation": "seal"}))[1])["value"]
+        explanation = json.loads(front.exchange("POST", "/explain", json.dumps({**dave, "operation": "seal"}))[1])["value"]
         wanted = {"allowed": False, "blocked": [{"members": ["cashier", "supervisor"], "role": "chief", "set": "cash"}]}
-        bench.same("the reason", told, wanted)
+        bench.same("the reason", explanation, wanted)
         bench.same(
             "by status alone",
             front.exchange("POST", "/decide", None, Office_User="dave", Office_Operation="seal", Office_Object="drawer")[0],

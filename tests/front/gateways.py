@@ -195,7 +195,7 @@ def entity(kind, name):
 
 
 def body_of(**parts):
-    """A body of an evaluation: whether s1 may open the safe, but for these parts. A part that is None is left out."""
+    """A body of an evaluation: whether s1 may open the safe, unless these parts say otherwise. A part that is None is left out."""
     whole = {"subject": entity("session", "s1"), "action": {"name": "open"}, "resource": entity("object", "safe"), **parts}
     return json.dumps({name: part for name, part in whole.items() if part is not None})
 

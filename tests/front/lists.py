@@ -303,7 +303,7 @@ def check_queries(bench):
 
 
 def check_rights(bench):
-    """Every list needs the right to `lists` on the office; who may ask each function is told nothing."""
+    """Every list needs the right to `lists` on the office; who may ask each function learns nothing."""
     questions = [
         (function, "office") for function in ("assignedRoles", "userPermissions", "checkAccess", "sessionRoles", "ssdRoleSets")
     ]

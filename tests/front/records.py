@@ -36,7 +36,7 @@ STORY = [
 ]
 
 
-def told(bench, front, story=STORY, **fields):
+def send_story(bench, front, story=STORY, **fields):
     """Sends commands, whose answers have to be these."""
     for function, arguments, answer in story:
         bench.same(f"{function}", front.ask(function, arguments, **fields)[1], answer)
@@ -53,7 +53,7 @@ def recorded(function, arguments):
 def check_entries(bench):
     """Each command is in the record, accepted or refused, and no question is. Nobody else can read the files."""
     with Front(bench) as front:
-        told(bench, front, Office_Reason=REASON.encode())
+        send_story(bench, front, Office_Reason=REASON.encode())
         front.ask("checkAccess", {"session": SESSION, "operation": "open", "object": "safe"})
         front.ask("fly")
         bench.same("too long a reason", front.ask("addUser", {"user": "bob"}, Office_Reason="r" * 257)[0], 400)
@@ -109,9 +109,9 @@ def check_callers(bench):
 def check_names(bench):
     """No file but the office has the name of a session, and no command of this part prints it."""
     with Front(bench, "--record-base", "3") as front:
-        told(bench, front)
+        send_story(bench, front)
         front.ask("deleteSession", {"user": "ann", "session": SESSION})
-        told(bench, front, [("createSession", {"user": "ann", "roles": [], "session": SESSION + "2"}, OK)])
+        send_story(bench, front, [("createSession", {"user": "ann", "roles": [], "session": SESSION + "2"}, OK)])
         os.mkdir(bench.path("backups"))
         said = [tool("record", "verify", "--office", front.office), tool("record", "show", "--office", front.office),
                 tool("backup", "--office", front.office, bench.path("backups"))]  # fmt: skip
@@ -140,7 +140,7 @@ def check_left_copies(bench):
 def made(bench, name="office"):
     """An office with the record of the story, which no front has."""
     with Front(bench, name=name) as front:
-        told(bench, front)
+        send_story(bench, front)
         bench.same("the end", front.end(), 0)
     return front
 
@@ -205,7 +205,7 @@ def check_parted(bench):
     pair = out.strip()
     verified(bench, "the backup", f"{pair}/office")
     with front:
-        told(bench, front, [("addUser", {"user": "late"}, OK)])
+        send_story(bench, front, [("addUser", {"user": "late"}, OK)])
         front.end()
 
     def put(office, record):
@@ -374,11 +374,11 @@ def check_parts(bench):
     bench.same("cut", (status, first, said), (0, path_of(front.office, "record-1-10.db"), ""))
     bench.same("nothing to cut", tool("record", "cut", "--office", front.office)[0], 1)
     with front:
-        told(bench, front, [("addUser", {"user": "bob"}, OK)])
+        send_story(bench, front, [("addUser", {"user": "bob"}, OK)])
         bench.same("while the front runs", "a front has the office" in tool("record", "cut", "--office", front.office)[2], True)
         front.kill()
     with front:
-        told(bench, front, [("addUser", {"user": "bob"}, '{"code":3,"error":"UserExists"}')])
+        send_story(bench, front, [("addUser", {"user": "bob"}, '{"code":3,"error":"UserExists"}')])
         front.end()
     verified(bench, "both parts", front.office)
     shown = tool("record", "show", "--office", front.office)[1]
@@ -399,7 +399,7 @@ def check_parts(bench):
 def check_show(bench):
     """Show prints what a filter chooses."""
     with Front(bench) as front:
-        told(bench, front)
+        send_story(bench, front)
         front.ask("importAssignments", "user,role\nann,clerk\n")
         front.ask("addUser", {"user": "bob"}, Office_Reason="he is new")
         middle = entries(front.office)[5].at

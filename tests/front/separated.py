@@ -92,20 +92,20 @@ def check_random(bench):
                     continue
                 if function not in COMMANDS:
                     continue
-                told = json.loads(answer)
-                if function in SEPARATING and told.get("code", 24) in (24, 25):
+                parsed = json.loads(answer)
+                if function in SEPARATING and parsed.get("code", 24) in (24, 25):
                     command = {key: json.loads(line)[key] for key in ["fn", *COMMANDS[function][1].split()]}
                     status, said = front.exchange("POST", "/explain", json.dumps({"command": command}), kept)
                     given, wanted = json.loads(said).get("value", said), conflicts(before, function, arguments)
                     if (status, given) != (200, wanted):
                         faults.append(f"{line}: {status} {said} and not {wanted}")
-                    elif given["refused"] != ("code" in told) or told.get("set") not in (
+                    elif given["refused"] != ("code" in parsed) or parsed.get("set") not in (
                         None,
                         given.get("conflicts", [{}])[0].get("set"),
                     ):
                         faults.append(f"{line}: {said} for {answer}")
                     counts["separation: explained"] += 1
-                    counts["separation: refused"] += "code" in told
+                    counts["separation: refused"] += "code" in parsed
                 given = batch(front, line, connection=kept)
                 if given != (200, [answer.decode()]):
                     faults.append(f"{line}: {given} and not {answer}")

@@ -58,7 +58,7 @@ def greedy(state, user, roles, given=None):
 
 
 def refusal_of(refused):
-    return {"code": refused.code, "error": ERRORS[refused.code], **refused.told}
+    return {"code": refused.code, "error": ERRORS[refused.code], **refused.details}
 
 
 def judge_greedy(bench, front, offices=OFFICES):

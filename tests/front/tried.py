@@ -190,10 +190,10 @@ def check_order(bench):
         csv = "user,role\n" + "".join(f"{name} {number},clerk\n" for name in "abcd" for number in range(1, MOST_WRITTEN + 1))
         lines = [line("importAssignments", csv=csv), line("revokePermission", object="till", operation="open", role="clerk")]
         for _ in range(30):
-            status, told = what_if(front, lines)
-            report = told["answers"][0]["value"]
-            found = (status, report["assigned"], report["already"], told["lost"]["count"])
-            count = (told["revision"] - first) // 2
+            status, trial = what_if(front, lines)
+            report = trial["answers"][0]["value"]
+            found = (status, report["assigned"], report["already"], trial["lost"]["count"])
+            count = (trial["revision"] - first) // 2
             seen.add(count)
             if found != (200, 0, count, count):
                 faults.append(f"{found} at {count}")

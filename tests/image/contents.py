@@ -119,10 +119,10 @@ def check_page(bench):
     bench.same("the options", [word for word in command if word in OPTIONS], OPTIONS)
     archive = tarfile.open(fileobj=opened()[2])
     sizes = {one.name.lstrip("./"): one.size for one in archive if one.isfile()}
-    for folder, told in re.findall(r"^\| (/\S+?)(?:, /usr/lib64)? \| .* \| ([\d,]+) \|$", page, re.M):
+    for folder, stated in re.findall(r"^\| (/\S+?)(?:, /usr/lib64)? \| .* \| ([\d,]+) \|$", page, re.M):
         size = sum(size for path, size in sizes.items() if f"/{path}/".startswith((f"{folder}/", f"{folder}64/")))
-        number = int(told.replace(",", ""))
-        bench.judge(f"the size of {folder}", [] if abs(size - number) <= number // 10 else [f"{size:,} and not {told}"])
+        number = int(stated.replace(",", ""))
+        bench.judge(f"the size of {folder}", [] if abs(size - number) <= number // 10 else [f"{size:,} and not {stated}"])
 
 
 def check_same(bench):

@@ -46,7 +46,7 @@ def serve_next(bench, server, office, what, start, least, most):
     waited_for(bench, f"the client after {what} waited", start, least, most)
     office.model.answer(ADD_ANN)
     server.ends()
-    office.told()
+    office.compare_with_model()
 
 
 def drip(bench, count):
@@ -74,7 +74,7 @@ def send_slowly(bench):
         bench.same("a slow client", read_all(slow), reply(200, DONE))
         server.ends()
     office.model.answer(ADD_ANN)
-    office.told()
+    office.compare_with_model()
     return {"slow clients": 1}
 
 

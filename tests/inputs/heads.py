@@ -57,7 +57,7 @@ def ask_whole_heads(bench, first, step):
         too_long = head_of(MOST + 1, body) + body
         bench.same("a head that is too long", server.ask(too_long), reply(431, BAD_REQUEST))
         server.ends()
-    office.told()
+    office.compare_with_model()
     return {"whole heads": len(lengths)}
 
 
@@ -72,7 +72,7 @@ def ask_cut_heads(bench, every):
             wanted = reply(400 if length < MOST else 431, BAD_REQUEST)
             bench.same(f"a head that is truncated after {length} bytes", answer, wanted)
         server.ends()
-    office.told()
+    office.compare_with_model()
     return {"heads that are cut": len(lengths)}
 
 
@@ -112,7 +112,7 @@ def ask_random(bench, first, count):
         server.ends()
     if added:
         office.model.answer(b'{"fn":"addUser","user":"ann"}')
-    office.told()
+    office.compare_with_model()
     return {"requests of random bytes": count, "changed heads that were accepted": added}
 
 
@@ -125,7 +125,7 @@ def random_bodies(bench, first, count):
             answer = server.ask(post(draws.choice(["addUser", "sessionRoles", "ssdRoleSets"]), body))
             bench.same(f"random body {number}", answer, reply(400, BAD_REQUEST))
         server.ends()
-    office.told()
+    office.compare_with_model()
     return {"bodies of random bytes": count}
 
 
@@ -140,7 +140,7 @@ def split_requests(bench):
             bench.same(what, ask_in_pieces(server, pieces), reply(200, DONE))
             bench.same("the user exists", server.ask(REMOVE), reply(200, DONE))
         server.ends()
-    office.told()
+    office.compare_with_model()
     return {"requests that were split": len(parts)}
 
 

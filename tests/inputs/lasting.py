@@ -67,14 +67,14 @@ def last(bench, where, rounds):
         grown.append(found.kilobytes)
     bench.same(f"the growth of {grown} kB in {where}", grown[1] - grown[0] <= GROWTH, True)
     bench.same("the file stays small", size_of(office.path) <= MOST_FILE << 20, True)
-    office.told()
+    office.compare_with_model()
     return {f"lines over an office in {where}": sum(rounds) * len(ROUND)}
 
 
 def serve_many(bench, count):
     """A server of many requests: the memory doesn't grow with them."""
     office = Office(bench)
-    told = []
+    memory = []
     requests = [("addUser", b'{"user":"ann"}', 200), ("deleteUser", b'{"user":"ann"}', 200), ("deleteUser", b"{}", 400)]
     with Server(bench, office.path, count + 1) as server:
         for number in range(count):
@@ -84,9 +84,9 @@ def serve_many(bench, count):
             if answer != reply(status, text):
                 bench.same(f"request {number}", answer, reply(status, text))
             if number in (count // 4, count - 1):
-                told.append(kilobytes_of(server.process))
-        is_within(bench, f"a server of {count:,} requests", told[-1], SMALL)
-        bench.same(f"the growth of {told} kB", told[-1] - told[0] <= GROWTH, True)
+                memory.append(kilobytes_of(server.process))
+        is_within(bench, f"a server of {count:,} requests", memory[-1], SMALL)
+        bench.same(f"the growth of {memory} kB", memory[-1] - memory[0] <= GROWTH, True)
         bench.same("the last request", server.ask(post("ssdRoleSets", b"")), reply(200, b'{"ok":true,"value":[]}'))
         server.ends()
     return {"requests to one server": count}
@@ -106,8 +106,8 @@ def open_largest(bench):
     change(office.path, [f"INSERT INTO {table} VALUES {', '.join(some)}" for table, some in statements])
     lines = lines_of([{"fn": "assignedUsers", "role": roles[7]}, {"fn": "addUser", "user": "one more"}])
     found = Meter(bench).run(["replay", office.path], [lines])
-    told = json.loads(found.done.out.splitlines()[0])
-    bench.same("the users of a role", told["value"], sorted(users[7::1_024]))
+    answer = json.loads(found.done.out.splitlines()[0])
+    bench.same("the users of a role", answer["value"], sorted(users[7::1_024]))
     line = b'{"code":32,"error":"TooMany","kind":"user"}'
     bench.same("one more", (found.done.out.splitlines()[1:], found.done.status), ([line], 0))
     is_within(bench, f"an office at its limits: {found.text()}", found.kilobytes, LARGE)

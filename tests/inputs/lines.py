@@ -112,7 +112,7 @@ def import_long(bench):
         line = b'rbac: {"code":32,"error":"TooMany","kind":"byte"}\n'
         bench.same(f"import of {name}", found.done, Done(b"", line, 1))
         is_within(bench, f"import of {name}: {found.text()}", found.kilobytes, SMALL)
-    office.told()
+    office.compare_with_model()
 
 
 def jobs(is_long):

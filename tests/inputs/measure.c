@@ -1,7 +1,7 @@
 /*
  * measure FILE PROGRAM WORD..: runs the program with these words and with the streams as they are, and writes into
- * FILE how many kilobytes of memory it had at most. The status is that of the program; 127 where it could not be
- * run, and 128 and the number of a signal where that ended it.
+ * FILE how many kilobytes of memory it had at most. The status is that of the program; 127 if it could not be
+ * run, and 128 plus the number of a signal if that ended it.
  */
 #include <stdio.h>
 #include <sys/resource.h>

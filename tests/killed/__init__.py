@@ -1,5 +1,5 @@
 """The program is killed at random moments, and the office continues from what is in its file.
 
-    lives       a replay is killed, run after run of one office
+    runs        a replay is killed, run after run of one office
     others      `init`, `import` and `migrate` are killed
 """

@@ -24,8 +24,8 @@ EACH = 100 if "--long" in sys.argv else 8
 
 def decision_of(answer):
     """Returns what rbac_check returns if this is the answer to the same question."""
-    told = json.loads(answer)
-    return str(int(told["value"]) if told.get("ok") else -told["code"]).encode()
+    parsed = json.loads(answer)
+    return str(int(parsed["value"]) if parsed.get("ok") else -parsed["code"]).encode()
 
 
 def asks_access(line, answer):

@@ -170,17 +170,17 @@ def deassign_user(state, user, role):
 def import_assignments(state, pairs):
     """The state after an import, and its tally. Records are numbered from 1."""
     need_room(state, "record", len(pairs))
-    told = {"already": 0, "assigned": 0, "refused": []}
+    tally = {"already": 0, "assigned": 0, "refused": []}
     for record, (user, role) in enumerate(pairs, 1):
         try:
             state = assign_user(state, user, role)
-            told["assigned"] += 1
+            tally["assigned"] += 1
         except Refused as refused:
             if refused.code == 10:
-                told["already"] += 1
+                tally["already"] += 1
             else:
-                told["refused"].append({"code": refused.code, "record": record})
-    return state, told
+                tally["refused"].append({"code": refused.code, "record": record})
+    return state, tally
 
 
 # The role hierarchy.

@@ -4,7 +4,7 @@ from .commands import COMMANDS, apply
 from .questions import ask
 from .requests import LONGEST_LINE, read_request
 from .state import Refused, State
-from .texts import DONE, refused, told
+from .texts import DONE, refused, answer_with
 
 
 class Replay:
@@ -20,9 +20,9 @@ class Replay:
         try:
             function, arguments = read_request(line)
             if function not in COMMANDS:
-                return told(ask(self.state, function, arguments))
+                return answer_with(ask(self.state, function, arguments))
             self.state, tally = apply(self.state, function, arguments)
-            return DONE if tally is None else told(tally)
+            return DONE if tally is None else answer_with(tally)
         except Refused as refusal:
             return refused(refusal)
 

@@ -74,16 +74,16 @@ ERRORS = {
 class Refused(Exception):
     """A refusal: its code, and the set, kind, record or version that it names."""
 
-    def __init__(self, code, **told):
-        super().__init__(code, told)
+    def __init__(self, code, **details):
+        super().__init__(code, details)
         self.code = code
-        self.told = told
+        self.details = details
 
 
-def refuse_if(condition, code, **told):
+def refuse_if(condition, code, **details):
     """Refuses by this code if the condition holds."""
     if condition:
-        raise Refused(code, **told)
+        raise Refused(code, **details)
 
 
 @dataclass(frozen=True)

@@ -21,14 +21,14 @@ def json_text(value):
     return "[" + ",".join(map(json_text, items)) + "]"
 
 
-def told(value):
+def answer_with(value):
     """The answer with a value."""
     return json_text({"ok": True, "value": value}).encode()
 
 
 def refused(refusal):
     """The answer with a refusal."""
-    return json_text({"code": refusal.code, "error": ERRORS[refusal.code], **refusal.told}).encode()
+    return json_text({"code": refusal.code, "error": ERRORS[refusal.code], **refusal.details}).encode()
 
 
 def report(state):

@@ -240,10 +240,10 @@ def replayed_on(bench, what, path, state, seed):
     before, lines = read_rows(path), Draws(seed)
     lines.replay.state = state
     given = b"".join(lines.draw()[1] + b"\n" for _ in range(REPLAYED))
-    life = Replay()
-    life.state = state
-    bench.ends(["replay", path], b"".join(life.answers(given)), given=given, what=f"replay: {what}")
-    same_rows(bench, f"the rows after a replay: {what}", read_rows(path), {**before, **rows(life.state)})
+    run = Replay()
+    run.state = state
+    bench.ends(["replay", path], b"".join(run.answers(given)), given=given, what=f"replay: {what}")
+    same_rows(bench, f"the rows after a replay: {what}", read_rows(path), {**before, **rows(run.state)})
 
 
 def try_file(bench, statements, seed):

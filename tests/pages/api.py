@@ -72,8 +72,8 @@ def check_bodies(bench):
         for request, answer in asked:
             function = request.pop("fn")
             body = request["csv"] if function == "importAssignments" else json.dumps(request)
-            _, _, told = server.ask(post(function, body.encode())).decode().partition("\r\n\r\n")
-            bench.same(f"the answer to {function} of {body}", told, answer)
+            _, _, body_of_reply = server.ask(post(function, body.encode())).decode().partition("\r\n\r\n")
+            bench.same(f"the answer to {function} of {body}", body_of_reply, answer)
         server.ends()
 
 
@@ -141,9 +141,9 @@ def check_keys(bench):
         spoken = set(re.findall(r"`(\w+)`", PARTS[name].text))
         bench.same(f"the keys of {name}", spoken, {key for key, _ in named})
     (table,) = markdown.tables(markdown.section(PAGE, "### Names and keys"))
-    told = {key: says for cell, says in table for key in re.findall(r"`(\w+)`", cell)}
-    bench.same("the keys", set(told), set(types))
-    for key, says in told.items():
+    described = {key: says for cell, says in table for key in re.findall(r"`(\w+)`", cell)}
+    bench.same("the keys", set(described), set(types))
+    for key, says in described.items():
         bench.same(f"the type of {key}", says.startswith(TYPES[types[key]]), True)
 
 
@@ -166,14 +166,14 @@ def check_refused(bench):
 def check_shown(bench):
     """Each part has an accepted request of its function with its keys alone, and a value of the right sort."""
     keys = {**sources.command_keys(), **sources.question_keys()}
-    told = sources.values()
+    sorts = sources.values()
     for function, part in PARTS.items():
         shown = [(json.loads(line), json.loads(answer)) for line, answer in part.lines]
         good = [(line, answer) for line, answer in shown if line["fn"] == function and "ok" in answer]
         bench.same(f"an accepted {function} is shown", bool(good), True)
         for line, answer in good:
             bench.same(f"the keys of {line}", list(line), ["fn", *(key for key, _ in keys[function])])
-            bench.same(f"the sort of {answer}", sort_of(answer), told[function])
+            bench.same(f"the sort of {answer}", sort_of(answer), sorts[function])
 
 
 def sort_of(answer):
@@ -219,8 +219,8 @@ def check_limits(bench):
     """The tables of sizes and limits have the numbers of the sources."""
     sizes, limits = markdown.tables(markdown.section(PAGE, "### Sizes and limits"))
     bench.same("the sizes", {row[0]: number(row[1]) for row in sizes}, sources.sizes())
-    told = {row[0].strip("`"): (number(row[1]), number(row[2])) for row in limits}
-    bench.same("the limits", list(told.items()), list(sources.limits().items()))
+    stated = {row[0].strip("`"): (number(row[1]), number(row[2])) for row in limits}
+    bench.same("the limits", list(stated.items()), list(sources.limits().items()))
     bench.same("the seconds of a wait", f"at most {sources.patience()} seconds" in PAGE, True)
 
 
@@ -243,10 +243,10 @@ def check_statuses(bench):
     (table,) = markdown.tables(STATUSES)
     listed = {int(cell.split()[0]): (cell.partition(" ")[2], codes_in(codes)) for cell, codes, _ in table}
     bench.same("the statuses", set(listed), sources.statuses())
-    told = verdicts.codes_by_status()
+    by_status = verdicts.codes_by_status()
     for status, (phrase, codes) in listed.items():
         bench.same(f"the phrase of {status}", phrase, {**PHRASES, 503: "Service Unavailable"}[status])
-        wanted = set() if status == 200 else told.get(status, {34})
+        wanted = set() if status == 200 else by_status.get(status, {34})
         bench.same(f"the codes of {status}", codes, wanted)
 
 

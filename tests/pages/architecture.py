@@ -8,9 +8,9 @@ from . import markdown, sources
 ROOT = sources.ROOT
 PAGE = markdown.page("ARCHITECTURE.md")
 
-# The most bytes of a page that is read as a whole. These are longer: each is a reference, or is to be split.
+# The most bytes of a page that is read as a whole. These are longer: each is a reference.
 MOST_BYTES = 20 * 1024
-LONGER = {"API.md", "CLUSTER.md", "CONTRACTS.md", "DECISIONS.md", "REQUESTS.md"}
+LONGER = {"API.md", "CLUSTER.md", "CONTRACTS.md"}
 
 # What a build leaves.
 OUT = "out"

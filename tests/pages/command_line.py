@@ -55,8 +55,8 @@ def forms():
 
 def options():
     """The options of the command line, as they are written in it."""
-    told = [argument(body) for name, body in functions().items() if "Arg::new" in body]
-    return [*[option for option in told if option.startswith("--")], *([VERSION_OPTION] if version() else [])]
+    found = [argument(body) for name, body in functions().items() if "Arg::new" in body]
+    return [*[option for option in found if option.startswith("--")], *([VERSION_OPTION] if version() else [])]
 
 
 def version():

@@ -8,8 +8,19 @@ from . import markdown, sources
 ROOT = sources.ROOT
 PAGE = markdown.page("EXTENDING.md")
 
-# Files outside crates/ that are written by hand, and files in it: `bin/commands` finds both if they lack a command.
+# Files outside crates/ that are written by hand, and files in it: `bin/commands` finds both if they lack a command. The front's copy
+# of the office and the random lines have some commands by a part of their names.
 FOUND = ["crates/admin_mgr/specs/Verdict.antt", "crates/role_json/src/calls.rt", "docs/API.md", "tests/machine/commands.py"]
+FOUND += ["node/src/rbac-node/state/apply.go", "tests/machine/drawing.py"]
+
+# What writes each of these files.
+WRITTEN = {
+    "docs/openapi.json": "bin/openapi",
+    "clients/python/rbac_client/_functions.py": "bin/clients",
+    "clients/javascript/types/functions.d.ts": "tsc -p clients/javascript",
+    "node/src/rbac-node/api/table.go": "bin/commands",
+    "tests/office/requests/keys.rt.test": "bin/commands",
+}
 
 
 def listed(*words):
@@ -29,8 +40,9 @@ def check_missing(bench):
         print("commands: this is no working copy of git: the files of a command are not looked for")
         return
     said, status = listed("fly")
-    found = re.findall(r"^(\S+) lacks fly(?: \(a script writes it\))?$", said, re.M)
+    found = dict(re.findall(r"^(\S+) lacks fly(?: \((.*) writes it\))?$", said, re.M))
     bench.same("each line is a file that lacks the command", (len(found), status), (len(said.splitlines()), 0))
+    bench.same("what writes them", {path: found.get(path) for path in WRITTEN}, WRITTEN)
     bench.same("files that are not found", sorted(set(FOUND) - set(found)), [])
     bench.same("benchmarks and rows", [path for path in found if path.startswith(("bench/", "tests/rows/"))], [])
 

@@ -70,9 +70,9 @@ def check_times(bench):
     found = 0
     for _, run, takes in first:
         scripts = [part.split()[-1].strip("`") for part in re.split(r", then |, ", run)]
-        for script, told in zip([name for name in scripts if not name.startswith("bin/")], takes.split(", ")):
+        for script, stated in zip([name for name in scripts if not name.startswith("bin/")], takes.split(", ")):
             name = script.removeprefix("tests/")
             if name in times:
                 found += 1
-                bench.same(f"the seconds of {name} in CONTRIBUTING.md", told, f"{times[name]} s")
+                bench.same(f"the seconds of {name} in CONTRIBUTING.md", stated, f"{times[name]} s")
     bench.same("times are found", found > 10, True)

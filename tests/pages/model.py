@@ -153,8 +153,8 @@ def met_in(place, function):
 def answers(path, function):
     """Returns the answers that a function gets in a row of tests/rows."""
     asked = [line for line in path.read_bytes().split(b"\n") if line.strip(b" \t\r")]
-    told = path.with_suffix(".answers").read_text(encoding="utf-8").splitlines()
-    for line, answer in zip(asked, told):
+    given = path.with_suffix(".answers").read_text(encoding="utf-8").splitlines()
+    for line, answer in zip(asked, given):
         if f'"{function}"'.encode() in line:
             answer = json.loads(answer)
             yield "ok" if "ok" in answer else ":".join([str(answer["code"]), *([answer["kind"]] if "kind" in answer else [])])

@@ -139,8 +139,8 @@ def sort_of_body(name):
 
 def example_of(name):
     """The example of a body and that of its answer."""
-    told = operations()[name]
-    return media_of(told["requestBody"], sort_of_body(name))["example"], media_of(told["responses"]["200"])["example"]
+    operation = operations()[name]
+    return media_of(operation["requestBody"], sort_of_body(name))["example"], media_of(operation["responses"]["200"])["example"]
 
 
 def response_of(name, status):
@@ -170,8 +170,8 @@ def faults_of(schema, value):
         faults += [fault for item in value for fault in faults_of(schema["items"], item)]
     if sort == "object":
         faults += [f"{key} is missing" for key in schema.get("required", []) if key not in value]
-        told = schema.get("properties", {})
-        faults += [fault for key in told if key in value for fault in faults_of(told[key], value[key])]
+        properties = schema.get("properties", {})
+        faults += [fault for key in properties if key in value for fault in faults_of(properties[key], value[key])]
     return faults
 
 
@@ -216,16 +216,16 @@ def check_structure(bench):
     bench.same("the shared parts", set(COMPONENTS), {"schemas", "parameters", "responses", "securitySchemes"})
     bench.same("the security schemes", list(COMPONENTS["securitySchemes"]), ["token"])
     accepted, refused, bodies = [], list(COMPONENTS["responses"].values()), []
-    for name, told in operations().items():
+    for name, operation in operations().items():
         keys = {"operationId", "tags", "summary", "description", "requestBody", "responses"}
-        if told["tags"] == ["commands"]:
+        if operation["tags"] == ["commands"]:
             keys.add("parameters")
-            bench.same(f"the parameters of {name}", told["parameters"], [{"$ref": "#/components/parameters/Reason"}])
-        bench.same(f"the parts of {name}", set(told), keys)
-        bench.same(f"the parts of the body of {name}", set(told["requestBody"]), {"required", "content"})
-        accepted.append(told["responses"]["200"])
-        refused += [answer for status, answer in told["responses"].items() if status != "200" and "$ref" not in answer]
-        bodies.append(told["requestBody"])
+            bench.same(f"the parameters of {name}", operation["parameters"], [{"$ref": "#/components/parameters/Reason"}])
+        bench.same(f"the parts of {name}", set(operation), keys)
+        bench.same(f"the parts of the body of {name}", set(operation["requestBody"]), {"required", "content"})
+        accepted.append(operation["responses"]["200"])
+        refused += [answer for status, answer in operation["responses"].items() if status != "200" and "$ref" not in answer]
+        bodies.append(operation["requestBody"])
     for answer in accepted:
         bench.same("the parts of an accepted answer", set(answer), {"description", "content"})
     for answer in refused:
@@ -250,7 +250,7 @@ def check_reason(bench):
 
 
 def check_references(bench):
-    """Each reference leads somewhere, and each shared part is used, but for the answer to another method."""
+    """Each reference leads somewhere, and each shared part is used, except the answer to another method."""
     used = set(references(SPEC))
     for reference in sorted(used):
         bench.same(f"{reference} leads to something", bool(resolved({"$ref": reference})), True)
@@ -265,12 +265,12 @@ def check_paths(bench):
     commands = sources.command_keys()
     for path, methods in SPEC["paths"].items():
         bench.same(f"the methods of {path}", list(methods), PATHS_OF_FRONT.get(path, ["post"]))
-    for name, told in operations().items():
-        bench.same(f"the name of {name}", told["operationId"], name)
-        bench.same(f"the sort of {name}", told["tags"], ["commands" if name in commands else "questions"])
-        bench.same(f"what {name} is", told["description"], PARTS[name].text)
-        bench.same(f"the summary of {name} is short", bool(re.fullmatch(r"[A-Z][\w ]{5,60}", told["summary"])), True)
-    summaries = [told["summary"] for told in operations().values()]
+    for name, operation in operations().items():
+        bench.same(f"the name of {name}", operation["operationId"], name)
+        bench.same(f"the sort of {name}", operation["tags"], ["commands" if name in commands else "questions"])
+        bench.same(f"what {name} is", operation["description"], PARTS[name].text)
+        bench.same(f"the summary of {name} is short", bool(re.fullmatch(r"[A-Z][\w ]{5,60}", operation["summary"])), True)
+    summaries = [operation["summary"] for operation in operations().values()]
     bench.same("summaries that occur twice", len(summaries) - len(set(summaries)), 0)
     bench.same("the sorts", [tag["name"] for tag in SPEC["tags"]], ["commands", "questions", "condition", "front"])
 
@@ -292,8 +292,8 @@ def check_keys(bench):
 def check_answers(bench):
     """Each function has the answer of its sort, its refusals in order, and each other status that it can have."""
     conflicts = verdicts.codes_by_status()[CONFLICT]
-    for name, told in operations().items():
-        answers = told["responses"]
+    for name, operation in operations().items():
+        answers = operation["responses"]
         words = [word for word in verdicts.refusals()[name] if int(word.split(":")[0]) in conflicts]
         if name == "importAssignments":
             words.remove("32:byte")  # A longer body is refused by 413 with the head.
@@ -321,15 +321,15 @@ def same_conflict(bench, name, answer, words):
 def check_refusals(bench):
     """A refusal has each code with its name at the same place, each further key, and each kind of a limit."""
     refusal = COMPONENTS["schemas"]["Refusal"]
-    told = refusal["properties"]
+    properties = refusal["properties"]
     known = sorted(sources.refusals().items())
     of_front = sorted(refusals_of_front().items())
-    bench.same("the codes", told["code"]["enum"], [code for code, _ in [*known, *of_front]])
-    bench.same("the names", told["error"]["enum"], [*(name for _, (name, _) in known), *(name for _, name in of_front)])
+    bench.same("the codes", properties["code"]["enum"], [code for code, _ in [*known, *of_front]])
+    bench.same("the names", properties["error"]["enum"], [*(name for _, (name, _) in known), *(name for _, name in of_front)])
     further = list(dict.fromkeys(key for _, (_, key) in known if key))
-    bench.same("the keys of a refusal", list(told), ["code", "error", *further])
+    bench.same("the keys of a refusal", list(properties), ["code", "error", *further])
     bench.same("the keys that each refusal has", refusal["required"], ["code", "error"])
-    bench.same("the kinds", told["kind"]["enum"], list(sources.limits()))
+    bench.same("the kinds", properties["kind"]["enum"], list(sources.limits()))
 
 
 def check_refusals_of_front(bench):
@@ -342,12 +342,12 @@ def check_refusals_of_front(bench):
 
 def check_statuses(bench):
     """Each status by which a request is not accepted has its shared answer, with the codes that it reports."""
-    told = verdicts.codes_by_status()
+    by_status = verdicts.codes_by_status()
     of_front = codes_of_front()
     refusing = (sources.statuses() | set(of_front)) - {200, CONFLICT}
     for status in refusing:
         codes = COMPONENTS["responses"][name_of(status)]["x-codes"]
-        own = told.get(status, {34}) if status in sources.statuses() else set()
+        own = by_status.get(status, {34}) if status in sources.statuses() else set()
         bench.same(f"the codes of {status}", set(codes), own | of_front.get(status, set()))
     wanted = {name_of(status) for status in refusing}
     bench.same("the shared answers", set(COMPONENTS["responses"]), wanted)
@@ -357,14 +357,14 @@ def check_statuses(bench):
 def check_sizes(bench):
     """The limits that the description states are those of the sources."""
     sizes = {words: f"{size:,}" for words, size in sources.sizes().items()}
-    told = {name: answer["description"] for name, answer in COMPONENTS["responses"].items()}
+    descriptions = {name: answer["description"] for name, answer in COMPONENTS["responses"].items()}
     for words, name in {
         "bytes of a body of JSON": "PayloadTooLarge",
         "bytes of a body of CSV": "PayloadTooLarge",
         "bytes of the head of a request": "RequestHeaderFieldsTooLarge",
         "fields of a head": "RequestHeaderFieldsTooLarge",
     }.items():
-        bench.same(f"{words} in {name}", sizes[words] in re.findall(r"[\d,]*\d", told[name]), True)
+        bench.same(f"{words} in {name}", sizes[words] in re.findall(r"[\d,]*\d", descriptions[name]), True)
     said = re.findall(r"[\d,]*\d", COMPONENTS["schemas"]["Assignments"]["description"])
     for kind in ("byte", "record"):
         bench.same(f"the most of {kind}", f"{sources.limits()[kind][0]:,}" in said, True)
@@ -372,17 +372,17 @@ def check_sizes(bench):
 
 def check_forms(bench):
     """The requests of the page and their answers have the forms that are described here, and wrong requests do not."""
-    told = operations()
+    described = operations()
     for line, answer in all_pairs():
         request, given = json.loads(line), json.loads(answer)
         if given.get("code") in (34, 35, 1):
             continue
-        operation = told[request["fn"]]
+        operation = described[request["fn"]]
         if request["fn"] != "importAssignments":
             bench.same(f"the form of {line}", faults_of(schema_of(operation["requestBody"]), request), [])
         holder = response_of(request["fn"], 200 if "ok" in given else CONFLICT)
         bench.same(f"the form of {answer} to {line}", faults_of(schema_of(holder), given), [])
-    schema = schema_of(told["addUser"]["requestBody"])
+    schema = schema_of(described["addUser"]["requestBody"])
     for wrong in ({}, {"user": 7}, {"user": ""}, {"user": "a\tb"}, {"user": "u" * 65}):
         bench.same(f"whether {wrong} is a fault", bool(faults_of(schema, wrong)), True)
 
@@ -400,18 +400,18 @@ class Answered:
         said, _, body = self.server.ask(request).partition(b"\r\n\r\n")
         lines = said.decode().split("\r\n")
         status, answer = int(lines[0].split()[1]), json.loads(body)
-        told = response_of(name, status)
-        schema = schema_of(told)
+        described = response_of(name, status)
+        schema = schema_of(described)
         self.cases.append([schema, answer])
         faults = faults_of(schema, answer)
-        if "code" in answer and answer["code"] not in told["x-codes"]:
-            faults.append(f"{answer['code']} is none of {told['x-codes']}")
-        if "kind" in answer and answer["kind"] not in told["x-kinds"]:
-            faults.append(f"{answer['kind']} is none of {told['x-kinds']}")
+        if "code" in answer and answer["code"] not in described["x-codes"]:
+            faults.append(f"{answer['code']} is none of {described['x-codes']}")
+        if "kind" in answer and answer["kind"] not in described["x-kinds"]:
+            faults.append(f"{answer['kind']} is none of {described['x-kinds']}")
         fields = dict(line.split(": ") for line in lines[1:])
-        for key, header in told.get("headers", {}).items():
+        for key, header in described.get("headers", {}).items():
             faults += faults_of(header["schema"], fields[key]) if key in fields else [f"{key} is missing"]
-        if fields["Content-Type"] not in told["content"]:
+        if fields["Content-Type"] not in described["content"]:
             faults.append(f"the content is {fields['Content-Type']}")
         self.bench.judge(f"the answer {status} {answer} to {what}", faults)
         return status, answer
@@ -566,7 +566,7 @@ def check_client(bench):
         )
         bench.same("the end of the client", (done.returncode, done.stderr), (0, ""))
         server.ends()
-    refused, *told = [json.loads(line) for line in done.stdout.splitlines()]
+    refused, *received = [json.loads(line) for line in done.stdout.splitlines()]
     bench.same("whether the client itself refuses another form", refused[0] == 400 and "errors" in refused[1], True)
-    for call, answer, got in zip(asked, wanted, told, strict=True):
+    for call, answer, got in zip(asked, wanted, received, strict=True):
         bench.same(f"what the client gets for {call}", got, [200 if "ok" in answer else CONFLICT, answer])

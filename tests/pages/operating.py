@@ -149,20 +149,20 @@ def check_one_writer(bench):
 def check_limits(bench):
     """The table of the limits of a run has the numbers of the sources."""
     table, _ = markdown.tables(markdown.section(PAGE, "## 7. Sizes and limits"))
-    told = {what: limit for what, limit in table}
+    limits = {what: limit for what, limit in table}
     _, most = command_line.ranges()["limit"]
-    bench.same("the most connections", told["connections of one run of `serve`"], f"{most:,}")
-    waits = told["seconds that one read or write of a connection waits"]
+    bench.same("the most connections", limits["connections of one run of `serve`"], f"{most:,}")
+    waits = limits["seconds that one read or write of a connection waits"]
     bench.same("the longest wait", waits, str(sources.patience()))
-    bench.same("the most reads", told["reads of one run of `replay`"], f"{sources.most_reads():,}")
+    bench.same("the most reads", limits["reads of one run of `replay`"], f"{sources.most_reads():,}")
 
 
 def check_lines(bench):
     """The first table has each refusal that an opening can meet, the second each check, in order."""
     lines, checks = markdown.tables(CHECKS)
     names = {code: name for code, (name, _) in sources.refusals().items()}
-    told = [re.search(r'"code":(\d+),"error":"(\w+)"', row[0]).groups() for row in lines]
-    bench.same("the refusals of an opening", told, [(str(code), names[code]) for code in OPENING])
+    listed = [re.search(r'"code":(\d+),"error":"(\w+)"', row[0]).groups() for row in lines]
+    bench.same("the refusals of an opening", listed, [(str(code), names[code]) for code in OPENING])
     bench.same("the checks", [int(row[0]) for row in checks], sources.checks())
     for row in [*lines, *checks]:
         bench.same(f"a description of {row[0]}", all(row), True)
@@ -187,16 +187,16 @@ def check_repairs(bench):
     office = small_office(bench)
     ending, making = repairs()
     _, checks = markdown.tables(CHECKS)
-    told = {int(row[0]): row[2] for row in checks}
+    cures = {int(row[0]): row[2] for row in checks}
     for name, (check, damage) in DAMAGES.items():
-        cure = ending if told[check].startswith("End the sessions") else making if check == 6 else None
+        cure = ending if cures[check].startswith("End the sessions") else making if check == 6 else None
         with changed(office, damage) as path:
             bench.same(f"{name}: the check that fails", told_check(bench, path), check)
             if cure:
                 change(path, cure)
                 after = told_check(bench, path)
                 bench.same(f"{name}: no check up to {check} fails any more", after is None or after > check, True)
-    cured = [check for check, text in told.items() if text.startswith("End the sessions")]
+    cured = [check for check, text in cures.items() if text.startswith("End the sessions")]
     bench.same("the checks that the ends of sessions cure", cured, [4, 8, 10, 11])
 
 
@@ -207,7 +207,7 @@ def check_pairs_made(bench):
     requests = [dict(zip(("fn", "asc", "desc"), line.split())) for line in lines]
     office.replay([str(request).replace("'", '"').encode() + b"\n" for request in requests])
     change(office.path, repairs()[1])
-    office.told()
+    office.compare_with_model()
 
 
 def check_version_1(bench):

@@ -87,8 +87,8 @@ def keys_for(request):
     names, known, keys, path = functions(), readers(), {}, "role_json/src/calls.rt"
     pattern = rf"Function::(\w+) => \{{\s+let [^=]+ = (\w+)\(([^)]*)\)\?;(?:(?!Function::).)*Request::{request}\("
     for variant, reader, words in found(pattern, path, re.S):
-        told = [(key, "text") for key in re.findall(r'"(\w+)"', words)]
-        keys[names[variant]] = told or keys_of(reader, known)
+        texts = [(key, "text") for key in re.findall(r'"(\w+)"', words)]
+        keys[names[variant]] = texts or keys_of(reader, known)
     for variant in re.findall(rf"Function::(\w+) => Ok\(Request::{request}\(", source(path)):
         keys[names[variant]] = []
     return keys
@@ -108,10 +108,10 @@ def values():
     """What each function answers: the name of its variant of an answer, or how a command is answered."""
     names = functions()
     pattern = r"Query::(\w+)(?: \{[^}]*\})? => .*?\.map\(\s*Answer::(\w+)"
-    told = {names[variant]: sort for variant, sort in found(pattern, "review_mgr/src/asking.rt", re.S)}
+    sorts = {names[variant]: sort for variant, sort in found(pattern, "review_mgr/src/asking.rt", re.S)}
     for name in command_keys():
-        told[name] = "Imported" if name == "importAssignments" else "Done"
-    return told
+        sorts[name] = "Imported" if name == "importAssignments" else "Done"
+    return sorts
 
 
 def refusals():
@@ -133,21 +133,23 @@ def kind_words():
 
 def limits():
     """How many of each kind there may be, in version 2 and in version 1."""
-    words, told = kind_words(), {}
+    words, found_limits = kind_words(), {}
     pattern = r"((?:Kind::\w+(?: \| )?)+)( if version == 1)? => ([\d_]+),"
     for kinds, old, number in found(pattern, "rbac_sets/src/kind.rt"):
         for kind in re.findall(r"Kind::(\w+)", kinds):
-            told[words[kind], 1 if old else 2] = int(number)
-    return {word: (told[word, 2], told.get((word, 1), told[word, 2])) for word in words.values()}
+            found_limits[words[kind], 1 if old else 2] = int(number)
+    return {
+        word: (found_limits[word, 2], found_limits.get((word, 1), found_limits[word, 2])) for word in words.values()
+    }
 
 
 def sizes():
     """The greatest sizes of a request, by what they are of."""
-    told = {"bytes of a body of CSV": limits()["byte"][0]}
+    found_sizes = {"bytes of a body of CSV": limits()["byte"][0]}
     for words, (path, name) in SIZES.items():
         (number,) = found(rf"const {name}: \w+ = ([\d_]+);", path)
-        told[words] = int(number)
-    return told
+        found_sizes[words] = int(number)
+    return found_sizes
 
 
 def patience():
@@ -164,12 +166,12 @@ def statuses():
 
 def codes_by_status(met):
     """The codes that are answered with each status. Of those that functions meet, what no arm names are conflicts."""
-    told, codes = {}, {name: code for code, (name, _) in refusals().items()}
+    codes_of, codes = {}, {name: code for code, (name, _) in refusals().items()}
     for variants, name in found(r"^ +(Refusal::.*) => StatusCode::(\w+),", "role_http/src/status.rt"):
-        told[STATUSES[name]] = {codes[variant] for variant in re.findall(r"Refusal::(\w+)", variants)}
+        codes_of[STATUSES[name]] = {codes[variant] for variant in re.findall(r"Refusal::(\w+)", variants)}
     (other,) = found(r"^ +_ => StatusCode::(\w+),", "role_http/src/status.rt")
-    named = set().union(*told.values())
-    return {**told, STATUSES[other]: set(met) - named}
+    named = set().union(*codes_of.values())
+    return {**codes_of, STATUSES[other]: set(met) - named}
 
 
 def exits():

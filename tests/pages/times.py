@@ -15,7 +15,7 @@ VAGUE = r"\b(?:takes?|took|in|over|about) (?:a|an|half an?) (?:second|minute|hou
 # The times that nobody measured: they are settings of the program and of what is beside it, or promises.
 SETTINGS = {
     "docs/API.md": ["5 seconds"],
-    "docs/CLUSTER.md": ["10 seconds", "90 seconds", "10s", "10 s"],
+    "docs/CLUSTER.md": ["10 seconds", "90 seconds", "10 s"],
     "docs/INTEGRATING.md": ["3 seconds", "5 seconds", "10 seconds", "100 seconds"],
     "docs/NGINX.md": ["30 seconds", "60 seconds"],
     "docs/OPERATING.md": ["10 seconds", "60 seconds"],

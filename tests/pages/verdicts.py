@@ -77,17 +77,17 @@ class Judging:
 @cache
 def refusals():
     """What refuses each function, in order. Of an import it is what refuses its text."""
-    judging, names, told = Judging(), sources.functions(), {}
+    judging, names, found = Judging(), sources.functions(), {}
     pattern = r"Command::(\w+)(?: \{[^}]*\}|\(pairs\)) => (?:Ok\()?(judge_\w+)\(([^;]*?)\),\n"
     for variant, function, handed in sources.found(pattern, "admin_mgr/src/judge.rt"):
         duty = re.search(DUTY, handed)
-        told[names[variant]] = judging.words(function, duty and duty[1])
+        found[names[variant]] = judging.words(function, duty and duty[1])
     for variant, function in sources.found(r"Query::(\w+)(?: \{[^}]*\})? => (\w+)\(", "review_mgr/src/asking.rt"):
-        told[names[variant]] = judging.words(function)
+        found[names[variant]] = judging.words(function)
     reading = reading_of_csv()
-    if not set(told["importAssignments"]) <= set(reading) == set(judging.words("read_assignments")):
-        raise ValueError(f"an import is refused by {told['importAssignments']}, and its text by {reading}")
-    return {**told, "importAssignments": reading}
+    if not set(found["importAssignments"]) <= set(reading) == set(judging.words("read_assignments")):
+        raise ValueError(f"an import is refused by {found['importAssignments']}, and its text by {reading}")
+    return {**found, "importAssignments": reading}
 
 
 def reading_of_csv():

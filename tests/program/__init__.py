@@ -6,7 +6,7 @@ or 1 an office is one file with nothing beside it, and a refusal leaves the file
 
     bench       runs the program and compares what it prints, how it ends and which files it leaves
     offices     offices in files, read and changed by SQLite itself, and what the plain model answers for them
-    lives       offices are made, and go through several runs beside the model
+    runs        offices are made, and go through several runs beside the model
     importing   assignments from CSV files, the export, the role report
     no_offices  files that hold no office of these tables, or none that can be opened
     damaged     offices whose rows were changed, each with the check that fails

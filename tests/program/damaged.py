@@ -1,7 +1,7 @@
 """Offices whose rows were changed: the check that fails is named, and the file stays as it is."""
 
 from .no_offices import refused_by_all
-from .offices import changed, damaged, small_office, told_of, version_refused
+from .offices import changed, damaged, small_office, compare_with_state, version_refused
 
 
 def loose(table):
@@ -116,12 +116,12 @@ def check_most_roles(bench):
     office.change(roles(253))
     state = office.model.state
     state = state.but(roles=state.roles | {f"r{number}" for number in range(253)})
-    told_of(bench, office.path, state)
+    compare_with_state(bench, office.path, state)
     line = b'{"fn":"addRole","role":"more"}\n'
     bench.ends(["replay", office.path], TOO_MANY_ROLES + b"\n", given=line)
     bench.ends(["migrate", office.path])
     bench.ends(["replay", office.path], b'{"ok":true}\n', given=line)
-    told_of(bench, office.path, state.but(version=2, roles=state.roles | {"more"}))
+    compare_with_state(bench, office.path, state.but(version=2, roles=state.roles | {"more"}))
 
 
 def check_what_it_hides(bench):

@@ -85,7 +85,7 @@ def check_refused(bench):
         for name, (request, status, body) in REFUSED.items():
             bench.same(f"request with {name}", server.ask(request), reply(status, body))
         server.ends()
-    office.told()
+    office.compare_with_model()
 
 
 def check_cut(bench):
@@ -98,7 +98,7 @@ def check_cut(bench):
         bench.same("the whole request", server.ask(CURL, cut=True), reply(200, b'{"ok":true}'))
         server.ends()
     office.model.answer(b'{"fn":"addUser","user":"ann"}')
-    office.told()
+    office.compare_with_model()
 
 
 def check_locked(bench):
@@ -111,11 +111,11 @@ def check_locked(bench):
         bench.same("a session of the locked user", server.ask(session), answer)
         server.ends()
     office.model.answer(b'{"fn":"lockUserAccount","user":"ann"}')
-    office.told()
+    office.compare_with_model()
     office.replay([b'{"fn":"unlockUserAccount","user":"ann"}\n'])
     office.become_version_1()
     with Server(bench, office.path, 1) as server:
         answer = reply(409, b'{"code":51,"error":"Version","version":1}')
         bench.same("a lock in version 1", server.ask(post("lockUserAccount", ANN)), answer)
         server.ends()
-    office.told()
+    office.compare_with_model()

@@ -69,11 +69,11 @@ def check_import(bench):
     office.replay([SEPARATED])
     office.model.answer(b'{"fn":"assignUser","role":"clerk","user":"bob"}')
     words = ["import", office.path, bench.write("records.csv", RECORDS)]
-    told = b'{"ok":true,"value":{"already":%d,"assigned":%d,"refused":[{"code":24,"record":3}]}}\n'
-    bench.ends(words, told % (1, 1))
-    office.told()
-    bench.ends(words, told % (2, 0), keeps=True)
-    office.told()
+    report = b'{"ok":true,"value":{"already":%d,"assigned":%d,"refused":[{"code":24,"record":3}]}}\n'
+    bench.ends(words, report % (1, 1))
+    office.compare_with_model()
+    bench.ends(words, report % (2, 0), keeps=True)
+    office.compare_with_model()
 
 
 def check_refused_texts(bench):
@@ -82,7 +82,7 @@ def check_refused_texts(bench):
     for name, (text, line) in REFUSED.items():
         path = bench.write("records.csv", text)
         bench.refuses(["import", office.path, path], line, what=f"import of {name}")
-    office.told()
+    office.compare_with_model()
 
 
 def check_odd_texts(bench):
@@ -90,7 +90,7 @@ def check_odd_texts(bench):
     office = small_office(bench)
     for text in ODD_ASSIGNMENTS:
         imports(office, text.encode())
-    office.told()
+    office.compare_with_model()
 
 
 def check_drawn_texts(bench):
@@ -100,7 +100,7 @@ def check_drawn_texts(bench):
     office.replay([draws.draw()[1] + b"\n" for _ in range(200)])
     for _ in range(25):
         imports(office, draws.draw_csv().encode())
-    office.told()
+    office.compare_with_model()
 
 
 def check_most(bench):
@@ -108,10 +108,10 @@ def check_most(bench):
     office = small_office(bench)
     records = b"user,role\n" + b"ann,clerk\n" * MOST_RECORDS
     path = bench.write("records.csv", records.ljust(MOST_BYTES, b"\n"))
-    told = b'{"ok":true,"value":{"already":%d,"assigned":1,"refused":[]}}\n' % (MOST_RECORDS - 1)
-    bench.ends(["import", office.path, path], told)
+    report = b'{"ok":true,"value":{"already":%d,"assigned":1,"refused":[]}}\n' % (MOST_RECORDS - 1)
+    bench.ends(["import", office.path, path], report)
     office.model.answer(b'{"fn":"assignUser","role":"clerk","user":"ann"}')
-    office.told()
+    office.compare_with_model()
 
 
 def text_of_length(length):
@@ -125,11 +125,11 @@ def check_longest(bench):
     office = small_office(bench)
     path = bench.write("records.csv", text_of_length(MOST_BYTES + 1))
     bench.refuses(["import", office.path, path], b'{"code":32,"error":"TooMany","kind":"byte"}')
-    office.told()
+    office.compare_with_model()
     path = bench.write("records.csv", text_of_length(MOST_BYTES))
     bench.ends(["import", office.path, path], b'{"ok":true,"value":{"already":0,"assigned":1,"refused":[]}}\n')
     office.model.answer(b'{"fn":"assignUser","role":"clerk","user":"ann"}')
-    office.told()
+    office.compare_with_model()
 
 
 def check_unreadable(bench):
@@ -154,7 +154,7 @@ def check_pipe(bench):
     bench.ends(["import", office.path, pipe], b'{"ok":true,"value":{"already":1,"assigned":1,"refused":[]}}\n')
     writer.join(SECONDS)
     office.model.answer(b'{"fn":"assignUser","role":"clerk","user":"ann"}')
-    office.told()
+    office.compare_with_model()
 
 
 def write_slowly(path, pieces):
@@ -207,4 +207,4 @@ def check_long_report(bench):
     lines += [{"fn": "addUser", "user": "ann"}, {"fn": "assignUser", "user": "ann", "role": "r130"}]
     office.replay([json.dumps(line).encode() + b"\n" for line in lines])
     bench.ends(["report", office.path], report(office.model.state), keeps=True)
-    office.told()
+    office.compare_with_model()

@@ -12,7 +12,7 @@ from machine.state import State
 from machine.texts import rows
 
 from .bench import PROGRAM, SECONDS
-from .offices import NO_OFFICE, STORE, Office, rows_of, same_rows, told_of
+from .offices import NO_OFFICE, STORE, Office, rows_of, same_rows, compare_with_state
 from .web import Server, post, reply
 
 # How often `init` is killed, and how many milliseconds later each time.
@@ -44,7 +44,7 @@ def is_left_with(bench, path, state):
     done = bench.run(["check", path])
     bench.same("check after the kill", (done.out, done.err, done.status), (b"good\n", b"", 0))
     bench.same("which files are left", os.listdir(bench.folder), [os.path.basename(path)])
-    told_of(bench, path, state)
+    compare_with_state(bench, path, state)
 
 
 def start_replay(path, given):
@@ -163,13 +163,13 @@ def check_killed_init(bench):
         path = bench.path("office")
         kill_after(["init", path], number / 2)
         done = bench.run(["check", path])
-        told = (done.out, done.err, done.status)
+        outcome = (done.out, done.err, done.status)
         lines = [b"rbac: " + line + b"\n" for line in (STORE, NO_OFFICE)]
         kinds = [(b"good\n", b"", 0), *((b"", line, 1) for line in lines)]
-        bench.same(f"check after {number / 2} ms: {told}", told in kinds, True)
-        if told[2]:
+        bench.same(f"check after {number / 2} ms: {outcome}", outcome in kinds, True)
+        if outcome[2]:
             done = bench.run(["init", path])
             bench.same(f"init after {number / 2} ms", (done.out, done.err, done.status), (b"", b"", 0))
-        told_of(bench, path, State())
+        compare_with_state(bench, path, State())
         bench.same("which files are left", os.listdir(bench.folder), ["office"])
         os.remove(path)

@@ -21,15 +21,15 @@ def check_migration(bench):
     """In version 1 no user is locked; `migrate` prints nothing, keeps all that there is, and is done once."""
     office = small_office(bench)
     office.become_version_1()
-    office.told()
+    office.compare_with_model()
     bench.ends(["replay", office.path], version_refused(1) + b"\n", given=LOCK, keeps=True)
     bench.ends(["migrate", office.path])
     office.model.state = office.model.state.but(version=2)
-    office.told()
+    office.compare_with_model()
     office.replay([b'{"fn":"sessionRoles","session":"s1"}\n', LOCK, b'{"fn":"sessionRoles","session":"s1"}\n'])
-    office.told()
+    office.compare_with_model()
     bench.refuses(["migrate", office.path], version_refused(2))
-    office.told()
+    office.compare_with_model()
 
 
 def check_new_office(bench):
@@ -41,11 +41,11 @@ def check_empty_version_1(bench):
     """An empty office of version 1 is migrated as well."""
     office = Office(bench)
     office.become_version_1()
-    office.told()
+    office.compare_with_model()
     bench.refuses(["init", office.path], STORE)
     bench.ends(["migrate", office.path])
     office.model.state = office.model.state.but(version=2)
-    office.told()
+    office.compare_with_model()
 
 
 def check_table_in_the_way(bench):
@@ -83,9 +83,9 @@ def check_drawn_lives(bench):
         office.become_version_1()
         for _ in range(2):
             office.replay([draws.draw()[1] + b"\n" for _ in range(110)])
-            office.told()
+            office.compare_with_model()
         bench.ends(["migrate", office.path])
         office.model.state = office.model.state.but(version=2)
         for _ in range(2):
             office.replay([draws.draw()[1] + b"\n" for _ in range(60)])
-            office.told()
+            office.compare_with_model()

@@ -44,17 +44,17 @@ class Office:
 
     def replay(self, lines):
         """One run over some lines: the answers are those of the model, and a stop is reported as the model reports it."""
-        life = Replay()
-        life.state = self.model.state
+        run = Replay()
+        run.state = self.model.state
         text = b"".join(lines)
-        answers = b"".join(life.answers(text))
-        self.model = life
-        status = 1 if life.stop else 0
-        self.bench.ends(["replay", self.path], answers, life.message(), status, given=text)
+        answers = b"".join(run.answers(text))
+        self.model = run
+        status = 1 if run.stop else 0
+        self.bench.ends(["replay", self.path], answers, run.message(), status, given=text)
 
-    def told(self):
+    def compare_with_model(self):
         """Checks that the office is that of the model: by what the program prints, and by what SQLite reads."""
-        told_of(self.bench, self.path, self.model.state)
+        compare_with_state(self.bench, self.path, self.model.state)
 
     def change(self, statements):
         """Changes the file by SQLite."""
@@ -66,8 +66,8 @@ class Office:
         self.model.state = self.model.state.but(version=1)
 
 
-def told_of(bench, path, state):
-    """The program and SQLite read from the file what the model has as the state."""
+def compare_with_state(bench, path, state):
+    """Checks that the program and SQLite read this state from the file."""
     bench.ends(["check", path], b"good\n", keeps=True)
     bench.ends(["report", path], report(state), keeps=True)
     bench.ends(["export", path], export(state), keeps=True)

@@ -50,7 +50,7 @@ def check_add_user(bench):
         bench.same("the second request", server.ask(CURL), answer)
         server.ends()
     office.model.answer(ADD_ANN)
-    office.told()
+    office.compare_with_model()
 
 
 def check_limit(bench):
@@ -65,7 +65,7 @@ def check_limit(bench):
         with socket.socket() as client:
             bench.same("a further connection is refused", client.connect_ex((HOST, server.port)) != 0, True)
     office.model.answer(ADD_ANN)
-    office.told()
+    office.compare_with_model()
 
 
 def check_exact_limits(bench):
@@ -84,7 +84,7 @@ def check_exact_limits(bench):
                 client.close()
         for number in range(limit):
             office.model.answer(b'{"fn":"addUser","user":"u%d"}' % number)
-        office.told()
+        office.compare_with_model()
 
 
 def check_greatest_limit(bench):
@@ -106,7 +106,7 @@ def check_address(bench):
         bench.same("a request", server.ask(CURL), reply(200, DONE))
         server.ends()
     office.model.answer(ADD_ANN)
-    office.told()
+    office.compare_with_model()
 
 
 def check_forms(bench):
@@ -130,7 +130,7 @@ def check_forms(bench):
         bench.same("a request in pieces", ask_slowly(server, CURL), reply(200, DONE))
         office.model.answer(ADD_ANN)
         server.ends()
-    office.told()
+    office.compare_with_model()
 
 
 def ask_slowly(server, request):
@@ -148,14 +148,14 @@ def check_import(bench):
     office = Office(bench)
     office.replay([SEPARATED])
     with Server(bench, office.path, 2) as server:
-        told = b'{"ok":true,"value":{"already":%d,"assigned":%d,"refused":[{"code":24,"record":3}]}}'
+        report = b'{"ok":true,"value":{"already":%d,"assigned":%d,"refused":[{"code":24,"record":3}]}}'
         request = head("POST /v1/importAssignments HTTP/1.1", "Content-Length: 50") + RECORDS
-        bench.same("an import", server.ask(request), reply(200, told % (1, 1)))
+        bench.same("an import", server.ask(request), reply(200, report % (1, 1)))
         request = post("importAssignments", RECORDS.ljust(MOST_BYTES, b"\n"))
-        bench.same("the longest import", server.ask(request), reply(200, told % (2, 0)))
+        bench.same("the longest import", server.ask(request), reply(200, report % (2, 0)))
         server.ends()
     office.model.answer(b'{"fn":"assignUser","role":"clerk","user":"bob"}')
-    office.told()
+    office.compare_with_model()
 
 
 def request_of(line):
@@ -173,10 +173,10 @@ def request_of(line):
 
 def status_of(answer):
     """The status of an answer."""
-    told = json.loads(answer)
-    if "ok" in told:
+    parsed = json.loads(answer)
+    if "ok" in parsed:
         return 200
-    return 400 if told["code"] in (1, 34, 36) else 409
+    return 400 if parsed["code"] in (1, 34, 36) else 409
 
 
 def check_drawn_requests(bench):
@@ -194,7 +194,7 @@ def check_drawn_requests(bench):
                     wanted = reply(status_of(answer), answer)
                     bench.same(f"the request {request!r}", server.ask(request), wanted)
                 server.ends()
-            office.told()
+            office.compare_with_model()
 
 
 def check_silent_client(bench):
@@ -219,7 +219,7 @@ def silent_before(bench, said):
         bench.same("the silent client", read_all(silent), b"")
         server.ends()
     office.model.answer(ADD_ANN)
-    office.told()
+    office.compare_with_model()
 
 
 def check_refused_early(bench):
@@ -234,7 +234,7 @@ def check_refused_early(bench):
         bench.same("the next client", server.ask(CURL), reply(200, DONE))
         server.ends()
     office.model.answer(ADD_ANN)
-    office.told()
+    office.compare_with_model()
 
 
 def check_refused_body(bench):
@@ -247,7 +247,7 @@ def check_refused_body(bench):
         bench.same("the next client", server.ask(CURL), reply(200, DONE))
         server.ends()
     office.model.answer(ADD_ANN)
-    office.told()
+    office.compare_with_model()
 
 
 def is_closed(client):
@@ -276,7 +276,7 @@ def check_endless(bench):
         bench.same("the next client", server.ask(CURL), reply(200, DONE))
         server.ends()
     office.model.answer(ADD_ANN)
-    office.told()
+    office.compare_with_model()
 
 
 def ask_whole(server, request):
@@ -303,7 +303,7 @@ def check_resets(bench):
         bench.same("the next client", server.ask(CURL), reply(200, DONE))
         server.ends()
     office.model.answer(ADD_ANN)
-    office.told()
+    office.compare_with_model()
 
 
 def check_port_in_use(bench):
@@ -316,7 +316,7 @@ def check_port_in_use(bench):
         words = ["--port", str(port), "--limit", "1"]
         bench.refuses(["serve", office.path, *words], b"cannot listen", what="serve on a port in use")
         bench.refuses(["serve", bench.path("away"), *words], STORE, what="serve of no file on a port in use")
-    office.told()
+    office.compare_with_model()
 
 
 def check_low_port(bench):
@@ -332,7 +332,7 @@ def check_low_port(bench):
         bench.same(f"a request on port {port}", server.ask(CURL), reply(200, DONE))
         server.ends()
     office.model.answer(ADD_ANN)
-    office.told()
+    office.compare_with_model()
 
 
 def check_file_in_use(bench):
@@ -346,4 +346,4 @@ def check_file_in_use(bench):
         bench.same("a request", server.ask(CURL), reply(200, DONE))
         server.ends()
     office.model.answer(ADD_ANN)
-    office.told()
+    office.compare_with_model()

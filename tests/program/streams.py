@@ -21,9 +21,9 @@ def check_no_output_of_replay(bench):
         stop = b"rbac: stop Write after 0\n"
         bench.ends(["replay", office.path], err=stop, status=1, given=ADD_USERS, redirected=redirected)
         office.model.answer(ADD_USERS.splitlines()[0])
-        office.told()
+        office.compare_with_model()
         bench.ends(["replay", office.path], given=b"", redirected=redirected)
-        office.told()
+        office.compare_with_model()
 
 
 def check_no_output_of_others(bench):
@@ -33,7 +33,7 @@ def check_no_output_of_others(bench):
     for redirected in NO_OUTPUTS:
         for words in (["check", office.path], ["export", office.path], ["report", office.path], serve):
             bench.refuses(words, STORE, redirected=redirected)
-    office.told()
+    office.compare_with_model()
 
 
 def check_no_output_of_import(bench):
@@ -43,7 +43,7 @@ def check_no_output_of_import(bench):
         words = ["import", office.path, bench.write("records.csv", RECORDS)]
         bench.ends(words, err=REFUSED, status=1, redirected=redirected)
         office.model.answer(b'{"fn":"assignUser","role":"clerk","user":"ann"}')
-        office.told()
+        office.compare_with_model()
 
 
 def check_no_output_needed(bench):
@@ -55,7 +55,7 @@ def check_no_output_needed(bench):
         office.become_version_1()
         bench.ends(["migrate", office.path], redirected=redirected)
         office.model.state = office.model.state.but(version=2)
-        office.told()
+        office.compare_with_model()
 
 
 def check_no_errors(bench):
@@ -69,11 +69,11 @@ def check_no_errors(bench):
         bench.ends(["fly"], status=2, redirected=redirected)
         bench.ends(["import", office.path, bench.path("away")], status=1, redirected=redirected, keeps=True)
         bench.ends(["replay", office.path], status=1, given=b" " * 70_000, redirected=redirected)
-    office.told()
+    office.compare_with_model()
     bench.ends(["replay", office.path], b'{"ok":true}\n' * 2, given=ADD_USERS, redirected=NO_ERRORS[1])
     for line in ADD_USERS.splitlines():
         office.model.answer(line)
-    office.told()
+    office.compare_with_model()
 
 
 def check_no_input(bench):
@@ -84,10 +84,10 @@ def check_no_input(bench):
     bench.ends(["replay", "--memory"], err=b"rbac: stop Read after 0\n", status=1, redirected="<&-")
     bench.ends(["check", office.path], b"good\n", redirected="<&-", keeps=True)
     bench.ends(["export", office.path], b"user,role\nann,boss\nbob,clerk\n", redirected="<&-", keeps=True)
-    told = b'{"ok":true,"value":{"already":1,"assigned":0,"refused":[]}}\n'
-    bench.ends(["import", office.path, records], told, redirected="<&-")
+    report = b'{"ok":true,"value":{"already":1,"assigned":0,"refused":[]}}\n'
+    bench.ends(["import", office.path, records], report, redirected="<&-")
     bench.refuses(["replay", office.path], b"stop Read after 0", redirected="</")
-    office.told()
+    office.compare_with_model()
 
 
 def check_stops_at_long_lines(bench):
@@ -108,10 +108,10 @@ def check_no_streams(bench):
         bench.ends(["check", office.path], err=err, status=1, redirected=redirected, keeps=True)
         err = b"" if "2>" in redirected else b"rbac: stop Read after 0\n"
         bench.ends(["replay", office.path], err=err, status=1, redirected=redirected, keeps=True)
-    office.told()
+    office.compare_with_model()
     bench.ends(["replay", office.path], status=1, given=ADD_USERS, redirected=">&- 2>&-")
     office.model.answer(ADD_USERS.splitlines()[0])
-    office.told()
+    office.compare_with_model()
 
 
 def check_help_without_output(bench):
@@ -143,4 +143,4 @@ def check_reader_gone(bench):
     for line in lines[:3]:
         office.model.answer(line)
     bench.same("which files are left", sorted(os.listdir(bench.folder)), ["office"])
-    office.told()
+    office.compare_with_model()

@@ -1,4 +1,4 @@
-"""Drivers: a program in each language that does with a replica what it is told.
+"""Drivers: a program in each language that does with a replica what its input says.
 
 Each line of its input is an object with the key `do`, and each line of its output says what came of it:
 

@@ -21,7 +21,7 @@ from .drawing import QUESTIONS, Drawn, reason_of
 from .driving import LONG, Driven, jobs
 from .proxies import Proxy
 
-# How many commands are sent a second, in batches of so many, and for how many seconds.
+# How many commands are sent a second, in batches of how many, and for how many seconds.
 RATE, BATCH, SECONDS_OF_A_ROUND = 1_000, 20, 6
 ROUNDS = 20
 
@@ -38,7 +38,7 @@ class Writer:
         self.faults = []
         # The number after a start of the front, and how many commands had been done then.
         self.epochs = [(self.number(), 0)]
-        # When so many commands had been answered.
+        # At each of these times, how many commands had been answered.
         self.times, self.counts = [], []
 
     def snapshot(self):

@@ -53,7 +53,7 @@ def stop_each(bench, name, calls, like, how):
         path = lay(bench, content)
         settings = stopper.settings(number, like, calls, how == "ever")
         done = stopper.run(story.words(path), story.given, **settings)
-        if stopper.told is None:
+        if stopper.report is None:
             break
         what = f"{name}, call {number} ({stopper.call}) stopped by {like} {how}"
         ended = like in ("exit", "half")
@@ -80,7 +80,7 @@ def fail_checkpoint(bench, name, how):
     for number in range(1, MOST):
         path = lay(bench, content)
         done = stopper.run(story.words(path), story.given, **stopper.settings(number, errno.EIO, ever=how == "ever"))
-        if stopper.told is None:
+        if stopper.report is None:
             break
         if stopper.answers < len(story.answers) or not stopper.call.endswith(" office"):
             continue
@@ -102,7 +102,7 @@ def refuse_making(bench, before, how):
     for number in range(1, MOST):
         path = lay(bench, before)
         done = stopper.run(["init", path], **stopper.settings(number, errno.EIO, ever=how == "ever"))
-        if stopper.told is None:
+        if stopper.report is None:
             break
         left = {name: content for name, content in bench.contents().items() if (name, content) != ("office-wal", b"")}
         if done.status == 0 or len(left.get("office", b"")) > BEGUN or len(left.get("office-wal", b"")) >= SHORTEST_LOG:
@@ -142,7 +142,7 @@ def keep_small_log(bench, calls, how):
         path = lay(bench, files["office"])
         bench.write("office-wal", files["office-wal"])
         done = stopper.run(story.words(path), **stopper.settings(number, errno.EIO, calls, how == "ever"))
-        if stopper.told is None:
+        if stopper.report is None:
             break
         what = f"check beside a small log, call {number} ({stopper.call}) stopped {how}"
         judge_end(bench, what, story, done)

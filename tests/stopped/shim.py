@@ -20,13 +20,13 @@ def run_program(bench, words, given=b"", **more):
 
 
 class Shim:
-    """A shim, built beside the folder of a bench. `told` is what it wrote about the call that it stopped."""
+    """A shim, built beside the folder of a bench. `report` is what it wrote about the call that it stopped."""
 
     def __init__(self, bench, source):
         self.bench = bench
         self.library = beside(bench, "shim.so")
-        self.file = beside(bench, "told")
-        self.told = None
+        self.file = beside(bench, "report")
+        self.report = None
         command = ["cc", "-O1", "-Wall", "-Wextra", "-Werror", "-shared", "-fPIC", "-o", self.library]
         subprocess.run([*command, str(TESTS / source)], check=True)
 
@@ -41,11 +41,11 @@ class Shim:
 
     def ask(self):
         """Reads what it wrote about the call that it stopped: None if there were fewer calls."""
-        self.told = None
+        self.report = None
         if os.path.exists(self.file):
             with open(self.file, encoding="utf-8") as file:
-                self.told = file.read()
-        return self.told
+                self.report = file.read()
+        return self.report
 
     def run(self, words, given=b"", **settings):
         """Runs the program under it, and keeps what it writes."""
@@ -70,9 +70,9 @@ class Stopper(Shim):
     @property
     def answers(self):
         """How many answers there were when the call was stopped."""
-        return int(self.told.split()[0])
+        return int(self.report.split()[0])
 
     @property
     def call(self):
         """Which call was stopped, and on which file."""
-        return " ".join(self.told.split()[1:])
+        return " ".join(self.report.split()[1:])

@@ -100,7 +100,7 @@ def makes_evidence(bench):
     bench.same("the version of sqlite3", third, f"# sqlite3: {version}")
     bench.same("how sessions are shown", fourth, "# sessions: by the digests of their names")
     bench.same("the mode of the folder", folder.stat().st_mode & 0o777, 0o700)
-    named = {os.path.realpath(folder / name): told for told, name in (line.split("  ", 1) for line in lines)}
+    named = {os.path.realpath(folder / name): stated for stated, name in (line.split("  ", 1) for line in lines)}
     paths = map(os.path.realpath, [office.path, PROGRAM, *(folder / name for name in made)])
     bench.same("the digests", named, {path: digest(path) for path in paths})
     checking = ["sha256sum", "--check", "--strict", "--quiet", "evidence.txt"]

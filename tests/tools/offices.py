@@ -120,18 +120,18 @@ def compare_reports(bench, what, path, state):
 
 def ask_permissions(bench, what, path, state, found):
     """What users and sessions may do as reported is what the program answers: by review functions and by checkAccess."""
-    told = {("user", user): set() for user in sorted(state.users)}
-    told |= {("session", name): set() for name in sorted(state.sessions)}
+    reported = {("user", user): set() for user in sorted(state.users)}
+    reported |= {("session", name): set() for name in sorted(state.sessions)}
     for user, _, ob, op, *_ in found["permissions"]:
-        told["user", user].add((ob, op))
+        reported["user", user].add((ob, op))
     for name, _, _, ob, op, _ in found["sessions"]:
-        told["session", name] |= {(ob, op)} if ob else set()
-    given = answers(bench, path, [line_of(f"{key}Permissions", **{key: name}) for key, name in told])
-    for ((key, name), pairs), answer in zip(told.items(), given, strict=True):
+        reported["session", name] |= {(ob, op)} if ob else set()
+    given = answers(bench, path, [line_of(f"{key}Permissions", **{key: name}) for key, name in reported])
+    for ((key, name), pairs), answer in zip(reported.items(), given, strict=True):
         bench.same(f"what the {key} {name} may do in {what}", sorted(pairs), [tuple(pair) for pair in answer["value"]])
     asked = [(name, ob, op) for name in sorted(state.sessions) for ob, op in sorted(state.permissions)]
     given = answers(bench, path, [line_of("checkAccess", session=name, object=ob, operation=op) for name, ob, op in asked])
-    allowed = [(ob, op) in told["session", name] for name, ob, op in asked]
+    allowed = [(ob, op) in reported["session", name] for name, ob, op in asked]
     bench.same(f"accesses in {what}", allowed, [answer["value"] for answer in given])
 
 
@@ -208,8 +208,8 @@ def replay_digests(bench, what, path, state, text):
     bench.same(f"the order of the sessions in the dump of {what}", shown, sorted(shown))
     less = bench.path("less")
     bench.ends(["init", less], makes=["less"])
-    told = answers(bench, less, [json_text(request).encode() + b"\n" for request in given])
-    refused = [request["fn"] for request, answer in zip(given, told, strict=True) if answer != {"ok": True}]
+    answered = answers(bench, less, [json_text(request).encode() + b"\n" for request in given])
+    refused = [request["fn"] for request, answer in zip(given, answered, strict=True) if answer != {"ok": True}]
     bench.same(f"what the dump of {what} without names does not make", refused, ["createSession"] * len(state.sessions))
     wanted_rows = rows(state.but(version=2, sessions={}))
     same_rows(bench, f"the rows of the dump of {what} without names", read_rows(less), wanted_rows)
@@ -245,12 +245,12 @@ def differ(bench, what, before, after, has_names):
     first, second = (wanted.sentences(state, has_names) for _, state in (before, after))
     done = run_script("difference.py", *["--with-sessions"] * has_names, *paths)
     *lines, count = done.out.decode().split("\n")[:-1]
-    told = [f"- {one}" for one in first - second] + [f"+ {one}" for one in second - first]
-    bench.same(f"the difference of {what}", sorted(lines), sorted(told))
+    differences = [f"- {one}" for one in first - second] + [f"+ {one}" for one in second - first]
+    bench.same(f"the difference of {what}", sorted(lines), sorted(differences))
     bench.same(
         f"the end of the difference of {what}",
         (count, done.err, done.status),
-        (f"{len(first - second)} only in the first, {len(second - first)} only in the second", b"", 1 if told else 0),
+        (f"{len(first - second)} only in the first, {len(second - first)} only in the second", b"", 1 if differences else 0),
     )
 
 

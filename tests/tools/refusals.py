@@ -171,9 +171,9 @@ def agrees(bench, what, statements, tables, after=()):
     """
     path = bench.path("changed")
     write(path, statements, tables, after)
-    checked, told = bench.run(["check", path]), run_tool("room", path)
+    checked, measured = bench.run(["check", path]), run_tool("room", path)
     said = (checked.err or checked.out).decode().strip()
-    bench.same(f"{what}, {said}: whether it is refused", told.status != 0, checked.status != 0)
+    bench.same(f"{what}, {said}: whether it is refused", measured.status != 0, checked.status != 0)
     check = re.search(r'"check":(\d+)|"code":(32)', said)
     if checked.status == 0 or check:
         numbers, faults = numbers_shown(path)

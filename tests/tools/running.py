@@ -18,7 +18,7 @@ REPORTS = ["permissions", "near", "sessions", "room", "dump", "picture"]
 # The external programs that the tools need.
 NEEDED = ["sqlite3", "dot"]
 
-# How sqlite3 is told to show sessions by their names, as the header of tools/dump.sql says.
+# The arguments that make sqlite3 show sessions by their names, as the header of tools/dump.sql says.
 NAMED = ["-cmd", ".parameter set @with_sessions 1"]
 
 

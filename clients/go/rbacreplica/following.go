@@ -17,7 +17,8 @@ const (
 	longestWatch = 10 * time.Minute
 	// firstPause is that before the front is asked again after a second failure. Each further one is twice as long.
 	firstPause, longestPause = 50 * time.Millisecond, time.Second
-	// young is for how long the roles of a session that began without some may still be on their way; so many such are kept.
+	// young is for how long the roles of a session that began without some may still be on their way; at most mostYoung such sessions
+	// are kept.
 	young, mostYoung = 2 * time.Second, 4_096
 )
 

@@ -22,7 +22,7 @@ func TestHelp(t *testing.T) {
 	}
 }
 
-// systemd is told that the process is ready, and then again and again that it is alive, but only while it is.
+// The process reports to systemd that it is ready, and then again and again that it is alive, but only while it is.
 func TestWatchdog(t *testing.T) {
 	path := filepath.Join(t.TempDir(), "notify")
 	socket, err := net.ListenUnixgram("unixgram", &net.UnixAddr{Name: path, Net: "unixgram"})

@@ -18,7 +18,8 @@ func notify(state string) {
 	_, _ = conn.Write([]byte(state))
 }
 
-// watchdog tells systemd that the process is ready, and as long as it is alive. If it is not, systemd starts it again.
+// watchdog reports to systemd that the process is ready, and then, again and again, that it is alive. If the reports stop, systemd
+// starts it again.
 func watchdog(ctx context.Context, isAlive func(context.Context) bool) {
 	notify("READY=1")
 	microseconds, err := strconv.ParseInt(os.Getenv("WATCHDOG_USEC"), 10, 64)

@@ -7,7 +7,7 @@ import (
 	"net/http"
 )
 
-// A batch has at most so many lines, so many of them commands, and so many bytes.
+// The limits of a batch: of its lines, of those of them that are commands, and of its bytes.
 const (
 	MaxBatchLines, MaxBatchCommands = 1000, 100
 	MaxBatchBytes                   = 2_097_152
@@ -15,7 +15,7 @@ const (
 
 // A Batch is some calls that an office does in their order, with nothing of others between them.
 type Batch struct {
-	// Kind is Command if one of the calls is a command, and else how all of them are to be answered.
+	// Kind is Command if one of the calls is a command, and otherwise how all of them are to be answered.
 	Kind  Kind
 	Calls []*Call
 	Rule  Rule

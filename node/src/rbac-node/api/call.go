@@ -152,7 +152,7 @@ func fieldsOf(text []byte) (found map[string]json.RawMessage, err error) {
 	return found, nil
 }
 
-// isStrict tells whether a JSON text has nothing that Go's library accepts and the office refuses: bytes that are not
+// isStrict reports whether a JSON text has nothing that Go's library accepts and the office refuses: bytes that are not
 // UTF-8, half a surrogate pair, which the library replaces without a word, deep nesting, and numbers that are too
 // large.
 func isStrict(text []byte) bool {

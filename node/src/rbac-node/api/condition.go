@@ -63,7 +63,7 @@ func Do(ctx context.Context, office Office, b Batch) (Answers, error) {
 // An asking returns the answers to some calls, with nothing of others between them, when all before them have been answered.
 type asking func(calls ...*Call) ([][]byte, error)
 
-// Run does calls as the rule says, but for its revision, and returns the answers to those that were done.
+// Run does calls as the rule says, whatever its revision is, and returns the answers to those that were done.
 func (r Rule) Run(calls []*Call, ask asking) (answers [][]byte, err error) {
 	switch {
 	case r.IsOpening:

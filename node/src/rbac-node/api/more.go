@@ -19,7 +19,7 @@ var UnknownFunction = unknownFunction
 // Write answers a request with a text of JSON, and returns the status.
 func Write(w http.ResponseWriter, status int, text []byte) int { return write(w, status, text) }
 
-// ReadBody returns the body of a request by POST that has at most so many bytes.
+// ReadBody returns the body of a request by POST, which may have at most this many bytes.
 func ReadBody(r *http.Request, most int64) ([]byte, error) {
 	switch {
 	case len(r.TransferEncoding) > 0:

@@ -206,7 +206,7 @@ func readEntity(value json.RawMessage) (read entity, err error) {
 	return read, err
 }
 
-// query returns what the office decides. The object is the id of the resource if its type is "object", and else TYPE:ID. So a type
+// query returns what the office decides. The object is the id of the resource if its type is "object", and otherwise TYPE:ID. So a type
 // has no colon: otherwise two resources could be one object.
 func (asked evaluation) query() (q query, err error) {
 	for _, text := range []string{asked.subject.kind, asked.subject.id, asked.action, asked.resource.kind, asked.resource.id} {

@@ -41,11 +41,11 @@ type Visitor interface {
 type Options struct {
 	// PublicURL is where clients find the front, or empty.
 	PublicURL string
-	// Note is told how a request was answered.
+	// Note is called after each answer, with its kind and status, and when the request began.
 	Note func(kind api.Kind, status int, start time.Time)
 	// Sign writes on a command who asks for it and why, or refuses it.
 	Sign func(r *http.Request, visitor Visitor, call *api.Call) error
-	// Denied is told that a caller may not do something.
+	// Denied is called if a caller may not do something.
 	Denied func(r *http.Request, visitor Visitor, err error)
 }
 

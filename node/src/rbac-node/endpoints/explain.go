@@ -57,18 +57,18 @@ func (e *Endpoints) explain(r *request) (int, error) {
 	if err != nil {
 		return 0, err
 	}
-	told, refused, err := e.explained(r, q, base)
+	shown, refused, err := e.explained(r, q, base)
 	if err != nil {
 		return 0, err
 	}
 	if refused != nil {
 		return r.reply(api.StatusOf(refused), refused), nil
 	}
-	return r.replyValue(told)
+	return r.replyValue(shown)
 }
 
 // explained explains a query, or returns how the office refuses it.
-func (e *Endpoints) explained(r *request, q query, base *api.Call) (told *explanation, refused []byte, err error) {
+func (e *Endpoints) explained(r *request, q query, base *api.Call) (shown *explanation, refused []byte, err error) {
 	if q.user != "" {
 		return e.explainedUser(r, q)
 	}
@@ -76,7 +76,7 @@ func (e *Endpoints) explained(r *request, q query, base *api.Call) (told *explan
 }
 
 // explainedUser explains a query about a user.
-func (e *Endpoints) explainedUser(r *request, q query) (told *explanation, refused []byte, err error) {
+func (e *Endpoints) explainedUser(r *request, q query) (shown *explanation, refused []byte, err error) {
 	questions, err := q.questions()
 	if err != nil {
 		return nil, nil, err
@@ -93,14 +93,14 @@ func (e *Endpoints) explainedUser(r *request, q query) (told *explanation, refus
 	if err != nil || found.code != 0 {
 		return nil, found.text(), err
 	}
-	told = &explanation{Allowed: found.allowed}
+	shown = &explanation{Allowed: found.allowed}
 	if !r.mayAsk("permissionRoles", q) || !r.mayAsk("authorizedRoles", q) || !r.mayAsk("assignedRoles", q) {
-		return told, nil, nil
+		return shown, nil, nil
 	}
 	// To whom a lock is shown is the one who may change it: no function answers it.
-	told.Locked = found.isLocked && r.mayAsk("lockUserAccount", q)
+	shown.Locked = found.isLocked && r.mayAsk("lockUserAccount", q)
 	for _, role := range found.by {
-		told.By = append(told.By, source{Assigned: above(seen.graph, assigned, role), Role: role})
+		shown.By = append(shown.By, source{Assigned: above(seen.graph, assigned, role), Role: role})
 	}
 	hasSets := r.mayAsk("dsdRoleSetRoles", q)
 	for _, role := range found.blocked {
@@ -108,13 +108,13 @@ func (e *Endpoints) explainedUser(r *request, q query) (told *explanation, refus
 		if hasSets {
 			one.Set, one.Members = seen.graph.Blocked(role)
 		}
-		told.Blocked = append(told.Blocked, one)
+		shown.Blocked = append(shown.Blocked, one)
 	}
-	return told, nil, nil
+	return shown, nil, nil
 }
 
 // explainedSession explains a query about a session.
-func (e *Endpoints) explainedSession(r *request, q query, base *api.Call) (told *explanation, refused []byte, err error) {
+func (e *Endpoints) explainedSession(r *request, q query, base *api.Call) (shown *explanation, refused []byte, err error) {
 	granted, err := api.NewCall("permissionRoles", "object", q.object, "operation", q.operation)
 	if err != nil {
 		return nil, nil, err
@@ -139,29 +139,29 @@ func (e *Endpoints) explainedSession(r *request, q query, base *api.Call) (told 
 	if !api.IsAccepted(answers[0]) {
 		return nil, answers[0], nil
 	}
-	told = &explanation{Allowed: decisionOf(answers[0]).allowed}
+	shown = &explanation{Allowed: decisionOf(answers[0]).allowed}
 	q.user = session.User
 	if !r.mayAsk("permissionRoles", q) || !r.mayAsk("sessionRoles", q) {
-		return told, nil, nil
+		return shown, nil, nil
 	}
-	err = told.addSources(answers[1], answers[2], sources{
+	err = shown.addSources(answers[1], answers[2], sources{
 		graph: graph, activated: session.Active, assigned: assigned,
-		isTold: r.mayAsk("assignedRoles", q) && r.mayAsk("authorizedRoles", q),
+		showsRoles: r.mayAsk("assignedRoles", q) && r.mayAsk("authorizedRoles", q),
 	})
-	return told, nil, err
+	return shown, nil, err
 }
 
 // Sources are the roles that a permission can come from.
 type sources struct {
 	graph               *state.Graph
 	activated, assigned []string
-	// isTold says that the caller may know the roles that the user is assigned to.
-	isTold bool
+	// showsRoles says that the caller may know the roles that the user is assigned to.
+	showsRoles bool
 }
 
 // addSources adds by which roles a session has a permission, and by which it might, by the answers to permissionRoles and to
 // sessionRoles. No role has a permission that doesn't exist.
-func (told *explanation) addSources(granted, roles []byte, from sources) error {
+func (shown *explanation) addSources(granted, roles []byte, from sources) error {
 	var all, own []string
 	if !api.IsAccepted(granted) {
 		return nil
@@ -175,14 +175,14 @@ func (told *explanation) addSources(granted, roles []byte, from sources) error {
 	for _, role := range all {
 		assigned := above(from.graph, from.assigned, role)
 		one := source{Activated: above(from.graph, from.activated, role), Assigned: []string{}, Role: role}
-		if from.isTold {
+		if from.showsRoles {
 			one.Assigned = assigned
 		}
 		switch {
 		case has(own, role):
-			told.By = append(told.By, one)
-		case from.isTold && len(assigned) > 0:
-			told.Inactive = append(told.Inactive, one)
+			shown.By = append(shown.By, one)
+		case from.showsRoles && len(assigned) > 0:
+			shown.Inactive = append(shown.Inactive, one)
 		}
 	}
 	return nil

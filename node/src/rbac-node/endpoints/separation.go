@@ -52,13 +52,13 @@ func (e *Endpoints) explainCommand(r *request, line json.RawMessage) (int, error
 		return 0, err
 	}
 	found := s.Conflicts(call)
-	told := separation{Refused: len(found) > 0}
+	shown := separation{Refused: len(found) > 0}
 	for _, one := range found {
 		if r.mayAskAll(setFunctions(one.IsStatic)...) {
-			told.Conflicts = append(told.Conflicts, r.conflictOf(one))
+			shown.Conflicts = append(shown.Conflicts, r.conflictOf(one))
 		}
 	}
-	return r.replyValue(told)
+	return r.replyValue(shown)
 }
 
 // setFunctions returns the functions whose answers say what a set is.
@@ -71,22 +71,22 @@ func setFunctions(isStatic bool) []string {
 
 // conflictOf returns what the visitor may know of a set that would be violated.
 func (r *request) conflictOf(one state.Conflict) conflict {
-	told := conflict{Cardinality: one.Cardinality, Kind: "dynamic", Roles: one.Roles, Set: one.Name}
+	shown := conflict{Cardinality: one.Cardinality, Kind: "dynamic", Roles: one.Roles, Set: one.Name}
 	shows := []string{api.Lists} // Nothing else says whose a session is.
 	if one.IsStatic {
-		told.Kind, shows = "static", []string{"assignedRoles", "authorizedUsers"}
+		shown.Kind, shows = "static", []string{"assignedRoles", "authorizedUsers"}
 	}
 	if !r.mayAskAll(shows...) {
-		return told
+		return shown
 	}
 	for _, has := range one.Holders {
 		next := holder{Session: has.Digest, User: has.User, Members: []held{}}
 		for _, member := range has.Members {
 			next.Members = append(next.Members, held{member.By, member.Role})
 		}
-		told.Holders = append(told.Holders, next)
+		shown.Holders = append(shown.Holders, next)
 	}
-	return told
+	return shown
 }
 
 // mayAskAll reports whether the visitor may ask some functions about everything.

@@ -143,7 +143,7 @@ func (f *Feed) Do(ctx context.Context, u *Unit) ([][]byte, error) {
 	return u.Answers, nil
 }
 
-// IsAlive tells whether the goroutine that passes lines goes on, before the context ends.
+// IsAlive reports whether the goroutine that passes lines goes on, before the context ends.
 func (f *Feed) IsAlive(ctx context.Context) bool {
 	if f.starting.Load() {
 		return true // It is killed if it answers nothing for too long.

@@ -85,7 +85,7 @@ var finalErrors = []error{
 	rpctypes.ErrUserEmpty,
 }
 
-// isFinal tells whether another attempt would fail in the same way.
+// isFinal reports whether another attempt would fail in the same way.
 func isFinal(err error) bool {
 	for _, final := range finalErrors {
 		if errors.Is(err, final) {

@@ -56,7 +56,7 @@ func (n *Node) ServeHealth(w http.ResponseWriter, _ *http.Request) {
 	_ = json.NewEncoder(w).Encode(s)
 }
 
-// IsAlive tells whether the goroutine that feeds the replay goes on, before the context ends.
+// IsAlive reports whether the goroutine that feeds the replay goes on, before the context ends.
 func (n *Node) IsAlive(ctx context.Context) bool {
 	if !n.isFed.Load() {
 		return true // It has not been started yet.

@@ -70,7 +70,7 @@ func (n *Node) keep(ctx context.Context) error {
 	}
 }
 
-// attempt does something that may fail, and tells whether it succeeded.
+// attempt does something that may fail, and reports whether it succeeded.
 func (n *Node) attempt(ctx context.Context, otherwise string, do func(context.Context) error) bool {
 	within, cancel := context.WithTimeout(ctx, lookTimeout)
 	defer cancel()

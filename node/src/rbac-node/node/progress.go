@@ -10,7 +10,7 @@ type progress struct {
 	waiting        []waiting
 }
 
-// What is waiting is done when so many lines are answered.
+// A waiting call is done as soon as this many lines are answered.
 type waiting struct {
 	answered int64
 	do       func()
@@ -33,7 +33,7 @@ func (p *progress) answer() {
 	}
 }
 
-// then calls a function when all lines that were sent are answered: at once, or where the answers are read. It must not wait.
+// then calls a function when all lines that were sent are answered: at once, or by the goroutine that reads the answers. It must not wait.
 func (p *progress) then(do func()) {
 	p.mutex.Lock()
 	defer p.mutex.Unlock()

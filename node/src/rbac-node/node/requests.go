@@ -32,7 +32,7 @@ type reply struct {
 	err     error
 }
 
-// isWaiting tells whether somebody waits for the answer.
+// isWaiting reports whether somebody waits for the answer.
 func (r *request) isWaiting() bool {
 	select {
 	case <-r.over:

@@ -56,7 +56,7 @@ func (r *Record) reconcile(ctx context.Context, scratch string) error {
 		return err
 	}
 	defer func() { _ = again.Close() }() // What it has done is thrown away.
-	if err := again.each(ctx, r.told(entriesAfter(ctx, r.db, n, answered.n), answered.n-n)); err != nil {
+	if err := again.each(ctx, r.reporting(entriesAfter(ctx, r.db, n, answered.n), answered.n-n)); err != nil {
 		return err
 	}
 	open, err := openEntries(ctx, r.db, answered.n)
@@ -80,8 +80,8 @@ func (r *Record) reconcile(ctx context.Context, scratch string) error {
 // sayingInterval is after how many commands it is said how many were done again.
 const sayingInterval = 100
 
-// told returns entries as next does, and says how many of them it has returned.
-func (r *Record) told(next func() (*entry, error), all int64) func() (*entry, error) {
+// reporting returns entries as next does, and reports how many of them it has returned.
+func (r *Record) reporting(next func() (*entry, error), all int64) func() (*entry, error) {
 	done := 0
 	return func() (*entry, error) {
 		if done%sayingInterval == 0 {
@@ -92,7 +92,7 @@ func (r *Record) told(next func() (*entry, error), all int64) func() (*entry, er
 	}
 }
 
-// settle keeps the answers that were found, and deletes the entries that were never done: nobody was told of them.
+// settle keeps the answers that were found, and deletes the entries that were never done: nobody got an answer to them.
 func (r *Record) settle(open []entry, done int) error {
 	if len(open) == 0 {
 		return nil

@@ -125,7 +125,7 @@ func (r *rerun) look(look func(c *officeCopy) error) error {
 }
 
 // fit does entries without an answer, one after another, and returns how many of them give these rows: the most that do, so that
-// nothing is left out that anybody was told of. It returns -1 if the rows never come. The entries get their answers.
+// nothing is left out that anybody got an answer to. It returns -1 if the rows never come. The entries get their answers.
 func (r *rerun) fit(ctx context.Context, open []entry, want sums) (int, error) {
 	most := -1
 	same, err := r.has(ctx, want)

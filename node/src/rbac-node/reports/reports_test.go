@@ -166,7 +166,7 @@ func TestSessionsAndNear(t *testing.T) {
 	}
 }
 
-// A dump makes the same office, but for its sessions.
+// A dump makes the same office, except for its sessions.
 func TestDump(t *testing.T) {
 	office := made(t, drawn(rand.New(rand.NewSource(3)))...)
 	var lines []string

@@ -41,7 +41,7 @@ type Options struct {
 	IsOpen bool
 	// SessionAge is after how much time a session ends, and SessionIdle after how much in which it isn't named. Zero is never.
 	SessionAge, SessionIdle time.Duration
-	// Locked is called when the office belongs to this front, and is there. Say is told what the start does from then on.
+	// Locked is called when the office belongs to this front, and is there. Say is called with what the start does from then on.
 	Locked func() error
 	Say    func(stage string)
 	// CheckRecord refuses what the record can't be that of, before the office is made, and OpenRecord opens the record. Without them
@@ -216,7 +216,7 @@ func (o *Office) Close() error {
 	return o.Run(ended)
 }
 
-// IsAlive tells whether the goroutine that feeds the replay goes on, before the context ends.
+// IsAlive reports whether the goroutine that feeds the replay goes on, before the context ends.
 func (o *Office) IsAlive(ctx context.Context) bool { return o.feed.IsAlive(ctx) }
 
 // A health is the condition of an office.

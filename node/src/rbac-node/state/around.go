@@ -29,7 +29,7 @@ func (s *State) HasRole(role string) bool {
 	return s.roles.has(role)
 }
 
-// Around returns a role with its immediate seniors and juniors, of which so many are left out that there are at most so many roles.
+// Around returns a role with its immediate seniors and juniors. It leaves out the last ones if there are more roles than may be.
 func (g *Graph) Around(role string, most int) Part {
 	near := append([]string(nil), g.juniors[role]...)
 	for senior, juniors := range g.juniors {

@@ -1,6 +1,6 @@
 package state
 
-// Copy returns a state of its own that has what this one has, but for the commands that are kept for those who watch.
+// Copy returns a copy of the state, without the commands that are kept for those who watch.
 func (s *State) Copy() *State {
 	s.mutex.RLock()
 	defer s.mutex.RUnlock()

@@ -73,7 +73,7 @@ type Watched struct {
 	Changed <-chan struct{}
 }
 
-// After returns up to so many of the commands after a number. It returns false if they aren't all known.
+// After returns the commands after a number, at most this many. It returns false if they aren't all known.
 func (s *State) After(number int64, most int) (Watched, bool) {
 	s.mutex.RLock()
 	defer s.mutex.RUnlock()

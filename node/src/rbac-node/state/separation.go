@@ -7,7 +7,7 @@ import (
 	"rbac-node/api"
 )
 
-// mostHolders is how many holders of a set's members are told.
+// mostHolders is how many holders of a set's members are named.
 const mostHolders = 100
 
 // A Conflict is a separation of duty set that a command would violate.

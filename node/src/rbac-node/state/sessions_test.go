@@ -7,8 +7,8 @@ import (
 	"rbac-node/api"
 )
 
-// told makes the state follow lines that an office has accepted.
-func told(t *testing.T, s *State, lines ...string) {
+// follow makes the state follow lines that an office has accepted.
+func follow(t *testing.T, s *State, lines ...string) {
 	t.Helper()
 	for _, line := range lines {
 		call, err := api.ParseLine([]byte(line))
@@ -44,7 +44,7 @@ func TestExpired(t *testing.T) {
 		t.Run(test.name, func(t *testing.T) {
 			s, wall, elapsed := New(Numbers{}), time.Now(), time.Duration(0)
 			s.clock = Clock{func() time.Time { return wall }, func() time.Duration { return elapsed }}
-			told(t, s, s1, s2)
+			follow(t, s, s1, s2)
 			wall = wall.Add(test.jump)
 			if elapsed = test.usedAt; elapsed > 0 {
 				s.Touch("s1")

@@ -44,7 +44,7 @@ func TestTable(t *testing.T) {
 
 func TestViolated(t *testing.T) {
 	s := New(Numbers{})
-	told(t, s, `{"fn":"addRole","role":"a"}`, `{"fn":"addRole","role":"b"}`, `{"fn":"addAscendant","asc":"c","desc":"a"}`,
+	follow(t, s, `{"fn":"addRole","role":"a"}`, `{"fn":"addRole","role":"b"}`, `{"fn":"addAscendant","asc":"c","desc":"a"}`,
 		`{"fn":"addInheritance","asc":"c","desc":"b"}`, `{"fn":"createDsdSet","set":"s","roles":["a","b"],"cardinality":2}`)
 	before := s.Graph()
 	for role, wanted := range map[string]string{"a": "", "b": "", "c": "s"} {
@@ -52,7 +52,7 @@ func TestViolated(t *testing.T) {
 			t.Errorf("%s: %q", role, set)
 		}
 	}
-	told(t, s, `{"fn":"deleteInheritance","asc":"c","desc":"b"}`)
+	follow(t, s, `{"fn":"deleteInheritance","asc":"c","desc":"b"}`)
 	if set, _ := s.Graph().Blocked("c"); set != "" {
 		t.Errorf("after the inheritance is deleted: %q", set)
 	}
@@ -64,7 +64,7 @@ func TestViolated(t *testing.T) {
 // What is asked behind commands is about exactly the sessions that they may have ended.
 func TestReview(t *testing.T) {
 	s := New(Numbers{})
-	told(t, s, `{"fn":"createSession","user":"ann","roles":[],"session":"s1"}`,
+	follow(t, s, `{"fn":"createSession","user":"ann","roles":[],"session":"s1"}`,
 		`{"fn":"createSession","user":"bob","roles":[],"session":"s2"}`, `{"fn":"addRole","role":"clerk"}`)
 	for _, test := range []struct {
 		line  string
@@ -101,7 +101,7 @@ func TestReview(t *testing.T) {
 func TestAfter(t *testing.T) {
 	s := New(Numbers{All: 100, Policy: 50})
 	for i := 0; i < mostEvents+50; i++ {
-		told(t, s, `{"fn":"addUser","user":"ann"}`)
+		follow(t, s, `{"fn":"addUser","user":"ann"}`)
 	}
 	newest := s.Numbers().All
 	if newest != 100+mostEvents+50 {

@@ -310,7 +310,7 @@ func Refused(ctx context.Context) {
 	}
 }
 
-// noteState is told each change of a connection's state.
+// noteState is called at each change of a connection's state.
 func (r *Room) noteState(conn net.Conn, state http.ConnState) {
 	r.mutex.Lock()
 	defer r.mutex.Unlock()

@@ -18,7 +18,7 @@ PROGRAM = os.environ.get("RBAC_PROGRAM", f"{TESTS}/../release/rbac")
 SECONDS = 20
 ROWS = ["first-run", "assign-and-deassign", "bad-requests", "longest-line"]
 
-# Users with names of 64 bytes, so many that the answer that names them all is longer than a page of memory.
+# Users with names of 64 bytes: the answer that names all of them is longer than a page of memory.
 USERS = [b"%064d" % number for number in range(100)]
 
 

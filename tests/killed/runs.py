@@ -39,7 +39,7 @@ OPEN_ENDED = 12
 CHANGES = 3
 
 
-class Taken:
+class Removed:
     """The assignments and grants that lines have removed so far, and not added again."""
 
     def __init__(self):
@@ -51,7 +51,7 @@ class Taken:
         self.assignments = (self.assignments | before.assignments) - after.assignments
         self.grants = (self.grants | before.grants) - after.grants
 
-    def stay_away(self, bench, path):
+    def check_absent(self, bench, path):
         """Counts whether none of them is in the tables, or in the export of the program."""
         rows = read_rows(path)
         assigned = {(user, role) for kind, user, role in rows["pair_row"] if kind == 2}
@@ -110,16 +110,16 @@ class AtWrite:
 WAYS = {"kill": ByKill, "write": AtWrite}
 
 
-def story_drawn(draws, state, moments, lines):
+def random_story(draws, state, moments, lines):
     """Returns a replay of at least one random line over an office with this state."""
     draws.replay.state = state
     drawn = [draws.draw() for _ in range(moments.randrange(lines) + 1)]
     story = replay_story(state, [line + b"\n" for _, line, answer in drawn if answer])
-    return story if story.lines else story_drawn(draws, state, moments, lines)
+    return story if story.lines else random_story(draws, state, moments, lines)
 
 
-def live(bench, path, story, way, moments, taken):
-    """One life: a replay that ends too early. Returns the state that is found, and the counts of the life."""
+def one_run(bench, path, story, way, moments, removed):
+    """One run: a replay that ends too early. Returns the state that is found, and the counts of the run."""
     done = way.end(path, story, moments)
     count = done.out.count(b"\n")
     bench.same("the answers", done.out, b"".join(story.answers[:count]))
@@ -128,21 +128,21 @@ def live(bench, path, story, way, moments, taken):
     if place is None:
         raise AssertionError(f"no state is found after {count} answers")
     for before, after in zip(story.states[:place], story.states[1 : place + 1]):
-        taken.follow(before, after)
+        removed.follow(before, after)
     is_left_with(bench, path, story.states[place])
-    taken.stay_away(bench, path)
+    removed.check_absent(bench, path)
     ended = done.status == way.status
     found = {
-        "lives": True,
-        "lives that ended too early": ended,
-        "lives that ended before all lines were answered": ended and count < len(story.lines),
-        "lives that ended behind the first answer and before the last": ended and 0 < count < len(story.lines),
-        "lives that left one line more than was answered": ended and place > count,
+        "runs": True,
+        "runs that ended too early": ended,
+        "runs that ended before all lines were answered": ended and count < len(story.lines),
+        "runs that ended behind the first answer and before the last": ended and 0 < count < len(story.lines),
+        "runs that left one line more than was answered": ended and place > count,
     }
     return story.states[place], Counter({name: int(value) for name, value in found.items()})
 
 
-def take_into_version_2(bench, path, state, moments):
+def migrate_amid_kills(bench, path, state, moments):
     """Kills the migration of an office to version 2 some times, and then lets it end: the state."""
     counts = Counter()
     for number in range(MIGRATIONS):
@@ -154,35 +154,35 @@ def take_into_version_2(bench, path, state, moments):
                 raise AssertionError("no state is found after a migrate that was killed")
             state = story.states[place]
             is_left_with(bench, path, state)
-            counts["kills of migrate between two lives"] += done.status == -9
+            counts["kills of migrate between two runs"] += done.status == -9
     if state.version == 1:
         bench.ends(["migrate", path])
     return state.but(version=2), counts
 
 
-def live_on(bench, way, seed, lives, lines, is_old):
+def runs_of_one_office(bench, way, seed, count, lines, is_old):
     """An office goes from run to run, each of which ends in this way; an old one is of version 1 at first."""
     office = Office(bench, "office")
     if is_old:
         office.become_version_1()
     state, counts = office.model.state, Counter()
-    ending, draws, moments, taken = WAYS[way](bench), Draws(seed), random.Random(seed), Taken()
-    for number in range(lives):
-        if is_old and number == lives // 2:
-            state, more = take_into_version_2(bench, office.path, state, moments)
+    ending, draws, moments, removed = WAYS[way](bench), Draws(seed), random.Random(seed), Removed()
+    for number in range(count):
+        if is_old and number == count // 2:
+            state, more = migrate_amid_kills(bench, office.path, state, moments)
             counts.update(more)
-        story = story_drawn(draws, state, moments, lines)
-        state, more = live(bench, office.path, story, ending, moments, taken)
-        counts.update({f"{way}: {name}": count for name, count in more.items()})
-    gone = len(taken.assignments) + len(taken.grants)
-    counts["assignments and grants that were taken and stayed away to the end"] += gone
+        story = random_story(draws, state, moments, lines)
+        state, more = one_run(bench, office.path, story, ending, moments, removed)
+        counts.update({f"{way}: {name}": value for name, value in more.items()})
+    gone = len(removed.assignments) + len(removed.grants)
+    counts["assignments and grants that were removed and stayed so to the end"] += gone
     return counts
 
 
 def jobs(is_long):
     """The offices of both ways."""
     found = []
-    for way, (offices, lives, lines) in (MORE_OFFICES if is_long else OFFICES).items():
+    for way, (offices, count, lines) in (MORE_OFFICES if is_long else OFFICES).items():
         for number in range(offices):
-            found.append((live_on, way, 7_000 + number, lives, lines, number % OLD == 0))
+            found.append((runs_of_one_office, way, 7_000 + number, count, lines, number % OLD == 0))
     return found
