@@ -103,7 +103,7 @@ def check_subset_form():
     return True
 
 
-def check_told(name, given, wanted):
+def is_same(name, given, wanted):
     """Whether the answers about the small office are right."""
     if given != wanted:
         print(f"FAILED: the {name} of the small office is {given!r}")
@@ -115,12 +115,12 @@ def check():
     results = [check_row(path) for path in sorted((TESTS / "rows").rglob("*.jsonl"))]
     results.append(check_subset_form())
     state = small_office(2)
-    results.append(check_told("report", report(state), REPORT))
-    results.append(check_told("export", export(state), EXPORT))
-    results.append(check_told("table", rows(state), ROWS))
+    results.append(is_same("report", report(state), REPORT))
+    results.append(is_same("export", export(state), EXPORT))
+    results.append(is_same("table", rows(state), ROWS))
     old = {**ROWS, "meta_row": [("rbac", 1)]}
     del old["locked_row"]
-    results.append(check_told("table of version 1", rows(small_office(1)), old))
+    results.append(is_same("table of version 1", rows(small_office(1)), old))
     print(f"{sum(results)} passed, {len(results) - sum(results)} failed")
     return 0 if all(results) else 1
 

@@ -16,7 +16,7 @@ from machine.state import LIMITS, State, reach
 from machine.texts import rows
 from program.offices import Office, read_rows, same_rows
 
-from .files import judged, loose, read, statements_of, told_of_good, told_of_migration, told_of_refused, write
+from .files import expect_good, expect_migrated, expect_refused, judged, loose, read, statements_of, write
 
 # How many files there are, and with `--long`; and how many jobs.
 FILES, MORE_FILES = 500, 20_000
@@ -260,13 +260,13 @@ def try_file(bench, statements, seed):
     found, what = read(path), f"file {seed}"
     state, answer = judged(opening.open_state, found)
     if answer is None:
-        told_of_good(bench, what, path, state)
+        expect_good(bench, what, path, state)
         if not is_loose:
             replayed_on(bench, what, path, state, seed)
             found = read(path)
     else:
-        told_of_refused(bench, f"{what}, {answer.decode()}", path, answer)
-    told_of_migration(bench, what, path, found)
+        expect_refused(bench, f"{what}, {answer.decode()}", path, answer)
+    expect_migrated(bench, what, path, found)
     os.remove(path)
     return f"{'loose' if is_loose else 'own'} tables: {word_of(answer)}"
 

@@ -95,25 +95,25 @@ def line_of(answer):
     return b"rbac: " + answer + b"\n"
 
 
-def told_of_good(bench, what, path, state):
+def expect_good(bench, what, path, state):
     """Counts whether the program prints for a file what the model prints for the state, and changes nothing."""
     for word, text in [("check", b"good\n"), ("report", report(state)), ("export", export(state))]:
         bench.ends([word, path], text, keeps=True, what=f"{word}: {what}")
 
 
-def told_of_refused(bench, what, path, answer, words=("check", "replay")):
+def expect_refused(bench, what, path, answer, words=("check", "replay")):
     """Counts whether subcommands refuse a file with this answer, and change nothing."""
     for word in words:
         bench.ends([word, path], err=line_of(answer), status=1, given=ADD_USER, keeps=True, what=f"{word}: {what}")
 
 
-def told_of_migration(bench, what, path, tables):
+def expect_migrated(bench, what, path, tables):
     """Counts whether a file is migrated to version 2, or refused and kept, as the model decides for its tables."""
     state, answer = judged(opening.migrated_state, tables)
     if answer:
-        told_of_refused(bench, what, path, answer, ["migrate"])
+        expect_refused(bench, what, path, answer, ["migrate"])
         return
     bench.ends(["migrate", path], what=f"migrate: {what}")
     after, _ = judged(opening.open_state, read(path))
     bench.same(f"the state after migrate: {what}", after, state)
-    told_of_good(bench, f"after migrate: {what}", path, state)
+    expect_good(bench, f"after migrate: {what}", path, state)

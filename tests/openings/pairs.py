@@ -9,7 +9,7 @@ from machine.texts import json_text, rows
 from program.offices import SMALL
 
 from .faults import all_faults
-from .files import judged, loose, read, told_of_refused, write
+from .files import expect_refused, judged, loose, read, write
 
 # How many jobs share the faults. How many of those that are judged at one place go into pairs, and with `--long`.
 JOBS = 4
@@ -54,7 +54,7 @@ def try_faults(bench, state, faults, words):
     what = f"version {state.version}, " + " and ".join(fault.name for fault in faults)
     wanted = json_text(faults[0].refusal).encode()
     bench.same(f"the model of {what}", judged(opening.open_state, read(path))[1], wanted)
-    told_of_refused(bench, what, path, wanted, words)
+    expect_refused(bench, what, path, wanted, words)
     os.remove(path)
 
 

@@ -31,7 +31,7 @@ MOST_LINES, MOST_BYTES = 400, 20_000
 ON_DISK = True
 
 
-def told_check(bench, path):
+def failing_check(bench, path):
     """Returns the number of the check that fails for a damaged office, or None."""
     found = re.search(rb'"check":(\d+),"code":52', bench.run(["check", path]).err)
     return int(found[1]) if found else None
@@ -191,10 +191,10 @@ def check_repairs(bench):
     for name, (check, damage) in DAMAGES.items():
         cure = ending if cures[check].startswith("End the sessions") else making if check == 6 else None
         with changed(office, damage) as path:
-            bench.same(f"{name}: the check that fails", told_check(bench, path), check)
+            bench.same(f"{name}: the check that fails", failing_check(bench, path), check)
             if cure:
                 change(path, cure)
-                after = told_check(bench, path)
+                after = failing_check(bench, path)
                 bench.same(f"{name}: no check up to {check} fails any more", after is None or after > check, True)
     cured = [check for check, text in cures.items() if text.startswith("End the sessions")]
     bench.same("the checks that the ends of sessions cure", cured, [4, 8, 10, 11])
