@@ -87,12 +87,13 @@ func (e *Endpoints) permissionsOf(r *request, holder *api.Call) (rows []state.Ro
 		code, name := api.CodeOf(answers[0])
 		return nil, api.Refusal{Status: api.StatusOf(answers[0]), Code: code, Name: name}
 	}
-	var pairs [][2]string
-	if err := api.ValueOf(answers[0], &pairs); err != nil {
+	pairs, err := api.PairsOf(answers[0])
+	if err != nil {
 		return nil, err
 	}
-	for _, one := range pairs {
-		rows = append(rows, state.Row{one[0], one[1]})
+	rows = make([]state.Row, len(pairs))
+	for i, one := range pairs {
+		rows[i] = state.Row{one[0], one[1]}
 	}
 	return rows, nil
 }
