@@ -1,13 +1,11 @@
 /** The users, and one user: roles, permissions with the roles that give them, sessions, nearness to each separation of duty set. */
 
 import { ask, askAll, endSession, everything, list, may, maySome, Refused, rows } from "./api.js";
-import { action, button, command, deliberate, fail, field, form, later, pager, say, section, table } from "./parts.js";
+import { action, awhile, button, command, deliberate, early, fail, field, folded, form, later, pager, say, section, table } from "./parts.js";
 import { brief, counted, h, hashOf, link, listed, name, object, plain, role, set, some, time, user } from "./text.js";
 
 const SHOWN = 100;
-const SHOWN_OF_USER = 50;
-// How long parts of a page are waited for, in milliseconds.
-const PATIENCE = 300;
+const SHOWN_OF_USER = 20;
 
 export async function usersPage({ query, anew }) {
     const { contains = "", after } = query;
@@ -44,8 +42,7 @@ export async function userPage([text], { query, anew }) {
         return [h("h1", {}, "User ", name(text)), h("p", {}, "There is no such user.")];
     }
     const isLocked = locked.length > 0;
-    // A page that is shown once is there sooner than one that is shown in parts.
-    await Promise.race([Promise.allSettled([setting, permitting, sessions]), new Promise((done) => { setTimeout(done, PATIENCE); })]);
+    await awhile([setting, permitting, sessions]);
     return [
         h("h1", {}, "User ", name(text), isLocked ? [" ", h("span", { class: "mark no" }, "locked")] : null),
         isLocked ? h("p", {}, name(text), " is locked: no session is possible.") : null,
@@ -55,12 +52,6 @@ export async function userPage([text], { query, anew }) {
         permitting ? later("Permissions", async () => permissionsOf(text, authorized, query.after, await permitting)) : null,
         later("Sessions", async () => sessionsOf(text, await sessions, anew)),
     ];
-}
-
-/** Returns a promise that may fail before somebody waits for it. */
-function early(promise) {
-    promise.catch(() => {});
-    return promise;
 }
 
 /** Returns null for a user that was deleted meanwhile. */
@@ -97,7 +88,7 @@ function rolesSection(text, assigned, authorized, anew) {
     const nodes = [table("Assigned roles", ["Role", ""], assigned.map((one) => [role(one), action(remove(one))]), "No role is assigned.")];
     const more = (authorized ?? []).filter((one) => !assigned.includes(one));
     if (more.length > 0) {
-        nodes.push(h("p", {}, "Also authorized, by inheritance: ", some(more, role, "and", SHOWN_OF_USER), "."));
+        nodes.push(h("p", {}, "Also authorized, by inheritance: ", folded(more, role, `Show all roles of ${text}`)));
     }
     if (maySome("assignUser")) {
         nodes.push(form("Assign a role", [field("Role", "role", { from: "roles", required: true })], "Assign",
@@ -107,7 +98,7 @@ function rolesSection(text, assigned, authorized, anew) {
 }
 
 // How many sets are shown: the nearest ones.
-const MOST_SETS = 10;
+const MOST_SETS = 5;
 
 /** How near a user is to each set of which the user has a member, the nearest first. */
 function nearness(text, authorized, [fixed, dynamic]) {
@@ -118,7 +109,8 @@ function nearness(text, authorized, [fixed, dynamic]) {
     if (lines.length === 0) {
         return h("p", { class: "quiet" }, name(text), " has no member of a separation of duty set.");
     }
-    return [h("ul", { class: "sets" }, lines), found.length > MOST_SETS ? h("p", {}, `These are the nearest ${MOST_SETS} of ${counted(found.length, "set")}.`) : null];
+    return [h("ul", { class: "sets" }, lines), found.length > MOST_SETS ? h("p", {}, `These are the nearest ${MOST_SETS} of ${counted(found.length, "set")}. `,
+        may("reports") ? h("a", { href: `${hashOf(["reports", "near"])}?${new URLSearchParams({ user: text })}` }, "All in a report") : null) : null];
 }
 
 function lineOf(kind, { set: setName, cardinality, roles }, held) {
