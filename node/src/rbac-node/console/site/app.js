@@ -80,16 +80,19 @@ async function show(isAnew = false) {
     const mine = shown;
     const { segments, query } = addressOf(location.hash);
     const page = PAGES.find(([segment, , isShown]) => segment === segments[0] && isShown());
-    markPage(page?.[0]);
+    // A link that is marked before the page is there would be drawn by itself.
+    const marking = setTimeout(() => markPage(page?.[0]), 100);
     let nodes;
     try {
         nodes = await nodesOf(page, segments, query);
     } catch (error) {
         nodes = [h("h1", {}, page?.[1] ?? "No such page"), await troubleOf(error)];
     }
+    clearTimeout(marking);
     if (mine !== shown) {
         return;
     }
+    markPage(page?.[0]);
     const place = isAnew ? window.scrollY : 0;
     main().replaceChildren(...nodes.flat(Infinity).filter(Boolean));
     const heading = main().querySelector("h1");

@@ -1,6 +1,6 @@
 /** The roles: the hierarchy as a tree, and one role with its neighbours, users, permissions and sets. */
 
-import { ask, everything, list, may, maySome, picture, rows } from "./api.js";
+import { ask, everything, list, lists, may, maySome, picture } from "./api.js";
 import { action, awhile, button, command, deliberate, drawn, early, field, folded, form, later, pager, section, table } from "./parts.js";
 import { brief, counted, few, h, hashOf, link, name, object, role, set, some, user } from "./text.js";
 
@@ -64,16 +64,17 @@ function branch(roles, juniors, open) {
 
 export async function rolePage([text], { query, anew }) {
     const values = { role: text };
-    // Everything is asked for at once, what takes longest first. What fails is said in its section.
+    // Everything is asked for at once, what takes longest first.
     const drawing = early(picture(values));
-    const permitting = early(permissionsIn(text, query.after));
-    const holding = early(holdersOf(text));
-    const setting = early(Promise.all([everything("staticSets"), everything("dynamicSets")]));
-    const [known, seniors, juniors] = await Promise.all([rows("roles", values), rows("inheritances", { desc: text }), rows("inheritances", { asc: text })]);
+    const authorizing = early(may("authorizedUsers", values) ? ask("authorizedUsers", values) : Promise.resolve([]));
+    const mayAsk = may("rolePermissions", values);
+    const found = await lists(["roles", values], ["inheritances", { desc: text }], ["inheritances", { asc: text }], ["assignments", values], ["grants", values],
+        ["staticSets"], ["dynamicSets"], ...(mayAsk ? [["permissions", { ...values, limit: SHOWN_INHERITED, after: query.after }]] : []));
+    const [known, seniors, juniors, assignments, granted, fixed, dynamic] = found.map((one) => one.value);
     if (known.length === 0) {
         return [h("h1", {}, "Role ", name(text)), h("p", {}, "There is no such role.")];
     }
-    await awhile([permitting, holding, setting]);
+    await awhile([authorizing]);
     return [
         h("h1", {}, "Role ", name(text)),
         may("deleteRole", values) ? h("div", { class: "actions" }, deliberate("Delete", `Delete the role ${text}`,
@@ -84,8 +85,9 @@ export async function rolePage([text], { query, anew }) {
                 edges("Junior roles, from which this one inherits", juniors.map(({ desc }) => ({ asc: text, desc })), "desc", "It inherits from no role.", anew),
                 addEdges(text, anew)),
             section("Neighbours", drawn({ role: text }, `The role with its ${counted(seniors.length, "senior role")}, ${counted(juniors.length, "junior role")} and its separation of duty sets, as in the lists beside it`, drawing))),
-        h("div", { class: "columns" }, later("Users", async () => usersOf(text, await holding, anew)), later("Separation of duty", async () => setsOf(text, await setting))),
-        later("Permissions", async () => permissionsOf(text, query.after, await permitting, anew)),
+        h("div", { class: "columns" }, later("Users", async () => usersOf(text, assignments.map((row) => row.user), await authorizing, anew)),
+            section("Separation of duty", setsOf(text, fixed, dynamic))),
+        section("Permissions", permissionsOf(text, query.after, granted, found[7], anew)),
     ];
 }
 
@@ -104,13 +106,7 @@ function addEdges(text, anew) {
         (values) => command("addInheritance", values.which === "desc" ? { asc: text, desc: values.role } : { asc: values.role, desc: text }, anew));
 }
 
-/** The users who are assigned to a role, and those who are authorized for it as far as the caller may know them. */
-function holdersOf(text) {
-    const values = { role: text };
-    return Promise.all([rows("assignments", values).then((found) => found.map((row) => row.user)), may("authorizedUsers", values) ? ask("authorizedUsers", values) : []]);
-}
-
-function usersOf(text, [assigned, authorized], anew) {
+function usersOf(text, assigned, authorized, anew) {
     const direct = new Set(assigned);
     const more = authorized.filter((one) => !direct.has(one));
     const remove = (one) => {
@@ -132,7 +128,7 @@ function usersOf(text, [assigned, authorized], anew) {
     return nodes;
 }
 
-function setsOf(text, [fixed, dynamic]) {
+function setsOf(text, fixed, dynamic) {
     const found = [["static", fixed], ["dynamic", dynamic]].flatMap(([kind, sets]) => sets.filter((one) => one.roles.includes(text)).map((one) => [kind, one]));
     const lines = found.slice(0, MOST_SETS)
         .map(([kind, one]) => h("li", {}, set(kind, one.set), ` (${kind}): at most ${few(one.cardinality - 1)} of `, some(one.roles, role)));
@@ -144,12 +140,7 @@ function setsOf(text, [fixed, dynamic]) {
 }
 
 /** What is granted to a role itself, and a part of what it has with its juniors, as far as the caller may know it. */
-function permissionsIn(text, after) {
-    const values = { role: text };
-    return Promise.all([rows("grants", values), may("rolePermissions", values) ? list("permissions", { ...values, limit: SHOWN_INHERITED, after }) : null]);
-}
-
-function permissionsOf(text, after, [granted, part], anew) {
+function permissionsOf(text, after, granted, part, anew) {
     const remove = ({ object: on, operation }) => {
         const values = { object: on, operation, role: text };
         return may("revokePermission", values) ? button("Revoke", `Revoke ${operation} on ${on}`, () => command("revokePermission", values, anew)) : null;

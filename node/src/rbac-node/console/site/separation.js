@@ -1,6 +1,6 @@
 /** Separation of duty: the sets, and one set with its members and with those who are near to it. */
 
-import { askAll, everything, may, maySome } from "./api.js";
+import { askAll, everything, lists, may, maySome } from "./api.js";
 import { action, button, command, deliberate, field, form, later, section, table } from "./parts.js";
 import { counted, few, h, hashOf, name, role, set, some, user } from "./text.js";
 
@@ -14,7 +14,7 @@ const MEANINGS = {
 
 export async function separationPage({ anew }) {
     const kinds = Object.keys(LISTS);
-    const sets = await Promise.all(kinds.map((kind) => everything(LISTS[kind])));
+    const sets = (await lists(...kinds.map((kind) => [LISTS[kind]]))).map((part) => part.value);
     const nodes = [h("h1", {}, "Separation of duty")];
     kinds.forEach((kind, i) => nodes.push(section(kind === "static" ? "Static sets" : "Dynamic sets",
         h("p", { class: "quiet" }, MEANINGS[kind]),
