@@ -148,15 +148,20 @@ def check_trials(bench):
         for what, commands in [
             ("a user is locked", [{"fn": "lockUserAccount", "user": "user 00000"}]),
             ("100 users are deleted", [{"fn": "deleteUser", "user": f"user {number:05}"} for number in range(100)]),
-            ("a role is added", [{"fn": "addRole", "role": "another"}]),
+            ("a role inherits from another", [{"fn": "addInheritance", "asc": "role 0005", "desc": "role 0006"}]),
             ("a role no longer inherits", [{"fn": "deleteInheritance", "asc": "role 0001", "desc": "role 0005"}]),
             ("100 permissions are revoked", revoked),
         ]:
             (status, value), took = asked(front, "/what-if", "\n".join(json.dumps(one) for one in commands))
-            lost = value["lost"]["count"] if status == 200 else None
-            print(f"{took:6.2f} s, {lost} permissions would be lost: what if {what}, of a full office")
-            refused = [one for one in value["answers"] if not one.get("ok")] if status == 200 else None
-            bench.same(what, (status, refused, lost is not None and lost > 0), (200, [], what != "a role is added"))
+            bench.same(f"what if {what}", status, 200)
+            refused = [one for one in value["answers"] if not one.get("ok")]
+            lost, gained = (value[key]["count"] for key in ("lost", "gained"))
+            print(f"{took:6.2f} s, {lost:6,} permissions lost, {gained:6,} gained: what if {what}, of a full office")
+            bench.same(
+                what,
+                (refused, lost > 0, gained > 0),
+                ([], what != "a role inherits from another", what == "a role inherits from another"),
+            )
         for what, query, is_allowed in [
             ("a user", {"user": "user 00000", **decision}, True),
             ("a session", {"session": f"session {FIRST_OF_SESSIONS}", **decision}, False),
