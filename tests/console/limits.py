@@ -85,11 +85,17 @@ def full_front(bench):
 
 
 def measured(page, segments, query):
-    """The median of how long a page takes, and of the bytes and the number of its requests."""
+    """The medians of how long a page that shows nothing takes, and of how long a page takes and the number and bytes of its requests.
+
+    Both are loaded in turn: the machine may do other work, more at one time than at another.
+    """
     found = []
     for _ in range(TIMES):
-        page.go("other")
-        found.append(page.driver.execute_async_script(MEASURED, page.hash_of(segments) + query))
+        row = []
+        for wanted in (page.hash_of(["nothing"]), page.hash_of(segments) + query):
+            page.go("other")
+            row += page.driver.execute_async_script(MEASURED, wanted)
+        found.append((row[0], *row[3:]))
     return [statistics.median(column) for column in zip(*found)]
 
 
@@ -97,7 +103,6 @@ def check_limits(bench):
     """The pages of a full office are there, and say how long they took beside a page that shows nothing."""
     with full_front(bench) as front, Browser(bench, front) as page:
         page.open("nothing")
-        nothing = None
         for what, segments, query, wanted in [
             ("a page that shows nothing", ("nothing",), "", "There is no such page"),
             ("the overview", ("",), "", "20,000"),
@@ -113,8 +118,7 @@ def check_limits(bench):
             ("the report of one user", ("reports", "permissions"), "?user=user+00003", "user 00003"),
             ("the report of one set", ("reports", "near"), "?set=set+07&left=30", "set 07"),
         ]:
-            took, requests, size = measured(page, segments, query)
-            nothing = nothing or took
+            nothing, took, requests, size = measured(page, segments, query)
             print(
                 f"{took:6.0f} ms, {took / nothing:4.1f} times, {requests:2.0f} requests, {size:7,.0f} bytes: {what}, of a full office"
             )
