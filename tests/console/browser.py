@@ -58,6 +58,12 @@ def bank(bench, *more, name="office"):
     return front
 
 
+def text_of_pdf(pdf):
+    """The text of a PDF, line by line as it is on the paper. Without pdftotext the rest of a check is left out, and a line reports it."""
+    done = subprocess.run(["pdftotext", "-layout", "-", "-"], input=pdf, capture_output=True, check=True)
+    return done.stdout.decode()
+
+
 class Browser:
     """A browser at the console of a front. It counts the clicks."""
 
@@ -206,6 +212,10 @@ class Browser:
         shot = self.driver.execute_cdp_cmd("Page.captureScreenshot", words)
         with open(path, "wb") as file:
             file.write(base64.b64decode(shot["data"]))
+
+    def pdf(self):
+        """The page as it is printed."""
+        return base64.b64decode(self.driver.print_page())
 
     def complaints(self):
         """What the browser complains about: errors of scripts, and what the policy of the page has forbidden."""

@@ -17,6 +17,8 @@ USERS, ROLES, OBJECTS, SETS, MEMBERS, SESSIONS, SEED = 20_000, 1_024, 1_000, 64,
 MOST_MEMORY = 500_000_000
 OPERATIONS = ["read", "write", "print", "sign", "burn"]
 GRANTS_OF_EACH, STEP = 4, 257
+# The number of the first user with a session.
+FIRST_OF_SESSIONS = next(number for number in range(USERS) if number * SEED % ROLES > ROLES // 4)
 
 
 def role_of(number):
@@ -50,7 +52,8 @@ def lines():
 
 
 # How long a page takes in the browser until it shows what it is to show, laid out and painted, in milliseconds; and what was asked for.
-MEASURED = """
+MEASURED = (
+    """
 const [hash, done] = arguments, settled = () => { %s };
 performance.clearResourceTimings();
 document.querySelector('main h1').setAttribute('data-old', '');
@@ -64,8 +67,11 @@ const look = () => {
     }));
 };
 look();
-""" % SETTLED
+"""
+    % SETTLED
+)
 TIMES = 7
+TRIALS = 3
 
 
 def full_front(bench):
@@ -79,11 +85,17 @@ def full_front(bench):
 
 
 def measured(page, segments, query):
-    """The median of how long a page takes, and of the bytes and the number of its requests."""
+    """The medians of how long a page that shows nothing takes, and of how long a page takes and the number and bytes of its requests.
+
+    Both are loaded in turn: the machine may do other work, more at one time than at another.
+    """
     found = []
     for _ in range(TIMES):
-        page.go("other")
-        found.append(page.driver.execute_async_script(MEASURED, page.hash_of(segments) + query))
+        row = []
+        for wanted in (page.hash_of(["nothing"]), page.hash_of(segments) + query):
+            page.go("other")
+            row += page.driver.execute_async_script(MEASURED, wanted)
+        found.append((row[0], *row[3:]))
     return [statistics.median(column) for column in zip(*found)]
 
 
@@ -91,7 +103,6 @@ def check_limits(bench):
     """The pages of a full office are there, and say how long they took beside a page that shows nothing."""
     with full_front(bench) as front, Browser(bench, front) as page:
         page.open("nothing")
-        nothing = None
         for what, segments, query, wanted in [
             ("a page that shows nothing", ("nothing",), "", "There is no such page"),
             ("the overview", ("",), "", "20,000"),
@@ -107,13 +118,61 @@ def check_limits(bench):
             ("the report of one user", ("reports", "permissions"), "?user=user+00003", "user 00003"),
             ("the report of one set", ("reports", "near"), "?set=set+07&left=30", "set 07"),
         ]:
-            took, requests, size = measured(page, segments, query)
-            nothing = nothing or took
-            print(f"{took:6.0f} ms, {took / nothing:4.1f} times, {requests:2.0f} requests, {size:7,.0f} bytes: {what}, of a full office")
+            nothing, took, requests, size = measured(page, segments, query)
+            print(
+                f"{took:6.0f} ms, {took / nothing:4.1f} times, {requests:2.0f} requests, {size:7,.0f} bytes: {what}, of a full office"
+            )
             bench.same(what, wanted in page.text(), True)
         page.go("reports", "permissions")
-        bench.same("too many lines", "This would be 2,183,132 lines, and a report has at most 1,000,000. Choose a user" in page.text(), True)
+        bench.same(
+            "too many lines",
+            "This would be 2,183,132 lines, and a report has at most 1,000,000. Choose a user" in page.text(),
+            True,
+        )
         bench.same("no file", (page.find("Download CSV"), page.find("Print")), (None, None))
+
+
+def asked(front, path, text):
+    """The value of an answer to a request, and how many seconds it took: the median of some."""
+    found = []
+    for _ in range(TRIALS):
+        start = time.monotonic()
+        status, body = front.exchange("POST", path, text)
+        found.append(time.monotonic() - start)
+    return (status, json.loads(body).get("value")), statistics.median(found)
+
+
+def check_trials(bench):
+    """What if and Explain over a full office: they are answered, and say how long that took."""
+    revoked = [
+        {"fn": "revokePermission", "object": f"object {n:04}", "operation": "read", "role": f"role {n:04}"} for n in range(100)
+    ]
+    decision = {"operation": "read", "object": "object 0000"}
+    with full_front(bench) as front:
+        for what, commands in [
+            ("a user is locked", [{"fn": "lockUserAccount", "user": "user 00000"}]),
+            ("100 users are deleted", [{"fn": "deleteUser", "user": f"user {number:05}"} for number in range(100)]),
+            ("a role inherits from another", [{"fn": "addInheritance", "asc": "role 0005", "desc": "role 0006"}]),
+            ("a role no longer inherits", [{"fn": "deleteInheritance", "asc": "role 0001", "desc": "role 0005"}]),
+            ("100 permissions are revoked", revoked),
+        ]:
+            (status, value), took = asked(front, "/what-if", "\n".join(json.dumps(one) for one in commands))
+            bench.same(f"what if {what}", status, 200)
+            refused = [one for one in value["answers"] if not one.get("ok")]
+            lost, gained = (value[key]["count"] for key in ("lost", "gained"))
+            print(f"{took:6.2f} s, {lost:6,} permissions lost, {gained:6,} gained: what if {what}, of a full office")
+            bench.same(
+                what,
+                (refused, lost > 0, gained > 0),
+                ([], what != "a role inherits from another", what == "a role inherits from another"),
+            )
+        for what, query, is_allowed in [
+            ("a user", {"user": "user 00000", **decision}, True),
+            ("a session", {"session": f"session {FIRST_OF_SESSIONS}", **decision}, False),
+        ]:
+            (status, value), took = asked(front, "/explain", json.dumps(query))
+            print(f"{took * 1000:6.1f} ms: explain {what}, of a full office")
+            bench.same(f"explain {what}", (status, value["allowed"]), (200, is_allowed))
 
 
 def check_reports(bench):

@@ -1,13 +1,10 @@
 """How the pages look and are used: the keyboard alone, widths, light and dark, print, rules of accessibility, pictures."""
 
-import base64
 import os
-import shutil
-import subprocess
 
 from selenium.webdriver.common.keys import Keys
 
-from .browser import Browser, bank
+from .browser import Browser, bank, text_of_pdf
 from .pages import value
 from .rights import EVERYWHERE
 from .running import PICTURES
@@ -164,7 +161,7 @@ def check_print(bench):
     """A page is printed to PDF: what is on it, without what can be pressed."""
     with bank(bench) as front, Browser(bench, front) as page:
         page.open("users", "erin")
-        pdf = base64.b64decode(page.driver.print_page())
+        pdf = page.pdf()
         bench.same("a PDF", (pdf[:5], len(pdf) > 5_000), (b"%PDF-", True))
         page.resize(1000, media="print")
         shown = page.run(
@@ -172,9 +169,9 @@ def check_print(bench):
         )
         bench.same("what can be pressed", shown, 0)
         bench.same("what is on it", "auditor" in page.text() and "account 17" in page.text(), True)
-        if shutil.which("pdftotext"):
-            text = subprocess.run(["pdftotext", "-", "-"], input=pdf, capture_output=True, check=True).stdout.decode()
-            bench.judge("its text", [word for word in ("User erin", "auditor", "account 17") if word not in text])
+        text = text_of_pdf(pdf)
+        bench.judge("its text", [word for word in ("User erin", "auditor", "account 17") if word not in text])
+        bench.judge("its buttons", [word for word in ("Assign a role", "Remove", "Overview", "Delete") if word in text])
 
 
 # The pages whose pictures are in docs/CONSOLE.md.

@@ -4,6 +4,7 @@ import json
 import subprocess
 import os
 
+from front.batches import batch
 from front.lists import listed
 from front.running import PROGRAM
 
@@ -80,6 +81,40 @@ def act(bench, page, name, confirmed, notice):
         page.click(confirmed)
     bench.same(name, page.notice(), notice)
     page.settle()
+
+
+def check_first_of_many(bench):
+    """Of many roles, permissions and members the first are shown, with a way to the others."""
+    roles, operations = [f"r{number:02}" for number in range(13)], [f"o{number:02}" for number in range(25)]
+    with bank(bench) as front, Browser(bench, front) as page:
+        lines = [{"fn": "addRole", "role": one} for one in ("boss", *roles)]
+        lines += [{"fn": "addInheritance", "asc": "boss", "desc": one} for one in roles] + [
+            {"fn": "assignUser", "user": "frank", "role": "boss"}
+        ]
+        more = [{"fn": "addPermission", "object": "vault", "operation": one} for one in operations]
+        more += [{"fn": "grantPermission", "object": "vault", "operation": one, "role": "r00"} for one in operations]
+        sets = [{"fn": "createDsdSet", "set": f"s{number}", "roles": roles, "cardinality": 13 - number} for number in range(7)]
+        bench.same("the office", {*batch(front, lines)[1], *batch(front, more)[1], *batch(front, sets)[1]}, {'{"ok":true}'})
+        page.open("users", "frank")
+        bench.same("ten roles", ("r09, and 3 more. Show all" in page.text(), "r10" in page.text()), (True, False))
+        page.click("Show all roles of frank")
+        bench.same("all roles", "r00, r01, r02, r03, r04, r05, r06, r07, r08, r09, r10, r11 and r12." in page.text(), True)
+        bench.same("the focus is at them", page.run("return document.activeElement.textContent.startsWith('r00, ')"), True)
+        bench.same(
+            "five sets",
+            ("s6 (dynamic)" in page.text(), "s1 (dynamic)" in page.text(), "These are the nearest 5 of 7 sets." in page.text()),
+            (True, False, True),
+        )
+        bench.same("20 permissions", ("vault\to19\tr00" in page.text(), "o20" in page.text()), (True, False))
+        page.follow("Next page")
+        bench.same("the next ones", ("vault\to20\tr00" in page.text(), "vault\to19\tr00" in page.text()), (True, False))
+        page.go("users", "frank")
+        page.follow("All in a report")
+        bench.same("all sets", all(f"s{number}" in page.text() for number in range(7)), True)
+        page.go("separation")
+        bench.same("five members", "s0\tat most 12 of 13\tr00, r01, r02, r03, r04, and 8 more" in page.text(), True)
+        page.go("roles", "r00")
+        bench.same("its sets", "These are the first 5 of 7 sets. All sets" in page.text(), True)
 
 
 def check_roles(bench):

@@ -1,16 +1,13 @@
 """The page Reports: each report to read, print and download; the difference of two copies; callers without the right; odd names."""
 
-import base64
 import json
 import os
-import shutil
-import subprocess
 
 from front.batches import batch
 from front.identities import bearer
 from front.program import Front
 
-from .browser import Browser, bank
+from .browser import Browser, bank, text_of_pdf
 from .downloads import report, rows_of
 from .hostile import MARKUP, NAMES
 from .lost import LOST, start_again
@@ -109,13 +106,12 @@ def check_task(bench):
         bench.same("it is printed", page.run("return window.isPrinted"), True)
         bench.judge("clicks", [f"{page.clicks}"] if page.clicks > MOST_CLICKS else [])
         bench.same("on the screen nothing is to be signed", "signature" in page.text(), False)
-        pdf = base64.b64decode(page.driver.print_page())
+        pdf = page.pdf()
         bench.same("a PDF", (pdf[:5], len(pdf) > 5_000), (b"%PDF-", True))
-        if shutil.which("pdftotext"):
-            text = subprocess.run(["pdftotext", "-layout", "-", "-"], input=pdf, capture_output=True, check=True).stdout.decode()
-            words = ["Who may do what", "15 lines of", "revision", "carol", "cash supervisor", "Date, name and signature"]
-            bench.judge("its text", [word for word in words if word not in text])
-            bench.judge("what can be pressed", [word for word in ("Download CSV", "Overview", "Show") if word in text])
+        text = text_of_pdf(pdf)
+        words = ["Who may do what", "15 lines of", "revision", "carol", "cash supervisor", "Date, name and signature"]
+        bench.judge("its text", [word for word in words if word not in text])
+        bench.judge("what can be pressed", [word for word in ("Download CSV", "Overview", "Show") if word in text])
         return {"clicks: a list of who has what, to sign": page.clicks}
 
 

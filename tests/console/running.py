@@ -16,6 +16,9 @@ NEEDED = ["chromium", "chromedriver"]
 MODULES = ["looks", "pages", "trying", "reviews", "reports", "hostile", "rights", "tasks", "lost"]
 WORKERS = 2
 
+# The variable that says that broken consoles are to be tried.
+LONG = "RBAC_CONSOLE_LONG"
+
 # The variable that says where the pictures of the pages are written.
 PICTURES = "RBAC_CONSOLE_PICTURES"
 
@@ -47,11 +50,12 @@ def main(words: list[str]) -> int:
     if not shutil.which("go") or "sqlite" not in features():
         print("left out: what needs a front, since there is no Go or no library of SQLite for it: bin/setup console")
         return run_all(checks_of("console", ["sources"]), words)
-    modules = ["downloads", "serving", "page", "sources"]
+    modules = ["downloads", "serving", "page", "breaks", "sources"]
     if without := missing():
         print(f"left out: the console in a browser, since there is no {', '.join(without)}: bin/setup console")
     else:
         modules = MODULES + modules + (["limits"] if is_long(words) else [])
+        os.environ[LONG] = "yes" if is_long(words) else ""
     if words[:1] == ["--pictures"]:
         os.environ[PICTURES] = words[1]
         words = ["check_pictures"]

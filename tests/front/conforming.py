@@ -54,6 +54,9 @@ REQUESTS = [
     ("get", "/caller", "/caller", None, {}, 200), ("post", "/sessions", "/sessions", {"user": "ann"}, {}, 200),
     ("post", "/sessions", "/sessions", {"user": "bob"}, {}, 409), ("post", "/sessions", "/sessions", {}, {}, 400),
     ("post", "/sessions", "/sessions", {"user": "ann"}, {"If-Policy-Revision": "1"}, 412),
+    ("post", "/lists", "/lists", '{"list":"users","limit":1}\n{"list":"permissions","user":"nobody"}', {}, 200),
+    ("post", "/lists", "/lists", '{"list":"users","limit":0}', {}, 400), ("post", "/lists", "/lists", '{"list":"planets"}', {}, 404),
+    ("post", "/lists", "/lists", " " * 65_537, {}, 413),
     *(("get", "/lists/{list}", f"/lists/{name}?limit=1", None, {}, 200)
       for name in SPEC["paths"]["/lists/{list}"]["get"]["parameters"][0]["schema"]["enum"]),
     ("get", "/lists/{list}", "/lists/planets", None, {}, 404), ("get", "/lists/{list}", "/lists/users?limit=0", None, {}, 400),

@@ -302,6 +302,45 @@ def check_queries(bench):
         bench.same("the end", front.end(), 0)
 
 
+def check_several(bench):
+    """Parts of several lists are those that each list has by itself, in the order of the lines; what can't be read is refused."""
+    with Front(bench) as front:
+        lines = [{"fn": "addUser", "user": name} for name in ("ann", "bob", "joanna", '"a\\')] + [
+            {"fn": "addRole", "role": "clerk"}
+        ]
+        lines += [{"fn": "assignUser", "user": "ann", "role": "clerk"}, {"fn": "lockUserAccount", "user": "bob"}]
+        bench.same("the office", {*batch(front, lines)[1]}, {'{"ok":true}'})
+        queries = [
+            ("users", {"contains": "an", "limit": 1}), ("users", {"after": "bob"}), ("locked", {}), ("assignments", {"user": "ann"}), ("assignments", {"user": "bob"}),
+            ("permissions", {"user": "ann"}), ("permissions", {"user": "nobody"}), ("permissions", {"role": "nobody"}), ("staticSets", {}), ("sessions", {}),
+            ("users", {"user": '"a\\'}),
+        ]  # fmt: skip
+        text = "\r\n\n".join(json.dumps({"list": name, **query}) for name, query in queries)
+        status, body = front.exchange("POST", "/lists", text)
+        bench.same(
+            "each",
+            (status, [json.loads(line) for line in body.splitlines()]),
+            (200, [listed(front, name, **query)[1] for name, query in queries]),
+        )
+        one = '{"list":"users"}'
+        for what, text, status, line in [
+            ("nothing", "", 400, None), ("an unknown list", f'{one}\n{{"list":"planets"}}', 404, "2"), ("no list", '{"user":"ann"}', 404, "1"),
+            ("an unknown key", f'{one}\n\n{{"list":"users","role":"clerk"}}', 400, "3"), ("a text as the limit", '{"list":"users","limit":"1"}', 400, "1"),
+            ("a limit of 0", '{"list":"users","limit":0}', 400, "1"), ("a number as a name", '{"list":"users","user":1}', 400, "1"), ("no object", "[]", 400, "1"),
+            ("20 lists", "\n".join([one] * 20), 200, None),
+            ("21 lists", "\n".join([one] * 21), 400, "21"), ("a long body", " " * 65_537, 413, None),
+        ]:  # fmt: skip
+            own = front.connection()
+            own.request("POST", "/lists", text)
+            reply = own.getresponse()
+            reply.read()
+            bench.same(what, (reply.status, reply.headers["Office-Line"]), (status, line))
+            bench.same(f"the revision of {what}", reply.headers["Policy-Revision"] is not None, status == 200)
+            own.close()
+        bench.same("GET", front.exchange("GET", "/lists")[0], 405)
+        bench.same("the end", front.end(), 0)
+
+
 def check_rights(bench):
     """Every list needs the right to `lists` on the office; who may ask each function learns nothing."""
     questions = [
@@ -315,6 +354,8 @@ def check_rights(bench):
                 given = front.exchange("GET", f"/lists/{name}{query}", **bearer("secret"))
                 bench.same(f"{name}{query}", given, (403, '{"code":63,"error":"Forbidden"}'))
             bench.same(f"{name} of nobody", front.exchange("GET", f"/lists/{name}")[0], 401)
+            given = front.exchange("POST", "/lists", json.dumps({"list": name}), **bearer("secret"))
+            bench.same(f"several lists: {name}", given, (403, '{"code":63,"error":"Forbidden"}'))
         bench.same(
             "with the right", front.exchange("GET", "/lists/users", **bearer("another")), (200, '{"ok":true,"value":["ann"]}')
         )

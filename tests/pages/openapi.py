@@ -59,6 +59,7 @@ PATHS_OF_FRONT = {
     "/caller": ["get"],
     "/sessions": ["post"],
     "/sessions/{digest}": ["delete"],
+    "/lists": ["post"],
     "/lists/{list}": ["get"],
     "/snapshot": ["get"],
     "/watch": ["get"],

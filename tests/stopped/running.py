@@ -20,7 +20,7 @@ WORKERS = 4
 OPTIONS = ("--times", "--long")
 
 # The programs of Debian that a job may lack. It is left out then; bin/setup installs them.
-INSTALLABLE = {"c++", "cc", "curl", "dot", "gcc", "git", "mount", "sqlite3", "unshare"}
+INSTALLABLE = {"c++", "cc", "curl", "dot", "gcc", "git", "mount", "pdftotext", "sqlite3", "unshare"}
 
 # How many failures of one job are shown.
 SHOWN = 5

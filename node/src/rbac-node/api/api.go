@@ -45,6 +45,9 @@ type Point struct {
 	Policy int64
 }
 
+// ForgetPolicy takes back what the head of an answer says of the policy.
+func ForgetPolicy(head http.Header) { delete(head, policyField) }
+
 // SetHead says in an answer where in the order it is from, as far as that is known. That of one machine has a policy alone.
 func (p Point) SetHead(head http.Header) {
 	if p.Policy > 0 {

@@ -77,6 +77,18 @@ func ValueOf(answer []byte, value any) error {
 	return json.Unmarshal(answer, &found)
 }
 
+// PairsOf reads the value of an answer that is a list of pairs of names, which may have thousands.
+func PairsOf(answer []byte) (pairs [][2]string, err error) {
+	const begin, end = `{"ok":true,"value":`, `}`
+	if bytes.HasPrefix(answer, []byte(begin)) && bytes.HasSuffix(answer, []byte(end)) {
+		if found, isPlain := plainPairs(answer[len(begin) : len(answer)-len(end)]); isPlain {
+			return found, nil
+		}
+	}
+	err = ValueOf(answer, &pairs)
+	return pairs, err
+}
+
 // Note counts a request that something else has answered, and how long that took.
 func (h *Handler) Note(kind Kind, status int, start time.Time) {
 	h.answers.Add(string(kind), strconv.Itoa(status))

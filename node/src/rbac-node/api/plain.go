@@ -1,6 +1,7 @@
 package api
 
 import (
+	"bytes"
 	"encoding/json"
 	"unicode/utf8"
 )
@@ -20,6 +21,33 @@ func plainFields(text []byte) (map[string]json.RawMessage, bool) {
 func plainItems(text []byte) (items []json.RawMessage, isPlain bool) {
 	isPlain = arePlain(text, '[', func(_, value []byte) { items = append(items, value) })
 	return items, isPlain
+}
+
+// plainPairs is plainFields for a list of lists that have two texts each.
+func plainPairs(text []byte) (pairs [][2]string, isPlain bool) {
+	pairs = make([][2]string, 0, bytes.Count(text, []byte{'['}))
+	arePairs := true
+	isPlain = arePlain(text, '[', func(_, value []byte) {
+		pair, isPair := plainPair(value)
+		pairs, arePairs = append(pairs, pair), arePairs && isPair
+	})
+	return pairs, isPlain && arePairs
+}
+
+// plainPair returns the two texts of a value that is plain, and whether it is a list of two texts.
+func plainPair(value []byte) (pair [2]string, isPair bool) {
+	if value[0] != '[' {
+		return pair, false
+	}
+	count, areTexts := 0, true
+	plainMembers(value, 0, maxPlainDepth, func(_, text []byte) {
+		areTexts = areTexts && text[0] == '"'
+		if count < len(pair) {
+			pair[count] = string(text[1 : len(text)-1])
+		}
+		count++
+	})
+	return pair, areTexts && count == len(pair)
 }
 
 // arePlain calls a function for each member of an object or a list, which a text consists of, and reports whether it is plain.

@@ -95,3 +95,39 @@ func TestPlainLikeLibrary(t *testing.T) {
 		t.Errorf("only %d and %d were read", plain, lists)
 	}
 }
+
+func TestPairsOf(t *testing.T) {
+	for _, test := range []struct {
+		name, answer string
+		isPlain      bool
+	}{
+		{"pairs", `{"ok":true,"value":[["a","b"],["c","d"]]}`, true},
+		{"a name that is not ASCII", `{"ok":true,"value":[["é","b"]]}`, true},
+		{"spaces", `{"ok":true,"value": [ ["a", "b"] ] }`, true},
+		{"no pair", `{"ok":true,"value":[]}`, true},
+		{"an escape", `{"ok":true,"value":[["a","b"],["\"c\\","d"]]}`, false},
+		{"a name alone", `{"ok":true,"value":["a"]}`, false},
+		{"one name", `{"ok":true,"value":[["a"]]}`, false},
+		{"three names", `{"ok":true,"value":[["a","b","c"]]}`, false},
+		{"no name", `{"ok":true,"value":[[]]}`, false},
+		{"a list in a pair", `{"ok":true,"value":[["a",[]]]}`, false},
+		{"an object", `{"ok":true,"value":[{"a":"b"}]}`, false},
+		{"no end", `{"ok":true,"value":[["a","b"]`, false},
+		{"something else", `{"ok":true}`, false},
+	} {
+		t.Run(test.name, func(t *testing.T) {
+			var want [][2]string
+			wantErr := ValueOf([]byte(test.answer), &want)
+			pairs, err := PairsOf([]byte(test.answer))
+			if (err == nil) != (wantErr == nil) || fmt.Sprint(pairs) != fmt.Sprint(want) {
+				t.Errorf("%v, %v instead of %v, %v", pairs, err, want, wantErr)
+			}
+			const begin = `{"ok":true,"value":`
+			if len(test.answer) > len(begin) {
+				if _, isPlain := plainPairs([]byte(test.answer[len(begin) : len(test.answer)-1])); isPlain != test.isPlain {
+					t.Error(isPlain)
+				}
+			}
+		})
+	}
+}

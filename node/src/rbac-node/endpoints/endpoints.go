@@ -96,6 +96,7 @@ func (e *Endpoints) add() {
 		"/access/v1/evaluations": {"batch", post, e.evaluations},
 		"/explain":               {"question", post, e.explain},
 		"/sessions":              {"command", post, e.makeSession},
+		severalLists:             {"list", post, e.lists},
 		"/snapshot":              {"list", get, e.snapshot},
 		"/watch":                 {"watch", get, e.watch},
 		"/caller":                {"question", get, e.caller},

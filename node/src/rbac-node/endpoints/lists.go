@@ -1,7 +1,9 @@
 package endpoints
 
 import (
+	"bytes"
 	"encoding/json"
+	"errors"
 	"net/http"
 	"net/url"
 	"strconv"
@@ -14,6 +16,9 @@ import (
 const (
 	// listsPath is where lists are, by their names.
 	listsPath = "/lists/"
+	// severalLists is where parts of several lists are, mostLists how many at once, and mostListsBytes how long their queries are.
+	severalLists              = "/lists"
+	mostLists, mostListsBytes = 20, 65_536
 	// usualRows is how many rows an answer has if nothing is said, and mostRows how many it has at most.
 	usualRows, mostRows = 100, 1000
 	// between stands between the names of a row at after: no name has it.
@@ -36,20 +41,62 @@ func (e *Endpoints) list(r *request) (int, error) {
 	if err != nil {
 		return 0, err
 	}
-	name := strings.TrimPrefix(r.URL.Path, listsPath)
-	query, err := readListQuery(name, r.URL.RawQuery)
+	query, err := readListQuery(strings.TrimPrefix(r.URL.Path, listsPath), r.URL.RawQuery)
 	if err != nil {
 		return 0, err
 	}
-	found, err := e.page(r, s, name, query)
+	found, err := e.page(r, s, query)
 	if err != nil {
 		return 0, err
 	}
 	return r.reply(http.StatusOK, found.text()), nil
 }
 
+// lists answers parts of several lists, a line for each. The head of the answer says which revision of the policy all are from, if
+// there is one.
+func (e *Endpoints) lists(r *request) (int, error) {
+	if err := r.may(api.NewOther(api.Lists)); err != nil {
+		return 0, err
+	}
+	s, err := e.known(r)
+	if err != nil {
+		return 0, err
+	}
+	body, err := api.ReadBody(r.Request, mostListsBytes)
+	if err != nil {
+		return 0, err
+	}
+	queries, err := readListQueries(body)
+	var at *api.LineError
+	if errors.As(err, &at) {
+		r.w.Header().Set("Office-Line", strconv.Itoa(at.Number))
+	}
+	if err != nil {
+		return 0, err
+	}
+	before, answers := s.Numbers(), make([][]byte, len(queries))
+	for i, query := range queries {
+		found, err := e.page(r, s, query)
+		var refused api.Refusal
+		switch {
+		case err == nil:
+			answers[i] = found.text()
+		case errors.As(err, &refused) && refused.Status == http.StatusConflict:
+			answers[i] = api.RefusalText(refused.Code, refused.Name)
+		default:
+			return 0, err
+		}
+	}
+	if s.Numbers().Policy != before.Policy {
+		api.ForgetPolicy(r.w.Header())
+	}
+	r.done()
+	return writeLines(r.w, answers), nil
+}
+
 // page returns the rows of a list that are wanted.
-func (e *Endpoints) page(r *request, s *state.State, name string, query listQuery) (page, error) {
+func (e *Endpoints) page(r *request, s *state.State, query listQuery) (page, error) {
+	name := query.list
 	switch {
 	case name == "sessions":
 		sessions, numbers := s.Sessions()
@@ -87,12 +134,13 @@ func (e *Endpoints) permissionsOf(r *request, holder *api.Call) (rows []state.Ro
 		code, name := api.CodeOf(answers[0])
 		return nil, api.Refusal{Status: api.StatusOf(answers[0]), Code: code, Name: name}
 	}
-	var pairs [][2]string
-	if err := api.ValueOf(answers[0], &pairs); err != nil {
+	pairs, err := api.PairsOf(answers[0])
+	if err != nil {
 		return nil, err
 	}
-	for _, one := range pairs {
-		rows = append(rows, state.Row{one[0], one[1]})
+	rows = make([]state.Row, len(pairs))
+	for i, one := range pairs {
+		rows[i] = state.Row{one[0], one[1]}
 	}
 	return rows, nil
 }
@@ -100,20 +148,72 @@ func (e *Endpoints) permissionsOf(r *request, holder *api.Call) (rows []state.Ro
 // A listQuery is what a request wants of a list. holder asks for the permissions of a user or a role, or is nil.
 type listQuery struct {
 	state.Query
+	list   string
 	holder *api.Call
+}
+
+// readListQueries reads what is wanted of several lists: a line for each, with the name at list and the keys of a query.
+func readListQueries(body []byte) (queries []listQuery, err error) {
+	for i, line := range bytes.Split(body, []byte("\n")) {
+		if len(bytes.TrimSpace(line)) == 0 {
+			continue
+		}
+		query, err := readListLine(line)
+		if err == nil && len(queries) == mostLists {
+			err = errNotRead
+		}
+		if err != nil {
+			refused := errNotRead
+			_ = errors.As(err, &refused)
+			return nil, &api.LineError{Number: i + 1, Refusal: refused}
+		}
+		queries = append(queries, query)
+	}
+	if len(queries) == 0 {
+		return nil, errNotRead
+	}
+	return queries, nil
+}
+
+// readListLine reads what is wanted of a list. The limit is a number, and what is at the other keys a text.
+func readListLine(line []byte) (query listQuery, err error) {
+	fields, err := api.Fields(line)
+	if err != nil {
+		return query, errNotRead
+	}
+	list, values := "", url.Values{}
+	for key, value := range fields {
+		text := string(value)
+		if key != "limit" {
+			if text, err = api.Text(value); err != nil {
+				return query, errNotRead
+			}
+		}
+		if key == "list" {
+			list = text
+		} else {
+			values.Set(key, text)
+		}
+	}
+	return newListQuery(list, values)
 }
 
 // readListQuery reads what is wanted of a list.
 func readListQuery(list, text string) (query listQuery, err error) {
+	values, err := url.ParseQuery(text)
+	if err != nil && columnsOf(list) != nil {
+		return query, errNotRead
+	}
+	return newListQuery(list, values)
+}
+
+// newListQuery returns what the values of a query want of a list.
+func newListQuery(list string, values url.Values) (query listQuery, err error) {
 	columns := columnsOf(list)
 	if columns == nil {
 		return query, api.UnknownFunction
 	}
-	values, err := url.ParseQuery(text)
-	if err != nil {
-		return query, errNotRead
-	}
-	query.Query = state.Query{Names: map[string]string{}, Limit: usualRows}
+	query.list, query.Query = list, state.Query{Names: map[string]string{}, Limit: usualRows}
 	for key, given := range values {
 		if len(given) != 1 {
 			return query, errNotRead

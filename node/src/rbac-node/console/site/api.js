@@ -124,6 +124,15 @@ export async function rows(name, query = {}) {
     return (await list(name, { limit: 1000, ...query })).value;
 }
 
+/** Returns the first parts of several lists by one request: each is a name and a query. A list of somebody who isn't there is empty. */
+export async function lists(...queries) {
+    const reply = await send("POST", "lists", queries.map(([name, query]) => JSON.stringify({ list: name, limit: 1000, ...query })).join("\n"));
+    if (!reply.ok) {
+        await answerOf(reply);
+    }
+    return (await reply.text()).trim().split("\n").map((line) => ({ value: [], ...JSON.parse(line) }));
+}
+
 /** Returns all rows of a list. */
 export async function everything(name, query = {}) {
     const found = [];

@@ -50,10 +50,21 @@ function addressOf(hash) {
     }
 }
 
-function showPages(current) {
-    const links = PAGES.filter(([, , isShown]) => isShown()).map(([segment, title]) =>
-        h("li", {}, h("a", { href: `#/${segment}`, "aria-current": segment === current ? "page" : null }, title)));
+function showPages() {
+    const links = PAGES.filter(([, , isShown]) => isShown()).map(([segment, title]) => h("li", {}, h("a", { href: `#/${segment}` }, title)));
     document.getElementById("pages").replaceChildren(h("ul", {}, links));
+}
+
+/** Marks the link to the page that is shown. The links are made once, since new ones would have to be laid out. */
+function markPage(current) {
+    for (const link of document.querySelectorAll("#pages a")) {
+        const isCurrent = link.getAttribute("href") === `#/${current}`;
+        if (isCurrent) {
+            link.setAttribute("aria-current", "page");
+        } else {
+            link.removeAttribute("aria-current");
+        }
+    }
 }
 
 function title(text) {
@@ -69,16 +80,19 @@ async function show(isAnew = false) {
     const mine = shown;
     const { segments, query } = addressOf(location.hash);
     const page = PAGES.find(([segment, , isShown]) => segment === segments[0] && isShown());
-    showPages(page?.[0]);
+    // A link that is marked before the page is there would be drawn by itself.
+    const marking = setTimeout(() => markPage(page?.[0]), 100);
     let nodes;
     try {
         nodes = await nodesOf(page, segments, query);
     } catch (error) {
         nodes = [h("h1", {}, page?.[1] ?? "No such page"), await troubleOf(error)];
     }
+    clearTimeout(marking);
     if (mine !== shown) {
         return;
     }
+    markPage(page?.[0]);
     const place = isAnew ? window.scrollY : 0;
     main().replaceChildren(...nodes.flat(Infinity).filter(Boolean));
     const heading = main().querySelector("h1");
@@ -162,6 +176,7 @@ async function begin(token) {
     isIn = true;
     hush();
     showWho();
+    showPages();
     await show();
 }
 

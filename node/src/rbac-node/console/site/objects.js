@@ -1,6 +1,6 @@
 /** The objects, and one object: its operations, who may do each, and why. */
 
-import { askAll, list, may, maySome, rows } from "./api.js";
+import { askAll, list, lists, may, maySome } from "./api.js";
 import { action, button, command, deliberate, field, form, later, pager, section, table } from "./parts.js";
 import { counted, h, hashOf, link, listed, name, object, plain, role, user } from "./text.js";
 
@@ -24,7 +24,7 @@ export async function objectsPage({ query, anew }) {
 }
 
 export async function objectPage([text], { anew }) {
-    const [known, permissions] = await Promise.all([rows("objects", { object: text }), rows("permissions", { object: text })]);
+    const [known, permissions] = (await lists(["objects", { object: text }], ["permissions", { object: text }])).map((part) => part.value);
     if (known.length === 0) {
         return [h("h1", {}, "Object ", name(text)), h("p", {}, "There is no such object.")];
     }

@@ -1,7 +1,7 @@
 /** The overview: whether the office answers, its room, what was changed last, and a picture of the whole. */
 
 import { health, may, record, room, who } from "./api.js";
-import { drawn, later, number, section, table } from "./parts.js";
+import { awhile, drawn, early, later, number, section, table } from "./parts.js";
 import { h } from "./text.js";
 import { entriesTable } from "./record.js";
 
@@ -18,9 +18,8 @@ const NEAR = 0.9;
 
 export async function overviewPage() {
     const mayList = may("lists");
-    const recording = may("record") ? record({ limit: 8 }) : null;
-    recording?.catch(() => {}); // It is said in its section.
-    const [condition, rooms] = await Promise.all([health(), mayList ? room() : []]);
+    const recording = may("record") ? early(record({ limit: 8 })) : null;
+    const [condition, rooms] = await Promise.all([health(), mayList ? room() : [], awhile([recording])]);
     const nodes = [h("h1", {}, "Overview"), conditionSection(condition)];
     const columns = [];
     if (mayList) {

@@ -2,7 +2,7 @@
 
 import { ask, Lost, maySome, picture, Refused } from "./api.js";
 import { done, refusal, suggestions, why } from "./words.js";
-import { h, hashOf, plain } from "./text.js";
+import { h, hashOf, listed, plain, some } from "./text.js";
 
 export function section(title, ...children) {
     return h("section", {}, h("h2", {}, title), children);
@@ -161,11 +161,24 @@ export function pager(segments, next, isFirst) {
         next ? h("a", { href: `${hashOf(segments)}?${new URLSearchParams(next)}` }, "Next page") : null);
 }
 
+/** Returns the end of a sentence with the first few names, and a button that shows all of them. */
+export function folded(names, show, label, most = 10) {
+    if (names.length <= most + 1) {
+        return [listed(names.map(show)), "."];
+    }
+    const all = h("span", { tabindex: "-1" }, some(names, show, "and", most), ". ");
+    all.append(button("Show all", label, () => {
+        all.replaceChildren(...listed(names.map(show)), ".");
+        all.focus();
+    }));
+    return all;
+}
+
 /** Returns a picture that the front draws, or a line that says why there is none. */
-export function drawn(query, about) {
+export function drawn(query, about, drawing = picture(query)) {
     const holder = h("div", { class: "picture" }, h("p", { class: "quiet" }, "The picture is being drawn."));
     const without = (text) => holder.replaceWith(h("p", { class: "quiet" }, text));
-    picture(query).then((blob) => {
+    drawing.then((blob) => {
         const image = h("img", { alt: about, src: URL.createObjectURL(blob) });
         image.addEventListener("load", () => URL.revokeObjectURL(image.src));
         holder.replaceChildren(image);
@@ -179,6 +192,20 @@ export function drawn(query, about) {
         }
     });
     return holder;
+}
+
+// How long the parts of a page are waited for, in milliseconds.
+const PATIENCE = 300;
+
+/** Returns a promise that may fail before somebody waits for it. */
+export function early(promise) {
+    promise.catch(() => {});
+    return promise;
+}
+
+/** Waits a little for parts of a page: one that is shown once is there sooner than one that is shown in parts. */
+export function awhile(promises) {
+    return Promise.race([Promise.allSettled(promises), new Promise((done) => { setTimeout(done, PATIENCE); })]);
 }
 
 /** Returns a section whose content comes later. What fails is said in it. */

@@ -129,9 +129,9 @@ export function peopleOf(text) {
     return people;
 }
 
-/** Returns a cell of CSV. What a spreadsheet would take for a formula gets an apostrophe. */
+/** Returns a cell of CSV. What a spreadsheet would take for a formula gets an apostrophe, and one more if it has some, as in the reports. */
 function cell(text) {
-    const safe = /^[=+\-@]/.test(text) ? `'${text}` : text;
+    const safe = /^'*[=+\-@]/.test(text) ? `'${text}` : text;
     return /[",\r\n]/.test(safe) ? `"${safe.replaceAll('"', '""')}"` : safe;
 }
 

@@ -1,10 +1,13 @@
 /** The roles: the hierarchy as a tree, and one role with its neighbours, users, permissions and sets. */
 
-import { ask, everything, list, may, maySome, rows } from "./api.js";
-import { action, button, command, deliberate, drawn, field, form, later, pager, section, table } from "./parts.js";
-import { counted, few, h, hashOf, listed, name, object, role, set, user } from "./text.js";
+import { ask, everything, list, lists, may, maySome, picture } from "./api.js";
+import { action, awhile, button, command, deliberate, drawn, early, field, folded, form, later, pager, section, table } from "./parts.js";
+import { brief, counted, few, h, hashOf, link, name, object, role, set, some, user } from "./text.js";
 
 const SHOWN = 100;
+const SHOWN_INHERITED = 50;
+// How many sets are shown of those that have a role.
+const MOST_SETS = 5;
 
 export async function rolesPage({ query, anew }) {
     const { contains = "" } = query;
@@ -60,13 +63,18 @@ function branch(roles, juniors, open) {
 }
 
 export async function rolePage([text], { query, anew }) {
-    const [known, seniors, juniors] = await Promise.all([
-        rows("roles", { role: text }), rows("inheritances", { desc: text }), rows("inheritances", { asc: text }),
-    ]);
+    const values = { role: text };
+    // Everything is asked for at once, what takes longest first.
+    const drawing = early(picture(values));
+    const authorizing = early(may("authorizedUsers", values) ? ask("authorizedUsers", values) : Promise.resolve([]));
+    const mayAsk = may("rolePermissions", values);
+    const found = await lists(["roles", values], ["inheritances", { desc: text }], ["inheritances", { asc: text }], ["assignments", values], ["grants", values],
+        ["staticSets"], ["dynamicSets"], ...(mayAsk ? [["permissions", { ...values, limit: SHOWN_INHERITED, after: query.after }]] : []));
+    const [known, seniors, juniors, assignments, granted, fixed, dynamic] = found.map((one) => one.value);
     if (known.length === 0) {
         return [h("h1", {}, "Role ", name(text)), h("p", {}, "There is no such role.")];
     }
-    const values = { role: text };
+    await awhile([authorizing]);
     return [
         h("h1", {}, "Role ", name(text)),
         may("deleteRole", values) ? h("div", { class: "actions" }, deliberate("Delete", `Delete the role ${text}`,
@@ -76,9 +84,10 @@ export async function rolePage([text], { query, anew }) {
                 edges("Senior roles, which inherit from this one", seniors.map(({ asc }) => ({ asc, desc: text })), "asc", "No role inherits from this one.", anew),
                 edges("Junior roles, from which this one inherits", juniors.map(({ desc }) => ({ asc: text, desc })), "desc", "It inherits from no role.", anew),
                 addEdges(text, anew)),
-            section("Neighbours", drawn({ role: text }, `The role with its ${counted(seniors.length, "senior role")}, ${counted(juniors.length, "junior role")} and its separation of duty sets, as in the lists beside it`))),
-        h("div", { class: "columns" }, later("Users", () => usersOf(text, anew)), later("Separation of duty", () => setsOf(text))),
-        later("Permissions", () => permissionsOf(text, query.after, anew)),
+            section("Neighbours", drawn({ role: text }, `The role with its ${counted(seniors.length, "senior role")}, ${counted(juniors.length, "junior role")} and its separation of duty sets, as in the lists beside it`, drawing))),
+        h("div", { class: "columns" }, later("Users", async () => usersOf(text, assignments.map((row) => row.user), await authorizing, anew)),
+            section("Separation of duty", setsOf(text, fixed, dynamic))),
+        section("Permissions", permissionsOf(text, query.after, granted, found[7], anew)),
     ];
 }
 
@@ -97,11 +106,7 @@ function addEdges(text, anew) {
         (values) => command("addInheritance", values.which === "desc" ? { asc: text, desc: values.role } : { asc: values.role, desc: text }, anew));
 }
 
-async function usersOf(text, anew) {
-    const mayAll = may("authorizedUsers", { role: text });
-    const [assigned, authorized] = await Promise.all([
-        rows("assignments", { role: text }).then((found) => found.map((row) => row.user)), mayAll ? ask("authorizedUsers", { role: text }) : [],
-    ]);
+function usersOf(text, assigned, authorized, anew) {
     const direct = new Set(assigned);
     const more = authorized.filter((one) => !direct.has(one));
     const remove = (one) => {
@@ -114,8 +119,7 @@ async function usersOf(text, anew) {
         nodes.push(h("p", {}, `These are the first ${shown.length}.`));
     }
     if (more.length > 0) {
-        nodes.push(h("p", {}, `Authorized through a senior role, ${counted(more.length, "user")}: `, listed(more.slice(0, SHOWN).map(user)),
-            more.length > SHOWN ? ", …" : "."));
+        nodes.push(h("p", {}, `Authorized through a senior role, ${counted(more.length, "user")}: `, folded(more, user, `Show all users of ${text}`)));
     }
     if (may("assignUser", { role: text })) {
         nodes.push(form("Assign a user", [field("User", "user", { from: "users", required: true })], "Assign",
@@ -124,24 +128,31 @@ async function usersOf(text, anew) {
     return nodes;
 }
 
-async function setsOf(text) {
-    const [fixed, dynamic] = await Promise.all([everything("staticSets"), everything("dynamicSets")]);
-    const lines = [["static", fixed], ["dynamic", dynamic]].flatMap(([kind, sets]) => sets
-        .filter((one) => one.roles.includes(text))
-        .map((one) => h("li", {}, set(kind, one.set), ` (${kind}): at most ${few(one.cardinality - 1)} of `, listed(one.roles.map(role)))));
-    return lines.length ? h("ul", { class: "sets" }, lines) : h("p", { class: "quiet" }, "The role is in no set.");
+function setsOf(text, fixed, dynamic) {
+    const found = [["static", fixed], ["dynamic", dynamic]].flatMap(([kind, sets]) => sets.filter((one) => one.roles.includes(text)).map((one) => [kind, one]));
+    const lines = found.slice(0, MOST_SETS)
+        .map(([kind, one]) => h("li", {}, set(kind, one.set), ` (${kind}): at most ${few(one.cardinality - 1)} of `, some(one.roles, role)));
+    if (lines.length === 0) {
+        return h("p", { class: "quiet" }, "The role is in no set.");
+    }
+    return [h("ul", { class: "sets" }, lines), found.length > MOST_SETS ? h("p", {}, `These are the first ${MOST_SETS} of ${counted(found.length, "set")}. `,
+        link(["separation"], "All sets")) : null];
 }
 
-async function permissionsOf(text, after, anew) {
-    const granted = await rows("grants", { role: text });
+/** What is granted to a role itself, and a part of what it has with its juniors, as far as the caller may know it. */
+function permissionsOf(text, after, granted, part, anew) {
     const remove = ({ object: on, operation }) => {
         const values = { object: on, operation, role: text };
         return may("revokePermission", values) ? button("Revoke", `Revoke ${operation} on ${on}`, () => command("revokePermission", values, anew)) : null;
     };
+    const shown = granted.slice(0, SHOWN);
     const nodes = [table("Granted to this role itself", ["Object", "Operation", ""],
-        granted.slice(0, SHOWN).map((row) => [object(row.object), name(row.operation), action(remove(row))]), "Nothing is granted to this role itself.")];
-    if (may("rolePermissions", { role: text })) {
-        nodes.push(await inherited(text, granted, after));
+        shown.map((row) => [object(row.object), brief(row.operation), action(remove(row))]), "Nothing is granted to this role itself.")];
+    if (granted.length > shown.length) {
+        nodes.push(h("p", {}, `These are the first ${shown.length}.`));
+    }
+    if (part) {
+        nodes.push(inherited(text, granted, part, after));
     }
     if (maySome("grantPermission")) {
         nodes.push(form("Grant a permission", [field("Operation", "operation", { from: "operations", required: true }), field("Object", "object", { from: "objects", required: true })], "Grant",
@@ -150,10 +161,9 @@ async function permissionsOf(text, after, anew) {
     return nodes;
 }
 
-async function inherited(text, granted, after) {
-    const part = await list("permissions", { role: text, limit: SHOWN, after });
+function inherited(text, granted, part, after) {
     const own = new Set(granted.map((row) => `${row.object}\t${row.operation}`));
     const others = part.value.filter((row) => !own.has(`${row.object}\t${row.operation}`));
-    return [others.length ? table("Inherited from junior roles", ["Object", "Operation"], others.map((row) => [object(row.object), name(row.operation)])) : null,
+    return [others.length ? table("Inherited from junior roles", ["Object", "Operation"], others.map((row) => [object(row.object), brief(row.operation)])) : null,
         pager(["roles", text], part.next ? { after: part.next } : null, !after)].filter(Boolean);
 }

@@ -1,8 +1,8 @@
 /** Separation of duty: the sets, and one set with its members and with those who are near to it. */
 
-import { askAll, everything, may, maySome } from "./api.js";
+import { askAll, everything, lists, may, maySome } from "./api.js";
 import { action, button, command, deliberate, field, form, later, section, table } from "./parts.js";
-import { counted, few, h, hashOf, listed, name, role, set, user } from "./text.js";
+import { counted, few, h, hashOf, name, role, set, some, user } from "./text.js";
 
 const SHOWN = 100;
 const LISTS = { static: "staticSets", dynamic: "dynamicSets" };
@@ -14,12 +14,12 @@ const MEANINGS = {
 
 export async function separationPage({ anew }) {
     const kinds = Object.keys(LISTS);
-    const sets = await Promise.all(kinds.map((kind) => everything(LISTS[kind])));
+    const sets = (await lists(...kinds.map((kind) => [LISTS[kind]]))).map((part) => part.value);
     const nodes = [h("h1", {}, "Separation of duty")];
     kinds.forEach((kind, i) => nodes.push(section(kind === "static" ? "Static sets" : "Dynamic sets",
         h("p", { class: "quiet" }, MEANINGS[kind]),
         table(`${counted(sets[i].length, `${kind} set`)}`, ["Set", "Allows", "Members"],
-            sets[i].map((one) => [set(kind, one.set), `at most ${few(one.cardinality - 1)} of ${one.roles.length}`, listed(one.roles.map(role))]),
+            sets[i].map((one) => [set(kind, one.set), `at most ${few(one.cardinality - 1)} of ${one.roles.length}`, some(one.roles, role)]),
             `There is no ${kind} set.`),
         maySome(`create${PREFIXES[kind]}Set`) ? createForm(kind, anew) : null)));
     return nodes;
@@ -49,7 +49,7 @@ export async function setPage([kind, text], { anew }) {
         may(`delete${prefix}Set`) ? h("div", { class: "actions" }, deliberate("Delete", `Delete the set ${text}`, "Delete the set?",
             () => command(`delete${prefix}Set`, { set: text }, hashOf(["separation"])))) : null,
         section("Rule", h("p", {}, kind === "static" ? "A user may be authorized for at most " : "A session may have at most ",
-            `${few(cardinality - 1)} of `, listed(roles.map(role)), `. The cardinality is ${cardinality}.`),
+            `${few(cardinality - 1)} of `, some(roles, role), `. The cardinality is ${cardinality}.`),
         table("Members", ["Role", ""], roles.map((one) => [role(one), action(remove(one))])),
         maySome(`add${prefix}RoleMember`) ? form("Add a member", [field("Role", "role", { from: "roles", required: true })], "Add",
             (values) => command(`add${prefix}RoleMember`, { set: text, ...values }, anew)) : null,
@@ -66,8 +66,8 @@ async function nearest(kind, { roles, cardinality }) {
     answers.forEach((answer, i) => (answer.value ?? []).forEach((one) => held.set(one, [...(held.get(one) ?? []), roles[i]])));
     const least = kind === "static" ? cardinality - 1 : cardinality;
     const near = [...held].filter(([, members]) => members.length >= least).sort(([a], [b]) => (a < b ? -1 : 1));
-    const found = near.slice(0, SHOWN).map(([one, members]) => [user(one), listed(members.map(role)),
-        kind === "static" ? ["can't become ", listed(roles.filter((other) => !members.includes(other)).map(role), "or")] : "not all in one session"]);
+    const found = near.slice(0, SHOWN).map(([one, members]) => [user(one), some(members, role),
+        kind === "static" ? ["can't become ", some(roles.filter((other) => !members.includes(other)), role, "or")] : "not all in one session"]);
     const meaning = kind === "static"
         ? "One more role of the set would violate it; the office refuses that." : "These users have enough roles of the set; the office refuses a session with too many.";
     return [h("p", { class: "quiet" }, meaning), table(counted(near.length, "user"), ["User", "Has", "So"], found, "Nobody."),

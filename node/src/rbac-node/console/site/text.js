@@ -95,7 +95,7 @@ export function listed(nodes, last = "and") {
 /** Returns `listed` of the first few names, and how many more there are. */
 export function some(names, show, last = "and", most = 5) {
     const left = names.length - most;
-    return left > 1 ? [names.slice(0, most).map((one) => [show(one), ", "]), `${last} ${left} more`] : listed(names.map(show), last);
+    return left > 1 ? [names.slice(0, most).map((one) => [show(one), ", "]), `${last} ${left.toLocaleString("en")} more`] : listed(names.map(show), last);
 }
 
 /** Returns a number with a noun: "1 user", "1,000 users". */

@@ -1,18 +1,16 @@
 /** The users, and one user: roles, permissions with the roles that give them, sessions, nearness to each separation of duty set. */
 
-import { ask, askAll, endSession, everything, list, may, maySome, Refused, rows } from "./api.js";
-import { action, button, command, deliberate, fail, field, form, later, pager, say, section, table } from "./parts.js";
+import { ask, askAll, endSession, lists, may, maySome } from "./api.js";
+import { action, awhile, button, command, deliberate, early, fail, field, folded, form, later, pager, say, section, table } from "./parts.js";
 import { brief, counted, h, hashOf, link, listed, name, object, plain, role, set, some, time, user } from "./text.js";
 
 const SHOWN = 100;
-const SHOWN_OF_USER = 50;
-// How long parts of a page are waited for, in milliseconds.
-const PATIENCE = 300;
+const SHOWN_OF_USER = 20;
 
 export async function usersPage({ query, anew }) {
     const { contains = "", after } = query;
     // The locked users of this part are the first ones of the same part of their list.
-    const [part, locked] = await Promise.all(["users", "locked"].map((one) => list(one, { contains, after, limit: SHOWN })));
+    const [part, locked] = await lists(...["users", "locked"].map((one) => [one, { contains, after, limit: SHOWN }]));
     const isLocked = new Set(locked.value);
     const search = form("Search users", [field("Name contains", "contains", { value: contains, type: "search" })], "Search",
         (values) => { location.hash = `${hashOf(["users"])}?${new URLSearchParams(values)}`; }, { class: "search" });
@@ -31,44 +29,27 @@ export async function usersPage({ query, anew }) {
 
 export async function userPage([text], { query, anew }) {
     const values = { user: text };
-    const assigning = rows("assignments", values);
-    const authorizing = may("authorizedRoles", values) ? ask("authorizedRoles", values).catch(nothing) : null;
-    // Everything is asked for at once. What fails is said in its section.
-    const setting = authorizing && early(Promise.all([everything("staticSets"), everything("dynamicSets")]));
-    const permitting = may("userPermissions", values) ? early(permitted(text, query.after)) : null;
-    const sessions = early(rows("sessions", values));
-    const [known, locked, assigned, authorized] = await Promise.all([
-        authorizing ? true : rows("users", values), rows("locked", values), assigning.then((found) => found.map((row) => row.role)), authorizing,
-    ]);
-    if (authorizing ? authorized === null : known.length === 0) {
+    const authorizing = may("authorizedRoles", values) ? early(ask("authorizedRoles", values)) : null;
+    const mayAsk = may("userPermissions", values);
+    const [known, locked, assignments, sessions, fixed, dynamic, part] = await lists(["users", values], ["locked", values], ["assignments", values],
+        ["sessions", values], ["staticSets"], ["dynamicSets"], ...(mayAsk ? [["permissions", { ...values, limit: SHOWN_OF_USER, after: query.after }]] : []));
+    if (known.value.length === 0) {
         return [h("h1", {}, "User ", name(text)), h("p", {}, "There is no such user.")];
     }
-    const isLocked = locked.length > 0;
-    // A page that is shown once is there sooner than one that is shown in parts.
-    await Promise.race([Promise.allSettled([setting, permitting, sessions]), new Promise((done) => { setTimeout(done, PATIENCE); })]);
+    const giving = early(giversOf(part));
+    const authorized = await authorizing;
+    const assigned = assignments.value.map((row) => row.role);
+    const isLocked = locked.value.length > 0;
+    await awhile([giving]);
     return [
         h("h1", {}, "User ", name(text), isLocked ? [" ", h("span", { class: "mark no" }, "locked")] : null),
         isLocked ? h("p", {}, name(text), " is locked: no session is possible.") : null,
         actionsOf(text, isLocked, anew),
         h("div", { class: "columns" }, rolesSection(text, assigned, authorized, anew),
-            setting ? later("Separation of duty", async () => nearness(text, authorized, await setting)) : null),
-        permitting ? later("Permissions", async () => permissionsOf(text, authorized, query.after, await permitting)) : null,
-        later("Sessions", async () => sessionsOf(text, await sessions, anew)),
+            authorized ? section("Separation of duty", nearness(text, authorized, fixed.value, dynamic.value)) : null),
+        mayAsk ? later("Permissions", async () => permissionsOf(text, authorized, query.after, part, await giving)) : null,
+        section("Sessions", sessionsOf(text, sessions.value, anew)),
     ];
-}
-
-/** Returns a promise that may fail before somebody waits for it. */
-function early(promise) {
-    promise.catch(() => {});
-    return promise;
-}
-
-/** Returns null for a user that was deleted meanwhile. */
-function nothing(error) {
-    if (error instanceof Refused && error.code === 2) {
-        return null;
-    }
-    throw error;
 }
 
 function actionsOf(text, isLocked, anew) {
@@ -97,7 +78,7 @@ function rolesSection(text, assigned, authorized, anew) {
     const nodes = [table("Assigned roles", ["Role", ""], assigned.map((one) => [role(one), action(remove(one))]), "No role is assigned.")];
     const more = (authorized ?? []).filter((one) => !assigned.includes(one));
     if (more.length > 0) {
-        nodes.push(h("p", {}, "Also authorized, by inheritance: ", some(more, role, "and", SHOWN_OF_USER), "."));
+        nodes.push(h("p", {}, "Also authorized, by inheritance: ", folded(more, role, `Show all roles of ${text}`)));
     }
     if (maySome("assignUser")) {
         nodes.push(form("Assign a role", [field("Role", "role", { from: "roles", required: true })], "Assign",
@@ -107,10 +88,10 @@ function rolesSection(text, assigned, authorized, anew) {
 }
 
 // How many sets are shown: the nearest ones.
-const MOST_SETS = 10;
+const MOST_SETS = 5;
 
 /** How near a user is to each set of which the user has a member, the nearest first. */
-function nearness(text, authorized, [fixed, dynamic]) {
+function nearness(text, authorized, fixed, dynamic) {
     const has = new Set(authorized);
     const found = [["static", fixed], ["dynamic", dynamic]].flatMap(([kind, sets]) => sets.map((one) => [kind, one, one.roles.filter((member) => has.has(member))]))
         .filter(([, , held]) => held.length > 0).sort(([, a, x], [, b, y]) => a.cardinality - x.length - (b.cardinality - y.length));
@@ -118,7 +99,8 @@ function nearness(text, authorized, [fixed, dynamic]) {
     if (lines.length === 0) {
         return h("p", { class: "quiet" }, name(text), " has no member of a separation of duty set.");
     }
-    return [h("ul", { class: "sets" }, lines), found.length > MOST_SETS ? h("p", {}, `These are the nearest ${MOST_SETS} of ${counted(found.length, "set")}.`) : null];
+    return [h("ul", { class: "sets" }, lines), found.length > MOST_SETS ? h("p", {}, `These are the nearest ${MOST_SETS} of ${counted(found.length, "set")}. `,
+        may("reports") ? h("a", { href: `${hashOf(["reports", "near"])}?${new URLSearchParams({ user: text })}` }, "All in a report") : null) : null];
 }
 
 function lineOf(kind, { set: setName, cardinality, roles }, held) {
@@ -135,15 +117,13 @@ function lineOf(kind, { set: setName, cardinality, roles }, held) {
     return [begin, `May have ${left - 1} more of `, some(others, role), "."];
 }
 
-/** A part of a user's permissions, and the roles to which each is granted, if the caller may know them. */
-async function permitted(text, after) {
-    const part = await list("permissions", { user: text, limit: SHOWN_OF_USER, after });
-    const givers = may("permissionRoles") ? await askAll(part.value.map((row) => ({ fn: "permissionRoles", ...row }))) : [];
-    return { part, givers };
+/** The roles to which each of some permissions is granted, if the caller may know them. */
+async function giversOf(part) {
+    return part && may("permissionRoles") ? askAll(part.value.map((row) => ({ fn: "permissionRoles", ...row }))) : [];
 }
 
 /** A part of a user's permissions, each with the roles that give it. */
-function permissionsOf(text, authorized, after, { part, givers }) {
+function permissionsOf(text, authorized, after, part, givers) {
     const has = new Set(authorized ?? []);
     const found = part.value.map((row, i) => [
         object(row.object), brief(row.operation), some((givers[i]?.value ?? []).filter((one) => has.has(one)), role, "and", 3),
