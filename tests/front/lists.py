@@ -130,7 +130,9 @@ def check_random(bench):
         same_lists(bench, front, "of nothing", connection=kept)
         kept.close()
         bench.same("the end", front.end(), 0)
-    bench.same("commands that have ended sessions", sorted(ended), sorted(ENDING))
+    # Few random offices need not have each of these commands: check_ending has.
+    bench.same("other commands that have ended sessions", sorted(set(ended) - set(ENDING)), [])
+    bench.same("whether sessions have ended", bool(ended), True)
     return {f"lists: sessions ended by {function}": count for function, count in ended.items()}
 
 
