@@ -15,7 +15,7 @@ from .running import LONG
 
 SITE = "console/site/"
 
-# The edits: a file, what is there once, what stands there instead, the check, and the beginning of what it says.
+# The edits: a file, a text that occurs in it once, the text that replaces it, the check, and how the message of the check begins.
 BREAKS = {
     "a list of a review with formulas": (
         SITE + "reviewfile.js", "/^'*[=+\\-@]/", "/^'*=/", "reviews.check_names", "-2+3 in the CSV",

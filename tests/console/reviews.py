@@ -379,7 +379,7 @@ def check_names(bench):
 
 
 def check_assigned_meanwhile(bench):
-    """A review that is opened again: what was removed by it and assigned anew is open again, what is gone is told, and back if it is."""
+    """A review that is opened again: a line that it removed is open again if somebody has assigned it, and a line that is gone says so."""
     with bank(bench) as front, Browser(bench, front) as page:
         files = Files(bench, page)
         page.open("review")
