@@ -1,16 +1,11 @@
 -- Bytes that were appended and consumed one after another.
-use Rattle.std.proofs.Common.{◌≤◌, ℕ, IfSome, length, length-append, arith, List, [], ◌++◌, Option, Some, None, refl, sym, ap, subst, ◌∙◌, append_assoc}
+use Rattle.std.proofs.Common.{ℕ, List, [], ◌++◌, Option, Some, None, refl, sym, ap, subst, ◌∙◌, append_assoc}
 use Rattle.std.proofs.lemmas.List.{append-nil}
 use Rattle.std.specs.Io.KnownBytes.{Appends, Consumes, Keeps}
 
 pub Appends-none : (known : Option (List ℕ)) → Appends known known []
 Appends-none None = tt
 Appends-none (Some xs) = sym (append-nil xs)
-
-pub Appends-kept : (old new : Option (List ℕ)) → Keeps old new → Appends old new []
-Appends-kept None new keeps = tt
-Appends-kept (Some xs) None keeps = absurd keeps
-Appends-kept (Some xs) (Some ys) keeps = keeps ∙ sym (append-nil xs)
 
 pub Appends-more : (old between new : Option (List ℕ)) (xs ys : List ℕ) → Appends old between xs → Appends between new ys → Appends old new (xs ++ ys)
 Appends-more None between new xs ys first later = tt
@@ -36,9 +31,3 @@ Consumes-more (Some os) (Some bs) (Some ns) xs ys first later = first ∙ ap (λ
 -- bytes were consumed, and then none
 pub Consumes-no_more : (old between new : Option (List ℕ)) (xs : List ℕ) → Consumes old between xs → Consumes between new [] → Consumes old new xs
 Consumes-no_more old between new xs first none = subst (Consumes old new) (append-nil xs) (Consumes-more old between new xs [] first none)
-
--- known bytes are no fewer than those that were consumed
-pub length-Consumes : (known left : Option (List ℕ)) (taken : List ℕ) (n : ℕ) → Consumes known left taken → n ≤ length taken → IfSome known (λ input. n ≤ length input)
-length-Consumes None left taken n all long = tt
-length-Consumes (Some input) None taken n all long = absurd all
-length-Consumes (Some input) (Some rest) taken n all long = omega (arith, ap length all, length-append taken rest, long)

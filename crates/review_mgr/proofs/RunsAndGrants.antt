@@ -122,9 +122,6 @@ no_pairs (g ∷ grants) = no_pairs grants
 pub meets_no_more : (pairs : List Pair) (grants : List Triple) (at next : ℕ) → length pairs ≤ at → meets (drop at pairs) (drop next grants) ≡ false
 meets_no_more pairs grants at next past = ap (λ ps. meets ps (drop next grants)) (drop_all at pairs past) ∙ no_pairs (drop next grants)
 
-pub meets_nothing : (pairs : List Pair) (grants : List Triple) (at next : ℕ) → length grants ≤ next → meets (drop at pairs) (drop next grants) ≡ false
-meets_nothing pairs grants at next past = ap (meets (drop at pairs)) (drop_all next grants past)
-
 -- ---- what has none of the fingerprints is skipped
 
 -- a role that can't be one of those with these fingerprints is none of them

@@ -1,6 +1,6 @@
 //! The answer to any question, by the function for it.
 ghost use Rattle.std.specs.Prelude.{◌≡◌, ◌⊎◌, Some, None, OnOk, IfOk, IfErr};
-ghost use Rattle.review_mgr.specs.Answering.{told, value};
+ghost use Rattle.review_mgr.specs.Answering.{answer_content, value};
 ghost use Rattle.review_mgr.specs.Questions.{refused};
 
 use crate::access::check_access;
@@ -23,7 +23,7 @@ use std::alloc::Global;
 #[tactic(auto, unfolding(crate::specs::Answering::value))]
 pub fn ask(alloc: Global, state: &State, query: &Query) -> Result<Answer, Refusal>
     ensures answered { OnOk result (refused state.now.facts query.now ≡ None) }
-    ensures value { IfOk result (λ answer. told answer ≡ value state.now.facts query.now) }
+    ensures value { IfOk result (λ answer. answer_content answer ≡ value state.now.facts query.now) }
     ensures refused { IfErr result (λ refusal. (refusal ≡ Refusal.Memory) ⊎ (refused state.now.facts query.now ≡ Some refusal)) }
 {
     match query {

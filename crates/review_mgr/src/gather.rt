@@ -120,7 +120,8 @@ pub(crate) fn users_above(
     assignments: &PairSet,
     role: &Name,
 ) -> Result<Vec<Name>, Refusal>
-    ensures ok { IfOk result (λ names. names.items ≡ members (image {Q = name_cmp} (λ (pair : Pair). pair.0) (retain (set_of pair_cmp assignments.now) (λ pair. geq order.now.edges pair.1 role.now)))) }
+    ensures ok { IfOk result (λ names. names.items
+        ≡ members (image {Q = name_cmp} (λ (pair : Pair). pair.0) (retain (set_of pair_cmp assignments.now) (λ pair. geq order.now.edges pair.1 role.now)))) }
     ensures cause { IfErr result (λ refusal. refusal ≡ Refusal.Memory) }
 {
     let above = order.seniors(alloc, role)?;

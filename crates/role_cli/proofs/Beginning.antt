@@ -53,11 +53,6 @@ module _ (chosen : Choice) (never_makes : (x : String Global) → chosen ≡ cho
       go (choice.Migrate x) makes migrates = absurd (migrates x refl)
       go _ makes migrates = (why, holds, leaves)
 
--- a failed store is a failure to create, to migrate or to open
-pub store_fails : (chosen : Choice) → IsOpeningFailure chosen (Refused Store)
-store_fails (choice.Init x) = refl
-store_fails _ = (Store, refl, refl)
-
 -- any refusal of an opening is, unless an office was to be created
 pub refusal_fails : (chosen : Choice) (refusal : Refusal) → ((x : String Global) → chosen ≡ choice.Init x → ⊥) → IsTrue (is_opening_refusal refusal) → IsOpeningFailure chosen (Refused refusal)
 refusal_fails (choice.Init x) refusal never is = absurd (never x refl)

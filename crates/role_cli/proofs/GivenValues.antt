@@ -238,10 +238,6 @@ module _ (c : List Rule) (again : Bool) (fits : Each (Fits c) c) where
   option_good a (Some v) h fit none all = reacted_good a (v ∷ []) h fit none all
   option_good a None h fit none all = settled_good h none all
 
-  flag_good : (a : Rule) (v : Option Text) (h : Held) → Fits c a → react_fault c again a [] h ≡ [] → Good c h → Good c (flag_met c a v h).0
-  flag_good a (Some v) h fit none all = all
-  flag_good a None h fit none all = reacted_good a [] h fit none all
-
   long_good : (o : Option Rule) (v : Option Text) (h : Held) → ((a : Rule) → o ≡ Some a → Fits c a) → long_fault c again o v h ≡ [] → Good c h → Good c (long_met c o v h).0
   long_good None v h fit none all = all
   long_good (Some a) v h fit none all = go (takes_values a) v none

@@ -1,49 +1,22 @@
 -- An office after the work of a subcommand.
-use Rattle.std.proofs.Common.{inl, inr, ℕ, List, [], ◌∷◌, ◌++◌, length-append, Option, Result, Ok, Err, refl, arith}
+use Rattle.std.proofs.Common.{inl, inr, ℕ, List, Option, Result, Ok, Err}
 use Rattle.std.specs.Prelude.{OnOk, IfErr}
 use Rattle.sqlite.specs.Held.{Held}
 use Rattle.sqlite.specs.State.{State}
 use Rattle.rbac_sets.specs.CommandContent.{Import}
 use Rattle.rbac_sets.specs.Sets.{Pair}
 use Rattle.rbac_sets.specs.declared.refusal.Refusal.{Refusal}
-use Rattle.rbac_sets.proofs.Known.{Appends-none}
 use Rattle.role_json.specs.RequestContent.{Change}
 use Rattle.role_tables.specs.Office.{OfficeModel}
 use Rattle.role_wire.specs.Continuation.{Continues}
 use Rattle.role_wire.specs.OfficeRequest.{RefusesRequest, DoesRequest}
-use Rattle.role_wire.specs.OfficeReplay.{IsHalted, LeavesNext}
-use Rattle.role_wire.specs.declared.lines.Cause.{Cause}
 use Rattle.role_wire.specs.declared.lines.Cause.TheVariants as cause
 use Rattle.role_cli.specs.ServedConnections.{AllServed, Clients, EndsBy}
-use Rattle.role_cli.specs.Work.{FailsToImport, FailsToServe, Imports, ServesAll, WritesPart}
+use Rattle.role_cli.specs.Work.{FailsToImport, FailsToServe, Imports, ServesAll}
 use Rattle.role_cli.specs.declared.failure.Failure.{Failure}
 use Rattle.role_cli.proofs.Served.{breaks_continues, reaches_continues, same_continues, server_continues}
 
--- nothing was written of a text that has a byte
-pub writes_none : (byte : ℕ) (text : List ℕ) (written : Option (List ℕ)) → WritesPart (byte ∷ text) written written
-writes_none byte text written = ([], byte ∷ text, refl, omega arith, Appends-none written)
-
--- nothing was written of a line
-pub writes_no_line : (line : List ℕ) (written : Option (List ℕ)) → WritesPart (line ++ 10 ∷ []) written written
-writes_no_line line written = ([], line ++ 10 ∷ [], refl, omega (arith, length-append line (10 ∷ [])), Appends-none written)
-
 module _ {S : Type 0} (shown : Held S → State) where
-  next_continues : (why : Cause) (old new : OfficeModel S) (done : List (List ℕ)) (line part : List ℕ) → LeavesNext shown why old done line part new → Continues shown old new
-  next_continues cause.Write old new done line part (reaches, _) = reaches_continues shown old new _ reaches
-  next_continues cause.Store old new done line part (_, breaks, _) = breaks_continues shown old new _ _ breaks
-  next_continues cause.Memory old new done line part (inl reaches, _) = reaches_continues shown old new _ reaches
-  next_continues cause.Memory old new done line part (inr (_, reaches), _) = reaches_continues shown old new _ reaches
-  next_continues cause.Read old new done line part none = absurd none
-  next_continues (cause.Line number) old new done line part none = absurd none
-  next_continues cause.Closed old new done line part none = absurd none
-
-  pub halt_continues : (old new : OfficeModel S) (taken : List ℕ) (at_end : Type 0) (written now_written : Option (List ℕ)) (why : Cause) (answered : ℕ)
-      → IsHalted shown old new taken at_end written now_written why answered → Continues shown old new
-  halt_continues old new taken at_end written now_written why answered it = elim it.left [
-    | inl (line, _, leaves) ↦ next_continues why old new it.done line it.part leaves
-    | inr (_, reaches, _) ↦ reaches_continues shown old new _ reaches
-  ]
-
   performs_continues : (old new : OfficeModel S) (pairs : List Pair) (line : List ℕ) → DoesRequest shown old (Change (Import pairs)) line new → Continues shown old new
   performs_continues old new pairs line performs = reaches_continues shown old new _ performs.reaches
 

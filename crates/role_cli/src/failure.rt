@@ -64,7 +64,8 @@ pub fn write<E: Sink>(err: &mut E, text: &[u8])
 
 // Writes the line of a refusal, or reports that it can't be allocated.
 fn report_refusal<E: Sink>(alloc: Global, refusal: Refusal, err: &mut E)
-    ensures { SaysSome (IsLineOf (Failure.Refused refusal)) (E.written err.old) (E.written err.new) (HasFailed (E.failed err.old) (E.failed err.new) (E.idle err.old) (E.idle err.new)) }
+    ensures { SaysSome (IsLineOf (Failure.Refused refusal)) (E.written err.old) (E.written err.new)
+        (HasFailed (E.failed err.old) (E.failed err.new) (E.idle err.old) (E.idle err.new)) }
 {
     match refusal_line(alloc, refusal) {
         Ok(line) => write(err, line.as_bytes()),

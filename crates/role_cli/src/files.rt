@@ -16,7 +16,7 @@ ghost use Rattle.role_cli.specs.Work.{DoesSubcommand, DoesOverSomeState, FailsOn
 use crate::choice::Choice;
 use crate::failure::Failure;
 use crate::host::{Accept, CsvFiles};
-use crate::leftovers::{Before, found_before, put_back, remove_beside, remove_empty};
+use crate::leftovers::{PathState, remove_empty, remove_siblings, restore, state_before};
 use crate::work::run_on_connection;
 use rbac_sets::{Refusal, Sink, Source};
 use role_tables::laws::reopened;
@@ -36,7 +36,7 @@ use sqlite_disk::Disk;
 pub fn run_on_path<D: Start, H: Accept + CsvFiles, R: Source, W: Sink>(
     rt: &HostRuntime,
     path: &str,
-    before: Before,
+    before: PathState,
     start: D,
     choice: &Choice,
     host: &mut H,
@@ -44,21 +44,32 @@ pub fn run_on_path<D: Start, H: Accept + CsvFiles, R: Source, W: Sink>(
     out: &mut W,
 ) -> Result<(Result<(), Failure>, Connection<FileStore<FileFrom<D>>>), Failure>
     ensures done { IfOk result (λ worked. HasCleanDisk (file_state worked.1) → OnOk worked.0 (WorksOnFiles ⟦<FileFrom<D> as Disk>⟧ (image_at D.Start)
-        (λ before. WorksOnConnection (state (over_files {g = ⟦<FileFrom<D> as Disk>⟧})) choice.now before (λ first last. DoesSubcommand (state (over_files {g = ⟦<FileFrom<D> as Disk>⟧})) choice.now first
-        (environment (R.remaining source.old) (R.reads source.old) (R.failed source.old) (W.written out.old) (W.failed out.old) (W.idle out.old) (H.csv_at host.old) (H.failed_csv host.old) (H.clients host.old))
-        (environment (R.remaining source.new) (R.reads source.new) (R.failed source.new) (W.written out.new) (W.failed out.new) (W.idle out.new) (H.csv_at host.new) (H.failed_csv host.new) (H.clients host.new)) last) worked.1))) }
+        (λ before. WorksOnConnection (state (over_files {g = ⟦<FileFrom<D> as Disk>⟧})) choice.now before
+        (λ first last. DoesSubcommand (state (over_files {g = ⟦<FileFrom<D> as Disk>⟧})) choice.now first
+        (environment (R.remaining source.old) (R.reads source.old) (R.failed source.old) (W.written out.old) (W.failed out.old) (W.idle out.old)
+        (H.csv_at host.old) (H.failed_csv host.old) (H.clients host.old))
+        (environment (R.remaining source.new) (R.reads source.new) (R.failed source.new) (W.written out.new) (W.failed out.new) (W.idle out.new)
+        (H.csv_at host.new) (H.failed_csv host.new) (H.clients host.new)) last) worked.1))) }
     ensures failed { IfOk result (λ worked. HasCleanDisk (file_state worked.1) → IfErr worked.0 (λ failure. WorksOnFiles ⟦<FileFrom<D> as Disk>⟧ (image_at D.Start)
-        (λ before. FailsOnConnection (state (over_files {g = ⟦<FileFrom<D> as Disk>⟧})) choice.now before failure ((source.new ≡ source.old) × (out.new ≡ out.old) × (host.new ≡ host.old))
-        (environment (R.remaining source.old) (R.reads source.old) (R.failed source.old) (W.written out.old) (W.failed out.old) (W.idle out.old) (H.csv_at host.old) (H.failed_csv host.old) (H.clients host.old))
-        (environment (R.remaining source.new) (R.reads source.new) (R.failed source.new) (W.written out.new) (W.failed out.new) (W.idle out.new) (H.csv_at host.new) (H.failed_csv host.new) (H.clients host.new)) worked.1))) }
+        (λ before. FailsOnConnection (state (over_files {g = ⟦<FileFrom<D> as Disk>⟧})) choice.now before failure
+        ((source.new ≡ source.old) × (out.new ≡ out.old) × (host.new ≡ host.old))
+        (environment (R.remaining source.old) (R.reads source.old) (R.failed source.old) (W.written out.old) (W.failed out.old) (W.idle out.old)
+        (H.csv_at host.old) (H.failed_csv host.old) (H.clients host.old))
+        (environment (R.remaining source.new) (R.reads source.new) (R.failed source.new) (W.written out.new) (W.failed out.new) (W.idle out.new)
+        (H.csv_at host.new) (H.failed_csv host.new) (H.clients host.new)) worked.1))) }
 
     // Whatever the disk returns, the work is done over an office of some good state.
     ensures some { IfOk result (λ worked. OnOk worked.0 (DoesOverSomeState (state (over_files {g = ⟦<FileFrom<D> as Disk>⟧})) choice.now
-        (environment (R.remaining source.old) (R.reads source.old) (R.failed source.old) (W.written out.old) (W.failed out.old) (W.idle out.old) (H.csv_at host.old) (H.failed_csv host.old) (H.clients host.old))
-        (environment (R.remaining source.new) (R.reads source.new) (R.failed source.new) (W.written out.new) (W.failed out.new) (W.idle out.new) (H.csv_at host.new) (H.failed_csv host.new) (H.clients host.new)))) }
-    ensures some_failed { IfOk result (λ worked. IfErr worked.0 (λ failure. FailsOrFindsNoOffice (state (over_files {g = ⟦<FileFrom<D> as Disk>⟧})) choice.now failure ((source.new ≡ source.old) × (out.new ≡ out.old) × (host.new ≡ host.old))
-        (environment (R.remaining source.old) (R.reads source.old) (R.failed source.old) (W.written out.old) (W.failed out.old) (W.idle out.old) (H.csv_at host.old) (H.failed_csv host.old) (H.clients host.old))
-        (environment (R.remaining source.new) (R.reads source.new) (R.failed source.new) (W.written out.new) (W.failed out.new) (W.idle out.new) (H.csv_at host.new) (H.failed_csv host.new) (H.clients host.new)))) }
+        (environment (R.remaining source.old) (R.reads source.old) (R.failed source.old) (W.written out.old) (W.failed out.old) (W.idle out.old)
+        (H.csv_at host.old) (H.failed_csv host.old) (H.clients host.old))
+        (environment (R.remaining source.new) (R.reads source.new) (R.failed source.new) (W.written out.new) (W.failed out.new) (W.idle out.new)
+        (H.csv_at host.new) (H.failed_csv host.new) (H.clients host.new)))) }
+    ensures some_failed { IfOk result (λ worked. IfErr worked.0 (λ failure. FailsOrFindsNoOffice (state (over_files {g = ⟦<FileFrom<D> as Disk>⟧})) choice.now failure
+        ((source.new ≡ source.old) × (out.new ≡ out.old) × (host.new ≡ host.old))
+        (environment (R.remaining source.old) (R.reads source.old) (R.failed source.old) (W.written out.old) (W.failed out.old) (W.idle out.old)
+        (H.csv_at host.old) (H.failed_csv host.old) (H.clients host.old))
+        (environment (R.remaining source.new) (R.reads source.new) (R.failed source.new) (W.written out.new) (W.failed out.new) (W.idle out.new)
+        (H.csv_at host.new) (H.failed_csv host.new) (H.clients host.new)))) }
     ensures unopened { IfErr result (λ failure. (failure ≡ Failure.Refused Refusal.Store) × (source.new ≡ source.old) × (out.new ≡ out.old) × (host.new ≡ host.old)) }
     ensures unread { reads_input choice.now ≡ false → source.new ≡ source.old }
     ensures unasked { asks_host choice.now ≡ false → host.new ≡ host.old }
@@ -94,34 +105,51 @@ pub fn run_in_file<D: Start, H: Accept + CsvFiles, R: Source, W: Sink>(
     source: &mut R,
     out: &mut W,
 ) -> (Result<(), Failure>, Option<Files<FileFrom<D>>>)
-    ensures done { IfSome result.1 (λ files. AreClean ⟦<FileFrom<D> as Disk>⟧ files.log files.db → OnOk result.0 (WorksAndCloses ⟦<FileFrom<D> as Disk>⟧ (image_at D.Start) files
-        (λ before conn. WorksOnConnection (state (over_files {g = ⟦<FileFrom<D> as Disk>⟧})) choice.now before (λ first last. DoesSubcommand (state (over_files {g = ⟦<FileFrom<D> as Disk>⟧})) choice.now first
-        (environment (R.remaining source.old) (R.reads source.old) (R.failed source.old) (W.written out.old) (W.failed out.old) (W.idle out.old) (H.csv_at host.old) (H.failed_csv host.old) (H.clients host.old))
-        (environment (R.remaining source.new) (R.reads source.new) (R.failed source.new) (W.written out.new) (W.failed out.new) (W.idle out.new) (H.csv_at host.new) (H.failed_csv host.new) (H.clients host.new)) last) conn))) }
-    ensures failed { IfSome result.1 (λ files. AreClean ⟦<FileFrom<D> as Disk>⟧ files.log files.db → IfErr result.0 (λ failure. WorksAndCloses ⟦<FileFrom<D> as Disk>⟧ (image_at D.Start) files
-        (λ before conn. FailsOnConnection (state (over_files {g = ⟦<FileFrom<D> as Disk>⟧})) choice.now before failure ((source.new ≡ source.old) × (out.new ≡ out.old) × (host.new ≡ host.old))
-        (environment (R.remaining source.old) (R.reads source.old) (R.failed source.old) (W.written out.old) (W.failed out.old) (W.idle out.old) (H.csv_at host.old) (H.failed_csv host.old) (H.clients host.old))
-        (environment (R.remaining source.new) (R.reads source.new) (R.failed source.new) (W.written out.new) (W.failed out.new) (W.idle out.new) (H.csv_at host.new) (H.failed_csv host.new) (H.clients host.new)) conn))) }
+    ensures done { IfSome result.1 (λ files. AreClean ⟦<FileFrom<D> as Disk>⟧ files.log files.db →
+        OnOk result.0 (WorksAndCloses ⟦<FileFrom<D> as Disk>⟧ (image_at D.Start) files
+        (λ before conn. WorksOnConnection (state (over_files {g = ⟦<FileFrom<D> as Disk>⟧})) choice.now before
+        (λ first last. DoesSubcommand (state (over_files {g = ⟦<FileFrom<D> as Disk>⟧})) choice.now first
+        (environment (R.remaining source.old) (R.reads source.old) (R.failed source.old) (W.written out.old) (W.failed out.old) (W.idle out.old)
+        (H.csv_at host.old) (H.failed_csv host.old) (H.clients host.old))
+        (environment (R.remaining source.new) (R.reads source.new) (R.failed source.new) (W.written out.new) (W.failed out.new) (W.idle out.new)
+        (H.csv_at host.new) (H.failed_csv host.new) (H.clients host.new)) last) conn))) }
+    ensures failed { IfSome result.1 (λ files. AreClean ⟦<FileFrom<D> as Disk>⟧ files.log files.db →
+        IfErr result.0 (λ failure. WorksAndCloses ⟦<FileFrom<D> as Disk>⟧ (image_at D.Start) files
+        (λ before conn. FailsOnConnection (state (over_files {g = ⟦<FileFrom<D> as Disk>⟧})) choice.now before failure
+        ((source.new ≡ source.old) × (out.new ≡ out.old) × (host.new ≡ host.old))
+        (environment (R.remaining source.old) (R.reads source.old) (R.failed source.old) (W.written out.old) (W.failed out.old) (W.idle out.old)
+        (H.csv_at host.old) (H.failed_csv host.old) (H.clients host.old))
+        (environment (R.remaining source.new) (R.reads source.new) (R.failed source.new) (W.written out.new) (W.failed out.new) (W.idle out.new)
+        (H.csv_at host.new) (H.failed_csv host.new) (H.clients host.new)) conn))) }
 
     // Whatever the disk returns, the work is done over an office of some good state.
     ensures some { OnOk result.0 (DoesOverSomeState (state (over_files {g = ⟦<FileFrom<D> as Disk>⟧})) choice.now
-        (environment (R.remaining source.old) (R.reads source.old) (R.failed source.old) (W.written out.old) (W.failed out.old) (W.idle out.old) (H.csv_at host.old) (H.failed_csv host.old) (H.clients host.old))
-        (environment (R.remaining source.new) (R.reads source.new) (R.failed source.new) (W.written out.new) (W.failed out.new) (W.idle out.new) (H.csv_at host.new) (H.failed_csv host.new) (H.clients host.new))) }
-    ensures some_failed { IfErr result.0 (λ failure. FailsOrFindsNoOffice (state (over_files {g = ⟦<FileFrom<D> as Disk>⟧})) choice.now failure ((source.new ≡ source.old) × (out.new ≡ out.old) × (host.new ≡ host.old))
-        (environment (R.remaining source.old) (R.reads source.old) (R.failed source.old) (W.written out.old) (W.failed out.old) (W.idle out.old) (H.csv_at host.old) (H.failed_csv host.old) (H.clients host.old))
-        (environment (R.remaining source.new) (R.reads source.new) (R.failed source.new) (W.written out.new) (W.failed out.new) (W.idle out.new) (H.csv_at host.new) (H.failed_csv host.new) (H.clients host.new))) }
+        (environment (R.remaining source.old) (R.reads source.old) (R.failed source.old) (W.written out.old) (W.failed out.old) (W.idle out.old)
+        (H.csv_at host.old) (H.failed_csv host.old) (H.clients host.old))
+        (environment (R.remaining source.new) (R.reads source.new) (R.failed source.new) (W.written out.new) (W.failed out.new) (W.idle out.new)
+        (H.csv_at host.new) (H.failed_csv host.new) (H.clients host.new))) }
+    ensures some_failed { IfErr result.0 (λ failure. FailsOrFindsNoOffice (state (over_files {g = ⟦<FileFrom<D> as Disk>⟧})) choice.now failure
+        ((source.new ≡ source.old) × (out.new ≡ out.old) × (host.new ≡ host.old))
+        (environment (R.remaining source.old) (R.reads source.old) (R.failed source.old) (W.written out.old) (W.failed out.old) (W.idle out.old)
+        (H.csv_at host.old) (H.failed_csv host.old) (H.clients host.old))
+        (environment (R.remaining source.new) (R.reads source.new) (R.failed source.new) (W.written out.new) (W.failed out.new) (W.idle out.new)
+        (H.csv_at host.new) (H.failed_csv host.new) (H.clients host.new))) }
     ensures unread { reads_input choice.now ≡ false → source.new ≡ source.old }
     ensures unasked { asks_host choice.now ≡ false → host.new ≡ host.old }
     ensures reads { R.reads source.new ≤ R.reads source.old + most_reads }
 {
-    let before = match found_before(rt, path, choice) {
+    let before = match state_before(rt, path, choice) {
         Ok(before) => before,
         Err(failure) => return (Err(failure), None),
     };
     match run_on_path(rt, path, before, start, choice, host, source, out) {
         Ok((done, conn)) => {
             settled(&conn);
-            let undone = if done.is_err() { before } else { Before::Bytes };
+            let undone = if done.is_err() {
+                before
+            } else {
+                PathState::Bytes
+            };
             (done, close(rt, path, conn, undone))
         }
         Err(failure) => (Err(failure), None),
@@ -139,7 +167,7 @@ fn settled<S: Alter>(conn: &Connection<S>)
 fn connect<D: Start>(
     rt: &HostRuntime,
     path: &str,
-    before: Before,
+    before: PathState,
     start: D,
 ) -> Option<Connection<FileStore<FileFrom<D>>>>
     ensures opened { IfSome result (λ conn. HasCleanDisk (file_state conn) → IsOpened conn) }
@@ -149,7 +177,7 @@ fn connect<D: Start>(
         Ok(conn) => Some(conn),
         Err((_, Some(left))) => {
             let files = left.into_files();
-            put_back(rt, path, before);
+            restore(rt, path, before);
             drop(files);
             None
         }
@@ -167,19 +195,19 @@ fn close<D: Start>(
     rt: &HostRuntime,
     path: &str,
     conn: Connection<FileStore<FileFrom<D>>>,
-    before: Before,
+    before: PathState,
 ) -> Option<Files<FileFrom<D>>>
     ensures { IfSome result (λ files. AreClean ⟦<FileFrom<D> as Disk>⟧ files.log files.db → IsCopied conn files) }
 {
     match conn.close_files() {
         Ok(files) => {
-            put_back(rt, path, before);
-            remove_beside(rt, path);
+            restore(rt, path, before);
+            remove_siblings(rt, path);
             Some(files)
         }
         Err((_, store)) => {
             let left = store.close();
-            put_back(rt, path, before);
+            restore(rt, path, before);
             drop(left);
             None
         }

@@ -27,7 +27,7 @@ const LONGEST_NEW: u64 = 1;
 
 /// What was at a path before an office was to be created there.
 #[derive(Clone, Copy, Debug, PartialEq, Eq)]
-pub enum Before {
+pub enum PathState {
     /// Nothing.
     Nothing,
     /// An empty file.
@@ -50,25 +50,29 @@ enum Removal {
 }
 
 /// What is at the path. Only `init` creates a file if there is none.
-pub(crate) fn found_before(rt: &HostRuntime, path: &str, choice: &Choice) -> Result<Before, Failure>
+pub(crate) fn state_before(
+    rt: &HostRuntime,
+    path: &str,
+    choice: &Choice,
+) -> Result<PathState, Failure>
     ensures { IfErr result (IsOpeningFailure choice.now) }
 {
     if let Choice::Init(_) = choice {
         return what_is_at(rt, path);
     }
     require_office(rt, path)?;
-    Ok(Before::Bytes)
+    Ok(PathState::Bytes)
 }
 
 // What is at the path of a new office. Anything but a regular file is refused, and so is a dangling link.
-fn what_is_at(rt: &HostRuntime, path: &str) -> Result<Before, Failure>
+fn what_is_at(rt: &HostRuntime, path: &str) -> Result<PathState, Failure>
     ensures { IfErr result (λ failure. failure ≡ Failure.Refused Refusal.Store) }
 {
     match length_of(rt, path) {
-        Some(0) => Ok(Before::EmptyFile),
-        Some(_) => Ok(Before::Bytes),
+        Some(0) => Ok(PathState::EmptyFile),
+        Some(_) => Ok(PathState::Bytes),
         None if fs::symlink_metadata(rt, path).is_ok() => Err(Failure::Refused(Refusal::Store)),
-        None => Ok(Before::Nothing),
+        None => Ok(PathState::Nothing),
     }
 }
 
@@ -97,7 +101,7 @@ fn require_content(file: Option<u64>, has_log: bool) -> Result<(), Failure>
 
 // Whether there is a log beside the file that is not empty.
 fn has_log(rt: &HostRuntime, path: &str) -> bool {
-    match beside(rt, path, "-wal") {
+    match sibling(rt, path, "-wal") {
         Ok(log) => matches!(length_of(rt, log.as_str()), Some(length) if length > 0),
         Err(_) => false,
     }
@@ -112,15 +116,15 @@ fn length_of(rt: &HostRuntime, path: &str) -> Option<u64> {
 }
 
 // The path of the file with this ending, beside the file that a link leads to, as `sqlite` opens it.
-fn beside(rt: &HostRuntime, path: &str, ending: &str) -> io::Result<String> {
+fn sibling(rt: &HostRuntime, path: &str, ending: &str) -> io::Result<String> {
     let real = fs::canonicalize(rt, path)?;
     Ok(format!(in rt.alloc(); "{}{ending}", real.as_str())?)
 }
 
 /// Restores what was at the path before an office could not be opened or created, while the file is still
 /// locked. If more than a beginning was written, it stays, and the next opening reads it.
-pub(crate) fn put_back(rt: &HostRuntime, path: &str, before: Before) {
-    let Ok(log) = beside(rt, path, "-wal") else {
+pub(crate) fn restore(rt: &HostRuntime, path: &str, before: PathState) {
+    let Ok(log) = sibling(rt, path, "-wal") else {
         return;
     };
     match what_to_remove(before, length_of(rt, path), length_of(rt, log.as_str())) {
@@ -129,11 +133,11 @@ pub(crate) fn put_back(rt: &HostRuntime, path: &str, before: Before) {
             let _ = fs::remove_file(rt, log.as_str());
         }
         Removal::Content => {
-            remove_beside(rt, path);
+            remove_siblings(rt, path);
             let _ = fs::File::create(rt, path);
         }
         Removal::File => {
-            remove_beside(rt, path);
+            remove_siblings(rt, path);
             let _ = fs::remove_file(rt, path);
         }
     }
@@ -141,32 +145,32 @@ pub(crate) fn put_back(rt: &HostRuntime, path: &str, before: Before) {
 
 // What is removed, by what was at the path before, and by the lengths of the file and of its log, if they are there.
 // Nothing is removed that may hold what was committed.
-fn what_to_remove(before: Before, file: Option<u64>, log: Option<u64>) -> Removal
-    ensures log { (result ≡ Removal.Log) ↔ ((before ≡ Before.Bytes) × IsLogWithoutPage log) }
-    ensures content { (result ≡ Removal.Content) ↔ ((before ≡ Before.EmptyFile) × IsBegun file log) }
-    ensures file { (result ≡ Removal.File) ↔ ((before ≡ Before.Nothing) × IsBegun file log) }
+fn what_to_remove(before: PathState, file: Option<u64>, log: Option<u64>) -> Removal
+    ensures log { (result ≡ Removal.Log) ↔ ((before ≡ PathState.Bytes) × IsLogWithoutPage log) }
+    ensures content { (result ≡ Removal.Content) ↔ ((before ≡ PathState.EmptyFile) × IsBegun file log) }
+    ensures file { (result ≡ Removal.File) ↔ ((before ≡ PathState.Nothing) × IsBegun file log) }
 {
     let is_short = log.unwrap_or(0) < SHORTEST_LOG;
     let is_begun = is_short && matches!(file, Some(length) if length <= PAGE);
     match before {
-        Before::Bytes if is_short && log.is_some() => Removal::Log,
-        Before::EmptyFile if is_begun => Removal::Content,
-        Before::Nothing if is_begun => Removal::File,
+        PathState::Bytes if is_short && log.is_some() => Removal::Log,
+        PathState::EmptyFile if is_begun => Removal::Content,
+        PathState::Nothing if is_begun => Removal::File,
         _ => Removal::Nothing,
     }
 }
 
 /// Removes an empty file that was created where there was nothing, and that could not be opened.
-pub(crate) fn remove_empty(rt: &HostRuntime, path: &str, before: Before) {
-    if before == Before::Nothing && length_of(rt, path) == Some(0) {
+pub(crate) fn remove_empty(rt: &HostRuntime, path: &str, before: PathState) {
+    if before == PathState::Nothing && length_of(rt, path) == Some(0) {
         let _ = fs::remove_file(rt, path);
     }
 }
 
 /// Removes the log and its index.
-pub(crate) fn remove_beside(rt: &HostRuntime, path: &str) {
+pub(crate) fn remove_siblings(rt: &HostRuntime, path: &str) {
     for ending in ["-wal", "-shm"] {
-        if let Ok(other) = beside(rt, path, ending) {
+        if let Ok(other) = sibling(rt, path, ending) {
             let _ = fs::remove_file(rt, other.as_str());
         }
     }

@@ -79,7 +79,8 @@ pub(crate) fn serve<S: Alter, A: Accept, W: Sink>(
 fn say_port<W: Sink>(alloc: Global, out: &mut W, port: u16) -> Result<(), Failure>
     ensures ok { OnOk result (Appends (W.written out.old) (W.written out.new) (listening_line port)) }
     ensures part { IfErr result (λ failure. ((failure ≡ Failure.Refused Refusal.Memory) × (out.new ≡ out.old))
-        ⊎ ((failure ≡ Failure.Refused Refusal.Store) × HasFailed (W.failed out.old) (W.failed out.new) (W.idle out.old) (W.idle out.new) × WritesPart (listening_line port) (W.written out.old) (W.written out.new))) }
+        ⊎ ((failure ≡ Failure.Refused Refusal.Store) × HasFailed (W.failed out.old) (W.failed out.new) (W.idle out.old) (W.idle out.new)
+        × WritesPart (listening_line port) (W.written out.old) (W.written out.new))) }
 {
     match port_line(alloc, port) {
         Ok(line) => say(out, line.as_bytes()),
@@ -138,7 +139,8 @@ pub(crate) fn answered<S: Alter, R: Source, W: Sink>(
     source: &mut R,
     sink: &mut W,
 ) -> Option<Answered>
-    ensures over { IsServedOver (state S.Store) (HasRisen (R.failed source.old) (R.failed source.new)) (R.remaining source.old) (R.remaining source.new) (W.written sink.old) (W.written sink.new) office.old (status_in result) office.new }
+    ensures over { IsServedOver (state S.Store) (HasRisen (R.failed source.old) (R.failed source.new))
+        (R.remaining source.old) (R.remaining source.new) (W.written sink.old) (W.written sink.new) office.old (status_in result) office.new }
     ensures somehow { IsServedSomehow (state S.Store) office.old (status_in result) office.new }
     ensures closes { IfSome result (λ it. it.is_closed ≡ (it.status == 500)) }
 {

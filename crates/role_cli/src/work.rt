@@ -58,20 +58,31 @@ pub fn run_on_connection<S: Alter, H: Accept + CsvFiles, R: Source, W: Sink>(
     out: &mut W,
 ) -> (Result<(), Failure>, Connection<S>)
     ensures clean { ForgetsNoFault (state S.Store conn) (state S.Store result.1) }
-    ensures done { HasCleanDisk (state S.Store result.1) → OnOk result.0 (WorksOnConnection (state S.Store) choice.now (state S.Store conn) (λ first last. DoesSubcommand (state S.Store) choice.now first
-        (environment (R.remaining source.old) (R.reads source.old) (R.failed source.old) (W.written out.old) (W.failed out.old) (W.idle out.old) (H.csv_at host.old) (H.failed_csv host.old) (H.clients host.old))
-        (environment (R.remaining source.new) (R.reads source.new) (R.failed source.new) (W.written out.new) (W.failed out.new) (W.idle out.new) (H.csv_at host.new) (H.failed_csv host.new) (H.clients host.new)) last) result.1) }
-    ensures failed { HasCleanDisk (state S.Store result.1) → IfErr result.0 (λ failure. FailsOnConnection (state S.Store) choice.now (state S.Store conn) failure ((source.new ≡ source.old) × (out.new ≡ out.old) × (host.new ≡ host.old))
-        (environment (R.remaining source.old) (R.reads source.old) (R.failed source.old) (W.written out.old) (W.failed out.old) (W.idle out.old) (H.csv_at host.old) (H.failed_csv host.old) (H.clients host.old))
-        (environment (R.remaining source.new) (R.reads source.new) (R.failed source.new) (W.written out.new) (W.failed out.new) (W.idle out.new) (H.csv_at host.new) (H.failed_csv host.new) (H.clients host.new)) result.1) }
+    ensures done { HasCleanDisk (state S.Store result.1) → OnOk result.0 (WorksOnConnection (state S.Store) choice.now (state S.Store conn)
+        (λ first last. DoesSubcommand (state S.Store) choice.now first
+        (environment (R.remaining source.old) (R.reads source.old) (R.failed source.old) (W.written out.old) (W.failed out.old) (W.idle out.old)
+        (H.csv_at host.old) (H.failed_csv host.old) (H.clients host.old))
+        (environment (R.remaining source.new) (R.reads source.new) (R.failed source.new) (W.written out.new) (W.failed out.new) (W.idle out.new)
+        (H.csv_at host.new) (H.failed_csv host.new) (H.clients host.new)) last) result.1) }
+    ensures failed { HasCleanDisk (state S.Store result.1) → IfErr result.0
+        (λ failure. FailsOnConnection (state S.Store) choice.now (state S.Store conn) failure ((source.new ≡ source.old) × (out.new ≡ out.old) × (host.new ≡ host.old))
+        (environment (R.remaining source.old) (R.reads source.old) (R.failed source.old) (W.written out.old) (W.failed out.old) (W.idle out.old)
+        (H.csv_at host.old) (H.failed_csv host.old) (H.clients host.old))
+        (environment (R.remaining source.new) (R.reads source.new) (R.failed source.new) (W.written out.new) (W.failed out.new) (W.idle out.new)
+        (H.csv_at host.new) (H.failed_csv host.new) (H.clients host.new)) result.1) }
 
     // Whatever the disk returns, the work is done over an office of some good state.
     ensures some { OnOk result.0 (DoesOverSomeState (state S.Store) choice.now
-        (environment (R.remaining source.old) (R.reads source.old) (R.failed source.old) (W.written out.old) (W.failed out.old) (W.idle out.old) (H.csv_at host.old) (H.failed_csv host.old) (H.clients host.old))
-        (environment (R.remaining source.new) (R.reads source.new) (R.failed source.new) (W.written out.new) (W.failed out.new) (W.idle out.new) (H.csv_at host.new) (H.failed_csv host.new) (H.clients host.new))) }
-    ensures some_failed { IfErr result.0 (λ failure. FailsOrFindsNoOffice (state S.Store) choice.now failure ((source.new ≡ source.old) × (out.new ≡ out.old) × (host.new ≡ host.old))
-        (environment (R.remaining source.old) (R.reads source.old) (R.failed source.old) (W.written out.old) (W.failed out.old) (W.idle out.old) (H.csv_at host.old) (H.failed_csv host.old) (H.clients host.old))
-        (environment (R.remaining source.new) (R.reads source.new) (R.failed source.new) (W.written out.new) (W.failed out.new) (W.idle out.new) (H.csv_at host.new) (H.failed_csv host.new) (H.clients host.new))) }
+        (environment (R.remaining source.old) (R.reads source.old) (R.failed source.old) (W.written out.old) (W.failed out.old) (W.idle out.old)
+        (H.csv_at host.old) (H.failed_csv host.old) (H.clients host.old))
+        (environment (R.remaining source.new) (R.reads source.new) (R.failed source.new) (W.written out.new) (W.failed out.new) (W.idle out.new)
+        (H.csv_at host.new) (H.failed_csv host.new) (H.clients host.new))) }
+    ensures some_failed { IfErr result.0 (λ failure. FailsOrFindsNoOffice (state S.Store) choice.now failure
+        ((source.new ≡ source.old) × (out.new ≡ out.old) × (host.new ≡ host.old))
+        (environment (R.remaining source.old) (R.reads source.old) (R.failed source.old) (W.written out.old) (W.failed out.old) (W.idle out.old)
+        (H.csv_at host.old) (H.failed_csv host.old) (H.clients host.old))
+        (environment (R.remaining source.new) (R.reads source.new) (R.failed source.new) (W.written out.new) (W.failed out.new) (W.idle out.new)
+        (H.csv_at host.new) (H.failed_csv host.new) (H.clients host.new))) }
     ensures unread { reads_input choice.now ≡ false → source.new ≡ source.old }
     ensures unasked { asks_host choice.now ≡ false → host.new ≡ host.old }
     ensures reads { R.reads source.new ≤ R.reads source.old + most_reads }
@@ -94,7 +105,8 @@ fn office_of<S: Alter>(
 ) -> Result<Office<S>, Unopened<S>>
     ensures open { IfOk result (λ office. office.is_closed ≡ false) }
     ensures made { IfOk result (λ office. StartsWell choice.now office.facts) }
-    ensures clean { MatchResult result (λ office. ForgetsNoFault (state S.Store conn) (state S.Store office.conn)) (λ u. ForgetsNoFault (state S.Store conn) (state S.Store u.conn)) }
+    ensures clean { MatchResult result (λ office. ForgetsNoFault (state S.Store conn) (state S.Store office.conn))
+        (λ u. ForgetsNoFault (state S.Store conn) (state S.Store u.conn)) }
     ensures begins { IfOk result (λ office. HasCleanDisk (state S.Store office.conn) → BeginsRun (state S.Store) choice.now (state S.Store conn) office) }
     ensures refusal { IfErr result (λ u. IsOpeningFailure choice.now (Failure.Refused u.refusal)) }
     ensures unopened { IfErr result (λ u. HasCleanDisk (state S.Store u.conn) → IsUnopened (state S.Store) choice.now (state S.Store conn) u.refusal (state S.Store u.conn)) }
@@ -117,11 +129,15 @@ fn run_on_office<S: Alter, H: Accept + CsvFiles, R: Source, W: Sink>(
 ) -> Result<(), Failure>
     requires open { office.old.is_closed ≡ false }
     ensures done { OnOk result (DoesSubcommand (state S.Store) choice.now office.old
-        (environment (R.remaining source.old) (R.reads source.old) (R.failed source.old) (W.written out.old) (W.failed out.old) (W.idle out.old) (H.csv_at host.old) (H.failed_csv host.old) (H.clients host.old))
-        (environment (R.remaining source.new) (R.reads source.new) (R.failed source.new) (W.written out.new) (W.failed out.new) (W.idle out.new) (H.csv_at host.new) (H.failed_csv host.new) (H.clients host.new)) office.new) }
+        (environment (R.remaining source.old) (R.reads source.old) (R.failed source.old) (W.written out.old) (W.failed out.old) (W.idle out.old)
+        (H.csv_at host.old) (H.failed_csv host.old) (H.clients host.old))
+        (environment (R.remaining source.new) (R.reads source.new) (R.failed source.new) (W.written out.new) (W.failed out.new) (W.idle out.new)
+        (H.csv_at host.new) (H.failed_csv host.new) (H.clients host.new)) office.new) }
     ensures failed { IfErr result (λ failure. FailsSubcommand (state S.Store) choice.now failure office.old
-        (environment (R.remaining source.old) (R.reads source.old) (R.failed source.old) (W.written out.old) (W.failed out.old) (W.idle out.old) (H.csv_at host.old) (H.failed_csv host.old) (H.clients host.old))
-        (environment (R.remaining source.new) (R.reads source.new) (R.failed source.new) (W.written out.new) (W.failed out.new) (W.idle out.new) (H.csv_at host.new) (H.failed_csv host.new) (H.clients host.new)) office.new) }
+        (environment (R.remaining source.old) (R.reads source.old) (R.failed source.old) (W.written out.old) (W.failed out.old) (W.idle out.old)
+        (H.csv_at host.old) (H.failed_csv host.old) (H.clients host.old))
+        (environment (R.remaining source.new) (R.reads source.new) (R.failed source.new) (W.written out.new) (W.failed out.new) (W.idle out.new)
+        (H.csv_at host.new) (H.failed_csv host.new) (H.clients host.new)) office.new) }
     ensures continues { Continues (state S.Store) office.old office.new }
     ensures unread { reads_input choice.now ≡ false → source.new ≡ source.old }
     ensures unasked { asks_host choice.now ≡ false → host.new ≡ host.old }
@@ -199,7 +215,8 @@ fn import<S: Alter, C: CsvFiles, W: Sink>(
 ) -> Result<(), Failure>
     ensures ok { OnOk result (Imports (state S.Store) (C.csv_at files.old path.now) office.old (W.written out.old) (W.written out.new) office.new) }
     ensures err { IfErr result (λ failure. FailsToImport (state S.Store) (C.csv_at files.old path.now) office.old failure
-        (HasFailed (W.failed out.old) (W.failed out.new) (W.idle out.old) (W.idle out.new)) (HasRisen (C.failed_csv files.old) (C.failed_csv files.new)) (W.written out.old) (W.written out.new) office.new) }
+        (HasFailed (W.failed out.old) (W.failed out.new) (W.idle out.old) (W.idle out.new))
+        (HasRisen (C.failed_csv files.old) (C.failed_csv files.new)) (W.written out.old) (W.written out.new) office.new) }
 {
     let text = match files.read_csv(alloc, path) {
         Ok(text) => text,
@@ -238,7 +255,8 @@ fn import_pairs<S: Alter>(
     command: &Command,
 ) -> Result<String, Refusal>
     requires { (pairs : List Pair) × (content_of command.now ≡ Import pairs) }
-    ensures ok { IfOk result (λ line. (answer : List ℕ) × DoesRequest (state S.Store) office.old (Change (content_of command.now)) answer office.new × (string_bytes line ≡ answer ++ (10 ∷ []))) }
+    ensures ok { IfOk result (λ line. (answer : List ℕ) × DoesRequest (state S.Store) office.old (Change (content_of command.now)) answer office.new
+        × (string_bytes line ≡ answer ++ (10 ∷ []))) }
     ensures err { IfErr result (λ refusal. RefusesRequest (state S.Store) office.old (Change (content_of command.now)) refusal office.new
         ⊎ ((refusal ≡ Refusal.Memory) × ((answer : List ℕ) × DoesRequest (state S.Store) office.old (Change (content_of command.now)) answer office.new))) }
 {

@@ -12,8 +12,8 @@ use Rattle.rbac_sets.specs.declared.refusal.Refusal.{Refusal}
 use Rattle.rbac_sets.specs.declared.refusal.Refusal.TheVariants.{Version}
 use Rattle.admin_mgr.specs.Assignment.{Tally}
 use Rattle.admin_mgr.specs.PlanEffect.{tally_of_report}
-use Rattle.review_mgr.specs.Answering.{Told, NamesContent, PermissionsContent, CountContent, AccessContent, told}
-use Rattle.role_json.specs.Answer.{data_of, done_text, import_text, pair_data, pairs_of, record_data, records_of, refusal_data, refusal_text, report_data, text_of, texts_of, told_text, value_data, with_value}
+use Rattle.review_mgr.specs.Answering.{AnswerContent, NamesContent, PermissionsContent, CountContent, AccessContent, answer_content}
+use Rattle.role_json.specs.Answer.{data_of, done_text, import_text, pair_data, pairs_of, record_data, records_of, refusal_data, refusal_text, report_data, text_of, texts_of, value_text, value_data, with_value}
 use Rattle.role_json.specs.declared.answer.Verdict.{Verdict}
 use Rattle.role_json.specs.declared.answer.Verdict.TheVariants as verdict
 
@@ -72,7 +72,7 @@ items_have_float-records_of (refused ∷ rest) = items_have_float-records_of res
 has_float-with_value : (value : Data) → has_float value ≡ false → has_float (with_value value) ≡ false
 has_float-with_value value e = rw e refl
 
-has_float-value_data : (t : Told) → has_float (value_data t) ≡ false
+has_float-value_data : (t : AnswerContent) → has_float (value_data t) ≡ false
 unfolding value_data
 has_float-value_data (NamesContent names) = items_have_float-texts_of names
 has_float-value_data (PermissionsContent permissions) = items_have_float-pairs_of permissions
@@ -95,15 +95,15 @@ pub has_float-data_of : (v : Verdict) → has_float (data_of v) ≡ false
 unfolding data_of
 has_float-data_of verdict.Done = refl
 has_float-data_of (verdict.Imported report) = has_float-with_value (report_data (tally_of_report report)) (has_float-report_data (tally_of_report report))
-has_float-data_of (verdict.Told answer) = has_float-with_value (value_data (told answer)) (has_float-value_data (told answer))
+has_float-data_of (verdict.Answered answer) = has_float-with_value (value_data (answer_content answer)) (has_float-value_data (answer_content answer))
 has_float-data_of (verdict.Refused refusal) = has_float-refusal_data refusal
 
 -- the text of an answer is that of its value
 pub compact_text-data_of : (v : Verdict) → compact_text (data_of v) ≡ text_of v
-unfolding data_of text_of done_text import_text told_text refusal_text
+unfolding data_of text_of done_text import_text value_text refusal_text
 compact_text-data_of verdict.Done = refl
 compact_text-data_of (verdict.Imported report) = refl
-compact_text-data_of (verdict.Told answer) = refl
+compact_text-data_of (verdict.Answered answer) = refl
 compact_text-data_of (verdict.Refused refusal) = refl
 
 pub ruleset text_of_steps = (has_float-data_of, compact_text-data_of)

@@ -10,7 +10,7 @@ use Rattle.rbac_sets.specs.declared.refusal.Refusal.{Refusal}
 use Rattle.rbac_sets.specs.declared.refusal.Refusal.TheVariants.{StaticSeparation, DynamicSeparation, TooMany, BadCsv, Version, Damaged}
 use Rattle.admin_mgr.specs.Assignment.{Tally}
 use Rattle.admin_mgr.specs.PlanEffect.{tally_of_report}
-use Rattle.review_mgr.specs.Answering.{Told, NamesContent, PermissionsContent, CountContent, AccessContent, told}
+use Rattle.review_mgr.specs.Answering.{AnswerContent, NamesContent, PermissionsContent, CountContent, AccessContent, answer_content}
 use Rattle.role_json.specs.declared.answer.Verdict.{Verdict}
 use Rattle.role_json.specs.declared.answer.Verdict.TheVariants as verdict
 
@@ -50,7 +50,7 @@ count_data (Some count) = number (unsigned count)
 count_data None = null
 
 -- the value of the answer to a question
-unfoldable pub value_data : Told → Data
+unfoldable pub value_data : AnswerContent → Data
 value_data (NamesContent names) = array (texts_of names)
 value_data (PermissionsContent permissions) = array (pairs_of permissions)
 value_data (CountContent count) = count_data count
@@ -88,7 +88,7 @@ refusal_data refusal =
 unfoldable pub data_of : Verdict → Data
 data_of verdict.Done = done_data
 data_of (verdict.Imported report) = with_value (report_data (tally_of_report report))
-data_of (verdict.Told answer) = with_value (value_data (told answer))
+data_of (verdict.Answered answer) = with_value (value_data (answer_content answer))
 data_of (verdict.Refused refusal) = refusal_data refusal
 
 -- `{"ok":true}`
@@ -101,8 +101,8 @@ import_text tally = compact_text (with_value (report_data tally))
 
 -- such as `{"ok":true,"value":["ann","bob"]}`, `{"ok":true,"value":[["safe","open"]]}`, `{"ok":true,"value":2}` or
 -- `{"ok":true,"value":true}`
-unfoldable pub told_text : Told → List ℕ
-told_text told = compact_text (with_value (value_data told))
+unfoldable pub value_text : AnswerContent → List ℕ
+value_text content = compact_text (with_value (value_data content))
 
 -- such as `{"code":2,"error":"NoUser"}`, with the value that the refusal carries, if it carries one
 unfoldable pub refusal_text : Refusal → List ℕ
@@ -112,5 +112,5 @@ refusal_text refusal = compact_text (refusal_data refusal)
 unfoldable pub text_of : Verdict → List ℕ
 text_of verdict.Done = done_text
 text_of (verdict.Imported report) = import_text (tally_of_report report)
-text_of (verdict.Told answer) = told_text (told answer)
+text_of (verdict.Answered answer) = value_text (answer_content answer)
 text_of (verdict.Refused refusal) = refusal_text refusal

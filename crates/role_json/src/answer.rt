@@ -3,7 +3,7 @@ ghost use Rattle.std.specs.Prelude.{◌≡◌, IfOk, IfErr, option_map, string_b
 ghost use Rattle.serde_json.specs.Data.{array};
 ghost use Rattle.serde_json.specs.View.{view};
 ghost use Rattle.admin_mgr.specs.PlanEffect.{tally_of_report};
-ghost use Rattle.review_mgr.specs.Answering.{told};
+ghost use Rattle.review_mgr.specs.Answering.{answer_content};
 ghost use Rattle.role_json.specs.Answer.{data_of, pair_data, pairs_of, part_of, record_data, records_of, refusal_data, report_data, text_of, texts_of, value_data, with_value};
 
 use admin_mgr::Report;
@@ -20,7 +20,7 @@ pub enum Verdict {
     /// An import was done, with this report.
     Imported(Report),
     /// A question was answered, with this answer.
-    Told(Answer),
+    Answered(Answer),
     /// The request was refused, with this refusal.
     Refused(Refusal),
 }
@@ -32,7 +32,7 @@ pub enum Verdict {
 /// - Imported: `{"ok":true,"value":{"already":1,"assigned":2,"refused":[{"code":2,"record":3}]}}`, with
 ///   the code of the refusal and the number of the record for each record that was refused by anything
 ///   but `AlreadyAssigned`.
-/// - Told: `{"ok":true,"value":V}`. V is a list of names such as `["ann","bob"]`, a list of permissions
+/// - Answered: `{"ok":true,"value":V}`. V is a list of names such as `["ann","bob"]`, a list of permissions
 ///   such as `[["safe","open"]]`, a number, or `true` or `false`.
 /// - Refused: `{"code":2,"error":"NoUser"}`, with the code and the name of the refusal. The value that
 ///   a refusal carries has a key of its own: `set` is the name of the separation of duty set, `kind`
@@ -60,7 +60,7 @@ fn verdict_value(alloc: Global, verdict: &Verdict) -> Result<Value, AllocError>
     match verdict {
         Verdict::Done => json!(in alloc; {"ok": true}),
         Verdict::Imported(report) => with_value(alloc, report_value(alloc, report)?),
-        Verdict::Told(answer) => with_value(alloc, answer_value(alloc, answer)?),
+        Verdict::Answered(answer) => with_value(alloc, answer_value(alloc, answer)?),
         Verdict::Refused(refusal) => refusal_value(alloc, refusal),
     }
 }
@@ -75,7 +75,7 @@ fn with_value(alloc: Global, value: Value) -> Result<Value, AllocError>
 // The JSON value of an answer to a question.
 #[tactic(auto, unfolding(crate::specs::Answer::value_data))]
 fn answer_value(alloc: Global, answer: &Answer) -> Result<Value, AllocError>
-    ensures { IfOk result (λ value. view value ≡ value_data (told answer.now)) }
+    ensures { IfOk result (λ value. view value ≡ value_data (answer_content answer.now)) }
 {
     match answer {
         Answer::Names(names) => names_value(alloc, names),

@@ -13,10 +13,10 @@ use Rattle.admin_mgr.specs.RbacState.{RbacState}
 use Rattle.admin_mgr.specs.Run.{tally}
 use Rattle.admin_mgr.specs.Verdict.{verdict}
 use Rattle.admin_mgr.proofs.Verdicts.AskedLaws.{commands_go_by_asked}
-use Rattle.review_mgr.specs.Answering.{Told, value}
+use Rattle.review_mgr.specs.Answering.{AnswerContent, value}
 use Rattle.review_mgr.specs.Questions.{refused}
 use Rattle.review_mgr.specs.declared.query.Query.{Query}
-use Rattle.role_json.specs.Answer.{text_of, told_text}
+use Rattle.role_json.specs.Answer.{text_of, value_text}
 use Rattle.role_json.specs.Request.{request}
 use Rattle.role_json.specs.RequestContent.{RequestContent, Change, Ask}
 use Rattle.role_lines.specs.LineAnswer.{AnswersLine, AnswersRequest, RefusesRequest, HadNoMemory, DoesRequest, verdict_of_refusal}
@@ -49,9 +49,9 @@ module _ (S : RbacState) (n : ℕ) (command : Command) where
 
 module _ (S : RbacState) (n : ℕ) (query : Query) where
   -- a question that was answered
-  pub question_answered : (told : Told) → refused S query ≡ None → told ≡ value S query → DoesRequest S n (Ask query) (told_text told) S n
+  pub question_answered : (content : AnswerContent) → refused S query ≡ None → content ≡ value S query → DoesRequest S n (Ask query) (value_text content) S n
   unfolding outcome_of state_after revision_after
-  question_answered told none is = record { outcome = rw none (ap (λ t. Ok (told_text t)) (sym is)); state = refl; revision = refl }
+  question_answered content none is = record { outcome = rw none (ap (λ t. Ok (value_text t)) (sym is)); state = refl; revision = refl }
 
   -- one that was refused
   pub question_refused : (refusal : Refusal) → (refusal ≡ Memory) ⊎ (refused S query ≡ Some refusal) → RefusesRequest S n (Ask query) refusal S n

@@ -7,7 +7,7 @@ use Rattle.admin_mgr.specs.CommandContent.{content_verdict, content_after, conte
 use Rattle.admin_mgr.specs.Assignment.{Tally}
 use Rattle.review_mgr.specs.Answering.{value}
 use Rattle.review_mgr.specs.Questions.{refused}
-use Rattle.role_json.specs.Answer.{done_text, import_text, told_text, refusal_text}
+use Rattle.role_json.specs.Answer.{done_text, import_text, value_text, refusal_text}
 use Rattle.role_json.specs.Request.{request}
 use Rattle.role_json.specs.RequestContent.{RequestContent, Change, Ask}
 
@@ -26,7 +26,7 @@ unless (Some refusal) value = Err refusal
 -- the outcome of a request in this state: the text that accepts the command or answers the question, or a refusal
 unfoldable pub outcome_of : RbacState → RequestContent → Result (List ℕ) Refusal
 outcome_of S (Change asked) = unless (content_verdict S asked) (accepted_text asked (content_tally S asked))
-outcome_of S (Ask query) = unless (refused S query) (told_text (value S query))
+outcome_of S (Ask query) = unless (refused S query) (value_text (value S query))
 
 -- the state after a request: only a command that is accepted changes it
 unfoldable pub state_after : RbacState → RequestContent → RbacState

@@ -81,8 +81,8 @@ fn question(alloc: Global, state: &State, revision: &u64, query: &Query) -> Resu
     ensures done { IfOk result (λ verdict. DoesRequest state.now.facts revision.now (Ask query.now) (text_of verdict) state.now.facts revision.now) }
     ensures declined { IfErr result (λ refusal. RefusesRequest state.now.facts revision.now (Ask query.now) refusal state.now.facts revision.now) }
 {
-    let told = ask(alloc, state, query)?;
-    Ok(Verdict::Told(told))
+    let answer = ask(alloc, state, query)?;
+    Ok(Verdict::Answered(answer))
 }
 
 // Does a command, and counts it.

@@ -58,7 +58,8 @@ fn judge_version(metas: &Metas, schema: &Schema) -> Result<u32, Refusal>
 
 /// Refuses an office of version 2.
 pub(crate) fn refuse_v2<S: Alter>(conn: &mut Connection<S>) -> Result<(), Refusal>
-    ensures passed { HasCleanDisk (state S.Store conn.new) → OnOk result ((IsOfVersion2 (contents_of (state S.Store conn.old).now) → ⊥) × IsUnchanged (state S.Store conn.old) (state S.Store conn.new)) }
+    ensures passed { HasCleanDisk (state S.Store conn.new) → OnOk result
+        ((IsOfVersion2 (contents_of (state S.Store conn.old).now) → ⊥) × IsUnchanged (state S.Store conn.old) (state S.Store conn.new)) }
     ensures err { HasCleanDisk (state S.Store conn.new) → IfErr result (RefusesMigration (contents_of (state S.Store conn.old).now)) }
     ensures refusal { IfErr result (λ refusal. IsTrue (is_opening_refusal refusal)) }
     ensures mode { conn.old.in_transaction ≡ false → conn.new.in_transaction ≡ false }

@@ -36,7 +36,8 @@ fn create_office<S: Alter>(conn: &mut Connection<S>, version: u32) -> Result<(),
     requires autocommit { conn.old.in_transaction ≡ false }
     ensures ended { conn.new.in_transaction ≡ false }
     ensures clean { ForgetsNoFault (state S.Store conn.old) (state S.Store conn.new) }
-    ensures made { HasCleanDisk (state S.Store conn.new) → IsFirstStage version (state S.Store conn.old) → TransactsTo (state S.Store conn.old) (state S.Store conn.new) (empty_state version) result }
+    ensures made { HasCleanDisk (state S.Store conn.new) → IsFirstStage version (state S.Store conn.old) →
+        TransactsTo (state S.Store conn.old) (state S.Store conn.new) (empty_state version) result }
 {
     is_settled(conn);
     let mut tx = conn.transaction();

@@ -41,7 +41,8 @@ fn migrate_v1<S: Alter>(alloc: Global, conn: &mut Connection<S>) -> Result<State
     ensures ended { conn.new.in_transaction ≡ false }
     ensures clean { ForgetsNoFault (state S.Store conn.old) (state S.Store conn.new) }
     ensures found { HasCleanDisk (state S.Store conn.new) → IfOk result (λ made. IsMigratedFrom (state S.Store conn.old).now made.facts) }
-    ensures err { HasCleanDisk (state S.Store conn.new) → (IsOfVersion2 (contents_of (state S.Store conn.old).now) → ⊥) → IfErr result (RefusesMigration (contents_of (state S.Store conn.old).now)) }
+    ensures err { HasCleanDisk (state S.Store conn.new) → (IsOfVersion2 (contents_of (state S.Store conn.old).now) → ⊥) →
+        IfErr result (RefusesMigration (contents_of (state S.Store conn.old).now)) }
     ensures undone { HasCleanDisk (state S.Store conn.new) → IfErr result (λ refusal. refusal ≢ Refusal.Store → HoldsAsBefore (state S.Store conn.old) (state S.Store conn.new)) }
     ensures moved { HasCleanDisk (state S.Store conn.new) → IfOk result (λ made. MigratesDurably (state S.Store conn.old) (state S.Store conn.new) made.facts) }
     ensures unmoved { HasCleanDisk (state S.Store conn.new) → IfErr result (StaysRefused (state S.Store conn.old) (state S.Store conn.new)) }

@@ -46,7 +46,8 @@ pub fn open<S: Alter>(alloc: Global, conn: Connection<S>) -> Result<Office<S>, U
     ensures survives { MatchResult result (λ o. Survives (state S.Store conn) (state S.Store o.conn) (λ _. ⊥)) (λ u. Survives (state S.Store conn) (state S.Store u.conn) (λ _. ⊥)) }
     ensures again { IfOk result (λ o. HasCleanDisk (state S.Store o.conn) → WhateverIsDurable (state S.Store conn) (λ before. (o.facts ≡ before) × IsDurable (state S.Store o.conn) before)) }
     ensures run { IfOk result (λ o. HasCleanDisk (state S.Store o.conn) → WhateverIsDurable (state S.Store conn) (λ before. IsInRun (state S.Store) before [] o)) }
-    ensures refused { IfErr result (λ u. HasCleanDisk (state S.Store u.conn) → WhateverIsDurable (state S.Store conn) (λ before. IsMemoryOrStore u.refusal × LeavesOnly (state S.Store u.conn) before)) }
+    ensures refused { IfErr result (λ u. HasCleanDisk (state S.Store u.conn) →
+        WhateverIsDurable (state S.Store conn) (λ before. IsMemoryOrStore u.refusal × LeavesOnly (state S.Store u.conn) before)) }
 {
     let mut conn = conn;
     if !conn.is_autocommit() {

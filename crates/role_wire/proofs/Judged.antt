@@ -85,12 +85,12 @@ stays_refused S (Change asked) refusal is = rw (was_refused (content_verdict S a
 stays_refused S (Ask query) refusal is = refl
 
 module _ {S : Type 0} (shown : Held S → State) where
-  abbrev Told : OfficeModel S → RequestContent → OfficeModel S → Verdict → Type 0
-  Told old asked new verdict = (text_of verdict ≡ outcome_text (outcome_of old.facts asked)) × ReachesState shown old (state_after old.facts asked) new
+  abbrev HasAnswer : OfficeModel S → RequestContent → OfficeModel S → Verdict → Type 0
+  HasAnswer old asked new verdict = (text_of verdict ≡ outcome_text (outcome_of old.facts asked)) × ReachesState shown old (state_after old.facts asked) new
 
   -- without an answer to a verdict other than `Done`, an allocation failed
-  abbrev Untold : OfficeModel S → RequestContent → OfficeModel S → Verdict → Type 0
-  Untold old asked new verdict = verdict ≢ Done → FailsRequest shown old asked unanswered.Memory new
+  abbrev HasNoAnswer : OfficeModel S → RequestContent → OfficeModel S → Verdict → Type 0
+  HasNoAnswer old asked new verdict = verdict ≢ Done → FailsRequest shown old asked unanswered.Memory new
 
   -- a question that was answered, or an import that was done
   pub performed_untold : (old new : OfficeModel S) (asked : RequestContent) (text : List ℕ) → DoesRequest shown old asked text new → IsQuestion asked ⊎ IsImport asked → FailsRequest shown old asked unanswered.Memory new
@@ -99,7 +99,7 @@ module _ {S : Type 0} (shown : Held S → State) where
   performed_untold old new asked text performs (inr imports) = inr ((imports, import_accepted old.facts asked text performs.outcome imports), performs.reaches)
 
   judged_so : (old new : OfficeModel S) (asked : RequestContent) (refusal : Refusal) → IsJudged refusal → outcome_of old.facts asked ≡ Err refusal → new ≡ old
-      → IfOk (verdict_of_refusal refusal) (Told old asked new) × IfOk (verdict_of_refusal refusal) (Untold old asked new)
+      → IfOk (verdict_of_refusal refusal) (HasAnswer old asked new) × IfOk (verdict_of_refusal refusal) (HasNoAnswer old asked new)
       × IfErr (verdict_of_refusal refusal) (λ unanswered. FailsRequest shown old asked unanswered new)
   unfolding text_of
   judged_so old new asked Memory judged is same = absurd judged
@@ -113,7 +113,7 @@ module _ {S : Type 0} (shown : Held S → State) where
 
   -- a request that was not done
   pub judged_refusal : (old new : OfficeModel S) (asked : RequestContent) (refusal : Refusal) → RefusesRequest shown old asked refusal new
-      → IfOk (verdict_of_refusal refusal) (Told old asked new) × IfOk (verdict_of_refusal refusal) (Untold old asked new)
+      → IfOk (verdict_of_refusal refusal) (HasAnswer old asked new) × IfOk (verdict_of_refusal refusal) (HasNoAnswer old asked new)
       × IfErr (verdict_of_refusal refusal) (λ unanswered. FailsRequest shown old asked unanswered new)
   judged_refusal old new asked refusal (inl (is, same)) = rw is (tt, tt, inl (same_state shown old new same))
   judged_refusal old new asked refusal (inr (inl (is, broke))) = rw is (tt, tt, (broke.breaks.is_closed, inr (broke.accepted, broke.breaks)))

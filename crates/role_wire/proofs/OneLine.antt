@@ -16,7 +16,7 @@ use Rattle.admin_mgr.specs.Assignment.{Tally}
 use Rattle.admin_mgr.specs.RbacState.{RbacState}
 use Rattle.review_mgr.specs.Answering.{value}
 use Rattle.review_mgr.specs.Questions.{refused}
-use Rattle.role_json.specs.Answer.{done_text, done_data, import_text, told_text, refusal_text, refusal_data, report_data, value_data, with_value}
+use Rattle.role_json.specs.Answer.{done_text, done_data, import_text, value_text, refusal_text, refusal_data, report_data, value_data, with_value}
 use Rattle.role_json.specs.Request.{request}
 use Rattle.role_json.specs.RequestContent.{RequestContent, Change, Ask}
 use Rattle.role_wire.specs.AnswerTexts.{AnswersAreLines}
@@ -142,9 +142,9 @@ plain_unless None text plain = plain
 plain_unless (Some refusal) text plain = plain_refusal refusal
 
 plain_outcome : (S : RbacState) (read : Result RequestContent Refusal) → HasNoLineFeed (outcome_text (outcome S read))
-unfolding outcome_of told_text
+unfolding outcome_of value_text
 plain_outcome S (Ok (Change asked)) = plain_unless (content_verdict S asked) (accepted_text asked (content_tally S asked)) (plain_accepted asked (content_tally S asked))
-plain_outcome S (Ok (Ask query)) = plain_unless (refused S query) (told_text (value S query)) (plain_data (with_value (value_data (value S query))))
+plain_outcome S (Ok (Ask query)) = plain_unless (refused S query) (value_text (value S query)) (plain_data (with_value (value_data (value S query))))
 plain_outcome S (Err refusal) = plain_refusal refusal
 
 plain_answers : (S : RbacState) (asked : List (List ℕ)) → AllByRecursion HasNoLineFeed (answers_to S asked)

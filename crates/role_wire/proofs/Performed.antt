@@ -14,10 +14,10 @@ use Rattle.admin_mgr.specs.CommandContent.{content_verdict, DependsOnContent}
 use Rattle.admin_mgr.specs.PlanEffect.{tally_of_report}
 use Rattle.admin_mgr.specs.Verdict.{verdict}
 use Rattle.admin_mgr.proofs.Verdicts.AskedLaws.{commands_go_by_asked}
-use Rattle.review_mgr.specs.Answering.{Told, value}
+use Rattle.review_mgr.specs.Answering.{AnswerContent, value}
 use Rattle.review_mgr.specs.Questions.{refused}
 use Rattle.review_mgr.specs.declared.query.Query.{Query}
-use Rattle.role_json.specs.Answer.{told_text}
+use Rattle.role_json.specs.Answer.{value_text}
 use Rattle.role_json.specs.RequestContent.{Change, Ask}
 use Rattle.role_tables.specs.Office.{OfficeModel, AnswersCommand, event_of}
 use Rattle.role_tables.specs.Runs.{GoesOnBy, IsInRun}
@@ -128,11 +128,11 @@ module _ {S : Type 0} (shown : Held S → State) where
   -- ---- questions
 
   -- one that was answered
-  pub question_answered : (office : OfficeModel S) (query : Query) (told : Told) → office.is_closed ≡ false → refused office.facts query ≡ None → told ≡ value office.facts query → DoesRequest shown office (Ask query) (told_text told) office
+  pub question_answered : (office : OfficeModel S) (query : Query) (content : AnswerContent) → office.is_closed ≡ false → refused office.facts query ≡ None → content ≡ value office.facts query → DoesRequest shown office (Ask query) (value_text content) office
   unfolding outcome_of state_after
-  question_answered office query told works accepted is = record {
+  question_answered office query content works accepted is = record {
     is_open = works;
-    outcome = rw accepted (ap (λ t. Ok (told_text t)) (sym is));
+    outcome = rw accepted (ap (λ t. Ok (value_text t)) (sym is));
     reaches = stays office;
   }
 

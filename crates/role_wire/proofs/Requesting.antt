@@ -7,7 +7,7 @@ use Rattle.httparse.specs.Grammar.{RequestHead, HasNoRequest, print_request}
 use Rattle.sqlite.specs.Held.{Held}
 use Rattle.sqlite.specs.State.{State}
 use Rattle.rbac_sets.specs.declared.refusal.Refusal.TheVariants.{Memory}
-use Rattle.rbac_sets.proofs.Known.{Appends-none, Consumes-more}
+use Rattle.rbac_sets.proofs.Known.{Consumes-more}
 use Rattle.admin_mgr.specs.RbacState.{RbacState}
 use Rattle.role_json.specs.Answer.{refusal_text}
 use Rattle.role_json.specs.RequestContent.{RequestContent}
@@ -94,8 +94,8 @@ module _ {S : Type 0} (shown : Held S → State) where
   abbrev Replied : OfficeModel S → Option (List ℕ) → Option (List ℕ) → ℕ → List ℕ → OfficeModel S → Type 0
   Replied old source end status body new = (taken : List ℕ) × Consumes source end taken × TakesNoFurther old.facts (with_left taken end) taken × AnswersBytes shown old (with_left taken end) status body new
 
-  abbrev Untold : Cause → OfficeModel S → Option (List ℕ) → Option (List ℕ) → OfficeModel S → Type 0
-  Untold why old source end new = (taken : List ℕ) × Consumes source end taken × TakesNoFurther old.facts (with_left taken end) taken × LeavesUnanswered shown why old (Asks (with_left taken end)) new
+  abbrev HasNoReply : Cause → OfficeModel S → Option (List ℕ) → Option (List ℕ) → OfficeModel S → Type 0
+  HasNoReply why old source end new = (taken : List ℕ) × Consumes source end taken × TakesNoFurther old.facts (with_left taken end) taken × LeavesUnanswered shown why old (Asks (with_left taken end)) new
 
   -- ---- answers
 
@@ -145,7 +145,7 @@ module _ {S : Type 0} (shown : Held S → State) where
   pub left_called : (why : Cause) (old new : OfficeModel S) (source mid end : Option (List ℕ)) (called : Function) (count : ℕ)
       → ((taken : List ℕ) × ConsumesHead source mid taken × AnswersConsumed taken mid (Ok (called, count)))
       → ((taken : List ℕ) × Consumes mid end taken × (length taken ≤ length (take count (with_left taken end))) × LeavesUnanswered shown why old (IsReadAs (called_for (with_left taken end) called count)) new)
-      → Untold why old source end new
+      → HasNoReply why old source end new
   unfolding reply_to
   left_called why old new source mid end called count (bytes, first, inl (head, has, is)) (more, later, part, leaves) =
       let stands = HasHead-append bytes (with_left more end) head has in
@@ -201,7 +201,7 @@ module _ {S : Type 0} (shown : Held S → State) where
     (inr (inl (same, text, stays shown office)), has_no_memory office office (Asks (with_left bytes mid)) status body refl same text),
   )
 
-  pub left_stopped : (office : OfficeModel S) (source mid : Option (List ℕ)) → ((taken : List ℕ) × ConsumesHead source mid taken × HasNoRequest taken) → Untold cause.Read office source mid office
+  pub left_stopped : (office : OfficeModel S) (source mid : Option (List ℕ)) → ((taken : List ℕ) × ConsumesHead source mid taken × HasNoRequest taken) → HasNoReply cause.Read office source mid office
   left_stopped office source mid (bytes, first, none) = (bytes, first.0, within_head office.facts source mid bytes first, refl)
 
   -- ---- writing
@@ -227,16 +227,3 @@ module _ {S : Type 0} (shown : Held S → State) where
       → ((part rest : List ℕ) × (reply_bytes status body ≡ part ++ rest) × (1 ≤ length rest) × Appends written now_written part)
       → (taken : List ℕ) × Consumes source end taken × TakesNoFurther old.facts (with_left taken end) taken × StopsAt shown why old (with_left taken end) new written now_written
   sent_part why old new source end written now_written status body (taken, first, few, tells) same part = (taken, first, few, rw same (status, body, tells, part))
-
-  stops : (why : Cause) (old new : OfficeModel S) (bytes : List ℕ) (written : Option (List ℕ)) → LeavesUnanswered shown why old (Asks bytes) new → StopsAt shown why old bytes new written written
-  stops cause.Read old new bytes written left = (left, Appends-none written)
-  stops cause.Memory old new bytes written left = (left, Appends-none written)
-  stops cause.Write old new bytes written left = absurd left
-  stops (cause.Line n) old new bytes written left = absurd left
-  stops cause.Store old new bytes written left = absurd left
-  stops cause.Closed old new bytes written left = absurd left
-
-  -- there is no reply
-  pub unsent : (why : Cause) (old new : OfficeModel S) (source end written : Option (List ℕ)) → Untold why old source end new
-      → (taken : List ℕ) × Consumes source end taken × TakesNoFurther old.facts (with_left taken end) taken × StopsAt shown why old (with_left taken end) new written written
-  unsent why old new source end written (taken, first, few, left) = (taken, first, few, stops why old new (with_left taken end) written left)

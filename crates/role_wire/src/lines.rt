@@ -270,7 +270,8 @@ fn read_line<A: AnswerLines, W: Sink>(
     requires number { progress.old.number + 1 < 2 ^ 64 }
     requires open_line { IsOpenLine progress.old.line.items }
     requires plain { HasNoLineFeed bytes.now }
-    ensures ok { OnOk result (IsRead A.answers (read_position_of office.old progress.old (W.written sink.old)) (read_position_of office.new progress.new (W.written sink.new)) (bytes.now ++ line_feed ∷ [])) }
+    ensures ok { OnOk result (IsRead A.answers (read_position_of office.old progress.old (W.written sink.old))
+        (read_position_of office.new progress.new (W.written sink.new)) (bytes.now ++ line_feed ∷ [])) }
     ensures err { IfErr result (λ cause. (after : List ℕ) → Halts A.answers A.fails (read_position_of office.old progress.old (W.written sink.old))
         (bytes.now ++ line_feed ∷ after) ⊥ cause office.new (W.written sink.new) progress.new.answered) }
     ensures number { progress.new.number ≤ progress.old.number + 1 }
@@ -298,7 +299,8 @@ fn read_piece<A: AnswerLines, W: Sink>(
     requires number { progress.old.number + length piece.now + 1 < 2 ^ 64 }
     requires open_line { IsOpenLine progress.old.line.items }
     ensures ok { OnOk result (IsRead A.answers (read_position_of office.old progress.old (W.written sink.old)) (read_position_of office.new progress.new (W.written sink.new)) piece.now) }
-    ensures err { IfErr result (λ cause. Halts A.answers A.fails (read_position_of office.old progress.old (W.written sink.old)) piece.now ⊥ cause office.new (W.written sink.new) progress.new.answered) }
+    ensures err { IfErr result (λ cause. Halts A.answers A.fails (read_position_of office.old progress.old (W.written sink.old))
+        piece.now ⊥ cause office.new (W.written sink.new) progress.new.answered) }
     ensures number { progress.new.number ≤ progress.old.number + length piece.now }
     ensures answered { progress.new.answered ≤ progress.old.answered + length piece.now }
     ensures failures { W.failed sink.old ≤ W.failed sink.new }

@@ -66,5 +66,5 @@ fn answer<S: Alter>(alloc: Global, office: &Office<S>, query: &Query) -> Result<
 {
     let state = office.state()?;
     let answer = ask(alloc, state, query)?;
-    Ok(Verdict::Told(answer))
+    Ok(Verdict::Answered(answer))
 }

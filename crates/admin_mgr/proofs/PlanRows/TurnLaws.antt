@@ -3,9 +3,6 @@ use Rattle.std.proofs.Common.{◌≡◌, Bool, true, false, not, ◌&&◌, ◌||
 use Rattle.std.specs.Prelude.{nat_eq, if◌then◌else◌}
 use Rattle.std.proofs.lemmas.Bool.{or_cases, or_left, or_right, and_parts, and_from, not-true, true≢false, false_from_ne_true}
 use Rattle.std.proofs.lemmas.List.Folds.{list_any-append}
-use Rattle.std.specs.declared.cmp.Ordering.{Ordering}
-use Rattle.std.specs.FinSet.{FinSet}
-use Rattle.std.proofs.Math.Bool.{or-false}
 use Rattle.rbac_sets.specs.Sets.{contains, insert, same_name}
 use Rattle.role_order.specs.Order.{geq}
 use Rattle.rbac_sets.specs.declared.row.Row.{Row}
@@ -19,9 +16,8 @@ use Rattle.admin_mgr.specs.Changes.{same_row, is_put, is_taken, puts, takes, IsO
 use Rattle.admin_mgr.specs.RowUpdates.{is_plain, with_row, without_row, after_changes}
 use Rattle.admin_mgr.proofs.PlanRows.ChangeLaws.{has_row-with, has_row-without, has_row-changes}
 use Rattle.admin_mgr.proofs.PlanRows.CommitLaws.{same_row-is, same_row-self, edges-changes, version-changes}
-use Rattle.admin_mgr.proofs.PlanRows.RunLaws.{IsSetOf}
 use Rattle.admin_mgr.proofs.PlanRows.StepLaws.Way.{taking, putting}
-use Rattle.admin_mgr.proofs.PlanRows.StepLaws.{AreFitting, Steps, steps_put}
+use Rattle.admin_mgr.proofs.PlanRows.StepLaws.{AreFitting, Steps}
 
 -- ---- rows that don't change one by one
 
@@ -294,30 +290,3 @@ turns_both {S} {M} {T} {xs} {ys} first second apart =
     let none_taken = putting_takes M ys second.fits in
     turns_append (turns_taking first) (turns_putting second) (λ row. not_both (is_taken ys row) (is_put xs row) (none_put row)) apart
     (takes_first_nothing_put xs ys none_put (putting_last M ys second.fits))
-
--- ---- removals and one insertion
-
--- rows that were absent before the removals aren't among the removed ones
-pub apart_where_absent : {S M : RbacState} {xs : List Change} (ys : List Change) → Steps taking S xs M → ((row : Row) → is_put ys row ≡ true → has_row S row ≡ false) → AreApart xs ys
-apart_where_absent {S} {M} {xs} ys first absent row = false_from_ne_true _ (λ both.
-    let parts = and_parts (is_taken xs row) _ both in
-    true≢false (sym (taken_there S xs first.fits row parts.0).1 ∙ absent row parts.1))
-
--- an absent row is still absent after removals
-still_absent : {S M : RbacState} {xs : List Change} → Steps taking S xs M → (row : Row) → has_row S row ≡ false → has_row M row ≡ false
-still_absent {S} {M} {xs} first row absent =
-    (turns_taking first).rows row ∙ (λ i. absent i && not (is_taken xs row) || taking_puts S xs first.fits row i)
-
--- removals, and then the insertion of a row that was absent before them
-pub turns_taking_then_put : {S M : RbacState} {xs : List Change} → Steps taking S xs M → (row : Row) → is_plain row ≡ true → has_row S row ≡ false → Turns S (xs ++ Put row ∷ []) (with_row M row)
-unfolding is_put
-turns_taking_then_put {S} {M} {xs} first row plain absent = turns_both first (steps_put M row plain (still_absent first row absent))
-    (apart_where_absent (Put row ∷ []) first (λ other put. ap (has_row S) (same_row-is row other (sym (or-false (same_row row other)) ∙ put)) ∙ absent))
-
--- the same, by the set that the row is of
-pub turns_taking_then_put_one :
-    {K : Type 0} {R : K → K → Ordering} {row : K → Row} {get : RbacState → FinSet R} {set : RbacState → FinSet R → RbacState}
-    → IsSetOf row get set
-    → {S M : RbacState} {xs : List Change} → Steps taking S xs M → (x : K) → contains (get S) x ≡ false → Turns S (xs ++ Put (row x) ∷ []) (set M (insert (get M) x))
-turns_taking_then_put_one {row = row} rows {S} {M} {xs} first x absent =
-    subst (Turns S (xs ++ Put (row x) ∷ [])) (rows.put M x) (turns_taking_then_put first (row x) (rows.plain x) (rows.has S x ∙ absent))

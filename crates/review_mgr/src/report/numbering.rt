@@ -75,7 +75,8 @@ fn assigned_numbers(
     assignments: &PairSet,
 ) -> Result<Vec<Vec<usize>>, Refusal>
     requires { IsStrictlySortedBy name_cmp roles.now }
-    ensures ok { IfOk result (λ runs. map (λ run. run.items) runs.items ≡ map (λ user. map (λ (pair : Pair). number_in roles.now pair.1) (run_of (set_of pair_cmp assignments.now) user)) users.now) }
+    ensures ok { IfOk result (λ runs. map (λ run. run.items) runs.items
+        ≡ map (λ user. map (λ (pair : Pair). number_in roles.now pair.1) (run_of (set_of pair_cmp assignments.now) user)) users.now) }
     ensures cause { IfErr result (λ refusal. refusal ≡ Refusal.Memory) }
 {
     let mut runs = Vec::new(alloc);
@@ -95,7 +96,8 @@ fn granted_numbers(
 ) -> Result<Vec<Vec<usize>>, Refusal>
     requires { IsStrictlySortedBy name_cmp roles.now }
     ensures ok { IfOk result (λ runs. map (λ run. run.items) runs.items
-        ≡ map (λ (permission : Pair). map (λ (grant : Triple). number_in roles.now grant.2) (filter (λ grant. eq_by_cmp pair_cmp (grant.0, grant.1) permission) (members (set_of triple_cmp grants.now)))) permissions.now) }
+        ≡ map (λ (permission : Pair). map (λ (grant : Triple). number_in roles.now grant.2)
+        (filter (λ grant. eq_by_cmp pair_cmp (grant.0, grant.1) permission) (members (set_of triple_cmp grants.now)))) permissions.now) }
     ensures cause { IfErr result (λ refusal. refusal ≡ Refusal.Memory) }
 {
     let mut runs = Vec::new(alloc);

@@ -1,22 +1,19 @@
 -- What the statements do to the office's tables: one lemma each, whatever the table and whatever other tables there are.
 use Rattle.std.proofs.Common.{IsTrue, slice_index, ◌*◌, ◌≡◌, ◌≢◌, ℕ, ◌+◌, ◌==◌, ◌/◌, if◌then◌else◌, ℤ, List, [], ◌∷◌, length, map, not, slice_get, Bool, true, false, Some, None, Ok, refl, sym, ap, subst, ◌∙◌}
 use Rattle.std.specs.List.{AllByRecursion}
-use Rattle.std.specs.List.Sorted.{IsPermutation}
 use Rattle.std.proofs.lemmas.Bool.{eqb-true, eq-eqb}
-use Rattle.std.proofs.lemmas.List.Sorted.{IsPermutation-trans}
 use Rattle.sqlite.specs.declared.types.Value.TheVariants.{Null, Int}
 use Rattle.sqlite.specs.Order.{Row}
 use Rattle.sqlite.specs.Schema.{Schema}
 use Rattle.sqlite.specs.Rows.{stamped}
 use Rattle.sqlite.specs.Effect.{Database, IsDatabase, value_rows}
-use Rattle.sqlite.specs.State.{State, Executes, Shown}
+use Rattle.sqlite.specs.State.{State, Executes}
 use Rattle.sqlite_rules.specs.Cast.{cast_all}
 use Rattle.sqlite_trees.proofs.ListLemmas.{all-slice_get, all-permutation, all-filter}
 use Rattle.role_tables.specs.TableByName.{Place, AreIn, cells_at, HasNoNull, HoldsRows, without_row, same_row}
 use Rattle.role_tables.specs.OfficeTables.{StoredTable, Meta, Names, Pairs, Grants, Sets, Locks, making, made, places, Rows, code, changed_at, OfficeRow, meta_row, name_row, pair_row, grant_row, set_row, locked_row, table_of, cells, HoldsTables}
-use Rattle.role_tables.specs.private.Texts.{insert_text, delete_text, read_text}
-use Rattle.role_tables.proofs.OfficeTables.Texts.{are_in, are_few, all_is, take_is, where_of, are_ours, put_terms, put_is}
-use Rattle.role_tables.proofs.Meanings.SelectedRows.{reads_rows}
+use Rattle.role_tables.specs.private.Texts.{insert_text, delete_text}
+use Rattle.role_tables.proofs.OfficeTables.Texts.{are_in, take_is, where_of, are_ours, put_terms, put_is}
 use Rattle.role_tables.proofs.Meanings.ForeignKeys.{unreferenced}
 use Rattle.sqlite_rules.proofs.ListLemmas.{has_got}
 use Rattle.sqlite.specs.Table.{Table}
@@ -28,12 +25,6 @@ use Rattle.role_tables.proofs.Meanings.InsertedRows.{puts, holds_more, holds_sti
 use Rattle.role_tables.proofs.Meanings.Parts.{cast_int}
 
 -- ---- reading
-
-pub reads_table : (want : StoredTable → Bool) (kind : StoredTable) (wanted : IsTrue (want kind)) (old new : State) (answer : List Row) (rows : Rows) → HoldsTables want old.now rows → Shown (read_text kind) [] old new answer → IsPermutation (rows kind) answer
-reads_table want kind wanted old new answer rows held shown =
-    let table = held.tables kind wanted in
-    IsPermutation-trans _ _ _ table.rows_are
-    (reads_rows (read_text kind) (making kind).name old new answer table.at (made kind table.tree) (places kind) (all_is kind) (are_few kind) table.is_named.0 table.is_named.1 (are_in kind table.tree) shown)
 
 -- ---- one table changes
 

@@ -1,5 +1,5 @@
 -- What is read of tables that are looked up by their names, and that reading changes nothing.
-use Rattle.std.proofs.Common.{◌≡◌, inl, inr, ℕ, suc, List, [], ◌∷◌, length, map, slice_get, Bool, true, false, Option, Some, None, Result, Ok, Err, IfOk, refl, sym, ap, subst, ◌∙◌}
+use Rattle.std.proofs.Common.{◌≡◌, inl, inr, ℕ, suc, List, [], ◌∷◌, length, map, slice_get, Bool, true, false, Option, Some, None, Ok, refl, sym, ap, subst, ◌∙◌}
 use Rattle.std.specs.Option.{option_and_then, option_map}
 use Rattle.std.specs.List.Sorted.{IsPermutation}
 use Rattle.std.specs.Str.{IsUtf8, is_utf8}
@@ -14,9 +14,8 @@ use Rattle.sqlite.specs.Command.{Command}
 use Rattle.sqlite.specs.Command.TheVariants.{Select}
 use Rattle.sqlite.specs.Effect.{Database}
 use Rattle.sqlite.specs.Listing.{understood}
-use Rattle.sqlite.specs.State.{State, Shown, Survives, CommitsShowing, IsUnchanged}
+use Rattle.sqlite.specs.State.{State, Shown, CommitsShowing, IsUnchanged}
 use Rattle.sqlite.proofs.Callers.{IsPlain, never_commits}
-use Rattle.sqlite.proofs.StateLemmas.{survives_weaker}
 use Rattle.sqlite_resolve.specs.declared.compiled.Compiled.{Compiled}
 use Rattle.sqlite_resolve.specs.declared.error.CompileError.TheVariants.{Mismatch}
 use Rattle.sqlite_resolve.specs.Scope.{Name}
@@ -128,15 +127,6 @@ module _ (kind : StoredTable) (old : State) (values : List Row) (it : IsFound ol
   pub never : (db : Trees) → CommitsShowing (read_text kind) [] old db → ⊥
   unfolding CommitsShowing
   never db h = never_commits (read_text kind) [] old db (plain h.0 h.1.is) h
-
-  -- a crash leaves what it could leave before
-  pub found_survives : (new : State) → Survives old new (CommitsShowing (read_text kind) [] old) → Survives old new (λ _. ⊥)
-  found_survives new = survives_weaker old new _ _ (λ _ db h. never db h)
-
-pub shows_when_ok : {V E : Type 0} (kind : StoredTable) (old new : State) (values : List Row) (it : IsFound old.now kind values) (items : V → List Row) (r : Result V E)
-    → IfOk r (λ v. Shown (read_text kind) [] old new (items v)) → IfOk r (λ v. IsPermutation values (items v) × IsUnchanged old new)
-shows_when_ok kind old new values it items (Err e) shown = tt
-shows_when_ok kind old new values it items (Ok v) shown = shows_found kind old values it new (items v) shown
 
 -- ---- names
 

@@ -1,5 +1,5 @@
 -- Reading a table to its end, row by row.
-use Rattle.std.proofs.Common.{◌≡◌, ◌⊎◌, inl, inr, ℕ, List, [], ◌∷◌, ◌++◌, map, Bool, true, false, ◌&&◌, Option, Some, None, IsSome, IsTrue, Result, Ok, Err, refl, sym, ap, subst, ◌∙◌}
+use Rattle.std.proofs.Common.{◌≡◌, inl, inr, ℕ, List, [], ◌∷◌, ◌++◌, map, Bool, true, false, ◌&&◌, Option, Some, None, IsSome, IsTrue, Result, Ok, Err, refl, sym, ap, subst, ◌∙◌}
 use Rattle.std.specs.List.{list_all}
 use Rattle.std.proofs.lemmas.Bool.{and_parts}
 use Rattle.std.proofs.lemmas.List.{append-nil, append_assoc}
@@ -13,7 +13,7 @@ use Rattle.sqlite.specs.State.{State, IsUnchanged, Survives, Shown, CommitsShowi
 use Rattle.sqlite.specs.Clock.{timed}
 use Rattle.sqlite.specs.declared.error.Error.{Error}
 use Rattle.sqlite_schema.specs.declared.command.Returning.{Returning}
-use Rattle.sqlite.proofs.InsideLemmas.{keeps_then, unchanged_keeps}
+use Rattle.sqlite.proofs.InsideLemmas.{unchanged_keeps}
 use Rattle.sqlite.specs.Held.{Held, state}
 use Rattle.sqlite.specs.Given.{HasBegun, HasGiven, Returns, IsPlain}
 use Rattle.sqlite.proofs.Callers.{unchanged_then}
@@ -128,7 +128,3 @@ query_keeps sql params old new e (inr (c, it, shown)) = shows c.returning shown
     shows None h = unchanged_keeps old new (inl h.3)
     shows (Some returning) (inl h) = unchanged_keeps old new (inl h.1)
     shows (Some returning) (inr h) = fails_keeps old new e _ h
-
-pub advance_keeps : (a b c : State) (e : Error) → IsUnchanged a b → Fails b c ⊥ e ⊎ IsUnchanged b c → KeepsCommit a c
-advance_keeps a b c e same (inl fails) = keeps_then a b c (unchanged_keeps a b (inl same)) (fails_keeps b c e ⊥ fails)
-advance_keeps a b c e same (inr still) = unchanged_keeps a c (inl (unchanged_then a b c same still))

@@ -45,9 +45,6 @@ and_assoc : (a b c : Bool) → ((a && b) && c) ≡ (a && (b && c))
 and_assoc true b c = refl
 and_assoc false b c = refl
 
-clash : {A : Type 0} (b : Bool) → b ≡ true → b ≡ false → A
-clash b yes_it no_it = absurd (let e = sym yes_it ∙ no_it in cc)
-
 -- ---- one row
 
 -- the row's texts are valid names, and its number fits a u32

@@ -15,8 +15,8 @@ use Rattle.role_tables.specs.OpeningChecks.{values, HasCommonTables, RefusesCont
 use Rattle.role_tables.specs.private.MetaRows.{Sees}
 use Rattle.role_tables.specs.declared.meta_rows.Metas.{Metas}
 use Rattle.role_tables.specs.declared.gathering.Gathering.{Gathering}
-use Rattle.role_tables.specs.private.GatheredRows.{AreThere, GathersTables, HasTables, IsVersionSeen, RefusesVersion, RefusesGathering}
-use Rattle.role_tables.proofs.Reading.Judging.{seen_known, version_refused, reached, tables_there, rows_refused, state_found}
+use Rattle.role_tables.specs.private.GatheredRows.{AreThere, GathersTables, HasTables, IsVersionSeen, RefusesGathering}
+use Rattle.role_tables.proofs.Reading.Judging.{seen_known, reached, tables_there, rows_refused, state_found}
 
 pub if_ok : {T E : Type 0} (r : Result T E) (P Q : T → Type 0) → ((x : T) → P x → Q x) → IfOk r P → IfOk r Q
 if_ok (Err e) P Q f p = tt
@@ -27,11 +27,6 @@ if_err (Ok x) P Q f p = tt
 if_err (Err e) P Q f p = f e p
 
 module _ (old mid : State) (metas : Metas) (five : HasCommonTables (contents_of old.now)) (seen : HasCleanDisk mid → Sees (values (contents_of old.now) Meta) metas × IsUnchanged old mid) where
-  pub no_version : (schema : Schema) → schema ≡ mid.now.schema → HasCleanDisk mid → (refusal : Refusal) → RefusesVersion metas schema refusal → RefusesContents (contents_of old.now) refusal
-  no_version schema is clean refusal bad =
-      let s = seen clean in
-      version_refused old.now metas five s.0 refusal (subst (λ (db : Database). RefusesVersion metas db.schema refusal) s.1.0.now_is (subst (λ schema. RefusesVersion metas schema refusal) is bad))
-
   module _ (version : ℕ) (schema : Schema) (is : schema ≡ mid.now.schema) (told : IsVersionSeen metas schema version) where
     known : (version ≡ 1) ⊎ (version ≡ 2)
     known = seen_known metas version schema told

@@ -15,7 +15,7 @@ use Rattle.admin_mgr.specs.Good.{IsGood}
 use Rattle.admin_mgr.specs.RowsAfter.{rows_after}
 use Rattle.admin_mgr.proofs.PlanRows.CommitLaws.{same_row-self}
 use Rattle.admin_mgr.proofs.PlanRows.RowsAfterLaws.{rows_follow}
-use Rattle.sqlite.specs.State.{State, HasCleanDisk, Survives, Shows, KeepsCounts, KeepsCommit, IsRolledBack}
+use Rattle.sqlite.specs.State.{State, HasCleanDisk, Survives, Shows, KeepsCounts, KeepsCommit}
 use Rattle.sqlite.specs.Steps.{FailsToCommit}
 use Rattle.sqlite.specs.Held.{Held, state}
 use Rattle.sqlite.specs.declared.error.Error.{Error}
@@ -33,19 +33,6 @@ use Rattle.role_tables.specs.private.TableChanges.{AreKept, TablesAfter}
 
 module _ {S : Type 0} (g : Ghosts S) (old : Held S) (mid end : State) (Is : Database → Type 0) (inside : Survives (state g (record old { in_transaction = true })) mid (λ _. ⊥))
     (still : IsTrue (state g old).is_open → (state g old).now ≡ (state g old).committed) where
-  -- one that was dropped before its commit
-  pub transaction_dropped : (r : Result (Unit {0}) Error) (e : Error) → r ≡ Err e → HasCleanDisk end → (HasCleanDisk mid → KeepsCommit (state g (record old { in_transaction = true })) mid) → IsRolledBack mid end → Survives mid end (λ _. ⊥)
-      → Transacts (state g old) end Is r
-  transaction_dropped r e failed clean kept undone after =
-      let was : HasCleanDisk mid = omega (arith, clean, after.clean) in
-      let begun = survives_begin g old mid (λ _. ⊥) inside in
-      let whole = survives_then (state g old) mid end (λ _. ⊥) (λ _. ⊥) (λ _. ⊥) (λ _ db none. none) (λ _ db none. none) begun after in
-      subst (Transacts (state g old) end Is) (sym failed) (record {
-        done = tt;
-        undone = λ is_open. let back = undone.undone is_open in let was_open = undone.was_open is_open in back.0 ∙ (kept was).committed was_open ∙ sym (still ((kept was).was_open was_open));
-        left = λ trees may. elim (whole.crash clean trees may) [ inl before ↦ inl before | inr none ↦ absurd none ];
-      })
-
   -- one that reached its commit
   pub transaction_ended : (r : Result (Unit {0}) Error) → HasCleanDisk end → (HasCleanDisk mid → KeepsCommit (state g (record old { in_transaction = true })) mid) → Is mid.now
       → ((trees : Trees) → IsTrue end.is_open → end.may_leave trees → trees ≡ end.committed.trees)
