@@ -85,6 +85,6 @@ def check_limits(bench):
         ("longestReason = 256", "up to 256 bytes of UTF-8"),
         ('"record-base", 10_000', "the later commands again (default: 10,000)"),
         ("nobody = 65534", "65534, which is nobody"),
-        ("patience = 5 * time.Second", "the replay has answered none for 5 seconds"),
+        ("silenceTimeout = 5 * time.Second", "the replay has answered none for 5 seconds"),
     ]:
         bench.same(f"{source} and {text}", (source in sources, text in page), (True, True))

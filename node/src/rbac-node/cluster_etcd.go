@@ -62,15 +62,15 @@ func (s *clusterSettings) isChosen() bool { return s.etcd != "" }
 
 // adopt makes the office of a file the beginning of a new cluster.
 func (s *clusterSettings) adopt(common *settings, from string) error {
-	log, _, closeAll, err := s.open(common)
+	shared, _, closeAll, err := s.open(common)
 	if err != nil {
 		return err
 	}
 	defer closeAll()
-	return untilSignal(func(ctx context.Context) error { return s.adoptInto(ctx, log, from) })
+	return untilSignal(func(ctx context.Context) error { return s.adoptInto(ctx, shared, from) })
 }
 
-func (s *clusterSettings) adoptInto(ctx context.Context, log *ledger.Ledger, from string) error {
+func (s *clusterSettings) adoptInto(ctx context.Context, shared *ledger.Ledger, from string) error {
 	store, err := office.Open(s.Data, s.Program)
 	if err != nil {
 		return err
@@ -84,7 +84,7 @@ func (s *clusterSettings) adoptInto(ctx context.Context, log *ledger.Ledger, fro
 	if err := office.Run(ctx, s.Program, "check", file); err != nil {
 		return err
 	}
-	revision, err := log.Adopt(ctx)
+	revision, err := shared.Adopt(ctx)
 	if err != nil {
 		return err
 	}
@@ -129,17 +129,17 @@ func lockFolder(folder string) (*os.File, error) {
 
 // serve runs a node until a signal comes or something fails.
 func (s *clusterSettings) serve(common *settings) error {
-	log, events, closeAll, err := s.open(common)
+	shared, events, closeAll, err := s.open(common)
 	if err != nil {
 		return err
 	}
 	defer closeAll()
 	// Until here a signal ends the process at once, even while etcd does not answer.
-	return untilSignal(func(ctx context.Context) error { return s.serveNode(ctx, log, events) })
+	return untilSignal(func(ctx context.Context) error { return s.serveNode(ctx, shared, events) })
 }
 
 // serveNode serves clients and other nodes.
-func (s *clusterSettings) serveNode(ctx context.Context, log *ledger.Ledger, events *logs.Logger) error {
+func (s *clusterSettings) serveNode(ctx context.Context, shared *ledger.Ledger, events *logs.Logger) error {
 	lock, err := lockFolder(s.Data)
 	if err != nil {
 		return err
@@ -168,7 +168,7 @@ func (s *clusterSettings) serveNode(ctx context.Context, log *ledger.Ledger, eve
 	if !s.common.record.isOff {
 		s.Record = records.follow(s.common, s.Data, s.Options.File(), events, registry)
 	}
-	n, err := node.New(s.Options, log, events, registry)
+	n, err := node.New(s.Options, shared, events, registry)
 	if err != nil {
 		return err
 	}
@@ -180,7 +180,7 @@ func (s *clusterSettings) serveNode(ctx context.Context, log *ledger.Ledger, eve
 }
 
 // answer answers clients and other nodes until the context ends or something fails.
-func (s *clusterSettings) answer(ctx context.Context, f *front.Front, n *node.Node, log *logs.Logger, all *metrics.Registry) error {
+func (s *clusterSettings) answer(ctx context.Context, f *front.Front, n *node.Node, events *logs.Logger, all *metrics.Registry) error {
 	listener, err := web.Listen(s.peer, s.peerTLS)
 	if err != nil {
 		return err
@@ -188,7 +188,7 @@ func (s *clusterSettings) answer(ctx context.Context, f *front.Front, n *node.No
 	failed := make(chan error, 1)
 	peers := web.Serve(reportingTo(failed), listener, peerHandler(n, all),
 		web.Limits{Connections: peerConnections, AnswerTimeout: snapshotTimeout})
-	err = answer(ctx, f, n, failed, log, func(within context.Context) { web.Shutdown(within, peers) })
+	err = answer(ctx, f, n, failed, events, func(within context.Context) { web.Shutdown(within, peers) })
 	if ctx.Err() != nil && errors.Is(err, context.Canceled) {
 		return nil // The signal came while the node was recovering.
 	}

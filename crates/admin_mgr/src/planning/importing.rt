@@ -93,7 +93,7 @@ impl Imported {
         ensures cause { IfErr result (λ refusal. refusal ≡ Refusal.Memory) }
     {
         match judge_record(alloc, state, &self.added, user, role)? {
-            Some(refusal) => self.tell(number, &refusal),
+            Some(refusal) => self.count_refusal(number, &refusal),
             None => self.assign(alloc, user, role),
         }
     }
@@ -115,7 +115,7 @@ impl Imported {
     }
 
     // Counts the refusal of the record of this number in the report.
-    fn tell(&mut self, number: u32, refusal: &Refusal) -> Result<(), Refusal>
+    fn count_refusal(&mut self, number: u32, refusal: &Refusal) -> Result<(), Refusal>
         requires few { self.old.report.already < limit_of Record 2 }
         ensures ok { OnOk result (IsRefused number refusal.now self.old self.new) }
         ensures cause { IfErr result (λ refusal. refusal ≡ Refusal.Memory) }

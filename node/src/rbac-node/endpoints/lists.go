@@ -21,8 +21,8 @@ const (
 	mostLists, mostListsBytes = 20, 65_536
 	// usualRows is how many rows an answer has if nothing is said, and mostRows how many it has at most.
 	usualRows, mostRows = 100, 1000
-	// between stands between the names of a row at after: no name has it.
-	between = "\t"
+	// nameSeparator stands between the names of a row at after: no name has it.
+	nameSeparator = "\t"
 )
 
 // A page is the part of a list that is answered.
@@ -244,7 +244,7 @@ func (q *listQuery) set(list string, columns []string, key, text string) (err er
 	case key == "prefix":
 		q.Prefix = text
 	case key == "after":
-		q.After = strings.Split(text, between)
+		q.After = strings.Split(text, nameSeparator)
 	case key == "limit":
 		q.Limit, err = strconv.Atoi(text)
 		if err != nil || q.Limit < 1 || q.Limit > mostRows {
@@ -297,7 +297,7 @@ func pageOfRows(list string, rows []state.Row, hasMore bool) (p page) {
 	}
 	if hasMore {
 		last := rows[len(rows)-1]
-		p.next = strings.Join(last[:len(columns)], between)
+		p.next = strings.Join(last[:len(columns)], nameSeparator)
 	}
 	return p
 }

@@ -85,7 +85,7 @@ func readPictureQuery(text string) (query pictureQuery, err error) {
 		case isText:
 			*place = given[0]
 		case key == "from":
-			query.from = strings.Split(given[0], between)
+			query.from = strings.Split(given[0], nameSeparator)
 		default:
 			return query, errNotRead
 		}

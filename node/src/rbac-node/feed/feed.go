@@ -21,14 +21,14 @@ import (
 )
 
 const (
-	// most is how many units may wait for the replay, or for their answers.
-	most = 8192
-	// pause is the time before a replay that doesn't start is started again.
-	pause = time.Second
-	// patience is how long a replay may answer nothing, although lines wait, before it counts as one that doesn't answer.
-	patience = 5 * time.Second
-	// leaving is how long a replay may take to answer the last lines.
-	leaving = 10 * time.Second
+	// maxWaiting is how many units may wait for the replay, or for their answers.
+	maxWaiting = 8192
+	// restartInterval is the time before a replay that doesn't start is started again.
+	restartInterval = time.Second
+	// silenceTimeout is how long a replay may answer nothing, although lines wait, before it counts as one that doesn't answer.
+	silenceTimeout = 5 * time.Second
+	// endTimeout is how long a replay may take to answer the last lines.
+	endTimeout = 10 * time.Second
 )
 
 // Options are what a feed needs.
@@ -85,7 +85,7 @@ func (e *RefusedError) Error() string { return fmt.Sprintf("line %d: %s", e.Inde
 
 // Open returns a feed whose replay has accepted the first lines.
 func Open(ctx context.Context, options Options) (*Feed, error) {
-	f := &Feed{Options: options, units: make(chan *Unit, most), alive: make(chan struct{}), sent: make(chan *Unit, most)}
+	f := &Feed{Options: options, units: make(chan *Unit, maxWaiting), alive: make(chan struct{}), sent: make(chan *Unit, maxWaiting)}
 	f.why.Store("")
 	if err := f.start(ctx); err != nil {
 		return nil, err
@@ -103,7 +103,7 @@ func IsAccepted(answer []byte) bool { return bytes.HasPrefix(answer, []byte(`{"o
 // Why returns why no line is answered now, or an empty text.
 func (f *Feed) Why() string {
 	why, _ := f.why.Load().(string)
-	if replay := f.newest.Load(); why == "" && replay != nil && replay.Silence() > patience {
+	if replay := f.newest.Load(); why == "" && replay != nil && replay.Silence() > silenceTimeout {
 		return "the replay has answered nothing for some time"
 	}
 	return why
@@ -208,7 +208,7 @@ func (f *Feed) anew(ctx context.Context) bool {
 
 // pass passes lines until the context or the replay ends, or until it is time for a new one, for which there is no error.
 func (f *Feed) pass(ctx context.Context) error {
-	ticker := time.NewTicker(pause)
+	ticker := time.NewTicker(restartInterval)
 	defer ticker.Stop()
 	for f.reads < f.Reads+f.Reads/10 {
 		select {
@@ -345,7 +345,7 @@ func (f *Feed) Quietly(do func() error) error {
 
 // end ends the replay after it has answered all lines. One that doesn't is killed.
 func (f *Feed) end() error {
-	defer time.AfterFunc(leaving, f.replay.Kill).Stop()
+	defer time.AfterFunc(endTimeout, f.replay.Kill).Stop()
 	err := f.replay.Close()
 	if err != nil {
 		f.lose()
@@ -367,7 +367,7 @@ func (f *Feed) startAgain(ctx context.Context) error {
 			f.Log.Error("the replay doesn't start", "replay", f.Name, "why", err)
 			last = why
 		}
-		for timer, waiting := time.After(pause), true; waiting; {
+		for timer, waiting := time.After(restartInterval), true; waiting; {
 			select {
 			case u := <-f.units:
 				u.lose()

@@ -258,7 +258,7 @@ func TestFirstLines(t *testing.T) {
 
 // A feed whose replay hangs says so before it is killed, and not afterwards.
 func TestHungReplay(t *testing.T) {
-	b := open(t, many, 2*patience)
+	b := open(t, many, 2*silenceTimeout)
 	if why := b.Why(); why != "" {
 		t.Errorf("why: %q", why)
 	}

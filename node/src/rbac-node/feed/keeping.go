@@ -34,7 +34,7 @@ type keeping struct {
 
 func newKeeping(keeper Keeper, units chan<- *Unit, resting *sync.Mutex) *keeping {
 	return &keeping{
-		keeper: keeper, units: units, resting: resting, asked: make(chan *Unit, most), wake: make(chan struct{}, 1),
+		keeper: keeper, units: units, resting: resting, asked: make(chan *Unit, maxWaiting), wake: make(chan struct{}, 1),
 		halts: make(chan chan struct{}), resumes: make(chan chan struct{}), ends: make(chan struct{}), ended: make(chan struct{}),
 	}
 }

@@ -56,7 +56,7 @@ func TestEntryText(t *testing.T) {
 func putMember(t *testing.T, l *Ledger, name string, form int) {
 	text, err := json.Marshal(Member{Name: name, Form: form})
 	if err == nil {
-		_, err = l.do(context.Background(), "test", clientv3.OpPut(nodesPrefix+name, string(text)))
+		_, err = l.transact(context.Background(), "test", clientv3.OpPut(nodesPrefix+name, string(text)))
 	}
 	if err != nil {
 		t.Fatal(err)
@@ -110,7 +110,7 @@ func TestRaise(t *testing.T) {
 		t.Errorf("the log has %+v, %v", found, err)
 	}
 	// What an earlier program does at its start.
-	reply, err := l.do(ctx, "test", clientv3.OpGet(nodesPrefix, clientv3.WithPrefix()))
+	reply, err := l.transact(ctx, "test", clientv3.OpGet(nodesPrefix, clientv3.WithPrefix()))
 	if err != nil {
 		t.Fatal(err)
 	}

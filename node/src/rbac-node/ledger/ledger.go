@@ -137,8 +137,8 @@ func wait(ctx context.Context, pause time.Duration) error {
 	}
 }
 
-// do runs a transaction without a condition.
-func (l *Ledger) do(ctx context.Context, what string, ops ...clientv3.Op) (*clientv3.TxnResponse, error) {
+// transact runs a transaction without a condition.
+func (l *Ledger) transact(ctx context.Context, what string, ops ...clientv3.Op) (*clientv3.TxnResponse, error) {
 	return l.commit(ctx, what, func(t clientv3.Txn) clientv3.Txn { return t.Then(ops...) })
 }
 
@@ -252,7 +252,7 @@ func (l *Ledger) Append(ctx context.Context, id string, units []Unit) (entry Ent
 
 // Head returns the revision of the newest entry.
 func (l *Ledger) Head(ctx context.Context) (int64, error) {
-	reply, err := l.do(ctx, "read of the head", clientv3.OpGet("head"))
+	reply, err := l.transact(ctx, "read of the head", clientv3.OpGet("head"))
 	if err != nil {
 		return 0, err
 	}
@@ -293,7 +293,7 @@ func (l *Ledger) Trim(ctx context.Context, s State, needless int64) (floor int64
 // greater than all numbers of an earlier log.
 func (l *Ledger) First(ctx context.Context) (int64, error) {
 	for {
-		reply, err := l.do(ctx, "read of the first number", clientv3.OpGet(firstKey))
+		reply, err := l.transact(ctx, "read of the first number", clientv3.OpGet(firstKey))
 		if err != nil {
 			return 0, err
 		}
@@ -346,7 +346,7 @@ func (l *Ledger) Register(ctx context.Context, member Member) error {
 	if err != nil {
 		return fmt.Errorf("registration: %w", err)
 	}
-	_, err = l.do(ctx, "registration", clientv3.OpPut(nodesPrefix+member.Name, string(text)))
+	_, err = l.transact(ctx, "registration", clientv3.OpPut(nodesPrefix+member.Name, string(text)))
 	return err
 }
 
@@ -359,7 +359,7 @@ type State struct {
 
 // State reads the state.
 func (l *Ledger) State(ctx context.Context) (s State, err error) {
-	reply, err := l.do(ctx, "read of the nodes", clientv3.OpGet("floor"), clientv3.OpGet(nodesPrefix, clientv3.WithPrefix()))
+	reply, err := l.transact(ctx, "read of the nodes", clientv3.OpGet("floor"), clientv3.OpGet(nodesPrefix, clientv3.WithPrefix()))
 	if err != nil {
 		return s, err
 	}
@@ -444,7 +444,7 @@ func (f *follower) catchUp(ctx context.Context) (revision int64, err error) {
 func (f *follower) keys(ctx context.Context) (found []*mvccpb.KeyValue, revision int64, err error) {
 	end := clientv3.WithRange(clientv3.GetPrefixRangeEnd("log/"))
 	for from, more := "log/", true; more; {
-		reply, err := f.do(ctx, "read of the log", clientv3.OpGet("floor"),
+		reply, err := f.transact(ctx, "read of the log", clientv3.OpGet("floor"),
 			clientv3.OpGet(from, end, clientv3.WithKeysOnly(), clientv3.WithLimit(maxPageKeys)))
 		if err != nil {
 			return nil, 0, err
@@ -476,7 +476,7 @@ func (f *follower) page(ctx context.Context, keys []*mvccpb.KeyValue) (size int,
 	}
 	limited, cancel := context.WithTimeout(ctx, f.pageTimeout)
 	defer cancel()
-	reply, err := f.do(limited, "read of the log", ops...)
+	reply, err := f.transact(limited, "read of the log", ops...)
 	if err != nil && limited.Err() != nil && ctx.Err() == nil {
 		return 0, errSlow
 	}
@@ -492,15 +492,15 @@ func (f *follower) page(ctx context.Context, keys []*mvccpb.KeyValue) (size int,
 			return 0, ErrTrimmed
 		}
 		size += len(kvs[0].Value)
-		if err := f.hand(kvs[0]); err != nil {
+		if err := f.deliverEntry(kvs[0]); err != nil {
 			return 0, err
 		}
 	}
 	return size, nil
 }
 
-// hand delivers an entry.
-func (f *follower) hand(kv *mvccpb.KeyValue) error {
+// deliverEntry delivers an entry.
+func (f *follower) deliverEntry(kv *mvccpb.KeyValue) error {
 	f.after = kv.CreateRevision
 	return f.deliver(entryOf(f.after, path.Base(string(kv.Key)), kv.Value))
 }
@@ -526,7 +526,7 @@ func (f *follower) watch(ctx context.Context, from int64) error {
 				return ctx.Err()
 			}
 			for _, event := range reply.Events {
-				if err := f.hand(event.Kv); err != nil {
+				if err := f.deliverEntry(event.Kv); err != nil {
 					return err
 				}
 			}

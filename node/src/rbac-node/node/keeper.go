@@ -47,16 +47,16 @@ func (n *Node) takeSnapshot() error {
 	return nil
 }
 
-// keep finishes snapshots, and checks again and again what all nodes report about theirs. A full etcd refuses what is
+// maintain finishes snapshots, and checks again and again what all nodes report about theirs. A full etcd refuses what is
 // registered, but all else goes on.
-func (n *Node) keep(ctx context.Context) error {
+func (n *Node) maintain(ctx context.Context) error {
 	ticker := time.NewTicker(lookInterval)
 	defer ticker.Stop()
 	for isRegistered := false; ; {
 		if !isRegistered {
 			isRegistered = n.attempt(ctx, "the snapshots are not registered", n.announce)
 		}
-		n.attempt(ctx, "the log is not trimmed", n.look)
+		n.attempt(ctx, "the log is not trimmed", n.trimLog)
 		select {
 		case one := <-n.copies:
 			if err := n.finish(ctx, one); err != nil {
@@ -111,8 +111,8 @@ func (n *Node) announce(ctx context.Context) error {
 	return n.shared.Register(ctx, ledger.Member{Name: n.options.Name, Peer: n.options.Peer, Snapshots: found})
 }
 
-// look judges the snapshots of all nodes, and trims the log.
-func (n *Node) look(ctx context.Context) error {
+// trimLog judges the snapshots of all nodes, and trims the log.
+func (n *Node) trimLog(ctx context.Context) error {
 	n.shared.UseLeader(ctx)
 	state, err := n.shared.State(ctx)
 	if err != nil {

@@ -146,7 +146,7 @@ func TestTakeSnapshotWithoutReplay(t *testing.T) {
 func TestKeepWithFullLog(t *testing.T) {
 	n, log, _ := newNode(t)
 	log.setFull(true)
-	running(t, n.keep)
+	running(t, n.maintain)
 	eventually(t, "it is refused", func() bool { return log.refusals.Load() > 0 })
 	log.setFull(false)
 	eventually(t, "it is registered", func() bool { return log.registrations() > 0 })

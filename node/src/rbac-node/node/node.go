@@ -180,12 +180,12 @@ func (n *Node) Snapshots() http.Handler { return n.store }
 // Run keeps the copy until the context ends or something fails. After a failure the node has to be started anew: it
 // recovers from its newest snapshot then.
 func (n *Node) Run(life context.Context) error {
-	if err := n.resume(life); err != nil {
+	if err := n.recoverOffice(life); err != nil {
 		return fmt.Errorf("recovery: %w", err)
 	}
 	group, ctx := errgroup.WithContext(life)
 	for _, part := range []func(context.Context) error{
-		n.feed, n.readLog, n.appendCommands, n.confirm, n.confirm, n.keep, n.expire,
+		n.feed, n.readLog, n.appendCommands, n.confirm, n.confirm, n.maintain, n.expire,
 	} {
 		part := part
 		group.Go(func() error { return part(ctx) })
@@ -226,7 +226,7 @@ func (n *Node) feed(ctx context.Context) error {
 		case one := <-n.tasks:
 			n.perform(one)
 		case r := <-n.asked[api.Local]:
-			n.pose(r)
+			n.sendQuestions(r)
 		case <-n.replay.Ended():
 			// Nobody knows which of the lines were done.
 			if err := n.replay.Close(); err != nil {
@@ -292,9 +292,9 @@ func (n *Node) perform(one task) {
 	one.do()
 }
 
-// pose sends questions to the replay. The age of an answer counts until the client gets it, however long the replay
+// sendQuestions sends questions to the replay. The age of an answer counts until the client gets it, however long the replay
 // takes.
-func (n *Node) pose(questions ...*request) {
+func (n *Node) sendQuestions(questions ...*request) {
 	revision := n.revision
 	for _, q := range questions {
 		if !q.isWaiting() {

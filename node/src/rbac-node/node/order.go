@@ -153,7 +153,7 @@ func (n *Node) pass(p part, before, revision int64) {
 		if p.places[i] < 0 {
 			n.ask(call, answered)
 		} else {
-			n.do(p.unit, call, before+int64(p.places[i])+1, answered)
+			n.sendCall(p.unit, call, before+int64(p.places[i])+1, answered)
 		}
 	}
 }
@@ -175,7 +175,7 @@ func (n *Node) judge(p part, before, revision int64) error {
 		for i, call := range calls {
 			i := i
 			number++
-			n.do(p.unit, call, number, func(text []byte) { texts[i] = text })
+			n.sendCall(p.unit, call, number, func(text []byte) { texts[i] = text })
 		}
 		if !n.settle() {
 			return nil, errReplayEnded
@@ -269,8 +269,8 @@ func (n *Node) ask(call *api.Call, answered func(text []byte)) {
 	})
 }
 
-// do sends a call of a unit, which has a number in the log. Behind a command comes what has to be asked to know what it has done.
-func (n *Node) do(unit ledger.Unit, call *api.Call, number int64, answered func(text []byte)) {
+// sendCall sends a call of a unit, which has a number in the log. Behind a command comes what has to be asked to know what it has done.
+func (n *Node) sendCall(unit ledger.Unit, call *api.Call, number int64, answered func(text []byte)) {
 	if call.Kind == api.Question {
 		n.ask(call, answered)
 		return

@@ -11,10 +11,10 @@ import (
 	"rbac-node/office"
 )
 
-// resume makes the office in use from the newest snapshot. It writes nothing to etcd, which may be full,
+// recoverOffice makes the office in use from the newest snapshot. It writes nothing to etcd, which may be full,
 // but the number of the first command, if the log has none yet.
-func (n *Node) resume(ctx context.Context) error {
-	base, err := n.base(ctx)
+func (n *Node) recoverOffice(ctx context.Context) error {
+	base, err := n.startSnapshot(ctx)
 	if err != nil {
 		return err
 	}
@@ -66,9 +66,9 @@ func (n *Node) makeOffice(ctx context.Context, base office.Snapshot) error {
 	return n.store.Restore(within, base, n.file())
 }
 
-// base returns the snapshot from which the log is to be followed. Without a digest it is the empty office at the
+// startSnapshot returns the snapshot from which the log is to be followed. Without a digest it is the empty office at the
 // beginning.
-func (n *Node) base(ctx context.Context) (newest office.Snapshot, err error) {
+func (n *Node) startSnapshot(ctx context.Context) (newest office.Snapshot, err error) {
 	state, err := n.shared.State(ctx)
 	if err != nil {
 		return newest, err

@@ -22,7 +22,7 @@ func TestResumeWithFullLog(t *testing.T) {
 	n.options.Program = program
 	within, cancel := context.WithTimeout(context.Background(), 20*time.Second)
 	defer cancel()
-	if err := n.resume(within); err != nil {
+	if err := n.recoverOffice(within); err != nil {
 		t.Fatal(err)
 	}
 	if log.registrations() > 0 {

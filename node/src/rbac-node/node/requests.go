@@ -232,7 +232,7 @@ func (n *Node) confirm(ctx context.Context) error {
 			n.seen.Store(head)
 			_ = n.submit(within, task{head, func() {
 				n.send([]byte(probe), func([]byte) { n.hear(read) })
-				n.pose(questions...)
+				n.sendQuestions(questions...)
 			}})
 		}
 		cancel()
