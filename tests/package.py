@@ -30,9 +30,9 @@ SHARE = "usr/share/rbac"
 
 # Files that have another path in the package than in the repository.
 MOVED = {
-    "usr/share/bash-completion/completions/rbac": "completions/rbac.bash",
-    "usr/share/zsh/vendor-completions/_rbac": "completions/_rbac",
-    "usr/share/fish/vendor_completions.d/rbac.fish": "completions/rbac.fish",
+    "usr/share/bash-completion/completions/rbac": "deploy/completions/rbac.bash",
+    "usr/share/zsh/vendor-completions/_rbac": "deploy/completions/_rbac",
+    "usr/share/fish/vendor_completions.d/rbac.fish": "deploy/completions/rbac.fish",
     "usr/lib/sysusers.d/rbac.conf": "deploy/debian/rbac.sysusers",
     "usr/lib/tmpfiles.d/rbac.conf": "deploy/debian/rbac.tmpfiles",
     "etc/rbac/default.conf": "deploy/default.conf",
@@ -202,7 +202,7 @@ def kept_files():
     folders = [name for name in ("docs", "examples", "tools", "clients", "deploy") if (ROOT / name).is_dir()]
     paths = [path for name in folders for path in (ROOT / name).rglob("*") if path.is_file()]
     kept = {str(path.relative_to(ROOT)) for path in paths if not {"__pycache__"} & set(path.parts) and path.name[0] != "."}
-    return {path for path in kept if not path.startswith("deploy/debian/")}
+    return {path for path in kept if not path.startswith(("deploy/debian/", "deploy/completions/"))}
 
 
 def check_files(bench, packages):
@@ -251,7 +251,7 @@ def check_sums(bench, packages):
 
 
 # The paths that pages name, and those that the package leaves out, as bin/package says.
-FOLDERS = "bench|bin|clients|completions|crates|deploy|docs|examples|library|node|release|tests|tools"
+FOLDERS = "bench|bin|clients|crates|deploy|docs|examples|library|node|release|tests|tools"
 PATHS = rf"(?<![\w/.-])(?:{FOLDERS}|\.ci)/[\w./-]*"
 LEFT_OUT = ("bench/", "bin/", "crates/", "library/", "node/", "release/librbac_c.a", "tests/", ".ci/")
 
@@ -340,7 +340,7 @@ def by_zsh(path, state, words):
 
 def check_bash(bench):
     """bash offers the commands, the options of each and files for its files, and nothing for a number."""
-    path, known = ROOT / "completions/rbac.bash", known_commands()
+    path, known = ROOT / "deploy/completions/rbac.bash", known_commands()
     if not there_is("bash"):
         return
     bench.same("the commands by bash", by_bash(path, ["rbac", ""]), ({*known, "help"} | HELP | VERSION_OPTIONS, False))
@@ -356,7 +356,7 @@ def check_bash(bench):
 
 def check_zsh(bench):
     """zsh gets the commands, the options of each, and as many files as it has."""
-    path, known = ROOT / "completions/_rbac", known_commands()
+    path, known = ROOT / "deploy/completions/_rbac", known_commands()
     if not there_is("zsh"):
         return
     *listed, last = by_zsh(path, "command", [])
@@ -374,7 +374,7 @@ def check_zsh(bench):
 
 def check_fish(bench):
     """fish offers the commands, the options of each and files for its files, and describes the commands as zsh does."""
-    path, known = ROOT / "completions/rbac.fish", known_commands()
+    path, known = ROOT / "deploy/completions/rbac.fish", known_commands()
     if not there_is("fish"):
         return
     folder = bench.folder / "fish"
@@ -393,7 +393,7 @@ def check_fish(bench):
     for option in command_line.ranges():
         bench.same(f"what fish offers for {option}", by_fish(path, f"rbac serve --{option} ", folder), {})
     if there_is("zsh"):
-        of_zsh = by_zsh(ROOT / "completions/_rbac", "command", [])
+        of_zsh = by_zsh(ROOT / "deploy/completions/_rbac", "command", [])
         bench.same("the descriptions of the commands", commands, dict(line.split(":", 1) for line in of_zsh))
 
 

@@ -25,7 +25,7 @@ LINKED = ["README.md", "CHANGELOG.md", "CONTRIBUTING.md", "SECURITY.md"]
 LINKED += [f"docs/{name}.md" for name in ("API", "AUDITING", "CONTRACTS", "INTEGRATING", "NGINX", "OPERATING")]
 
 # The folders of the repository that pages name.
-FOLDERS = "bench bin clients completions crates deploy docs examples tests tools".split()
+FOLDERS = "bench bin clients crates deploy docs examples tests tools".split()
 
 # What makes a decision without its request, as the benchmarks name it.
 DECIDING = ["check_access", "plain Rust, the same tests", "SQLite, a stored closure"]
