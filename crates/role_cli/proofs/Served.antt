@@ -78,11 +78,11 @@ module _ {S : Type 0} (shown : Held S → State) where
   -- a client of a port, of whom nothing is known
   stopped_somehow : (why : Cause) (old new : OfficeModel S) (bytes : List ℕ) (written now_written : Option (List ℕ)) → StopsAt shown why old bytes new written now_written → StopsAt shown why old bytes new None None
   stopped_somehow cause.Write old new bytes written now_written (status, body, tells, (part, rest, is, some, _)) = (status, body, tells, (part, rest, is, some, tt))
-  stopped_somehow cause.Read old new bytes written now_written (untold, _) = (untold, tt)
-  stopped_somehow cause.Memory old new bytes written now_written (untold, _) = (untold, tt)
-  stopped_somehow (cause.Line n) old new bytes written now_written (untold, _) = (untold, tt)
-  stopped_somehow cause.Store old new bytes written now_written (untold, _) = (untold, tt)
-  stopped_somehow cause.Closed old new bytes written now_written (untold, _) = (untold, tt)
+  stopped_somehow cause.Read old new bytes written now_written (no_answer, _) = (no_answer, tt)
+  stopped_somehow cause.Memory old new bytes written now_written (no_answer, _) = (no_answer, tt)
+  stopped_somehow (cause.Line n) old new bytes written now_written (no_answer, _) = (no_answer, tt)
+  stopped_somehow cause.Store old new bytes written now_written (no_answer, _) = (no_answer, tt)
+  stopped_somehow cause.Closed old new bytes written now_written (no_answer, _) = (no_answer, tt)
 
   pub next_of_port : (port : Option ℕ) (accepted now_accepted failed : ℕ) (old new : OfficeModel S) (status : Option ℕ) → now_accepted ≡ one_more accepted
       → IsServedSomehow shown old status new → IsNextServed shown (known_clients port accepted failed) (known_clients port now_accepted failed) old status new
@@ -162,21 +162,21 @@ module _ {S : Type 0} (shown : Held S → State) where
   tells_continues old new bytes status body (inr (inr (inl (_, _, (asked, asks, at)))), closed) = breaks_continues old new _ _ at.breaks
   tells_continues old new bytes status body (inr (inr (inr (_, _, shut, same, asked))), closed) = same_continues old new same
 
-  untold_continues : (why : Cause) (old new : OfficeModel S) (AsksFor : RequestContent → Type 0) → LeavesUnanswered shown why old AsksFor new → Continues shown old new
-  untold_continues cause.Read old new AsksFor same = same_continues old new same
-  untold_continues cause.Memory old new AsksFor (asked, asks, works, accepted, reaches) = reaches_continues old new _ reaches
-  untold_continues cause.Write old new AsksFor none = absurd none
-  untold_continues (cause.Line n) old new AsksFor none = absurd none
-  untold_continues cause.Store old new AsksFor none = absurd none
-  untold_continues cause.Closed old new AsksFor none = absurd none
+  unanswered_continues : (why : Cause) (old new : OfficeModel S) (AsksFor : RequestContent → Type 0) → LeavesUnanswered shown why old AsksFor new → Continues shown old new
+  unanswered_continues cause.Read old new AsksFor same = same_continues old new same
+  unanswered_continues cause.Memory old new AsksFor (asked, asks, works, accepted, reaches) = reaches_continues old new _ reaches
+  unanswered_continues cause.Write old new AsksFor none = absurd none
+  unanswered_continues (cause.Line n) old new AsksFor none = absurd none
+  unanswered_continues cause.Store old new AsksFor none = absurd none
+  unanswered_continues cause.Closed old new AsksFor none = absurd none
 
   stop_continues : (why : Cause) (old new : OfficeModel S) (bytes : List ℕ) (written now_written : Option (List ℕ)) → StopsAt shown why old bytes new written now_written → Continues shown old new
   stop_continues cause.Write old new bytes written now_written (status, body, tells, part) = tells_continues old new bytes status body tells
-  stop_continues cause.Read old new bytes written now_written (untold, none) = untold_continues cause.Read old new (Asks bytes) untold
-  stop_continues cause.Memory old new bytes written now_written (untold, none) = untold_continues cause.Memory old new (Asks bytes) untold
-  stop_continues (cause.Line n) old new bytes written now_written (untold, none) = absurd untold
-  stop_continues cause.Store old new bytes written now_written (untold, none) = absurd untold
-  stop_continues cause.Closed old new bytes written now_written (untold, none) = absurd untold
+  stop_continues cause.Read old new bytes written now_written (no_answer, none) = unanswered_continues cause.Read old new (Asks bytes) no_answer
+  stop_continues cause.Memory old new bytes written now_written (no_answer, none) = unanswered_continues cause.Memory old new (Asks bytes) no_answer
+  stop_continues (cause.Line n) old new bytes written now_written (no_answer, none) = absurd no_answer
+  stop_continues cause.Store old new bytes written now_written (no_answer, none) = absurd no_answer
+  stop_continues cause.Closed old new bytes written now_written (no_answer, none) = absurd no_answer
 
   served_continues : (may_fail : Type 0) (sent left reply : Option (List ℕ)) (old new : OfficeModel S) (status : Option ℕ) → IsServed shown may_fail sent left reply old status new → Continues shown old new
   served_continues may_fail sent left reply old new (Some status) (taken, consumes, no_further, (body, tells, text)) = tells_continues old new _ status body tells

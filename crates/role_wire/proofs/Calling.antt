@@ -48,10 +48,10 @@ taken_within taken left count within = omega (arith, within, length-take count (
 
 module _ {S : Type 0} (shown : Held S → State) where
   -- the reply to a short body
-  pub short_told : (office : OfficeModel S) (taken : List ℕ) (left : Option (List ℕ)) (called : Function) (count : ℕ) (made : PreparedReply) → length taken < count → IsAtEnd left
+  pub short_answered : (office : OfficeModel S) (taken : List ℕ) (left : Option (List ℕ)) (called : Function) (count : ℕ) (made : PreparedReply) → length taken < count → IsAtEnd left
       → made.status ≡ 400 → cow_str_bytes made.body ≡ head_body 400 → AnswersBody shown office (called_for (with_left taken left) called count) made office
   unfolding head_body
-  short_told office taken left called count made less at_end status body =
+  short_answered office taken left called count made less at_end status body =
       subst (λ read. AnswersBody shown office read made office) (sym (called_short taken left called count less at_end)) (
         inl (λ _. (status, body, stays shown office)),
         asks_nothing office office (IsReadAs (Err BadRequest)) made.status (cow_str_bytes made.body) refl (λ asked reads. (cc)),

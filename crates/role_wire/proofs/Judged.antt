@@ -93,10 +93,10 @@ module _ {S : Type 0} (shown : Held S → State) where
   HasNoAnswer old asked new verdict = verdict ≢ Done → FailsRequest shown old asked unanswered.Memory new
 
   -- a question that was answered, or an import that was done
-  pub performed_untold : (old new : OfficeModel S) (asked : RequestContent) (text : List ℕ) → DoesRequest shown old asked text new → IsQuestion asked ⊎ IsImport asked → FailsRequest shown old asked unanswered.Memory new
+  pub performed_unanswered : (old new : OfficeModel S) (asked : RequestContent) (text : List ℕ) → DoesRequest shown old asked text new → IsQuestion asked ⊎ IsImport asked → FailsRequest shown old asked unanswered.Memory new
   unfolding state_after
-  performed_untold old new asked text performs (inl (query, is)) = inl (subst (λ T. ReachesState shown old T new) (ap (state_after old.facts) is) performs.reaches)
-  performed_untold old new asked text performs (inr imports) = inr ((imports, import_accepted old.facts asked text performs.outcome imports), performs.reaches)
+  performed_unanswered old new asked text performs (inl (query, is)) = inl (subst (λ T. ReachesState shown old T new) (ap (state_after old.facts) is) performs.reaches)
+  performed_unanswered old new asked text performs (inr imports) = inr ((imports, import_accepted old.facts asked text performs.outcome imports), performs.reaches)
 
   judged_so : (old new : OfficeModel S) (asked : RequestContent) (refusal : Refusal) → IsJudged refusal → outcome_of old.facts asked ≡ Err refusal → new ≡ old
       → IfOk (verdict_of_refusal refusal) (HasAnswer old asked new) × IfOk (verdict_of_refusal refusal) (HasNoAnswer old asked new)

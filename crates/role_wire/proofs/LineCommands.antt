@@ -55,23 +55,23 @@ tells S command asked same = subst (λ v. ReportsVerdict asked v (outcome_text (
     (tells_unless (content_verdict S asked) asked (content_tally S asked))
 
 -- after the result of reading the first line
-told_read : (S : RbacState) (line : List ℕ) (read : Result RequestContent Refusal) (lines : List (List ℕ)) → request line ≡ read
+verdicts_read : (S : RbacState) (line : List ℕ) (read : Result RequestContent Refusal) (lines : List (List ℕ)) → request line ≡ read
     → ((T : RbacState) (commands : List Command) → AskFor lines commands → ReportVerdicts (commands_in lines) (verdicts T commands) (command_answers T lines))
     → (commands : List Command) → map content_of commands ≡ cons_option (command_read read) (commands_in lines) → ReportVerdicts (commands_in (line ∷ lines)) (verdicts S commands) (command_answers S (line ∷ lines))
 unfolding verdicts answers_to answer_to after_line state_after
-told_read S line (Ok (Change asked)) lines is later [] same = absurd (cc)
-told_read S line (Ok (Change asked)) lines is later (command ∷ commands) same =
+verdicts_read S line (Ok (Change asked)) lines is later [] same = absurd (cc)
+verdicts_read S line (Ok (Change asked)) lines is later (command ∷ commands) same =
     let first : content_of command ≡ asked = cc in
     let rest : map content_of commands ≡ commands_in lines = cc in
     rw is (tells S command asked first, subst (λ T. ReportVerdicts (commands_in lines) (verdicts (next S command) commands) (command_answers T lines)) (sym (leads S command asked first)) (later (next S command) commands rest))
-told_read S line (Ok (Ask query)) lines is later commands same = rw is (later S commands same)
-told_read S line (Err refusal) lines is later commands same = rw is (later S commands same)
+verdicts_read S line (Ok (Ask query)) lines is later commands same = rw is (later S commands same)
+verdicts_read S line (Err refusal) lines is later commands same = rw is (later S commands same)
 
 pub lines_tell_verdicts : LinesReportVerdicts
 unfolding verdicts answers_to
 lines_tell_verdicts S [] [] same = tt
 lines_tell_verdicts S [] (command ∷ commands) same = absurd (cc)
-lines_tell_verdicts S (line ∷ lines) commands same = told_read S line (request line) lines refl (λ T commands same. lines_tell_verdicts T lines commands same) commands same
+lines_tell_verdicts S (line ∷ lines) commands same = verdicts_read S line (request line) lines refl (λ T commands same. lines_tell_verdicts T lines commands same) commands same
 
 -- ---- what is asked for
 

@@ -7,7 +7,7 @@ use Rattle.role_wire.specs.Continuation.{ReachesState}
 use Rattle.role_wire.specs.LineAnswer.{FailsRequest}
 use Rattle.role_wire.specs.declared.lines.Unanswered.TheVariants.{Memory}
 use Rattle.role_wire.specs.Outcome.{outcome_of, state_after, outcome_text}
-use Rattle.role_wire.proofs.Judged.{judged_refusal, performed_untold}
+use Rattle.role_wire.proofs.Judged.{judged_refusal, performed_unanswered}
 use Rattle.role_wire.proofs.office_replay.perform_request.Goals as goal
 
 pub returns-in-Err-clause-answered : goal.returns-in-Err-clause-answered
@@ -17,7 +17,7 @@ returns-in-Err-clause-answered g c =
 
 pub returns-in-Ok-clause-other : goal.returns-in-Ok-clause-other
 returns-in-Ok-clause-other g c other =
-    performed_untold (state g.S.Store) c.args.office.now c.perform.new.office (requested c.args.request.now) (text_of c.in-Ok.verdict) c.in-Ok.ensures.done (c.in-Ok.ensures.other other)
+    performed_unanswered (state g.S.Store) c.args.office.now c.perform.new.office (requested c.args.request.now) (text_of c.in-Ok.verdict) c.in-Ok.ensures.done (c.in-Ok.ensures.other other)
 
 pub returns-in-Err-clause-other : goal.returns-in-Err-clause-other
 returns-in-Err-clause-other g c =

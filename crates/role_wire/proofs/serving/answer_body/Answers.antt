@@ -4,7 +4,7 @@ use Rattle.role_json.specs.Request.{body_to}
 use Rattle.role_wire.specs.ServedRequest.{IsImported}
 use Rattle.role_wire.specs.private.PreparedReply.{AnswersBody, IsReadAs}
 use Rattle.role_wire.proofs.Results.{if_ok-then, if_err-then}
-use Rattle.role_wire.proofs.HttpAnswers.{unread_told}
+use Rattle.role_wire.proofs.HttpAnswers.{unread_answered}
 use Rattle.role_wire.proofs.serving.answer_body.Goals as goal
 
 pub returns-in-Ok-clause-made : goal.returns-in-Ok-clause-made
@@ -19,4 +19,4 @@ returns-in-Ok-clause-left g c =
 
 pub returns-in-Err-clause-made : goal.returns-in-Err-clause-made
 returns-in-Err-clause-made g c =
-    unread_told (state g.S.Store) c.args.office.now (body_to c.args.called c.args.body.now) c.in-Err.refusal c.refused.result c.in-Err.ensures.err c.refused.ensures
+    unread_answered (state g.S.Store) c.args.office.now (body_to c.args.called c.args.body.now) c.in-Err.refusal c.refused.result c.in-Err.ensures.err c.refused.ensures

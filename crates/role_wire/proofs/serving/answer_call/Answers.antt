@@ -5,7 +5,7 @@ use Rattle.sqlite.specs.Held.{state}
 use Rattle.role_http.specs.HeadAnswer.{with_left}
 use Rattle.role_wire.specs.private.PreparedReply.{AnswersBody, IsReadAs}
 use Rattle.role_wire.specs.Reply.{called_for}
-use Rattle.role_wire.proofs.Calling.{called_whole, short_told, taken_within}
+use Rattle.role_wire.proofs.Calling.{called_whole, short_answered, taken_within}
 use Rattle.role_wire.proofs.Performed.{stays}
 use Rattle.role_wire.proofs.HttpAnswers.{has_no_memory}
 use Rattle.role_wire.proofs.serving.answer_call.Goals as goal
@@ -17,7 +17,7 @@ returns-then-len-count-clause-made g c =
       c.in-Ok.body.items,
       c.in-Ok.ensures.reads,
       taken_within c.in-Ok.body.items _ c.args.count c.in-Ok.ensures.within,
-      short_told (state g.S.Store) c.args.office.now c.in-Ok.body.items _ c.args.called c.args.count c.refused_head.result short (c.in-Ok.ensures.end short) c.refused_head.ensures.status c.refused_head.ensures.body,
+      short_answered (state g.S.Store) c.args.office.now c.in-Ok.body.items _ c.args.called c.args.count c.refused_head.result short (c.in-Ok.ensures.end short) c.refused_head.ensures.status c.refused_head.ensures.body,
     )
 
 pub returns-then-len-count-clause-whole : goal.returns-then-len-count-clause-whole
