@@ -2,6 +2,8 @@
 
 import traceback
 
+import pytest
+
 from program.bench import Bench
 
 from . import records, stated
@@ -45,11 +47,10 @@ def faults_of(check, folder, node):
     return inner.faults
 
 
+@pytest.mark.long
 def check_wrong(bench):
-    """With `--long`, each wrong node is caught."""
+    """Each wrong node is caught."""
     for number, (wrong, (check, says, *edit)) in enumerate(WRONG.items()):
-        if not bench.is_long:
-            return
         sources, folder = bench.folder / f"sources{number}", bench.folder / f"cluster{number}"
         sources.mkdir()
         folder.mkdir()

@@ -3,11 +3,13 @@
 import json
 import random
 
+import pytest
+
 from cluster.heads import HEADS
+from lines.rows import OF_PROGRAM, name_of
 from machine.commands import COMMANDS
 from machine.drawing import draw_script
 from machine.questions import QUESTIONS
-from program.bench import TESTS
 from program.heads import REFUSED
 from program.web import Server
 
@@ -104,23 +106,11 @@ def compare(bench, what, requests):
     return {f"{what}: requests": len(requests), f"{what}: accepted": accepted}
 
 
-def check_rows(bench):
-    """All rows get the answers of `rbac serve`, whatever can be asked over HTTP."""
-    counts = {}
-    for number, path in enumerate(sorted((TESTS / "rows").rglob("*.jsonl"))):
-        if "version-1" in path.parts or path.name in ("many-grants.jsonl",):
-            continue
-        lines = path.read_bytes().splitlines()
-        requests = [found for line in lines if (found := request_of(line)) and len(found[1]) <= 65_000]
-        if not requests:
-            continue
-        inner = type(bench)(bench.folder / str(number))
-        inner.folder.mkdir()
-        for name, count in compare(inner, "rows", requests).items():
-            counts[name] = counts.get(name, 0) + count
-        bench.passed += inner.passed
-        bench.faults += [f"{path.name}: {fault}" for fault in inner.faults]
-    return counts
+@pytest.mark.parametrize("row", [row for row in OF_PROGRAM if row.stem != "many-grants"], ids=name_of)
+def check_rows(bench, row):
+    """A row gets the answers of `rbac serve`, whatever can be asked over HTTP."""
+    requests = [found for line in row.read_bytes().splitlines() if (found := request_of(line)) and len(found[1]) <= 65_000]
+    return compare(bench, "rows", requests) if requests else {}
 
 
 def check_random(bench):

@@ -1,4 +1,4 @@
-"""Checks the sources of the front with the tools of Go: their format, what `go vet` finds, and their own tests."""
+"""Checks the sources of the front with the tools of Go: their format, what `go vet` finds, and what they need."""
 
 import os
 import subprocess
@@ -9,9 +9,7 @@ from stopped.running import IN_MEMORY
 from .running import features
 
 ROOT = TESTS.parent / "node"
-PACKAGES = [
-    f"rbac-node/{name}" for name in ("api", "callers", "console", "endpoints", "feed", "front", "logs", "metrics", "single", "state", "trial", "web")
-]
+ALL = "etcd,jose,sqlite"
 # It needs the library of SQLite.
 RECORD = "rbac-node/record"
 
@@ -29,20 +27,8 @@ def go(*words, tags=""):
 def check_form(bench):
     """gofmt and `go vet` find nothing, with Go alone and with the libraries that are installed."""
     bench.same("what gofmt would change", go("gofmt", "-l", "src"), ("", 0))
-    bench.same("what go vet finds with Go alone", go("go", "vet", "rbac-node", *PACKAGES), ("", 0))
-    if "jose" in features():
-        bench.same("what go vet finds with go-jose", go("go", "vet", "rbac-node", *PACKAGES, tags="jose"), ("", 0))
-    if "sqlite" in features():
-        bench.same("what go vet finds with SQLite", go("go", "vet", "rbac-node", *PACKAGES, RECORD, tags="sqlite"), ("", 0))
-
-
-def check_tests(bench):
-    """The tests of the packages pass. tests/cluster.py runs those of the packages that need etcd's libraries."""
-    tags = ",".join(tag for tag in ("jose", "sqlite") if tag in features())
-    packages = [*PACKAGES, RECORD] if "sqlite" in features() else PACKAGES
-    said, status = go("go", "test", "-count=1", "-v", *packages, tags=tags)
-    bench.judge("go test", [] if status == 0 and "--- SKIP" not in said else [said[-2000:]])
-    bench.passed += said.count("--- PASS")
+    bench.same("what go vet finds with Go alone", go("go", "vet", "rbac-node"), ("", 0))
+    bench.same("what go vet finds", go("go", "vet", "rbac-node/...", tags=ALL), ("", 0))
 
 
 def check_dependencies(bench):

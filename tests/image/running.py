@@ -3,12 +3,9 @@
 import os
 import shutil
 import subprocess
-import tempfile
-from importlib import import_module
 from pathlib import Path
 
 from program.bench import PROGRAM, TESTS
-from stopped.running import IN_MEMORY, run_all
 
 ROOT = TESTS.parent
 VERSION = (ROOT / "VERSION").read_text(encoding="ascii").strip()
@@ -41,33 +38,3 @@ def build(folder):
     words = [ROOT / "bin/image", folder / "image.tar"]
     done = subprocess.run(words, env=settings, capture_output=True, text=True, check=False)
     return "" if done.returncode == 0 else f"bin/image: {done.stderr}"
-
-
-def check_built(bench, fault):
-    """The image is built."""
-    bench.judge("whether the image is built", [fault] if fault else [])
-
-
-def checks():
-    """The functions of the modules whose names begin with `check_`."""
-    for name in ("contents", "serving"):
-        for word, function in vars(import_module(f"image.{name}")).items():
-            if word.startswith("check_"):
-                yield (function,)
-
-
-def main(words):
-    """Runs the checks, and returns the status."""
-    lacking = missing()
-    if lacking:
-        print(f"left out: the container image, since there is no {', no '.join(lacking)}: bin/setup image")
-        print("0 passed, 0 failed")
-        return 0
-    # Copies of the image take long on a disk.
-    place = IN_MEMORY if os.access(IN_MEMORY, os.W_OK) else None
-    with tempfile.TemporaryDirectory(prefix="rbac-image-", dir=place) as made:
-        folder = Path(made)
-        folder.chmod(0o755)
-        fault = build(folder)
-        os.environ[IMAGE] = str(folder)
-        return run_all([(check_built, fault), *(() if fault else checks())], words, workers=2)

@@ -5,6 +5,8 @@ import time
 from collections import Counter
 from math import sqrt
 
+import pytest
+
 from program.bench import PROGRAM, SECONDS, Done
 from program.offices import Office
 from stopped.running import beside
@@ -66,8 +68,10 @@ def seconds_of(bench, content, story):
     return min(found)
 
 
-def kill_story(bench, word, kills):
+@pytest.mark.parametrize("word", ["init", "import", "migrate"])
+def check_kills(bench, word):
     """Kills a run at moments that are spread evenly, and compares the office with the states before and after."""
+    kills = MORE_KILLS if bench.is_long else KILLS
     content, story = story_of(bench, word)
     seconds, counts = seconds_of(bench, content, story), Counter()
     for number in range(kills):
@@ -77,8 +81,3 @@ def kill_story(bench, word, kills):
         counts[f"kills of {word}"] += done.status == -9
         counts[f"kills of {word} that found the state after it"] += done.status == -9 and place == 1
     return counts
-
-
-def jobs(is_long):
-    """Each of the runs that change a file."""
-    return [(kill_story, word, MORE_KILLS if is_long else KILLS) for word in ("init", "import", "migrate")]

@@ -9,6 +9,8 @@ import subprocess
 import time
 from collections import Counter
 
+import pytest
+
 from machine.assignments import read_assignments
 from machine.drawing import Draws
 from program.bench import PROGRAM, SECONDS, Done
@@ -160,8 +162,18 @@ def migrate_amid_kills(bench, path, state, moments):
     return state.but(version=2), counts
 
 
-def runs_of_one_office(bench, way, seed, count, lines, is_old):
+def offices():
+    """The offices of both ways: a few, and those that are tried with `--long` alone."""
+    for way, (most, _, _) in MORE_OFFICES.items():
+        for number in range(most):
+            yield pytest.param(way, number, marks=[pytest.mark.long] if number >= OFFICES[way][0] else [])
+
+
+@pytest.mark.parametrize("way, number", offices())
+def check_runs(bench, way, number):
     """An office goes from run to run, each of which ends in this way; an old one is of version 1 at first."""
+    _, count, lines = (MORE_OFFICES if bench.is_long else OFFICES)[way]
+    seed, is_old = 7_000 + number, number % OLD == 0
     office = Office(bench, "office")
     if is_old:
         office.become_version_1()
@@ -177,12 +189,3 @@ def runs_of_one_office(bench, way, seed, count, lines, is_old):
     gone = len(removed.assignments) + len(removed.grants)
     counts["assignments and grants that were removed and stayed so to the end"] += gone
     return counts
-
-
-def jobs(is_long):
-    """The offices of both ways."""
-    found = []
-    for way, (offices, count, lines) in (MORE_OFFICES if is_long else OFFICES).items():
-        for number in range(offices):
-            found.append((runs_of_one_office, way, 7_000 + number, count, lines, number % OLD == 0))
-    return found

@@ -7,6 +7,9 @@ import subprocess
 import sys
 from contextlib import closing
 
+import pytest
+
+from lines.rows import OF_PROGRAM, name_of
 from machine.drawing import Draws
 from machine.replaying import Replay
 from machine.state import State
@@ -150,17 +153,13 @@ def check_random_runs(bench):
             office.compare_with_model()
 
 
-def check_rows(bench):
-    """The lines of each row in tests/rows are answered over a file as they are over an office in memory."""
-    for path in sorted((TESTS / "rows").rglob("*.jsonl")):
-        if path.parent.name != "version-1":
-            office = Office(bench, "row")
-            lines = path.read_bytes()
-            office.replay([lines])
-            written = path.with_suffix(".answers").read_bytes()
-            bench.same(f"what is written of {path.stem}", b"".join(Replay().answers(lines)), written)
-            office.compare_with_model()
-            os.remove(office.path)
+@pytest.mark.parametrize("row", OF_PROGRAM, ids=name_of)
+def check_rows(bench, row):
+    """The lines of a row in tests/rows are answered over a file as they are over an office in memory."""
+    office, lines = Office(bench, "row"), row.read_bytes()
+    office.replay([lines])
+    bench.same("what is written", b"".join(Replay().answers(lines)), row.with_suffix(".answers").read_bytes())
+    office.compare_with_model()
 
 
 def check_small_office(bench):

@@ -2,13 +2,15 @@
 
 import time
 
+import pytest
+
 from front.identities import CERTIFICATES, bearer, openssl, reload, rules, secured, tls_words
 from front.program import Front, until
 from front.sessions import digest_of
 from program.bench import TESTS
 from program.offices import Office
 
-from .driving import Driven, jobs
+from .driving import LANGUAGES, Driven
 from .proxies import Proxy
 
 BANK = (TESTS.parent / "examples/bank.jsonl").read_bytes().splitlines(keepends=True)
@@ -24,7 +26,8 @@ def ready(bench, driver):
     bench.same("it is ready", driver.do("ready", seconds=60), {"ready": True})
 
 
-def revisions(bench, language):
+@pytest.mark.parametrize("language", LANGUAGES)
+def check_revisions(bench, language):
     """A decision by at least a revision: it waits, asks the front, or denies, as the caller chose."""
     Office(bench).replay(BANK)
     asked = ("ann 1", "open", "vault")
@@ -52,7 +55,8 @@ def revisions(bench, language):
                     )
 
 
-def sessions(bench, language):
+@pytest.mark.parametrize("language", LANGUAGES)
+def check_sessions(bench, language):
     """A session decides at once by a replica that asks, and is made again; names are digested, whatever is in them."""
     Office(bench).replay(BANK)
     with Front(bench) as front, Driven(bench, language) as driver:
@@ -78,7 +82,8 @@ def sessions(bench, language):
         bench.same("its decision", driver.reason(odd, "open", "vault"), "allowed")
 
 
-def rights(bench, language):
+@pytest.mark.parametrize("language", LANGUAGES)
+def check_rights(bench, language):
     """Over TLS with a token: without its rights a replica denies, also if it may ask, and follows again when it has them back."""
     Office(bench).replay(BANK)
     asked = ("ann 1", "open", "vault")
@@ -107,7 +112,8 @@ def rights(bench, language):
             bench.same("it isn't ready", driver.do("ready", seconds=0.5), {"ready": False})
 
 
-def silence(bench, language):
+@pytest.mark.parametrize("language", LANGUAGES)
+def check_silence(bench, language):
     """A connection that says nothing is cut off; the copy decides until it is too old, and then only the front, if it is asked."""
     Office(bench).replay(BANK)
     asked = ("ann 1", "open", "vault")
@@ -129,7 +135,8 @@ def silence(bench, language):
         bench.same("after its end", (driver.do("close")["number"], driver.reason(*asked)), (0, "unavailable"))
 
 
-def addresses(bench, language):
+@pytest.mark.parametrize("language", LANGUAGES)
+def check_addresses(bench, language):
     """If its front is gone, a replica makes its copy anew by another one, whose numbers are other ones."""
     Office(bench).replay(BANK)
     Office(bench, "other").replay(BANK)
@@ -144,6 +151,3 @@ def addresses(bench, language):
         until(lambda: driver.do("status")["number"] == first["number"] + 5, "it follows the other one")
         until(lambda: driver.do("status")["reason"] == "", "it is fresh")
         bench.same("a decision", driver.reason(*asked), "allowed")
-
-
-JOBS = jobs(revisions, sessions, rights, silence, addresses)

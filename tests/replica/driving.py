@@ -21,6 +21,8 @@ import subprocess
 import sys
 from pathlib import Path
 
+import pytest
+
 from library import building
 from program.bench import SECONDS, TESTS
 
@@ -43,19 +45,11 @@ def build(folder):
     if building.has_python():
         building.build_python()
         shutil.copytree(building.TOP / "clients/python/rbac_client", Path(folder) / "python/rbac_client")
-    else:
-        print("skipped: the replica in Python, whose headers are not installed")
     building.run(["go", "build", "-o", Path(folder) / "driver", "."], cwd=DRIVERS / "go", env=go_environment())
 
 
-def languages():
-    """The languages whose drivers are there."""
-    return ["go", "python"] if building.has_python() else ["go"]
-
-
-def jobs(*checks):
-    """The jobs of some checks of a bench that are made for each language."""
-    return [(check, language) for check in checks for language in languages()]
+# The languages of the replicas.
+LANGUAGES = ["go", pytest.param("python", marks=pytest.mark.needs("python-headers"))]
 
 
 class Driven:

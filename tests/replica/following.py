@@ -12,13 +12,15 @@ import signal
 import threading
 import time
 
+import pytest
+
 from front.batches import batch
 from front.program import Front, children, until
 from front.sessions import digest_of
 from machine.texts import rows
 
 from .drawing import QUESTIONS, Drawn, reason_of
-from .driving import LONG, Driven, jobs
+from .driving import LANGUAGES, LONG, Driven
 from .proxies import Proxy
 
 # How many commands are sent a second, in batches of how many, and for how many seconds.
@@ -287,14 +289,14 @@ def rounds(bench, language, is_disturbed):
     return total
 
 
-def disturbed(bench, language):
+@pytest.mark.parametrize("language", LANGUAGES)
+def check_disturbed(bench, language):
     """A thousand commands a second, while the front and connections are killed."""
     return {f"{language}, disturbed: {name}": count for name, count in rounds(bench, language, True).items()}
 
 
-def undisturbed(bench, language):
+@pytest.mark.long
+@pytest.mark.parametrize("language", LANGUAGES)
+def check_undisturbed(bench, language):
     """A thousand commands a second, and nothing else."""
     return {f"{language}, undisturbed: {name}": count for name, count in rounds(bench, language, False).items()}
-
-
-JOBS = jobs(disturbed, undisturbed) if os.environ.get(LONG) else jobs(disturbed)

@@ -10,7 +10,7 @@ from .driving import go_environment
 FOLDERS = [TOP / "clients/go/rbacreplica", TESTS / "replica/drivers/go"]
 
 
-def go_form(bench):
+def check_go_form(bench):
     """gofmt changes nothing, and `go vet` finds nothing."""
     for folder in FOLDERS:
         bench.same(f"what gofmt would change in {folder.name}", run("gofmt", "-l", ".", cwd=folder), (0, ""))
@@ -18,6 +18,3 @@ def go_form(bench):
     found = run("go", "list", "-deps", ".", cwd=TOP / "clients/go/rbacclient", env=go_environment())[1].split()
     bench.same("what calls C in the client without a replica", [name for name in found if "rbacoffice" in name], [])
     bench.same("go test", run("go", "test", "./...", cwd=TOP / "clients/go/rbacclient", env=go_environment())[0], 0)
-
-
-JOBS = [(go_form,)]

@@ -5,13 +5,15 @@ import shutil
 import subprocess
 import sys
 
+import pytest
+
 from front.program import Front
-from library.building import TOP, environment, has_python
+from library.building import TOP, environment
 from pages import markdown
 from program.bench import TESTS
 from program.offices import Office
 
-from .driving import GO_TAGS, jobs
+from .driving import GO_TAGS, LANGUAGES
 
 # Programs are built and run on the disk: a file system in memory may forbid running them.
 ON_DISK = True
@@ -51,7 +53,8 @@ def clean_repository(bench):
     return folder
 
 
-def the_page(bench, language):
+@pytest.mark.parametrize("language", LANGUAGES)
+def check_the_page(bench, language):
     """The commands and the program of the page for a language, over a front with the policy of the bank."""
     repository = clean_repository(bench)
     Office(bench).replay(BANK)
@@ -74,6 +77,3 @@ def the_page(bench, language):
                 text, app, RBAC=str(repository), GOPROXY=go["GOPROXY"], GOFLAGS=GO_TAGS, LD_LIBRARY_PATH=""
             )
         bench.same(f"what the example prints: {error[-2000:]}", (status, said), (0, PRINTED[language]))
-
-
-JOBS = [job for job in jobs(the_page) if job[1] == "go" or has_python()]

@@ -4,10 +4,12 @@ import socket
 import threading
 import time
 
+import pytest
+
 from front.program import until
 from front.sessions import digest_of
 
-from .driving import Driven, jobs
+from .driving import LANGUAGES, Driven
 
 HOST = "127.0.0.1"
 
@@ -99,7 +101,8 @@ def after_it(bench, language, what, given, watched, wanted, ends=False):
         return fake.asked
 
 
-def snapshots(bench, language):
+@pytest.mark.parametrize("language", LANGUAGES)
+def check_snapshots(bench, language):
     """Snapshots that make no office, or aren't complete, or have no number."""
     good = snapshot(POLICY.replace(b"DIGEST", DIGEST))
     after_it(bench, language, "a good one", good, WATCH + newest(7), ("allowed",))
@@ -127,7 +130,8 @@ def snapshots(bench, language):
     after_it(bench, language, "a snapshot with other commands", snapshot(later), WATCH + newest(7), ("ended_session",))
 
 
-def watches(bench, language):
+@pytest.mark.parametrize("language", LANGUAGES)
+def check_watches(bench, language):
     """Watches with gaps, numbers that come back, or commands that the copy doesn't accept: the copy is forgotten."""
     good = snapshot(POLICY.replace(b"DIGEST", DIGEST))
     ended = event(8, b'{"fn":"deleteSession","user":"ann","session":"%s"}' % DIGEST)
@@ -180,7 +184,8 @@ def keeps(bench, language, what, given, watched):
         return fake.asked
 
 
-def ages(bench, language):
+@pytest.mark.parametrize("language", LANGUAGES)
+def check_ages(bench, language):
     """A front that says the same number all the time is believed only for the time at which it said it."""
     good = snapshot(POLICY.replace(b"DIGEST", DIGEST))
     late = WATCH + newest(7, 0) + newest(7, 10**9) + event(8, USER)
@@ -201,6 +206,3 @@ def ages(bench, language):
         driver.open(fake.address, oldest=600, silence=600)
         until(lambda: driver.do("status")["number"] == 11, "it has the newest number")
         bench.same("its revision", driver.do("status")["revision"], 8)
-
-
-JOBS = jobs(snapshots, watches, ages)

@@ -1,20 +1,18 @@
-#!/usr/bin/env python3
 """Each answer is written before the next line is judged, and in one piece.
 
 A line is sent only once the answer to the line before has arrived. The socket for the answers keeps each write apart, however
 long it is, so that each read of it has to return one whole answer.
 """
 
-import os
 import select
 import socket
 import subprocess
-import sys
+
+import pytest
 
 from machine.replaying import Replay
+from program.bench import PROGRAM, TESTS
 
-TESTS = os.path.dirname(os.path.abspath(__file__))
-PROGRAM = os.environ.get("RBAC_PROGRAM", f"{TESTS}/../release/rbac")
 SECONDS = 20
 ROWS = ["first-run", "assign-and-deassign", "bad-requests", "longest-line"]
 
@@ -72,37 +70,15 @@ def rows():
     yield "an answer with many users", lines, [model.answer(line[:-1]) + b"\n" for line in lines]
 
 
-def check(row, lines, answers):
-    """Returns whether the row's lines are answered one at a time."""
+@pytest.mark.parametrize("row, lines, answers", rows(), ids=[name for name, _, _ in rows()])
+def check_pieces(bench, row, lines, answers):
+    """The row's lines are answered one at a time, each in one piece."""
     output, sink = socket.socketpair(socket.AF_UNIX, socket.SOCK_SEQPACKET)
-    words = [PROGRAM, "replay", "--memory"]
-    process = subprocess.Popen(words, stdin=subprocess.PIPE, stdout=sink)
-    sink.close()
-    try:
-        converse(process, output, lines, answers)
-        return True
-    except (Wrong, OSError, StopIteration, subprocess.TimeoutExpired) as error:
-        print(f"FAILED: {row}: {error!r}")
-        return False
-    finally:
-        process.kill()
-        process.wait()
-        output.close()
-
-
-def main():
-    """Checks each row, and prints the count."""
-    passed = failed = 0
-    try:
-        for row in rows():
-            is_right = check(*row)
-            passed, failed = passed + is_right, failed + (not is_right)
-    except OSError as error:
-        print(f"FAILED: {error}")
-        failed += 1
-    print(f"{passed} passed, {failed} failed")
-    return 1 if failed else 0
-
-
-if __name__ == "__main__":
-    sys.exit(main())
+    with sink, subprocess.Popen([PROGRAM, "replay", "--memory"], stdin=subprocess.PIPE, stdout=sink) as process:
+        sink.close()
+        try:
+            converse(process, output, lines, answers)
+            bench.same(row, process.returncode, 0)
+        finally:
+            process.kill()
+            output.close()

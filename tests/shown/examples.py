@@ -1,9 +1,4 @@
-#!/usr/bin/env python3
 """Compares the examples with the program and the plain model: answers, an import, and what their page shows.
-
-    examples.py [--times] [WORD]
-
-With WORD, only the jobs with WORD in their names run; `--times` prints how long each took.
 """
 
 import json
@@ -11,7 +6,8 @@ import os
 import re
 import shutil
 import subprocess
-import sys
+
+import pytest
 
 from machine.assignments import MARK, export, read_assignments
 from machine.replaying import Replay
@@ -19,7 +15,7 @@ from machine.state import ERRORS
 from pages import markdown
 from program.bench import PROGRAM, SECONDS, TESTS
 from program.offices import Office
-from stopped.running import beside, run_all
+from stopped.running import beside
 
 EXAMPLES = TESTS.parent / "examples"
 NAMES = sorted(path.stem for path in EXAMPLES.glob("*.jsonl"))
@@ -57,7 +53,8 @@ def refused_rows(heading):
     return [(int(row[0]), row[1], row[2]) for row in rows if len(row) == 4]
 
 
-def answers_example(bench, name):
+@pytest.mark.parametrize("name", NAMES)
+def check_answers_example(bench, name):
     """The program and the model answer an example as is written down beside it, in memory and in a file."""
     lines, wanted = lines_of(name), answers_of(name)
     bench.same("the model's answers", b"".join(Replay().answers(b"".join(lines))), wanted)
@@ -82,7 +79,8 @@ def refusal_of(answer):
     return f"{words} `{answer['set']}`" if "set" in answer else words
 
 
-def names_refusals(bench, name):
+@pytest.mark.parametrize("name", NAMES)
+def check_names_refusals(bench, name):
     """The page has each refused line of an example, by its number, its function and the refusal, and no other."""
     answers = [json.loads(answer) for answer in answers_of(name).splitlines()]
     functions = [json.loads(line)["fn"] for line in lines_of(name)]
@@ -93,7 +91,7 @@ def names_refusals(bench, name):
     same_rows(bench, "refused line", given, wanted)
 
 
-def is_of_spreadsheet(bench):
+def check_is_of_spreadsheet(bench):
     """The assignments have a byte order mark, CR LF at the end of each record, and each field in quotes."""
     text = CSV.read_bytes()
     bench.same("the byte order mark", text[: len(MARK)], MARK)
@@ -108,7 +106,7 @@ def import_line(text):
     return json.dumps({"fn": "importAssignments", "csv": text.decode()}).encode()
 
 
-def imports_assignments(bench):
+def check_imports_assignments(bench):
     """The assignments are imported into the bank and exported as by the model; a second import changes nothing."""
     office = Office(bench)
     office.replay(lines_of("bank"))
@@ -119,7 +117,7 @@ def imports_assignments(bench):
         office.compare_with_model()
 
 
-def names_refused_records(bench):
+def check_names_refused_records(bench):
     """The page has each record that the import of the bank refuses, and no other."""
     model, text = Replay(), CSV.read_bytes()
     for line in lines_of("bank"):
@@ -139,7 +137,7 @@ def names_refused_records(bench):
 NAMES_TRIED = ["bob", "a,b", 'a"b', "\u00e9" * 32, "", "\u00e9" * 32 + "x", "x" * 65, "a\tb", "\x7f", "\x01"]
 
 
-def finds_names(bench):
+def check_finds_names(bench):
     """names.py prints a name of a file exactly if the program refuses the file with 1 BadName, for both ends of lines."""
     office = Office(bench)
     for number, name in enumerate(NAMES_TRIED):
@@ -156,7 +154,7 @@ def finds_names(bench):
     office.compare_with_model()
 
 
-def runs_commands(bench):
+def check_runs_commands(bench):
     """Each command of the page prints the lines below it, and ends with status 0."""
     for path in EXAMPLES.iterdir():
         if path.is_file():
@@ -170,14 +168,3 @@ def runs_commands(bench):
         options = {"cwd": bench.folder, "env": setting, "capture_output": True, "timeout": SECONDS}
         done = subprocess.run(shell, **options, check=False)
         bench.same(command, (done.stdout, done.stderr, done.returncode), (shown.encode(), b"", 0))
-
-
-def main(words):
-    jobs = [(function, name) for name in NAMES for function in (answers_example, names_refusals)]
-    others = (is_of_spreadsheet, imports_assignments, names_refused_records, finds_names, runs_commands)
-    jobs += [(function,) for function in others]
-    return run_all(jobs, words)
-
-
-if __name__ == "__main__":
-    sys.exit(main(sys.argv[1:]))

@@ -1,9 +1,6 @@
-#!/usr/bin/env python3
 """Sends random lines to the program, and compares its answers with those of the plain model in machine/.
 
-    drawn.py [SEEDS]
-
-There are SEEDS scripts of 500 random lines (400 by default), scripts of random commands that are evenly spread, and scripts
+There are scripts of 500 random lines, scripts of random commands that are evenly spread, and scripts
 that reach each limit, whose answers are written beside them as well. A random script makes hierarchies with several paths from
 one role to another, separation of duty sets of both kinds, sessions with several roles, locks, and imports with refused records.
 About one line in ten is no request, has an error or a byte changed; others have escapes, further and repeated keys, spaces or
@@ -12,12 +9,10 @@ can be met and wasn't is a failure.
 """
 
 import json
-import os
 import subprocess
-import sys
 from collections import Counter
-from concurrent.futures import ProcessPoolExecutor
-from pathlib import Path
+
+import pytest
 
 from machine import limits
 from machine.commands import COMMANDS
@@ -25,11 +20,10 @@ from machine.drawing import draw_script
 from machine.even import draw_even_script
 from machine.questions import QUESTIONS
 from machine.replaying import Replay
+from program.bench import PROGRAM
 
-TESTS = Path(__file__).resolve().parent
-PROGRAM = os.environ.get("RBAC_PROGRAM", str(TESTS / "../release/rbac"))
 LINES = 500
-WORKERS = 2
+SEEDS, EACH = 400, 20
 SECONDS = 120
 
 # What no line meets in an office of version 2: the program replays into no other in memory. In version 1 the
@@ -110,16 +104,30 @@ def compare(script, faults):
     return counts, faults
 
 
-def check(job):
-    """Checks one script: its name, how its answers are counted, and its failures."""
-    sort, which = job
-    if sort == "limit":
-        counts, faults = compare(*written_script(which))
-    elif sort == "even":
-        counts, faults = compare(draw_even_script(which, 2_000), [])
-    else:
-        counts, faults = compare(draw_script(which, LINES), [])
-    return f"{sort} {which}", counts, faults
+def scripts():
+    """The scripts: those of the limits, evenly spread ones, and random ones, each 20 of them one check."""
+    yield from (pytest.param("limit", [name], id=f"limit {name}") for name in limits.SCRIPTS)
+    yield from (pytest.param("even", [start], id=f"even {start}") for start in (1, 2, 3))
+    yield from (pytest.param("seed", range(first, first + EACH), id=f"seed {first}") for first in range(0, SEEDS, EACH))
+
+
+@pytest.mark.parametrize("sort, which", scripts())
+def check_answers(bench, sort, which):
+    """The program answers the scripts as the model does."""
+    total = Counter()
+    for one in which:
+        if sort == "limit":
+            counts, faults = compare(*written_script(one))
+        else:
+            counts, faults = compare(draw_even_script(one, 2_000) if sort == "even" else draw_script(one, LINES), [])
+        bench.judge(f"{sort} {one}", faults[:3])
+        total += counts
+    return {f"{function}\t{word}": count for (function, word), count in total.items()}
+
+
+def check_version_1(bench):
+    """The model answers in version 1 as is written beside the limits."""
+    bench.same("differences", old_faults(), [])
 
 
 def wanted(function):
@@ -148,27 +156,3 @@ def show_table(counts):
     return missing
 
 
-def main(words):
-    seeds = int(words[0]) if words else 400
-    if not os.access(PROGRAM, os.X_OK):
-        print(f"FAILED: there is no program {PROGRAM}\n0 passed, 1 failed")
-        return 1
-    jobs = [("limit", name) for name in limits.SCRIPTS]
-    jobs += [("even", start) for start in (1, 2, 3)] + [("seed", seed) for seed in range(seeds)]
-    passed = failed = 0
-    counts = Counter()
-    with ProcessPoolExecutor(WORKERS) as pool:
-        for name, some, faults in pool.map(check, jobs):
-            counts += some
-            passed, failed = (passed, failed + 1) if faults else (passed + 1, failed)
-            for fault in faults[:3]:
-                print(f"FAILED: {name}: {fault}")
-    for fault in old_faults() + show_table(counts):
-        failed += 1
-        print(f"FAILED: {fault}")
-    print(f"{passed} passed, {failed} failed")
-    return 1 if failed else 0
-
-
-if __name__ == "__main__":
-    sys.exit(main(sys.argv[1:]))

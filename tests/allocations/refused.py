@@ -1,10 +1,6 @@
-#!/usr/bin/env python3
 """Fails the allocations of the program in turn: of each subcommand over an office in a file, of a server, and of each row.
 
-    memory.py [--times] [--long] [WORD]
-
-With WORD, only the jobs with WORD in their names run; `--times` prints how long each took, and with `--long`
-more allocations are tried. `refuse.c` is loaded into the program and fails one allocation a run. A run ends with all of its
+`refuse.c` is loaded into the program and fails one allocation a run. A run ends with all of its
 output, or with status 1 and one line (40, 41, `stop Memory after K` or `stop Store after K`) after a prefix of its
 answers; a request gets its reply, 503, 500 or nothing. An office in a file is then the one before or after, and the same run
 without a failure completes the rest. If a run makes more allocations than are tried, those that are tried are spread evenly.
@@ -13,7 +9,6 @@ Of three rows in memory each allocation is tried.
 
 import os
 import re
-import sys
 from collections import Counter
 
 from machine.replaying import Replay
@@ -21,7 +16,7 @@ from machine.state import State
 from program.bench import TESTS, Done
 from program.offices import STORE, Office
 from program.web import reply
-from stopped.running import beside, is_long, run_all
+from stopped.running import beside
 from stopped.serving import replies_of, reply_of, request_of
 from stopped.shim import Shim
 from stopped.stories import LINES, REFUSED, judge_office, lay, replay_story, small_office, story_named
@@ -264,11 +259,3 @@ def jobs(is_long):
         elif is_long:
             found += [(refuse_row_in_memory, row, OF_LONG_ROW), (refuse_row_over_file, row, 0, OF_LONG_ROW)]
     return found
-
-
-def main(words):
-    return run_all(jobs(is_long(words)), words)
-
-
-if __name__ == "__main__":
-    sys.exit(main(sys.argv[1:]))
