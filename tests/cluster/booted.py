@@ -1,14 +1,14 @@
 """The unit of the node under a systemd that is booted on a layer above the files of this machine, with one member of etcd."""
 
-from pathlib import Path
+import pytest
 
-from deploy.common import has, is_root
 from deploy.installed import BOOTED, on_layer
+from needs import skip
 from pages import markdown
 
 from .running import build
 
-# As bin/setup and bin/node would leave it. No unit may wait for a network that does not exist.
+# As apt-get and bin/node would leave it. No unit may wait for a network that does not exist.
 BEFORE = """
 set -e
 NAME=a ME=127.0.0.1 PEERS=a=http://127.0.0.1:2380 ETCD=http://127.0.0.1:2379
@@ -59,19 +59,13 @@ Result=success
 """
 
 
+@pytest.mark.needs("root", "boots", "systemd-nspawn", "curl", "pgrep", "units of etcd")
 def check_unit(bench):
     """The commands of the page make a node that systemd runs: it is started again, and ends with status 0."""
-    needed = ["unshare", "mount", "systemd-nspawn", "useradd", "systemctl", "curl", "pgrep"]
-    if not (is_root() and has(*needed)):
-        return
-    if not Path("/lib/systemd/system/etcd.service").exists():
-        print("left out: the unit of the node under systemd, since there is no unit of etcd", flush=True)
-        return
     installing, starting = markdown.blocks(markdown.page("CLUSTER.md"), "text")
-    bench.same("what the test does in its own way", [line.split()[0] for line in installing[:2]], ["bin/setup", "bin/node"])
+    bench.same("what the test does in its own way", [line.split()[0] for line in installing[:2]], ["apt-get", "bin/node"])
     script = "\n".join([BEFORE, *installing[2:], *starting, ASKING])
     done = on_layer(bench, BOOTED, script, build(bench.shared))
     if not done:
-        print("left out: systemd, which can't be booted here", flush=True)
-        return
+        skip("boots")
     bench.same("what the node does", done.out.decode(), SAID)

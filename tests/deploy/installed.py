@@ -2,10 +2,13 @@
 
 import shutil
 
+import pytest
+
+from needs import skip
 from pages import markdown
 from program.bench import PROGRAM
 
-from .common import DEPLOY, has, is_root, run
+from .common import DEPLOY, run
 
 PAGE = markdown.page("NGINX.md")
 
@@ -108,16 +111,13 @@ def on_layer(bench, how, script, *more):
     return done
 
 
-def behind_nginx(bench):
+@pytest.mark.needs("root", "layers", "nginx", "openssl", "logrotate")
+def check_behind_nginx(bench):
     """The commands of the page that put nginx in front leave files that only those may read who should, and a log that is kept."""
-    programs = ("unshare", "mount", "chroot", "nginx", "openssl", "logrotate")
-    if not (is_root() and has(*programs)):
-        return
     commands = block_with("deploy/nginx/logrotate")
     done = on_layer(bench, CHANGED_ROOT, "\n".join(["set -e", commands, PROXY, commands, PROXY_FOUND]))
     if not done:
-        print("left out: a layer above the files of this machine, which can't be mounted", flush=True)
-        return
+        skip("layers")
     bench.same("what exists for nginx", (done.out.decode(), done.status), (PROXY_MADE, 0))
 
 
@@ -142,8 +142,6 @@ echo "$?"
 
 def setting_up(bench):
     """bin/setup installs nginx and HAProxy only if it is asked to, and starts neither of them."""
-    if not (is_root() and has("unshare", "mount", "chroot")):
-        return
     done = on_layer(bench, CHANGED_ROOT, SETUP, DEPLOY.parent / "bin/setup")
     if not done:
         print("left out: a layer above the files of this machine, which can't be mounted", flush=True)
@@ -155,6 +153,3 @@ def setting_up(bench):
     bench.same("servers that are installed", servers & packages, servers)
     bench.same("whether each installation starts no server", deploying.count("apt-get "), deploying.count("servers: 101"))
     bench.same("what is left, and the status for another word", after, "2\n")
-
-
-JOBS = [(behind_nginx,), (setting_up,)]
