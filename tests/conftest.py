@@ -35,6 +35,9 @@ from program.bench import PROGRAM, Bench, folder_of  # noqa: E402
 # Modules that checks share, and commands.
 collect_ignore = sorted(path.name for path in TESTS.glob("*.py"))
 
+# Programs that checks and scripts call by their names: first those of the Python that runs this, then those of root.
+os.environ["PATH"] = os.pathsep.join([os.path.dirname(sys.executable), os.environ.get("PATH", ""), "/usr/sbin", "/sbin"])
+
 # How many faults of a check are shown.
 MOST_SHOWN = 10
 
@@ -90,9 +93,7 @@ def pytest_collection_modifyitems(config, items):
     for item in items:
         if gone := lacking(name for mark in item.iter_markers("needs") for name in mark.args):
             item.add_marker(pytest.mark.skip(reason=reason_of(gone)))
-        if item.get_closest_marker("alone"):
-            item.add_marker(pytest.mark.xdist_group("alone"))
-    items.sort(key=lambda item: 0 if item.get_closest_marker("alone") else 1 if item.get_closest_marker("slow") else 2)
+    items.sort(key=lambda item: item.get_closest_marker("slow") is None)
 
 
 # ---- What checks get --------------------------------------------------------------------------------------------------------
@@ -105,7 +106,8 @@ def bench(request):
     with tempfile.TemporaryDirectory(dir=folder_of(function)) as outside:
         bench = Bench(Path(outside).resolve() / "files")
         bench.folder.mkdir()
-        bench.is_long, bench.shared = request.config.getoption("--long"), Path(outside).resolve()
+        bench.is_long, bench.is_gate = request.config.getoption("--long"), request.config.getoption("--gate")
+        bench.shared = Path(outside).resolve()
         yield bench
 
 

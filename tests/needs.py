@@ -86,6 +86,7 @@ NEEDS = {name: Need(program(name), package) for package, names in PROGRAMS.items
     "containers": Need(lambda: True),
     "unchangeable files": Need(lambda: True),
     "units of etcd": Need(Path("/usr/lib/systemd/system/etcd.service").exists, "etcd-server"),
+    "history": Need(lambda: True),
     "program for arm64": Need(Path(PROGRAM_FOR_ARM64).is_file),
 }  # fmt: skip
 

@@ -5,6 +5,7 @@ import pytest
 from deploy.installed import BOOTED, on_layer
 from needs import skip
 from pages import markdown
+from program.bench import TESTS
 
 from .running import build
 
@@ -63,8 +64,12 @@ Result=success
 def check_unit(bench):
     """The commands of the page make a node that systemd runs: it is started again, and ends with status 0."""
     installing, starting = markdown.blocks(markdown.page("CLUSTER.md"), "text")
-    bench.same("what the test does in its own way", [line.split()[0] for line in installing[:2]], ["apt-get", "bin/node"])
-    script = "\n".join([BEFORE, *installing[2:], *starting, ASKING])
+    built = next(number for number, line in enumerate(installing) if line.startswith("bin/node --build"))
+    own_way = " ".join(installing[:built]).replace("\\", "").split()
+    bench.same("what the test does in its own way", own_way[:2], ["apt-get", "install"])
+    listed = (TESTS / "packages").read_text(encoding="utf-8").split()
+    bench.same("packages that the tests don't install", [name for name in own_way[2:] if name not in listed], [])
+    script = "\n".join([BEFORE, *installing[built + 1 :], *starting, ASKING])
     done = on_layer(bench, BOOTED, script, build(bench.shared))
     if not done:
         skip("boots")
