@@ -1,4 +1,4 @@
-"""A layer above the files of this machine, in which systemd may be booted: the commands of docs/NGINX.md, and bin/setup."""
+"""A layer above the files of this machine, in which systemd may be booted: the commands of docs/NGINX.md."""
 
 import shutil
 
@@ -119,37 +119,3 @@ def check_behind_nginx(bench):
     if not done:
         skip("layers")
     bench.same("what exists for nginx", (done.out.decode(), done.status), (PROXY_MADE, 0))
-
-
-# Runs bin/setup as if nginx and HAProxy were missing. A fake apt-get prints its arguments, and whether servers may start.
-SETUP = """
-rm -f /usr/sbin/nginx /usr/sbin/haproxy /usr/sbin/policy-rc.d
-cat > /usr/local/sbin/apt-get <<'END'
-#!/bin/sh
-echo "apt-get $*"
-sh /usr/sbin/policy-rc.d || echo "servers: $?"
-END
-chmod 755 /usr/local/sbin/apt-get
-/mnt/repository/setup
-echo ===
-/mnt/repository/setup deploy
-echo ===
-ls /usr/sbin/policy-rc.d 2> /dev/null
-/mnt/repository/setup other
-echo "$?"
-"""
-
-
-def setting_up(bench):
-    """bin/setup installs nginx and HAProxy only if it is asked to, and starts neither of them."""
-    done = on_layer(bench, CHANGED_ROOT, SETUP, DEPLOY.parent / "bin/setup")
-    if not done:
-        print("left out: a layer above the files of this machine, which can't be mounted", flush=True)
-        return
-    plain, deploying, after = done.out.decode().split("===\n")
-    servers = {"nginx-light", "haproxy"}
-    bench.same("servers that the checks do not need", servers & set(plain.split()), set())
-    packages = {word for line in deploying.splitlines() if line.startswith("apt-get install ") for word in line.split()}
-    bench.same("servers that are installed", servers & packages, servers)
-    bench.same("whether each installation starts no server", deploying.count("apt-get "), deploying.count("servers: 101"))
-    bench.same("what is left, and the status for another word", after, "2\n")
