@@ -16,6 +16,9 @@ from program.bench import PROGRAM, TESTS
 
 ROOT = TESTS.parent
 NEEDED = pytest.mark.needs("cc", "readelf", "minisign", "dpkg-buildpackage", "dh", "dh_installsysusers")
+
+# While one process makes the folder, the others have something else to do.
+pytestmark = [pytest.mark.xdist_group("release"), pytest.mark.slow]
 CONTACT = "security@release.example, key 0123 4567"
 
 

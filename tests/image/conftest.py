@@ -13,6 +13,7 @@ def pytest_collection_modifyitems(items):
     for item in items:
         if item.path.parent.name == "image":
             item.add_marker(NEEDED)
+            item.add_marker(pytest.mark.xdist_group("image"))
 
 
 @pytest.fixture(autouse=True)

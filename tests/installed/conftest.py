@@ -14,6 +14,7 @@ def pytest_collection_modifyitems(items):
         if item.path.parent.name == "installed" and item.path.stem != "units":
             item.add_marker(pytest.mark.needs("go", "sqlite-go", "crypto-go", "jose-go", "etcd-go"))
             item.add_marker(NEEDED)
+            item.add_marker(pytest.mark.xdist_group("release"))
 
 
 @pytest.fixture(autouse=True)

@@ -9,6 +9,7 @@ import subprocess
 
 import pytest
 
+from front.running import build
 from program.bench import PROGRAM, TESTS
 
 ROOT = TESTS.parent / "node"
@@ -36,39 +37,51 @@ def go(*words, folder=SOURCES):
     return done.stdout + done.stderr, done.returncode
 
 
-def go_test(bench, *words, folder=SOURCES):
-    """Counts the tests that pass. One that fails or is skipped, and a package that can't be built, is a fault."""
-    said, status = go("go", "test", "-count=1", "-json", *words, folder=folder)
-    lines = [json.loads(line) for line in said.splitlines() if line.startswith("{")]
-    tests = [line for line in lines if "Test" in line and "/" not in line["Test"]]
-    failed = {(line["Package"], line.get("Test")) for line in lines if line["Action"] == "fail"}
-    shown = "".join(line["Output"] for line in lines if line["Action"] == "output" and (line["Package"], line.get("Test")) in failed)
-    others = "\n".join(line for line in said.splitlines() if not line.startswith("{"))
-    bench.judge("go test", [] if status == 0 else [(shown + others)[-4000:]])
-    skipped = [f"{line['Package']}.{line['Test']}" for line in tests if line["Action"] == "skip"]
-    bench.same("tests that were skipped", skipped, [])
-    bench.passed += sum(line["Action"] == "pass" for line in tests)
+def go_test(*words):
+    """What `go test` says of all packages: its events, what isn't one, and its status."""
+    said, status = go("go", "test", "-count=1", "-json", *words, "./...")
+    lines = said.splitlines()
+    return [json.loads(line) for line in lines if line.startswith("{")], "\n".join(line for line in lines if not line.startswith("{")), status
 
 
+def judge(bench, events, others):
+    """Counts the tests that passed. One that failed or was skipped, and a package that didn't pass, is a fault."""
+    ends = [event for event in events if event["Action"] in ("pass", "fail", "skip")]
+    failed = {(event["Package"], event.get("Test")) for event in ends if event["Action"] == "fail"}
+    shown = "".join(one["Output"] for one in events if one["Action"] == "output" and (one["Package"], one.get("Test")) in failed)
+    bench.judge("go test", [] if ends and not failed else [(shown + others)[-4000:]])
+    tests = [event for event in ends if "Test" in event and "/" not in event["Test"]]
+    bench.same("tests that were skipped", [event["Test"] for event in tests if event["Action"] == "skip"], [])
+    bench.passed += sum(event["Action"] == "pass" for event in tests)
+
+
+@pytest.fixture(scope="session")
+def tested(built):
+    """What `go test ./...` says with all features. It is run once, after the program that shares what is compiled."""
+    built("front", build)
+    folder = built("go", lambda folder: (folder / "said").write_text(json.dumps(go_test("-trimpath", "-tags", ALL)), encoding="utf-8"))
+    return json.loads((folder / "said").read_text(encoding="utf-8"))
+
+
+@pytest.mark.slow
+@pytest.mark.xdist_group("go")
 @pytest.mark.parametrize("folder", PACKAGES, ids=name_of)
-def check_package(bench, folder):
-    """The tests of a package pass, with all features. It was compiled already as the program was."""
-    go_test(bench, "-trimpath", "-tags", ALL, ".", folder=folder)
+def check_package(bench, tested, folder):
+    """The tests of a package pass, with all features."""
+    events, others, _ = tested
+    judge(bench, [event for event in events if event["Package"] == name_of(folder)], others)
 
 
 @pytest.mark.gate
-def check_races(bench):
-    """No two goroutines race in them."""
-    go_test(bench, "-race", "-tags", ALL, "./...")
+@pytest.mark.parametrize("words", [["-race", "-tags", ALL], ["-trimpath", "-tags", OF_IMAGE], ["-trimpath", "-tags", ALONE]], ids=" ".join)
+def check_all(bench, words):
+    """The tests of all packages pass without two goroutines that race, and with fewer features."""
+    events, others, status = go_test(*words)
+    bench.same("the status", status, 0)
+    judge(bench, events, others)
 
 
-@pytest.mark.gate
-@pytest.mark.parametrize("tags", [OF_IMAGE, ALONE])
-def check_features(bench, tags):
-    """All tests pass with fewer features too."""
-    go_test(bench, "-trimpath", "-tags", tags, "./...")
-
-
+@pytest.mark.xdist_group("go")
 @pytest.mark.parametrize("tags", [ALL, *(pytest.param(tags, marks=pytest.mark.gate) for tags in (OF_IMAGE, ALONE))])
 def check_form(bench, tags):
     """gofmt would change nothing, and `go vet` finds nothing."""
