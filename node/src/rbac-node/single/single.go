@@ -1,5 +1,6 @@
 // Package single keeps one office on one machine, without etcd. It feeds `rbac replay FILE`, so the file is the truth: an answer
-// comes after its command is in the file, and nothing is answered from memory.
+// comes after its command is in the file, and every function is answered by the replay. Lists and snapshots, which no function
+// answers, come from the state in memory.
 package single
 
 import (

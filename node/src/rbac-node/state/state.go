@@ -1,7 +1,9 @@
 // Package state knows what is in an office: the names that no function of the office lists, and what the commands that it has
 // accepted say about them. It begins with the rows of the office's file, and follows the one order of commands.
 //
-// It judges nothing. Which sessions a command ends and what an import assigns is asked of the office, right behind the command.
+// Which sessions a command ends and what an import assigns is asked of the office, right behind the command. What it concludes itself
+// is which roles no session can have, and which sets a command would violate (Blocked and Conflicts), for decisions about users and
+// explanations: no function of the office answers that.
 package state
 
 import (
