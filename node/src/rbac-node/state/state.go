@@ -50,23 +50,6 @@ type session struct {
 	used         atomic.Int64
 }
 
-// Numbers say how far the order of commands has come. They never come back: an office that was opened again begins with greater ones.
-type Numbers struct {
-	// All grows with each accepted command, and Policy with each that isn't about one session. On one machine they count them. On several
-	// machines a refused command counts for All too, and Policy is what All was at the last such command: so all nodes have the same
-	// numbers, whichever snapshot they began with.
-	All, Policy int64
-}
-
-// After returns the numbers after a command with a number of its own.
-func (n Numbers) After(number int64, call *api.Call, isAccepted bool) Numbers {
-	n.All = number
-	if isAccepted && !isAboutSession(call.Function) {
-		n.Policy = number
-	}
-	return n
-}
-
 // ErrUnavailable means that this program can't read the rows of an office.
 var ErrUnavailable = errors.New("this rbac-node was built without SQLite")
 
