@@ -56,13 +56,15 @@ type Endpoints struct {
 	life   context.Context
 	office Office
 	at     map[string]endpoint
-	// tickets let reports be read.
-	tickets *tickets
+	// tickets let reports be read, and slots large answers be made.
+	tickets     *tickets
+	slots       *slots
+	snapshotted snapshotted
 }
 
 // New returns endpoints that answer until the context ends.
 func New(life context.Context, office Office, options Options) *Endpoints {
-	e := &Endpoints{Options: options, life: life, office: office, tickets: newTickets()}
+	e := &Endpoints{Options: options, life: life, office: office, tickets: newTickets(), slots: newSlots()}
 	e.add()
 	return e
 }

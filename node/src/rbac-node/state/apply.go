@@ -38,7 +38,7 @@ func (s *State) apply(call *api.Call) {
 	case "deletePermission":
 		s.permissions.remove(object, operation)
 		s.operations[operation]--
-		s.revokeAll(object, operation)
+		s.grants.keepIf(func(row Row) bool { return row[0] != object || row[1] != operation })
 	case "grantPermission":
 		s.grants.add(object, operation, role)
 	case "revokePermission":
@@ -53,17 +53,6 @@ func (s *State) apply(call *api.Call) {
 	default:
 		s.applyToGraph(call)
 	}
-}
-
-// revokeAll removes all grants of a permission.
-func (s *State) revokeAll(object, operation string) {
-	left := s.grants.rows[:0]
-	for _, row := range s.grants.rows {
-		if row[0] != object || row[1] != operation {
-			left = append(left, row)
-		}
-	}
-	s.grants.rows = left
 }
 
 // applyToGraph follows a command about inheritances or separation of duty sets. Earlier graphs stay as they are.

@@ -28,11 +28,12 @@ type State struct {
 	sessions map[string]*session
 	names    map[string]string
 	numbers  Numbers
-	// events has the accepted commands after the number forgotten, in their order.
-	events    []Event
-	forgotten int64
-	changed   chan struct{}
-	clock     Clock
+	// events has the accepted commands after the number forgotten, in their order, and eventBytes how many bytes their lines have.
+	events     []Event
+	eventBytes int
+	forgotten  int64
+	changed    chan struct{}
+	clock      Clock
 }
 
 // A Clock has the time of the machine, which somebody may change, and how long the state has been there, which only grows.
