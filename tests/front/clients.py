@@ -209,12 +209,12 @@ def check_at_once(bench):
         open_requests = []
         for _ in range(64):
             client = socket.create_connection((HOST, front.port), 20)
-            client.sendall(GOOD + b"Authorization: Bearer secret\r\nContent-Length: 14\r\n\r\n")
+            client.sendall(GOOD.replace(b"addUser", b"assignedRoles") + b"Authorization: Bearer secret\r\nContent-Length: 14\r\n\r\n")
             open_requests.append(client)
         until(lambda: front.ask("ssdRoleSets", **bearer("secret"))[0] == 429, "the caller has too many requests")
         bench.same("another caller", front.ask("addUser", {"user": "bob"}, **bearer("another"))[0], 200)
         for client in open_requests:
             client.sendall(b'{"user":"ann"}')
-            bench.same("a request that was at hand", client.recv(12), b"HTTP/1.1 403")
+            bench.same("a request that was at hand", client.recv(12), b"HTTP/1.1 409")
             client.close()
         until(lambda: front.ask("ssdRoleSets", **bearer("secret"))[0] == 403, "the caller may ask again")

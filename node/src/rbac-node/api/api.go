@@ -103,7 +103,7 @@ type Office interface {
 }
 
 // These are limits of `rbac serve`. A longer import, which it accepts, would make a line that no replay accepts.
-const maxBodyBytes, maxFields = 65_536, 64
+const MaxBodyBytes, maxFields = 65_536, 64
 
 // A Handler answers requests from an office.
 type Handler struct {
@@ -127,16 +127,21 @@ func NewHandler(ctx context.Context, office Office, registry *metrics.Registry) 
 	}
 }
 
-// A Judge decides whether a call may be done. An error refuses it.
-type Judge func(ctx context.Context, call *Call) error
+// A Judge decides what may be done. An error refuses it.
+type Judge interface {
+	// MayAny refuses a request for a function, before its body is read, if no call of the function may be done.
+	MayAny(ctx context.Context, function string) error
+	// May refuses a call.
+	May(ctx context.Context, call *Call) error
+}
 
-// Serve answers a request for a function that the judge lets through. Without a judge that is every one. done is called when
-// the office has nothing more to do for the request, before the client gets the answer.
+// Serve answers a request for a function that the judge lets through. done is called when the office has nothing more to do for the
+// request, before the client gets the answer.
 func (h *Handler) Serve(w http.ResponseWriter, r *http.Request, judge Judge, done func()) {
 	start := time.Now()
-	kind, call, err := read(r)
-	if err == nil && judge != nil {
-		err = judge(h.ctx, call)
+	kind, call, err := read(r, func(function string) error { return judge.MayAny(h.ctx, function) })
+	if err == nil {
+		err = judge.May(h.ctx, call)
 	}
 	var answers Answers
 	var rule Rule
@@ -175,12 +180,14 @@ func Refuse(w http.ResponseWriter, refused Refusal, methods ...string) int {
 			methods = []string{http.MethodPost}
 		}
 		head.Set("Allow", strings.Join(methods, ", "))
-	case http.StatusNotImplemented:
-		// Nobody may take what follows for the next request.
-		head.Set("Connection", "close")
+	case http.StatusNotImplemented, http.StatusLengthRequired:
+		Close(w)
 	}
 	return write(w, refused.Status, RefusalText(refused.Code, refused.Name))
 }
+
+// Close ends the connection behind the answer: nobody may take what follows for the next request.
+func Close(w http.ResponseWriter) { w.Header().Set("Connection", "close") }
 
 func write(w http.ResponseWriter, status int, text []byte) int {
 	head := w.Header()
@@ -207,8 +214,9 @@ func StatusOf(answer []byte) int {
 	return http.StatusConflict
 }
 
-// read judges the head of a request in the order of `rbac serve`, reads the body, and makes a call of the two.
-func read(r *http.Request) (Kind, *Call, error) {
+// read judges the head of a request in the order of `rbac serve`, reads the body if the function may be asked for, and makes a call of
+// the two.
+func read(r *http.Request, may func(function string) error) (Kind, *Call, error) {
 	// A ServeMux would redirect paths that it would write differently.
 	name := strings.TrimPrefix(r.RequestURI, "/v1/")
 	called, known := functions[name]
@@ -222,6 +230,9 @@ func read(r *http.Request) (Kind, *Call, error) {
 	}
 	if kind == Question {
 		kind = kindOf(r)
+	}
+	if err := may(name); err != nil {
+		return kind, nil, err
 	}
 	body, err := io.ReadAll(r.Body)
 	if err != nil {
@@ -270,7 +281,7 @@ func judgeHead(r *http.Request, known bool) error {
 		return badRequest(http.StatusMethodNotAllowed)
 	case r.ContentLength < 0 || r.ContentLength == 0 && r.Header.Get("Content-Length") == "" && r.ProtoMajor == 1:
 		return badRequest(http.StatusLengthRequired)
-	case r.ContentLength > maxBodyBytes:
+	case r.ContentLength > MaxBodyBytes:
 		return badRequest(http.StatusRequestEntityTooLarge)
 	case !isConsistency(r.Header.Get(consistencyField)):
 		return badRequest(http.StatusBadRequest)

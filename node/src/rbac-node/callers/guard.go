@@ -58,6 +58,11 @@ func (v *Visit) May(ctx context.Context, calls ...*api.Call) error {
 	return v.set.May(ctx, v.Caller, calls...)
 }
 
+// MayAny refuses the caller if it has none of some operations, in no scope.
+func (v *Visit) MayAny(ctx context.Context, operations ...string) error {
+	return v.set.MayAny(ctx, v.Caller, operations...)
+}
+
 // MayRead reports whether the caller may do an operation that isn't a function of the office.
 func (v *Visit) MayRead(ctx context.Context, operation string) error {
 	return v.set.MayRead(ctx, v.Caller, operation)

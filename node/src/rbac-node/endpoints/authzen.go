@@ -57,7 +57,12 @@ func (e *Endpoints) evaluateOne(r *request, fields map[string]json.RawMessage) (
 
 // evaluations answers several evaluations at one place in the order. A body without any is one evaluation.
 func (e *Endpoints) evaluations(r *request) (int, error) {
-	fields, err := readObject(r)
+	var fields map[string]json.RawMessage
+	leave, err := e.readLarge(r, func(body []byte) (err error) {
+		fields, err = api.Fields(body)
+		return err
+	})
+	defer leave()
 	if err != nil {
 		return 0, err
 	}
@@ -115,9 +120,9 @@ func (d decision) appendTo(text []byte) []byte {
 	return append(append(append(text, `{"context":`...), context...), `,"decision":false}`...)
 }
 
-// readObject reads the body of a request, which is an object of JSON.
+// readObject reads the body of a request about one thing, which is an object of JSON.
 func readObject(r *request) (map[string]json.RawMessage, error) {
-	body, err := api.ReadBody(r.Request, api.MaxBatchBytes)
+	body, err := api.ReadBody(r.Request, api.MaxBodyBytes)
 	if err != nil {
 		return nil, err
 	}

@@ -10,13 +10,14 @@ import (
 )
 
 const (
-	// mostLarge is how many requests for large answers there may be at once, and mostLargeOfOne how many of one caller.
+	// mostLarge is how many requests for large answers there may be at once, and mostLargeOfOne how many of one caller. So many may have
+	// large bodies, too.
 	mostLarge, mostLargeOfOne = 64, 16
 	// mostMaking is how many large answers are made at once, and makingTimeout how long one waits for its turn.
 	mostMaking, makingTimeout = 2, 10 * time.Second
 )
 
-// Slots bound how many large answers there are at once, so that those who ask for them hold up nobody else.
+// Slots bound how many large answers or bodies there are at once, so that those who ask for them hold up nobody else.
 type slots struct {
 	making chan struct{}
 	mutex  sync.Mutex
@@ -26,8 +27,8 @@ type slots struct {
 
 func newSlots() *slots { return &slots{making: make(chan struct{}, mostMaking), of: map[string]int{}} }
 
-// enter takes a slot for a large answer to a caller, from before it is made until it is written. There is one unless the caller or all
-// callers have too many.
+// enter takes a slot for a caller, from before an answer is made until it is written. There is one unless the caller or all callers have
+// too many.
 func (s *slots) enter(caller string) (leave func(), err error) {
 	s.mutex.Lock()
 	defer s.mutex.Unlock()
@@ -60,12 +61,35 @@ func (s *slots) make(ctx context.Context, do func() error) error {
 }
 
 // slot takes a slot for the answer to a request.
-func (e *Endpoints) slot(r *request) (leave func(), err error) {
-	caller := ""
-	if r.visitor != nil {
-		caller = r.visitor.Name()
+func (e *Endpoints) slot(r *request) (leave func(), err error) { return e.slots.enter(r.caller()) }
+
+// caller returns the name of the caller, which is empty if everybody may do everything.
+func (r *request) caller() string {
+	if r.visitor == nil {
+		return ""
 	}
-	return e.slots.enter(caller)
+	return r.visitor.Name()
+}
+
+// readLarge reads the body of a request about many things, and calls a function that reads what it says. A body that is longer than one
+// about a single thing takes a slot, until leave is called.
+func (e *Endpoints) readLarge(r *request, parse func(body []byte) error) (leave func(), err error) {
+	leave = func() {}
+	isLarge := r.ContentLength > api.MaxBodyBytes
+	if isLarge {
+		if leave, err = e.bodies.enter(r.caller()); err != nil {
+			return func() {}, err
+		}
+	}
+	body, err := api.ReadBody(r.Request, api.MaxBatchBytes)
+	switch {
+	case err != nil:
+	case isLarge:
+		err = e.bodies.make(r.ctx, func() error { return parse(body) })
+	default:
+		err = parse(body)
+	}
+	return leave, err
 }
 
 // A snapshotted office is the text of the last snapshot, which serves whoever asks before something is done.

@@ -23,7 +23,7 @@ func (f *Front) serveEndpoints(life context.Context) {
 		},
 		Denied: func(r *http.Request, visitor endpoints.Visitor, err error) {
 			if visit, is := visitor.(*callers.Visit); is {
-				f.note(r, visit.Caller, errDenied, refusalOf(err))
+				_ = f.denied(r, visit, err) // It is answered.
 			}
 		},
 	})

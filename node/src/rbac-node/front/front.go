@@ -120,15 +120,12 @@ func (f *Front) loadTLS() error {
 	if err != nil {
 		return err
 	}
-	// Without this a client could resume a session that an earlier authority has begun.
-	config.SessionTicketsDisabled = true
 	config.NextProtos = []string{"http/1.1"}
 	if !f.IsOpen() && f.TLS.CA != "" {
-		config.ClientAuth = tls.VerifyClientCertIfGiven
 		plain := config.Clone()
 		config.GetConfigForClient = func(*tls.ClientHelloInfo) (*tls.Config, error) {
 			current := plain.Clone()
-			current.ClientCAs = f.guard.Authority()
+			web.VerifyClients(current, f.guard.Authority(), false)
 			return current, nil
 		}
 	}

@@ -14,21 +14,27 @@ import (
 	"rbac-node/api"
 	"rbac-node/callers"
 	"rbac-node/console"
+	"rbac-node/web"
 )
 
 // ServeHTTP answers a request, unless it comes from a foreign page or nobody knows who asks.
 func (f *Front) ServeHTTP(w http.ResponseWriter, r *http.Request) {
+	if !isFramed(w, r) {
+		web.Refused(r.Context())
+		api.Refuse(w, api.BadRequest(http.StatusNotImplemented))
+		return
+	}
 	if !f.isServing.Load() {
 		f.serveStart(w, r)
 		return
 	}
 	if origins, has := r.Header["Origin"]; has && !f.areOwn(origins) && !(f.endpoints != nil && isOwnPage(r, origins)) {
-		w.Header().Set("Connection", "close") // Nothing more is read from it.
+		api.Close(w)
 		f.refuse(w, r, "", errors.New("a page of "+strings.Join(origins, ", ")), api.ForeignOrigin)
 		return
 	}
 	if f.IsHostChecked && f.guard == nil && f.isLocal && !isLocalHost(r.Host) {
-		w.Header().Set("Connection", "close")
+		api.Close(w)
 		f.refuse(w, r, "", errors.New("the host "+r.Host), api.ForeignHost)
 		return
 	}
@@ -55,6 +61,16 @@ func (f *Front) ServeHTTP(w http.ResponseWriter, r *http.Request) {
 	}
 	defer visit.Leave()
 	f.answer(w, r, visit)
+}
+
+// isFramed reports whether a request has no transfer coding, which the front doesn't accept. It ends the connection behind a request of
+// which two might not see the same end, such as the front and a proxy before it: RFC 9112, section 6, says which are. Of a length beside
+// a coding the library says nothing, and nothing of a coding in HTTP/1.0. What else is wrong with a length it refuses itself.
+func isFramed(w http.ResponseWriter, r *http.Request) bool {
+	if len(r.TransferEncoding) > 0 || !r.ProtoAtLeast(1, 1) {
+		api.Close(w)
+	}
+	return len(r.TransferEncoding) == 0
 }
 
 // serveStart answers before the office does: it reports what the start does.
@@ -95,19 +111,47 @@ func (f *Front) answer(w http.ResponseWriter, r *http.Request, visit *callers.Vi
 		return
 	}
 	if visit == nil {
-		f.handler.Serve(w, r, func(_ context.Context, call *api.Call) error { return sign(r, nil, call) }, func() {})
+		f.handler.Serve(w, r, anybody{r}, func() {})
 		return
 	}
-	f.handler.Serve(w, r, func(ctx context.Context, call *api.Call) error {
-		if err := sign(r, visit, call); err != nil {
-			return err
-		}
-		err := visit.May(ctx, call)
-		if err != nil {
-			f.note(r, visit.Caller, errDenied, refusalOf(err))
-		}
+	f.handler.Serve(w, r, &judge{f, r, visit}, visit.Done)
+}
+
+// Anybody may do everything.
+type anybody struct{ *http.Request }
+
+func (a anybody) MayAny(context.Context, string) error        { return nil }
+func (a anybody) May(_ context.Context, call *api.Call) error { return sign(a.Request, nil, call) }
+
+// A judge lets a caller do what it may do, and notes what else it asks for.
+type judge struct {
+	front *Front
+	*http.Request
+	visit *callers.Visit
+}
+
+func (j *judge) MayAny(ctx context.Context, function string) error {
+	return j.front.denied(j.Request, j.visit, j.visit.MayAny(ctx, function))
+}
+
+func (j *judge) May(ctx context.Context, call *api.Call) error {
+	if err := sign(j.Request, j.visit, call); err != nil {
 		return err
-	}, visit.Done)
+	}
+	return j.front.denied(j.Request, j.visit, j.visit.May(ctx, call))
+}
+
+// denied notes that a caller may not do what it asks for, unless there is no error. What it still sends may come late.
+func (f *Front) denied(r *http.Request, visit *callers.Visit, err error) error {
+	if err == nil {
+		return nil
+	}
+	refusal := refusalOf(err)
+	if refusal == api.Forbidden {
+		web.Refused(r.Context())
+	}
+	f.note(r, visit.Caller, errDenied, refusal)
+	return err
 }
 
 // answerMetrics reports the metrics to a caller who may read them.

@@ -44,6 +44,15 @@ func IsSeparating(function string) bool {
 	return is
 }
 
+// SeparatingFunctions returns the names of these commands in their order.
+func SeparatingFunctions() (names []string) {
+	for name := range separating {
+		names = append(names, name)
+	}
+	sort.Strings(names)
+	return names
+}
+
 // A holding is a user or a session with the roles that are judged.
 type holding struct {
 	user, digest string
