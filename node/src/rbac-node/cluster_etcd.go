@@ -168,7 +168,7 @@ func (s *clusterSettings) serveNode(ctx context.Context, shared *ledger.Ledger, 
 		s.common.refused = filepath.Join(s.Data, "refused")
 	}
 	registry := &metrics.Registry{}
-	registry.AddProcess()
+	registry.AddProcess(version)
 	f, err := front.New(ctx, s.common.frontOptions(addresses, events, registry))
 	if err != nil {
 		return err

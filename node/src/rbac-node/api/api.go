@@ -111,6 +111,8 @@ type Handler struct {
 	office  Office
 	answers *metrics.Counter
 	seconds *metrics.Histogram
+	// decisions counts what was allowed and what was denied.
+	decisions *metrics.Counter
 }
 
 // NewHandler returns a handler. It answers until the context ends, also if the client has ended its side of the connection, as
@@ -122,8 +124,9 @@ func NewHandler(ctx context.Context, office Office, registry *metrics.Registry) 
 	}
 	return &Handler{
 		ctx: ctx, office: office,
-		answers: registry.Counter("rbac_node_answers_total", "Requests that were answered.", "kind", "status"),
-		seconds: registry.Histogram("rbac_node_answer_seconds", "How long requests took.", "kind", bounds),
+		answers:   registry.Counter("rbac_node_answers_total", "Requests that were answered.", "kind", "status"),
+		seconds:   registry.Histogram("rbac_node_answer_seconds", "How long requests took.", "kind", bounds),
+		decisions: registry.Counter("rbac_node_decisions_total", "Decisions about access.", "decision"),
 	}
 }
 
@@ -153,8 +156,23 @@ func (h *Handler) Serve(w http.ResponseWriter, r *http.Request, judge Judge, don
 	}
 	done()
 	status := respond(w, answers, err)
+	if err == nil && call.Function == checkAccess {
+		h.Decided(string(answers.Texts[0]) == Allowed)
+	}
 	h.answers.Add(string(kind), strconv.Itoa(status))
 	h.seconds.Observe(string(kind), time.Since(start).Seconds())
+}
+
+// checkAccess is the function that decides, and Allowed what it answers if it allows something.
+const checkAccess, Allowed = "checkAccess", `{"ok":true,"value":true}`
+
+// Decided counts a decision. One that the office refuses to make denies.
+func (h *Handler) Decided(isAllowed bool) {
+	if isAllowed {
+		h.decisions.Add("allowed")
+	} else {
+		h.decisions.Add("denied")
+	}
 }
 
 // respond writes the answer to a call or an error, and returns its status.

@@ -85,6 +85,9 @@ func (e *Endpoints) do(r *request, rule api.Rule, lines []*api.Call) ([][]byte, 
 			}
 			answers, found = append(answers, decided.text()), found[askedOfUser:]
 		}
+		if lines[i].Function == "checkAccess" || queries[i] != nil {
+			e.Decided(string(answers[i]) == api.Allowed)
+		}
 		if rule.IsStopped && !api.IsAccepted(answers[i]) {
 			break
 		}

@@ -45,6 +45,8 @@ type Options struct {
 	PublicURL string
 	// Note is called after each answer, with its kind and status, and when the request began.
 	Note func(kind api.Kind, status int, start time.Time)
+	// Decided is called with each decision about access.
+	Decided func(isAllowed bool)
 	// Sign writes on a command who asks for it and why, or refuses it.
 	Sign func(r *http.Request, visitor Visitor, call *api.Call) error
 	// Denied is called if a caller may not do something.
@@ -151,9 +153,6 @@ func (e *Endpoints) Serve(w http.ResponseWriter, r *http.Request, visitor Visito
 	sign := func(call *api.Call) error { return e.Sign(r, visitor, call) }
 	kind, err := api.KindOfQuestions(r)
 	asked := &request{r, sign, w, e.life, visitor, kind}
-	if id := r.Header.Get("X-Request-ID"); id != "" && strings.HasPrefix(r.URL.Path, "/access/") {
-		w.Header().Set("X-Request-ID", id)
-	}
 	status := 0
 	switch {
 	case err != nil:

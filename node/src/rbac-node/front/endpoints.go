@@ -16,7 +16,7 @@ func (f *Front) serveEndpoints(life context.Context) {
 		return
 	}
 	f.endpoints = endpoints.New(life, office, endpoints.Options{
-		PublicURL: f.PublicURL, Note: f.handler.Note,
+		PublicURL: f.PublicURL, Note: f.handler.Note, Decided: f.handler.Decided,
 		Sign: func(r *http.Request, visitor endpoints.Visitor, call *api.Call) error {
 			visit, _ := visitor.(*callers.Visit)
 			return sign(r, visit, call)

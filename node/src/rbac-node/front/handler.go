@@ -17,12 +17,18 @@ import (
 	"rbac-node/web"
 )
 
+// requestField is the field in which a client of AuthZEN numbers its requests.
+const requestField = "X-Request-ID"
+
 // ServeHTTP answers a request, unless it comes from a foreign page or nobody knows who asks.
 func (f *Front) ServeHTTP(w http.ResponseWriter, r *http.Request) {
 	if !isFramed(w, r) {
 		web.Refused(r.Context())
 		api.Refuse(w, api.BadRequest(http.StatusNotImplemented))
 		return
+	}
+	if id := r.Header.Get(requestField); id != "" && strings.HasPrefix(r.URL.Path, "/access/") {
+		w.Header().Set(requestField, id) // As AuthZEN wants it, whatever is answered.
 	}
 	if !f.isServing.Load() {
 		f.serveStart(w, r)
@@ -83,13 +89,51 @@ func (f *Front) serveStart(w http.ResponseWriter, r *http.Request) {
 	replyUnready(w, "starting: "+stage)
 }
 
-// serveHealth reports the condition of the office, unless no caller can be judged.
+// serveHealth reports the condition of the office, unless no caller can be judged. Strangers learn no more than what doesn't work: the
+// reasons have paths of files and what programs have said.
 func (f *Front) serveHealth(w http.ResponseWriter, r *http.Request) {
-	if f.guard == nil || f.guard.Why() == "" {
+	isStranger := f.guard != nil && !f.guard.Knows(r)
+	switch why := f.whyUnjudged(); {
+	case why != "" && isStranger:
+		replyUnready(w, "no caller can be judged")
+	case why != "":
+		replyUnready(w, "callers: "+why)
+	case isStranger:
+		f.office.ServeHealth(&discreet{ResponseWriter: w}, r)
+	default:
 		f.office.ServeHealth(w, r)
-		return
 	}
-	replyUnready(w, "callers: "+f.guard.Why())
+}
+
+// whyUnjudged returns why no caller can be judged, or an empty text.
+func (f *Front) whyUnjudged() string {
+	if f.guard == nil {
+		return ""
+	}
+	return f.guard.Why()
+}
+
+// A discreet writer passes a condition on without reasons. Each is written at once.
+type discreet struct{ http.ResponseWriter }
+
+func (d *discreet) Write(text []byte) (int, error) {
+	var condition map[string]any
+	if json.Unmarshal(text, &condition) != nil {
+		return len(text), nil
+	}
+	if condition["why"] == nil && condition["record"] == nil {
+		return d.ResponseWriter.Write(text)
+	}
+	for key, instead := range map[string]string{"why": "the office doesn't answer", "record": "commands can't be recorded"} {
+		if _, has := condition[key]; has {
+			condition[key] = instead
+		}
+	}
+	said, _ := json.Marshal(condition) // It was JSON.
+	if _, err := d.ResponseWriter.Write(append(said, '\n')); err != nil {
+		return 0, err
+	}
+	return len(text), nil
 }
 
 // replyUnready reports why nothing can be answered.
