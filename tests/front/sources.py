@@ -53,7 +53,7 @@ def check_metrics(bench):
 
 def check_refusals(bench):
     """The refusals of the front are those of the page."""
-    found = re.findall(r'Refusal\{http\.Status(\w+), (\d+), "(\w+)"\}', text_of("api/api.go"))
+    found = re.findall(r'Refusal\{Status: http\.Status(\w+), Code: (\d+), Name: "(\w+)"\}', text_of("api/api.go"))
     for _, code, name in found:
         if name not in ("Diverged", "UnknownFunction"):
             bench.same(f"{code} {name}", f"{code} {name}" in PAGE or f'"code":{code},"error":"{name}"' in PAGE, True)
@@ -73,7 +73,7 @@ def check_limits(bench):
         ("writeTimeout = 10 * time.Second", "10 seconds to take an answer"),
         ("idleTimeout  = 2 * time.Minute", "may be idle for 2 minutes"),
         ("defaultConnections = 20_000", "(default: 20,000, or what the limit of file descriptors allows)"),
-        ("endTimeout = 10 * time.Second", "the requests at hand, for up to 10 seconds"),
+        ("endTimeout = 10 * time.Second", "the requests in flight, for up to 10 seconds"),
         ("defaultCallerRequests = 64", "64 requests in flight (`--caller-requests`)"),
         ("mostLarge, mostLargeOfOne = 64, 16", "16 requests for lists and snapshots at once"),
         ("MostKeyBits = 8192", "8,192 bits"),
@@ -87,7 +87,7 @@ def check_limits(bench):
         ('"timeout", 10*time.Second', "(default: 10s)"),
         ('"hang-timeout", time.Minute', "(default: 1m)"),
         ("longestReason = 256", "up to 256 bytes of UTF-8"),
-        ('"record-base", 10_000', "the later commands again (default: 10,000)"),
+        ('"record-base", 10_000', "does the later commands again (default: 10,000)"),
         ("nobody = 65534", "65534, which is nobody"),
         ("silenceTimeout = 5 * time.Second", "the replay has answered none for 5 seconds"),
     ]:

@@ -6,6 +6,7 @@ import (
 	"context"
 	"encoding/json"
 	"errors"
+	"fmt"
 	"io"
 	"net/http"
 	"strconv"
@@ -64,37 +65,53 @@ func (p Point) SetHead(head http.Header) {
 	}
 }
 
-// A Refusal is what is answered without the office: an HTTP status, a code and its name.
+// A Refusal is what is answered without the office: an HTTP status, a code and its name, and what is wrong with the request, if more is
+// to be said than that.
 type Refusal struct {
 	Status, Code int
-	Name         string
+	Name, Why    string
 }
 
 func (r Refusal) Error() string { return r.Name }
 
 var (
 	// Unavailable means that there was no answer in time. A command may be done or not.
-	Unavailable = Refusal{http.StatusServiceUnavailable, 60, "Unavailable"}
+	Unavailable = Refusal{Status: http.StatusServiceUnavailable, Code: 60, Name: "Unavailable"}
 	// Diverged means that the snapshot of this node is not that of most nodes at the same revision.
-	Diverged = Refusal{http.StatusServiceUnavailable, 61, "Diverged"}
+	Diverged = Refusal{Status: http.StatusServiceUnavailable, Code: 61, Name: "Diverged"}
 	// Unauthorized means that the request doesn't show who asks.
-	Unauthorized = Refusal{http.StatusUnauthorized, 62, "Unauthorized"}
+	Unauthorized = Refusal{Status: http.StatusUnauthorized, Code: 62, Name: "Unauthorized"}
 	// Forbidden means that the caller may not do this.
-	Forbidden = Refusal{http.StatusForbidden, 63, "Forbidden"}
+	Forbidden = Refusal{Status: http.StatusForbidden, Code: 63, Name: "Forbidden"}
 	// TooManyRequests means that the caller has too many requests at once.
-	TooManyRequests = Refusal{http.StatusTooManyRequests, 64, "TooManyRequests"}
+	TooManyRequests = Refusal{Status: http.StatusTooManyRequests, Code: 64, Name: "TooManyRequests"}
 	// ForeignOrigin means that a page of a foreign site has made a browser send the request.
-	ForeignOrigin = Refusal{http.StatusForbidden, 65, "ForeignOrigin"}
+	ForeignOrigin = Refusal{Status: http.StatusForbidden, Code: 65, Name: "ForeignOrigin"}
 	// ForeignHost means that the request was sent to a name that isn't one of this machine.
-	ForeignHost = Refusal{http.StatusMisdirectedRequest, 66, "ForeignHost"}
+	ForeignHost = Refusal{Status: http.StatusMisdirectedRequest, Code: 66, Name: "ForeignHost"}
 	// Outdated means that the policy has changed since the revision that the request names.
-	Outdated = Refusal{http.StatusPreconditionFailed, 67, "Outdated"}
+	Outdated = Refusal{Status: http.StatusPreconditionFailed, Code: 67, Name: "Outdated"}
 	// Upgrading means that a node has an earlier program, which can't judge this: it can be done when all nodes have a later one.
-	Upgrading       = Refusal{http.StatusServiceUnavailable, 68, "Upgrading"}
-	unknownFunction = Refusal{http.StatusNotFound, 35, "UnknownFunction"}
+	Upgrading       = Refusal{Status: http.StatusServiceUnavailable, Code: 68, Name: "Upgrading"}
+	unknownFunction = Refusal{Status: http.StatusNotFound, Code: 35, Name: "UnknownFunction"}
 )
 
-func badRequest(status int) Refusal { return Refusal{status, 34, "BadRequest"} }
+func badRequest(status int) Refusal { return Refusal{Status: status, Code: 34, Name: "BadRequest"} }
+
+// badRequestSince is badRequest with what is wrong.
+func badRequestSince(status int, why string, values ...any) Refusal {
+	refused := badRequest(status)
+	refused.Why = fmt.Sprintf(why, values...)
+	return refused
+}
+
+// tooLong is the refusal of a body with more bytes than it may have.
+func tooLong(most int64) Refusal {
+	return badRequestSince(http.StatusRequestEntityTooLarge, "the body has more than %d bytes", most)
+}
+
+// whyField is the field of an answer that says what is wrong with a request.
+const whyField = "Office-Why"
 
 // An Office does batches of calls. An error that is no Refusal is answered as Unavailable.
 type Office interface {
@@ -190,6 +207,9 @@ func respond(w http.ResponseWriter, answers Answers, err error) int {
 // Refuse answers a request without the office, and returns the status. If nothing else is said, only POST is allowed.
 func Refuse(w http.ResponseWriter, refused Refusal, methods ...string) int {
 	head := w.Header()
+	if refused.Why != "" {
+		head[whyField] = []string{refused.Why}
+	}
 	switch refused.Status {
 	case http.StatusUnauthorized:
 		head.Set("WWW-Authenticate", "Bearer")
@@ -300,7 +320,7 @@ func judgeHead(r *http.Request, known bool) error {
 	case r.ContentLength < 0 || r.ContentLength == 0 && r.Header.Get("Content-Length") == "" && r.ProtoMajor == 1:
 		return badRequest(http.StatusLengthRequired)
 	case r.ContentLength > MaxBodyBytes:
-		return badRequest(http.StatusRequestEntityTooLarge)
+		return tooLong(MaxBodyBytes)
 	case !isConsistency(r.Header.Get(consistencyField)):
 		return badRequest(http.StatusBadRequest)
 	}
