@@ -309,7 +309,9 @@ def java_installed(bench):
     shutil.copytree(MAVEN, folder / "repository", symlinks=False, copy_function=os.symlink)
     settings = f"<settings><localRepository>{folder}/repository</localRepository><offline>true</offline></settings>"
     (folder / "settings.xml").write_text(settings, encoding="utf-8")
-    status, said = run("mvn", "-o", "-q", "-B", "-s", "../settings.xml", "-Dmaven.test.skip=true", "install", cwd=folder / "source")
+    status, said = run(
+        "mvn", "-o", "-q", "-B", "-s", "../settings.xml", "-Dmaven.test.skip=true", "install", cwd=folder / "source"
+    )
     bench.judge("mvn install", [] if status == 0 else [said[-2000:]])
     version = (ROOT / "VERSION").read_text(encoding="utf-8").strip()
     own = folder / f"repository/rbac/rbac-client/{version}/rbac-client-{version}.jar"

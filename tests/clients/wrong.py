@@ -1,5 +1,6 @@
 """Wrong answers to each client: none of them allows, and each is denied with the reason that docs/INTEGRATING.md has for it."""
 
+import re
 import time
 
 from program.bench import SECONDS
@@ -29,8 +30,10 @@ def wrong_answers_deny(bench, name):
             wanted[reason] = wanted.get(reason, 0) + 1
         bench.same("the counts", driver.do("counts"), wanted)
         said = driver.said().splitlines()
-        bench.same("the number of lines in the log", len(said), len(wrong))
-        bench.same("sessions in the log", [line for line in said if "s1" in line], [])
+        told = len(said) + sum(map(int, re.findall(r"\(and (\d+) more since the last line\)$", driver.said(), re.M)))
+        bench.same("decisions that the log tells of", 0 < len(said) <= told <= len(wrong), True)
+        bench.same("sessions in the log", [line for line in said if re.search(r"\bs1\b", line)], [])
+        bench.same("what is no line of printable ASCII", [line for line in said if not re.fullmatch("[ -~]{1,400}", line)], [])
 
 
 def slow_answers_deny(bench, name):

@@ -29,7 +29,7 @@ const longestHead = 16 << 10
 type Config struct {
 	// Addresses are one or more of http://HOST:PORT, https://HOST:PORT and unix:PATH. One answers for all.
 	Addresses []string
-	// Token shows who asks, and TokenFunc returns the present one. At most one of them is given.
+	// Token shows who asks, and TokenFunc returns the present one. At most one of them is given. The end of a line after it is ignored.
 	Token     string
 	TokenFunc func() string
 	// Timeout limits a call as a whole, with all of its attempts. The default is 10 seconds.
@@ -40,14 +40,25 @@ type Config struct {
 	Pause time.Duration
 	// NoRepeats says that a command whose answer was lost is never sent again, even if docs/INTEGRATING.md, section 3, allows it.
 	NoRepeats bool
-	// Log gets a line for each decision that the office hasn't made. The default is the standard logger.
+	// Log gets lines about decisions that the office hasn't made: one for each change of the reason, and otherwise one a second, which
+	// counts the others. The default is the standard logger.
 	Log *log.Logger
+}
+
+// String and GoString show a configuration without its token.
+func (c Config) String() string {
+	return fmt.Sprintf("a client of %q", c.Addresses)
+}
+
+// GoString is String.
+func (c Config) GoString() string {
+	return c.String()
 }
 
 // Client asks a server, or several servers of one office. Goroutines may share it.
 type Client struct {
 	addresses []*address
-	token     func() string
+	token     func() (string, error)
 	timeout   time.Duration
 	pause     time.Duration
 	noRepeats bool
@@ -57,6 +68,7 @@ type Client struct {
 	// createsUntil is until when sessions are made by createSession, in nanoseconds, since the server opens none.
 	createsUntil atomic.Int64
 
+	lines  Lines
 	mu     sync.Mutex
 	counts map[Reason]uint64
 }
@@ -72,12 +84,9 @@ func New(config Config) (*Client, error) {
 	if len(config.Addresses) == 0 {
 		return nil, errors.New("rbacclient: there is no address")
 	}
-	token := config.TokenFunc
-	if config.Token != "" {
-		if token != nil {
-			return nil, errors.New("rbacclient: there is a Token and a TokenFunc")
-		}
-		token = func() string { return config.Token }
+	token, err := tokenOf(config)
+	if err != nil {
+		return nil, err
 	}
 	c := &Client{
 		token:     token,
@@ -106,6 +115,56 @@ func New(config Config) (*Client, error) {
 	return c, nil
 }
 
+// errToken is why a token can't be sent. It doesn't show it.
+var errToken = errors.New("rbacclient: a token is a text of visible ASCII characters without spaces")
+
+// tokenOf returns what returns the present token, or nil if there is none.
+func tokenOf(config Config) (func() (string, error), error) {
+	if config.Token == "" && config.TokenFunc != nil {
+		return func() (string, error) { return judged(config.TokenFunc()) }, nil
+	}
+	if config.Token == "" {
+		return nil, nil
+	}
+	if config.TokenFunc != nil {
+		return nil, errors.New("rbacclient: there is a Token and a TokenFunc")
+	}
+	token, err := judged(config.Token)
+	if err != nil {
+		return nil, err
+	}
+	return func() (string, error) { return token, nil }, nil
+}
+
+// judged returns a token without the end of the line that it may have, if it can be sent.
+func judged(token string) (string, error) {
+	if strings.HasSuffix(token, "\n") {
+		token = strings.TrimSuffix(token[:len(token)-1], "\r")
+	}
+	for i := 0; i < len(token); i++ {
+		if token[i] <= ' ' || token[i] > '~' {
+			return "", errToken
+		}
+	}
+	if token == "" {
+		return "", errToken
+	}
+	return token, nil
+}
+
+// authorize shows who asks.
+func (c *Client) authorize(request *http.Request) *Error {
+	if c.token == nil {
+		return nil
+	}
+	token, err := c.token()
+	if err != nil {
+		return failed(InvalidRequest, false, err)
+	}
+	request.Header["Authorization"] = []string{"Bearer " + token}
+	return nil
+}
+
 // readAddress reads an address.
 func readAddress(text string, config *tls.Config) (*address, error) {
 	if path := strings.TrimPrefix(text, "unix:"); path != text && path != "" {
@@ -114,7 +173,8 @@ func readAddress(text string, config *tls.Config) (*address, error) {
 	parsed, err := url.Parse(text)
 	if err != nil || parsed.Scheme != "http" && parsed.Scheme != "https" || parsed.Hostname() == "" ||
 		parsed.User != nil || strings.Trim(parsed.Path, "/") != "" || parsed.RawQuery != "" || parsed.Fragment != "" {
-		return nil, fmt.Errorf("rbacclient: %q is not an address such as https://localhost:8080 or unix:/run/rbac/office.sock", text)
+		// The text isn't shown: it may have a password.
+		return nil, errors.New("rbacclient: this is no address such as https://localhost:8080 or unix:/run/rbac/office.sock")
 	}
 	base := parsed.Scheme + "://" + parsed.Host
 	return &address{base, transport(config, "", true), transport(config, "", false)}, nil
@@ -182,9 +242,7 @@ func (c *Client) keep(decision Decision, operation, object string) Decision {
 	c.mu.Lock()
 	c.counts[decision.Reason]++
 	c.mu.Unlock()
-	if !decision.IsDecided() {
-		c.log.Printf("no decision about %q on %q: %s: %s", operation, object, decision.Reason, decision.Detail)
-	}
+	c.lines.Report(c.log, decision, operation, object)
 	return decision
 }
 
@@ -258,6 +316,10 @@ func (c *Client) call(ctx context.Context, function string, again int, arguments
 		status, answer, failure := c.attempt(course, function, text)
 		if failure == nil {
 			failure = read(status, answer)
+			if failure != nil && failure.Code == 0 {
+				// What comes later on its connection would be taken for the next answer.
+				course.address().kept.CloseIdleConnections()
+			}
 		}
 		if failure == nil {
 			course.answered()
@@ -298,8 +360,8 @@ func (c *Client) exchange(ctx context.Context, over *http.Transport, base, funct
 		return 0, nil, false, failed(InvalidRequest, false, err)
 	}
 	request.Header["Content-Type"] = []string{"application/json"}
-	if c.token != nil {
-		request.Header["Authorization"] = []string{"Bearer " + c.token()}
+	if failure := c.authorize(request); failure != nil {
+		return 0, nil, false, failure
 	}
 	// A transport follows no redirect.
 	response, err := over.RoundTrip(request)
@@ -307,8 +369,8 @@ func (c *Client) exchange(ctx context.Context, over *http.Transport, base, funct
 		return 0, nil, isReused, lost(err, isConnected)
 	}
 	defer response.Body.Close()
-	if response.ContentLength < 0 || response.ContentLength > longestAnswer {
-		return 0, nil, isReused, failed(Unexpected, true, fmt.Errorf("the answer has a length of %d", response.ContentLength))
+	if response.ContentLength < 0 || response.ContentLength > longestAnswer || !isHead(response.Header) {
+		return 0, nil, isReused, failed(Unexpected, true, fmt.Errorf("a wrong head, or a length of %d", response.ContentLength))
 	}
 	answer := make([]byte, response.ContentLength)
 	if _, err := io.ReadFull(response.Body, answer); err != nil {
@@ -322,6 +384,25 @@ func (c *Client) exchange(ctx context.Context, over *http.Transport, base, funct
 		c.saw(revision)
 	}
 	return response.StatusCode, answer, isReused, nil
+}
+
+// isHead reports whether all fields of a head are as HTTP has them: net/http reads more.
+func isHead(head http.Header) bool {
+	for name, values := range head {
+		for i := 0; i < len(name); i++ {
+			if name[i] <= ' ' || name[i] > '~' || strings.IndexByte(`"(),/:;<=>?@[\]{}`, name[i]) >= 0 {
+				return false
+			}
+		}
+		for _, value := range values {
+			for i := 0; i < len(value); i++ {
+				if value[i] < ' ' && value[i] != '\t' || value[i] == 0x7f {
+					return false
+				}
+			}
+		}
+	}
+	return true
 }
 
 // targetOf returns the method and the path of a function, or of what only the front does.
@@ -349,16 +430,16 @@ func (c *Client) saw(revision uint64) {
 
 // lost returns the error of a request without an answer. Without a connection nothing was sent.
 func lost(err error, isConnected bool) *Error {
-	if isConnected {
-		if isOfConnection(err) {
-			return failed(Unanswered, true, err)
-		}
-		return failed(Unexpected, true, err)
+	text := err.Error()
+	switch {
+	case isConnected && isOfConnection(err):
+		return failed(Unanswered, true, shownError{err})
+	case isConnected:
+		return failed(Unexpected, true, errors.New("no answer of rbac: a wrong head")) // The error has bytes of it.
+	case strings.Contains(text, "x509:") || strings.Contains(text, "tls:"):
+		return failed(Untrusted, false, shownError{err})
 	}
-	if text := err.Error(); strings.Contains(text, "x509:") || strings.Contains(text, "tls:") {
-		return failed(Untrusted, false, err)
-	}
-	return failed(Unreachable, false, err)
+	return failed(Unreachable, false, shownError{err})
 }
 
 // ofConnection are in the texts of the errors of net/http that don't wrap the error of the connection.
@@ -370,6 +451,9 @@ func isOfConnection(err error) bool {
 	if errors.Is(err, io.EOF) || errors.Is(err, io.ErrUnexpectedEOF) || errors.As(err, &operation) ||
 		errors.Is(err, context.DeadlineExceeded) || errors.Is(err, context.Canceled) {
 		return true
+	}
+	if strings.Contains(err.Error(), `"`) {
+		return false // It quotes what was sent.
 	}
 	for _, text := range ofConnection {
 		if strings.Contains(err.Error(), text) {
