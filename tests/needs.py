@@ -42,6 +42,7 @@ NEEDS = {
     "gcc": (program("gcc"), "gcc libc6-dev"),
     "sqlite3": (program("sqlite3"), "sqlite3"),
     "curl": (program("curl"), "curl"),
+    "pkg-config": (program("pkg-config"), "pkgconf"),
     "node": (program("node"), "nodejs"),
     "npm": (program("npm"), "npm"),
     "tsc": (program("tsc"), "node-typescript"),

@@ -413,9 +413,15 @@ func targetOf(function string) (method, path string) {
 	return http.MethodPost, "/v1/" + function
 }
 
-// PolicyRevision returns the newest revision of the policy that an answer has had: Policy-Revision of docs/REQUESTS.md, or 0.
+// PolicyRevision returns the newest revision of the policy that an answer has had: Policy-Revision of docs/REQUESTS.md, or 0. It begins
+// anew if a replica of this client finds that the office may have been restored.
 func (c *Client) PolicyRevision() uint64 {
 	return c.revision.Load()
+}
+
+// ForgetRevision lets PolicyRevision begin anew: the revisions that come next may be smaller if the office was restored.
+func (c *Client) ForgetRevision() {
+	c.revision.Store(0)
 }
 
 // saw notes the revision of the policy that an answer had.

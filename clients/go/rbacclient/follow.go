@@ -57,6 +57,7 @@ func (c *Client) Snapshot(ctx context.Context, place int) (*Snapshot, error) {
 	if !hasNumber || !hasRevision || len(body) > 0 && body[len(body)-1] != '\n' {
 		return nil, failed(Unexpected, false, errors.New("no snapshot: it has no number, no revision, or half of a line"))
 	}
+	c.saw(revision)
 	lines := bytes.Split(body, []byte{'\n'})
 	return &Snapshot{Number: number, Revision: revision, Asked: asked, Lines: lines[:len(lines)-1]}, nil
 }

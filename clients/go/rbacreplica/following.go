@@ -87,12 +87,11 @@ func (r *Replica) troubled(err error) int {
 		r.isTold = true
 		r.config.Log.Printf("the replica is cut off: %v%s", own, end)
 	}
-	if isNoRight(own.Reason) || errors.Is(err, errDiverged) {
+	if isNoRight(own.Reason) || own.Code == rbacclient.Outdated || errors.Is(err, errDiverged) {
+		// The office may have been restored: nobody decides by what was before, and revisions of before count for nothing.
+		r.config.Client.ForgetRevision()
 		r.forget()
 		r.hasChanged()
-	}
-	if own.Code == rbacclient.Outdated {
-		r.place = -1
 	}
 	r.trouble = own
 	r.failures++

@@ -78,7 +78,7 @@ type Replica struct {
 	office   *rbacoffice.Office // nil if there is no copy
 	number   uint64
 	revision uint64
-	place    int // the address that the copy is from; -1 if it is to be made anew
+	place    int // the address that the copy is from
 	fresh    moment
 	young    map[string]time.Time // when sessions came that may not have all of their roles yet
 	trouble  *rbacclient.Error

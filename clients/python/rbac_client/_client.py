@@ -136,7 +136,10 @@ class Client(Office):
 
     @property
     def policy_revision(self) -> int:
-        """The newest revision of the policy that an answer has had: `Policy-Revision` of docs/REQUESTS.md, or 0."""
+        """The newest revision of the policy that an answer has had: `Policy-Revision` of docs/REQUESTS.md, or 0.
+
+        It begins anew if a replica of this client finds that the office may have been restored.
+        """
         return self._settings.revision
 
     def close(self) -> None:

@@ -68,6 +68,12 @@ class Settings:
                 self.revision = max(self.revision, revision)
 
 
+    def forget_revision(self) -> None:
+        """Forgets the revision: those that come next may be smaller, since the office may have been restored."""
+        with self.lock:
+            self.revision = 0
+
+
 class Course:
     """The course of one call. It ends with an answer, or with the error that `after` raises."""
 

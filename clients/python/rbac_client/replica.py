@@ -289,12 +289,13 @@ class Replica(Office):
         if end is not None:
             self._is_told = True
             LOGGER.warning("the replica is cut off: %s: %s%s", error.reason.value, error, end)
-        if error.reason in _NO_RIGHT or isinstance(error, _Diverged):
+        is_outdated = isinstance(error, Refused) and error.code == OUTDATED
+        if error.reason in _NO_RIGHT or is_outdated or isinstance(error, _Diverged):
+            # The office may have been restored: nobody decides by what was before, and revisions of before count for nothing.
+            self._client._settings.forget_revision()
             self._drop(error)
         with self._lock:
             self._trouble = error
-            if self._copy is not None and isinstance(error, Refused) and error.code == OUTDATED:
-                self._copy.place = -1  # It is made anew.
 
     def _load(self, place: int) -> None:
         """Makes the copy by a snapshot of the front."""
@@ -303,6 +304,7 @@ class Replica(Office):
         with self._changed:
             if not self._closing.is_set():
                 self._copy, self._fresh = made, snapshot.asked
+                self._client._settings.saw(snapshot.revision)
                 self._young.clear()
                 for line in snapshot.lines:
                     self._note_session(line)
