@@ -30,6 +30,12 @@ def python_headers():
     return Path(sysconfig.get_paths()["include"], "Python.h").is_file()
 
 
+def can_install():
+    """Whether Debian's Python has what an installation needs."""
+    words = ["/usr/bin/python3", "-c", "import setuptools, ensurepip, pip, venv, wheel"]
+    return subprocess.run(words, capture_output=True, check=False).returncode == 0
+
+
 # Name: whether it is there, and the packages. A right has none: nothing installs it.
 NEEDS = {
     "go": (program("go"), "golang-go"),
@@ -44,14 +50,18 @@ NEEDS = {
     "curl": (program("curl"), "curl"),
     "pkg-config": (program("pkg-config"), "pkgconf"),
     "node": (program("node"), "nodejs"),
-    "npm": (program("npm"), "npm"),
     "tsc": (program("tsc"), "node-typescript"),
     "javac": (program("javac"), "default-jdk-headless"),
+    "clang-format": (program("clang-format"), "clang-format"),
+    "mypy": (program("mypy"), "mypy"),
+    "black": (program("black"), "black"),
+    "openssl": (program("openssl"), "openssl"),
     "mvn": (program("mvn"), "maven"),
     "junit": (Path("/usr/share/java/junit-jupiter-api.jar").exists, "junit5"),
     "cargo": (program("cargo"), "cargo rustc"),
     "rustc": (program("rustc"), "rustc"),
     "python-headers": (python_headers, "python3-dev"),
+    "pip": (can_install, "python3-pip python3-venv python3-setuptools python3-wheel"),
     "valgrind": (program("valgrind"), "valgrind"),
     "chromium": (program("chromium"), "chromium"),
     "chromedriver": (program("chromedriver"), "chromium-driver"),

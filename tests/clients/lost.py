@@ -10,8 +10,10 @@ from program.bench import SECONDS
 from program.offices import Office, read_rows, small_office
 from program.web import HOST, Server, connect, read_all
 
+import pytest
+
 from .client import PATIENT
-from .driving import Driven, installed
+from .driving import NAMES, Driven
 from .fakes import LOST, PASSED_ON, Fake, answered, read_request
 from .functions import repetitions
 
@@ -103,7 +105,8 @@ def judged(bench, what, function, outcome, expected):
         bench.same(f"{what}: counts", counts[0], counts[1])
 
 
-def many_commands(bench, name):
+@pytest.mark.parametrize("name", NAMES)
+def check_many_commands(bench, name):
     """A thousand random commands. If one may have been done, it is repeated as the page says, and the office is as it says."""
     seed = random.randrange(1 << 30)
     print(f"{name}: the seed of the lost answers is {seed}", flush=True)
@@ -146,7 +149,8 @@ def follows(function, again, expected):
     return "ok" in again or str(again["code"]) == AGAIN[function].split()[0]
 
 
-def many_logins(bench, name):
+@pytest.mark.parametrize("name", NAMES)
+def check_many_logins(bench, name):
     """Each login has exactly one session in the end, and each logout ends one, although answers are lost."""
     office = small_office(bench)
     before = sessions(office.path)
@@ -176,7 +180,8 @@ def sessions(path):
     return {row[1] for row in read_rows(path)["pair_row"] if row[0] == 7}
 
 
-def one_login(bench, name):
+@pytest.mark.parametrize("name", NAMES)
+def check_one_login(bench, name):
     """A login whose answer is lost has one session; one that is refused has none."""
     office = small_office(bench)
     with Server(bench, office.path, 100) as server, Driven(bench, name, timeout=PATIENT, pause=PAUSE) as driver:
@@ -195,6 +200,3 @@ def one_login(bench, name):
     bench.run(["check", office.path])
     # One exists from the start, and each login has made one, except for the one that was refused.
     bench.same("the number of sessions", len(sessions(office.path)), 1 + 4)
-
-
-JOBS = [(test, name) for name in installed() for test in (many_commands, many_logins, one_login)]

@@ -67,7 +67,6 @@ class Settings:
             with self.lock:
                 self.revision = max(self.revision, revision)
 
-
     def forget_revision(self) -> None:
         """Forgets the revision: those that come next may be smaller, since the office may have been restored."""
         with self.lock:

@@ -10,7 +10,9 @@ from ._decision import Unexpected, Unsendable
 LONGEST_HEAD = 16_384
 
 # The head of an answer: a status line, and fields.
-_HEAD = re.compile(rb"HTTP/1\.([01]) (\d{3}) [\t\x20-\x7e\x80-\xff]*\r\n(?:[!#$%&'*+.^_`|~0-9A-Za-z-]+:[\t\x20-\x7e\x80-\xff]*\r\n)*")
+_HEAD = re.compile(
+    rb"HTTP/1\.([01]) (\d{3}) [\t\x20-\x7e\x80-\xff]*\r\n(?:[!#$%&'*+.^_`|~0-9A-Za-z-]+:[\t\x20-\x7e\x80-\xff]*\r\n)*"
+)
 _LENGTH = re.compile(rb"(?i)\ncontent-length[ \t]*:[ \t]*([^\r\n]*)\r")
 _OTHERS = re.compile(rb"(?i)\n(?:(transfer-encoding)|connection:[^\r\n]*(close))")
 

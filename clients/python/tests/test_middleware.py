@@ -80,7 +80,9 @@ def call(office):
     async def awaited():
         return "done"
 
-    guarded = needs(office, lambda: "s1", "open", "safe")(awaited if isinstance(office, (WrongToAwait, AsyncClient)) else lambda: "done")
+    guarded = needs(office, lambda: "s1", "open", "safe")(
+        awaited if isinstance(office, (WrongToAwait, AsyncClient)) else lambda: "done"
+    )
     found = guarded()
     return asyncio.run(found) if asyncio.iscoroutine(found) else found
 

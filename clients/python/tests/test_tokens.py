@@ -28,7 +28,11 @@ def test_refused(server, made, token, caplog):
         office.add_user("ann")
     assert server.requests == []
     if isinstance(token, str) and len(token.strip()) > 1:
-        shown = "".join(traceback.format_exception(raised.type, raised.value, raised.tb)) + "".join(caplog.messages) + decision.detail
+        shown = (
+            "".join(traceback.format_exception(raised.type, raised.value, raised.tb))
+            + "".join(caplog.messages)
+            + decision.detail
+        )
         assert token.strip() not in shown and ascii(token)[1:-1] not in shown
 
 
