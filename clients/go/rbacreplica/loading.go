@@ -63,6 +63,11 @@ func (l *snapshotLine) rows() ([]rbacoffice.Row, bool) {
 	return nil, false
 }
 
+// read reads a line that may be written in any way.
+func (l *snapshotLine) read(text []byte) error {
+	return json.Unmarshal(text, l)
+}
+
 // lineKeys are the keys of the lines of a snapshot, in the order in which the front writes them.
 var lineKeys = map[string][]string{
 	"addUser":         {"user"},
@@ -141,7 +146,7 @@ func officeOf(lines [][]byte) (*rbacoffice.Office, error) {
 	done := 0
 	for _, text := range lines {
 		var line snapshotLine
-		if err := json.Unmarshal(text, &line); err != nil {
+		if err := line.read(text); err != nil {
 			return nil, diverged("line %d of the snapshot is none", done+1)
 		}
 		more, isKnown := line.rows()
