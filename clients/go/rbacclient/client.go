@@ -5,25 +5,17 @@
 package rbacclient
 
 import (
-	"bytes"
 	"context"
 	"crypto/tls"
 	"errors"
 	"fmt"
-	"io"
 	"log"
-	"net"
 	"net/http"
-	"net/http/httptrace"
-	"net/url"
 	"strings"
 	"sync"
 	"sync/atomic"
 	"time"
 )
-
-// longestHead is how many bytes the head of an answer may have.
-const longestHead = 16 << 10
 
 // Config is what a client is made from. Addresses is required.
 type Config struct {
@@ -71,12 +63,6 @@ type Client struct {
 	lines  Lines
 	mu     sync.Mutex
 	counts map[Reason]uint64
-}
-
-// address is where a server listens. Questions go over connections that are kept, commands over new ones.
-type address struct {
-	base        string
-	kept, fresh *http.Transport
 }
 
 // New makes a client. It connects when it is first used.
@@ -152,62 +138,22 @@ func judged(token string) (string, error) {
 	return token, nil
 }
 
-// authorize shows who asks.
-func (c *Client) authorize(request *http.Request) *Error {
+// present returns the token that shows who asks, or nothing.
+func (c *Client) present() (string, *Error) {
 	if c.token == nil {
-		return nil
+		return "", nil
 	}
 	token, err := c.token()
 	if err != nil {
-		return failed(InvalidRequest, false, err)
+		return "", failed(InvalidRequest, false, err)
 	}
-	request.Header["Authorization"] = []string{"Bearer " + token}
-	return nil
-}
-
-// readAddress reads an address.
-func readAddress(text string, config *tls.Config) (*address, error) {
-	if path := strings.TrimPrefix(text, "unix:"); path != text && path != "" {
-		return &address{"http://localhost", transport(config, path, true), transport(config, path, false)}, nil
-	}
-	parsed, err := url.Parse(text)
-	if err != nil || parsed.Scheme != "http" && parsed.Scheme != "https" || parsed.Hostname() == "" ||
-		parsed.User != nil || strings.Trim(parsed.Path, "/") != "" || parsed.RawQuery != "" || parsed.Fragment != "" {
-		// The text isn't shown: it may have a password.
-		return nil, errors.New("rbacclient: this is no address such as https://localhost:8080 or unix:/run/rbac/office.sock")
-	}
-	base := parsed.Scheme + "://" + parsed.Host
-	return &address{base, transport(config, "", true), transport(config, "", false)}, nil
-}
-
-// transport makes a transport without proxies, compression and HTTP/2.
-func transport(config *tls.Config, path string, keeps bool) *http.Transport {
-	dialer := &net.Dialer{}
-	made := &http.Transport{
-		DialContext:            dialer.DialContext,
-		DisableCompression:     true,
-		DisableKeepAlives:      !keeps,
-		MaxIdleConnsPerHost:    16,
-		IdleConnTimeout:        time.Minute,
-		MaxResponseHeaderBytes: longestHead,
-		TLSClientConfig:        &tls.Config{MinVersion: tls.VersionTLS12},
-		TLSNextProto:           map[string]func(string, *tls.Conn) http.RoundTripper{},
-	}
-	if config != nil {
-		made.TLSClientConfig = config.Clone()
-	}
-	if path != "" {
-		made.DialContext = func(ctx context.Context, _, _ string) (net.Conn, error) {
-			return dialer.DialContext(ctx, "unix", path)
-		}
-	}
-	return made
+	return token, nil
 }
 
 // Close closes the connections that are kept. A further call opens a new one.
 func (c *Client) Close() {
 	for _, one := range c.addresses {
-		one.kept.CloseIdleConnections()
+		one.closeIdle()
 	}
 }
 
@@ -313,14 +259,7 @@ func (c *Client) call(ctx context.Context, function string, again int, arguments
 	}
 	course := newCourse(ctx, c, function, again)
 	for {
-		status, answer, failure := c.attempt(course, function, text)
-		if failure == nil {
-			failure = read(status, answer)
-			if failure != nil && failure.Code == 0 {
-				// What comes later on its connection would be taken for the next answer.
-				course.address().kept.CloseIdleConnections()
-			}
-		}
+		failure := c.attempt(course, function, text, read)
 		if failure == nil {
 			course.answered()
 			return nil
@@ -334,75 +273,54 @@ func (c *Client) call(ctx context.Context, function string, again int, arguments
 	}
 }
 
-// attempt sends a request once. A question whose kept connection was closed meanwhile is asked once more.
-func (c *Client) attempt(course *course, function string, text []byte) (int, []byte, *Error) {
-	ctx, cancel := context.WithDeadline(course.ctx, course.limit())
+// attempt sends a request once. A question is sent over a kept connection if there is one, and once more if that was closed meanwhile.
+func (c *Client) attempt(course *course, function string, text []byte, read func(status int, text []byte) *Error) *Error {
+	token, err := c.present()
+	if err != nil {
+		return err
+	}
+	method, path := targetOf(function)
+	address, limit := course.address(), course.limit()
+	request := address.request(method, path, token, text, course.isQuestion)
+	if course.isQuestion {
+		if kept := address.kept(); kept != nil {
+			err := c.exchange(course.ctx, address, kept, limit, request, read)
+			if err == nil || err.Reason != Unanswered || course.ctx.Err() != nil || !time.Now().Before(limit) {
+				return err
+			}
+		}
+	}
+	ctx, cancel := context.WithDeadline(course.ctx, limit)
 	defer cancel()
-	address := course.address()
-	if !course.isQuestion {
-		status, answer, _, err := c.exchange(ctx, address.fresh, address.base, function, text)
-		return status, answer, err
+	made, err := address.dial(ctx)
+	if err != nil {
+		return err
 	}
-	status, answer, isReused, err := c.exchange(ctx, address.kept, address.base, function, text)
-	if err != nil && err.Reason == Unanswered && isReused && ctx.Err() == nil {
-		status, answer, _, err = c.exchange(ctx, address.fresh, address.base, function, text)
-	}
-	return status, answer, err
+	return c.exchange(course.ctx, address, made, limit, request, read)
 }
 
-// exchange sends a request, and reads its answer. It also returns whether the connection had been used before.
-func (c *Client) exchange(ctx context.Context, over *http.Transport, base, function string, text []byte) (int, []byte, bool, *Error) {
-	var isConnected, isReused bool
-	trace := &httptrace.ClientTrace{GotConn: func(got httptrace.GotConnInfo) { isConnected, isReused = true, got.Reused }}
-	method, path := targetOf(function)
-	request, err := http.NewRequestWithContext(httptrace.WithClientTrace(ctx, trace), method, base+path, bytes.NewReader(text))
+// exchange sends a request, and reads its answer. The connection is kept only after an answer of the server: what comes on it after
+// another one would be taken for the next answer.
+func (c *Client) exchange(ctx context.Context, address *address, conn *conn, limit time.Time, request []byte,
+	read func(status int, text []byte) *Error) *Error {
+	response, answer, keeps, err := conn.exchange(ctx, limit, request)
 	if err != nil {
-		return 0, nil, false, failed(InvalidRequest, false, err)
+		conn.Close()
+		return err
 	}
-	request.Header["Content-Type"] = []string{"application/json"}
-	if failure := c.authorize(request); failure != nil {
-		return 0, nil, false, failure
+	err = read(response.StatusCode, answer)
+	if keeps && (err == nil || err.Code != 0) {
+		address.keep(conn)
+	} else {
+		conn.Close()
 	}
-	// A transport follows no redirect.
-	response, err := over.RoundTrip(request)
 	if err != nil {
-		return 0, nil, isReused, lost(err, isConnected)
-	}
-	defer response.Body.Close()
-	if response.ContentLength < 0 || response.ContentLength > longestAnswer || !isHead(response.Header) {
-		return 0, nil, isReused, failed(Unexpected, true, fmt.Errorf("a wrong head, or a length of %d", response.ContentLength))
-	}
-	answer := make([]byte, response.ContentLength)
-	if _, err := io.ReadFull(response.Body, answer); err != nil {
-		return 0, nil, isReused, failed(Unanswered, true, err)
-	}
-	// The transport keeps the connection once it has seen the end.
-	if _, err := response.Body.Read(make([]byte, 1)); err != io.EOF {
-		return 0, nil, isReused, failed(Unexpected, true, errors.New("there is more than an answer"))
+		return err
 	}
 	if revision, isThere := numberOf(response.Header, "Policy-Revision"); isThere {
 		c.saw(revision)
 	}
-	return response.StatusCode, answer, isReused, nil
-}
-
-// isHead reports whether all fields of a head are as HTTP has them: net/http reads more.
-func isHead(head http.Header) bool {
-	for name, values := range head {
-		for i := 0; i < len(name); i++ {
-			if name[i] <= ' ' || name[i] > '~' || strings.IndexByte(`"(),/:;<=>?@[\]{}`, name[i]) >= 0 {
-				return false
-			}
-		}
-		for _, value := range values {
-			for i := 0; i < len(value); i++ {
-				if value[i] < ' ' && value[i] != '\t' || value[i] == 0x7f {
-					return false
-				}
-			}
-		}
-	}
-	return true
+	return nil
 }
 
 // targetOf returns the method and the path of a function, or of what only the front does.
@@ -432,39 +350,4 @@ func (c *Client) saw(revision uint64) {
 			return
 		}
 	}
-}
-
-// lost returns the error of a request without an answer. Without a connection nothing was sent.
-func lost(err error, isConnected bool) *Error {
-	text := err.Error()
-	switch {
-	case isConnected && isOfConnection(err):
-		return failed(Unanswered, true, shownError{err})
-	case isConnected:
-		return failed(Unexpected, true, errors.New("no answer of rbac: a wrong head")) // The error has bytes of it.
-	case strings.Contains(text, "x509:") || strings.Contains(text, "tls:"):
-		return failed(Untrusted, false, shownError{err})
-	}
-	return failed(Unreachable, false, shownError{err})
-}
-
-// ofConnection are in the texts of the errors of net/http that don't wrap the error of the connection.
-var ofConnection = []string{"EOF", "server closed idle connection", "tls: ", "reset by peer", "broken pipe", "closed network connection"}
-
-// isOfConnection reports whether an error is that of a connection that was lost, or of a time limit.
-func isOfConnection(err error) bool {
-	var operation *net.OpError
-	if errors.Is(err, io.EOF) || errors.Is(err, io.ErrUnexpectedEOF) || errors.As(err, &operation) ||
-		errors.Is(err, context.DeadlineExceeded) || errors.Is(err, context.Canceled) {
-		return true
-	}
-	if strings.Contains(err.Error(), `"`) {
-		return false // It quotes what was sent.
-	}
-	for _, text := range ofConnection {
-		if strings.Contains(err.Error(), text) {
-			return true
-		}
-	}
-	return false
 }

@@ -8,7 +8,6 @@ import (
 	"fmt"
 	"io"
 	"net/http"
-	"net/http/httptrace"
 	"strconv"
 	"time"
 )
@@ -44,7 +43,6 @@ func (c *Client) Snapshot(ctx context.Context, place int) (*Snapshot, error) {
 	if err != nil {
 		return nil, err
 	}
-	defer response.Body.Close()
 	body, err := readBody(response, longestSnapshot)
 	if err != nil {
 		return nil, err
@@ -75,7 +73,6 @@ type Watch struct {
 	Asked time.Time // when it was asked for
 
 	cancel  context.CancelFunc
-	body    io.Closer
 	lines   *bufio.Scanner
 	timer   *time.Timer
 	silence time.Duration
@@ -93,7 +90,6 @@ func (c *Client) Watch(ctx context.Context, place int, after uint64, silence tim
 	}
 	if response.StatusCode != http.StatusOK {
 		defer w.Close()
-		defer response.Body.Close()
 		if response.StatusCode == http.StatusGone {
 			return nil, refusal(Outdated, "Outdated", nil)
 		}
@@ -103,7 +99,6 @@ func (c *Client) Watch(ctx context.Context, place int, after uint64, silence tim
 		}
 		return nil, readRefusal(response.StatusCode, body)
 	}
-	w.body = response.Body
 	if response.Header.Get("Content-Type") != "text/event-stream" || response.ContentLength >= 0 || len(response.TransferEncoding) > 0 {
 		w.Close()
 		return nil, failed(Unexpected, false, errors.New("the answer to /watch is no watch"))
@@ -117,9 +112,6 @@ func (c *Client) Watch(ctx context.Context, place int, after uint64, silence tim
 func (w *Watch) Close() {
 	w.timer.Stop()
 	w.cancel()
-	if w.body != nil {
-		_ = w.body.Close()
-	}
 }
 
 // Next returns the next event. The line is valid until the next call.
@@ -199,20 +191,30 @@ func isWord(name []byte) bool {
 	return len(name) > 0
 }
 
-// get sends a request without a body over a new connection.
+// get sends a request without a body over a new connection, and returns the head of the answer. The connection is closed when the
+// context ends, which the caller has to do.
 func (c *Client) get(ctx context.Context, address *address, path string) (*http.Response, error) {
-	var isConnected bool
-	trace := &httptrace.ClientTrace{GotConn: func(httptrace.GotConnInfo) { isConnected = true }}
-	request, err := http.NewRequestWithContext(httptrace.WithClientTrace(ctx, trace), http.MethodGet, address.base+path, nil)
-	if err != nil {
-		return nil, failed(InvalidRequest, false, err)
-	}
-	if failure := c.authorize(request); failure != nil {
+	token, failure := c.present()
+	if failure != nil {
 		return nil, failure
 	}
-	response, err := address.fresh.RoundTrip(request)
+	conn, failure := address.dial(ctx)
+	if failure != nil {
+		return nil, failure
+	}
+	go func() {
+		<-ctx.Done()
+		conn.Close()
+	}()
+	if _, err := conn.Write(address.request(http.MethodGet, path, token, nil, false)); err != nil {
+		return nil, conn.lost(ctx, err)
+	}
+	response, err := conn.readHead()
 	if err != nil {
-		return nil, lost(err, isConnected)
+		return nil, conn.lost(ctx, err)
+	}
+	if !isHead(response.Header) {
+		return nil, failed(Unexpected, true, errors.New("no answer of rbac: a wrong head"))
 	}
 	return response, nil
 }

@@ -1,14 +1,20 @@
 package rbacclient
 
 import (
+	"bufio"
 	"bytes"
 	"context"
+	"errors"
 	"fmt"
+	"io"
 	"log"
 	"net"
+	"net/http"
+	"os"
 	"regexp"
 	"strings"
 	"testing"
+	"time"
 )
 
 // harmless is one line of printable ASCII that isn't long.
@@ -100,5 +106,85 @@ func TestConnections(t *testing.T) {
 			t.Errorf("%d connections after %q, %t", first+second, test.answer, isAllowed)
 		}
 		office.Close()
+	}
+}
+
+// TestUnasked closes a connection on which something comes that nobody has asked for, and says nothing about it.
+func TestUnasked(t *testing.T) {
+	var said bytes.Buffer
+	log.SetOutput(&said)
+	defer log.SetOutput(os.Stderr)
+	for _, late := range []string{right, "HTTP/1.1 400 Bad Request\r\n\r\nBearer secret", ""} {
+		late := late
+		listener, err := net.Listen("tcp", "127.0.0.1:0")
+		if err != nil {
+			t.Fatal(err)
+		}
+		asked := make(chan struct{})
+		go func() {
+			conn, err := listener.Accept()
+			if err != nil {
+				return
+			}
+			defer conn.Close()
+			_, _ = http.ReadRequest(bufio.NewReader(conn))
+			_, _ = io.WriteString(conn, right)
+			<-asked
+			_, _ = io.WriteString(conn, late)
+			if late != "" {
+				_, _ = conn.Read(make([]byte, 1)) // Until the client closes it.
+			}
+		}()
+		office, err := New(Config{Addresses: []string{"http://" + listener.Addr().String()}})
+		if err != nil {
+			t.Fatal(err)
+		}
+		if !office.May(context.Background(), "s1", "open", "safe") {
+			t.Error("the right answer denies")
+		}
+		close(asked)
+		address := office.addresses[0]
+		for isKept := true; isKept; time.Sleep(time.Millisecond) {
+			address.mu.Lock()
+			isKept = len(address.idle) > 0
+			address.mu.Unlock()
+		}
+		listener.Close()
+	}
+	if said.Len() > 0 {
+		t.Errorf("the standard logger has %q", said.String())
+	}
+}
+
+// TestContext ends a call when its context does, and the connection isn't used again.
+func TestContext(t *testing.T) {
+	s := serve(t)
+	s.mu.Lock()
+	s.keep = true
+	s.mu.Unlock()
+	s.set("HTTP/1.1 200 OK\r\n", false)
+	office, err := New(Config{Addresses: []string{s.address()}, Log: log.New(io.Discard, "", 0)})
+	if err != nil {
+		t.Fatal(err)
+	}
+	ctx, cancel := context.WithCancel(context.Background())
+	go func() {
+		for isAsked := false; !isAsked; time.Sleep(time.Millisecond) {
+			s.mu.Lock()
+			isAsked = len(s.requests) > 0
+			s.mu.Unlock()
+		}
+		cancel()
+	}()
+	_, err = office.CheckAccess(ctx, "s1", "open", "safe")
+	if asError(err).Reason != Unanswered || !errors.Is(err, context.Canceled) {
+		t.Errorf("a context that ends: %v", err)
+	}
+	if err := office.AddUser(ctx, "ann"); asError(err).Reason != Unreachable {
+		t.Errorf("a context that has ended: %v", err)
+	}
+	s.set(right, false)
+	if !office.May(context.Background(), "s1", "open", "safe") {
+		t.Error("the next question is denied")
 	}
 }
