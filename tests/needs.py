@@ -7,6 +7,7 @@ when a check runs it is such a need too. A right has no package: nothing install
 import os
 import shutil
 import subprocess
+import sys
 import sysconfig
 from collections.abc import Callable
 from functools import lru_cache
@@ -59,7 +60,7 @@ PROGRAMS = {
     "golang-go": "go", "gcc": "gcc cc", "g++": "g++ c++", "sqlite3": "sqlite3", "curl": "curl", "git": "git", "graphviz": "dot",
     "etcd-server": "etcd", "etcd-client": "etcdctl",
     "nodejs": "node", "node-typescript": "tsc", "default-jdk-headless": "javac", "maven": "mvn", "cargo": "cargo", "rustc": "rustc",
-    "black": "black", "mypy": "mypy", "clang-format": "clang-format", "valgrind": "valgrind",
+    "pkgconf": "pkg-config", "black": "black", "mypy": "mypy", "clang-format": "clang-format", "valgrind": "valgrind",
     "gcc-aarch64-linux-gnu": "aarch64-linux-gnu-gcc", "qemu-user-static": "qemu-aarch64-static",
     "chromium": "chromium", "chromium-driver": "chromedriver", "poppler-utils": "pdftotext",
     "openssl": "openssl", "strace": "strace", "psmisc": "fuser", "util-linux": "setpriv unshare findmnt", "mount": "mount", "iproute2": "ip",
@@ -80,6 +81,10 @@ NEEDS = {name: Need(program(name), package) for package, names in PROGRAMS.items
     ),
     "junit": Need(Path("/usr/share/java/junit-jupiter-api.jar").exists, "junit5"),
     "python-headers": Need(lambda: Path(sysconfig.get_paths()["include"], "Python.h").is_file(), "python3-dev"),
+    "pip": Need(
+        lambda: can_run(sys.executable, "-c", "import setuptools, ensurepip, pip, venv, wheel"),
+        "python3-pip python3-venv python3-setuptools python3-wheel",
+    ),
     "libc-of-arm64": Need(Path("/usr/aarch64-linux-gnu/include/stdio.h").exists, "libc6-dev-arm64-cross"),
     "jsonschema": Need(module("jsonschema"), "python3-jsonschema"),
     "openapi-specification": Need(Path("/usr/share/openapi-specification").is_dir, "openapi-specification python3-jsonschema"),
