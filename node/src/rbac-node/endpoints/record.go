@@ -3,6 +3,9 @@ package endpoints
 import (
 	"context"
 	"encoding/json"
+	"errors"
+	"fmt"
+	"net/http"
 	"net/url"
 	"strconv"
 
@@ -37,6 +40,10 @@ func (e *Endpoints) record(r *request) (int, error) {
 		return 0, errNoState
 	}
 	query, err := readRecordQuery(r.URL.RawQuery)
+	var wrong wrongFilter
+	if errors.As(err, &wrong) {
+		return r.reply(http.StatusBadRequest, wrong.text()), nil
+	}
 	if err != nil {
 		return 0, err
 	}
@@ -74,6 +81,17 @@ func (r *request) replyRecord(page recorded.Page) (int, error) {
 	return r.replyValue(value)
 }
 
+// A wrongFilter is a filter of the record that chooses nothing as it is written.
+type wrongFilter string
+
+func (w wrongFilter) Error() string { return string(w) }
+
+// text returns the answer to a request with the filter.
+func (w wrongFilter) text() []byte {
+	text := fmt.Appendf(nil, `{"code":%d,"error":%q,"message":`, errNotRead.Code, errNotRead.Name)
+	return append(api.AppendQuoted(text, string(w)), '}')
+}
+
 // readRecordQuery reads which entries are wanted.
 func readRecordQuery(text string) (query recorded.Query, err error) {
 	values, err := url.ParseQuery(text)
@@ -81,35 +99,50 @@ func readRecordQuery(text string) (query recorded.Query, err error) {
 		return query, errNotRead
 	}
 	query.Limit = usualRows
-	texts := map[string]*string{
-		"user": &query.User, "role": &query.Role, "object": &query.Object, "function": &query.Function, "caller": &query.Caller,
-		"since": &query.Since, "until": &query.Until,
-	}
 	for key, given := range values {
 		if len(given) != 1 {
-			return query, errNotRead
+			return query, wrongFilter(key + " is there more than once")
 		}
-		switch place, isText := texts[key]; {
-		case isText:
-			*place = given[0]
-		case key == "refused":
-			query.IsRefused = given[0] == "true"
-			if !query.IsRefused && given[0] != "false" {
-				return query, errNotRead
-			}
-		case key == "limit":
-			query.Limit, err = strconv.Atoi(given[0])
-			if err != nil || query.Limit < 1 || query.Limit > mostRows {
-				return query, errNotRead
-			}
-		case key == "before":
-			query.Before, err = strconv.ParseInt(given[0], 10, 64)
-			if err != nil || query.Before < 1 {
-				return query, errNotRead
-			}
-		default:
-			return query, errNotRead
+		if err := setFilter(&query, key, given[0]); err != nil {
+			return query, err
 		}
 	}
 	return query, nil
+}
+
+// setFilter sets what a key of a query chooses.
+func setFilter(query *recorded.Query, key, text string) (err error) {
+	texts := map[string]*string{
+		"user": &query.User, "role": &query.Role, "object": &query.Object, "caller": &query.Caller, "function": &query.Function,
+	}
+	times := map[string]*string{"since": &query.Since, "until": &query.Until}
+	switch {
+	case texts[key] != nil:
+		*texts[key] = text
+		if _, isKnown := api.KindOf(text); key == "function" && text != "" && !isKnown {
+			return wrongFilter("there is no function " + text)
+		}
+	case times[key] != nil:
+		if *times[key], err = recorded.ParseTime(text); err != nil {
+			return wrongFilter(key + ": " + err.Error())
+		}
+	case key == "refused":
+		query.IsRefused = text == "true"
+		if text != "true" && text != "false" {
+			return wrongFilter("refused is true or false")
+		}
+	case key == "limit":
+		query.Limit, err = strconv.Atoi(text)
+		if err != nil || query.Limit < 1 || query.Limit > mostRows {
+			return wrongFilter("limit is a number from 1 to " + strconv.Itoa(mostRows))
+		}
+	case key == "before":
+		query.Before, err = strconv.ParseInt(text, 10, 64)
+		if err != nil || query.Before < 1 {
+			return wrongFilter("before is the number of an entry")
+		}
+	default:
+		return wrongFilter("the record has no filter " + key)
+	}
+	return nil
 }

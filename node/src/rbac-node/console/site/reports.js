@@ -1,7 +1,8 @@
 /** Reports: shown to be read, printed and signed, or as files, each by a ticket for one download. */
 
 import { linesOf, Refused, report, who } from "./api.js";
-import { button, fail, field, form, say, section, table } from "./parts.js";
+import { say } from "./notice.js";
+import { button, fail, field, form, section, table } from "./parts.js";
 import { brief, counted, h, hashOf, link, name, time } from "./text.js";
 import { differencePage } from "./difference.js";
 import { KINDS } from "./overview.js";
