@@ -11,10 +11,9 @@ import subprocess
 import types
 
 from pages import markdown
-from program.bench import SECONDS
 from program.offices import Office, small_office
 from program.web import Server
-from stopped.running import beside
+from program.bench import SECONDS, beside
 
 from .client import PAGE, office_at, raised, rbac
 from .driving import BUILT, DRIVERS, ROOT, go_environment

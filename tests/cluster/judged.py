@@ -1,10 +1,11 @@
 """Clients ask all nodes at once while machines fail, and all that was answered is judged."""
 
-import random
 import shutil
 import signal
 import threading
 import time
+
+import pytest
 
 from .faults import OFTEN, Faults
 from .histories import Client
@@ -20,8 +21,8 @@ from .running import build, build_wrong
 
 CLIENTS = 9
 
-# How often a cluster is judged, after how many faults, and the seconds between them.
-SHORT, LONG = (1, 80, 0.4), (10, 100, 0.6)
+# How often a cluster is judged, after how many faults, and the seconds between them; with `--gate`, and with `--long`.
+SHORT, GATE, LONG = (1, 40, 0.4), (1, 80, 0.4), (10, 100, 0.6)
 
 # The commands from one snapshot to the next. What came after the last snapshot but one is kept, so the recorder, which may have to
 # wait for a member that is paused, has the time of as many commands to read an entry. The second trim deletes the first entries.
@@ -73,20 +74,19 @@ class Trial:
         return faults + recorded_wrongly(self.cluster, judge)
 
 
-def check_faults(bench):
+@pytest.mark.seeds()
+def check_faults(bench, seed):
     """Nothing is lost, done twice, or answered from an old state, while machines are killed, paused and cut off."""
     node = build(bench.shared)
-    rounds, count, between = LONG if bench.is_long else SHORT
+    rounds, count, between = LONG if bench.is_long else GATE if bench.is_gate else SHORT
     for number in range(rounds):
         folder = bench.folder / str(number)
         folder.mkdir()
-        judge_faults(bench, folder, node, count, between)
+        judge_faults(bench, folder, node, count, between, seed + number)
         shutil.rmtree(folder)
 
 
-def judge_faults(bench, folder, node, count, between):
-    seed = random.randrange(10**6)
-    print(f"seed {seed}")
+def judge_faults(bench, folder, node, count, between, seed):
     with Cluster(folder, node, every=EVERY, more=options(folder, CLIENTS)) as cluster:
         trial, faults = Trial(cluster, seed), Faults(cluster, seed)
         time.sleep(2)
@@ -156,12 +156,14 @@ def faults_of(folder, node, kinds, seed):
         return [fault for fault in trial.judge(10) if not fault.startswith("not in 10 seconds")]
 
 
-def check_wrong_nodes(bench):
-    """Each wrong node is caught, and by answers alone. It may show its fault at the second or third try only."""
-    for wrong, (kinds, *edit) in WRONG.items():
-        folder = bench.folder / wrong
-        folder.mkdir()
-        node = build_wrong(folder, *edit)
-        found = next((it for it in (faults_of(folder / str(seed), node, kinds, seed) for seed in (1, 2, 3)) if it), [])
-        print(f"the node that is wrong by {wrong!r}: {len(found)} faults, such as {found[0][:300] if found else None}")
-        bench.judge(f"the node that is wrong by {wrong!r} is caught", [] if found else ["no fault was found"])
+@pytest.mark.gate
+@pytest.mark.parametrize("wrong", WRONG)
+def check_wrong_nodes(bench, wrong):
+    """The wrong node is caught, and by answers alone. It may show its fault at the second or third try only."""
+    kinds, *edit = WRONG[wrong]
+    sources = bench.folder / "sources"
+    sources.mkdir()
+    node = build_wrong(sources, *edit)
+    found = next((it for it in (faults_of(bench.folder / str(seed), node, kinds, seed) for seed in (1, 2, 3)) if it), [])
+    print(f"{len(found)} faults, such as {found[0][:300] if found else None}")
+    bench.judge("it is caught", [] if found else ["no fault was found"])

@@ -1,14 +1,15 @@
-"""Checks the sources of rbac-node with the tools of Go: their format, what `go vet` finds, and their own tests."""
+"""The unit of rbac-node, as systemd-analyze sees it."""
 
 import os
-import shutil
 import subprocess
+
+import pytest
 
 from program.bench import PROGRAM, TESTS
 
 from .running import build
 
-ROOT, LOAD = TESTS.parent / "node", "../bench/load"
+ROOT = TESTS.parent / "node"
 ENVIRONMENT = {
     **os.environ, "GO111MODULE": "off", "GOFLAGS": "-tags=etcd,jose", "GOPATH": f"{ROOT}:/usr/share/gocode", "RBAC_PROGRAM": PROGRAM,
 }  # fmt: skip
@@ -20,16 +21,9 @@ def go(*words):
     return done.stdout + done.stderr, done.returncode
 
 
-def check_form(bench):
-    bench.same("what gofmt would change", go("gofmt", "-l", LOAD), ("", 0))
-    bench.same("what go vet finds", go("go", "vet", LOAD), ("", 0))
-
-
+@pytest.mark.needs("systemd-analyze")
 def check_unit(bench):
     """systemd-analyze finds no fault in the unit, and calls its exposure low."""
-    if not shutil.which("systemd-analyze"):
-        print("left out: systemd-analyze is not installed")
-        return
     unit = (TESTS.parent / "deploy/rbac-node.service").read_text(encoding="utf-8")
     path = bench.write("rbac-node.service", unit.replace("/usr/local/bin/rbac-node", build(bench.shared)).encode())
     bench.same("what verify prints", go("systemd-analyze", "verify", path), ("", 0))

@@ -1,6 +1,7 @@
 """Nodes that are wrong by an edit of the sources: the checks of the record and of conditions have to notice each."""
 
 import traceback
+from functools import partial
 
 import pytest
 
@@ -8,6 +9,9 @@ from program.bench import Bench
 
 from . import records, stated
 from .running import build_wrong
+
+# The seed with which the record is checked.
+SEED = 1
 
 # By what a node does wrong: the check that has to fail, what it has to say, the file of the sources, and its edit.
 WRONG = {
@@ -23,7 +27,7 @@ WRONG = {
 """,
     ),
     "node 1 leaves a caller out of its record": (
-        records.check_records, "different entries of one number", "node/record.go", "	record.Room()\n", """	record.Room()
+        partial(records.check_records, seed=SEED), "different entries of one number", "node/record.go", "	record.Room()\n", """	record.Room()
 	if n.options.Name == "n1" && unit.Caller == "token:desk" {
 		unit.Caller = ""
 	}
@@ -39,21 +43,22 @@ WRONG = {
 def faults_of(check, folder, node):
     """What a check finds wrong with a node."""
     inner = Bench(folder)
-    inner.shared, inner.is_long = folder, False
+    inner.shared, inner.is_long, inner.is_gate = folder, False, False
     try:
-        check(inner, node)
+        check(inner, node=node)
     except Exception:
         inner.faults.append(traceback.format_exc())
     return inner.faults
 
 
-@pytest.mark.long
-def check_wrong(bench):
-    """Each wrong node is caught."""
-    for number, (wrong, (check, says, *edit)) in enumerate(WRONG.items()):
-        sources, folder = bench.folder / f"sources{number}", bench.folder / f"cluster{number}"
-        sources.mkdir()
-        folder.mkdir()
-        found = [fault for fault in faults_of(check, folder, build_wrong(sources, *edit)) if says in fault]
-        print(f"{wrong}: {len(found)} faults, such as {found[0][-300:] if found else None}", flush=True)
-        bench.judge(f"{wrong}: this is caught", [] if found else [f"nothing says {says!r}"])
+@pytest.mark.gate
+@pytest.mark.parametrize("wrong", WRONG)
+def check_wrong(bench, wrong):
+    """The wrong node is caught."""
+    check, says, *edit = WRONG[wrong]
+    sources, folder = bench.folder / "sources", bench.folder / "cluster"
+    sources.mkdir()
+    folder.mkdir()
+    found = [fault for fault in faults_of(check, folder, build_wrong(sources, *edit)) if says in fault]
+    print(f"{len(found)} faults, such as {found[0][-300:] if found else None}", flush=True)
+    bench.judge("this is caught", [] if found else [f"nothing says {says!r}"])

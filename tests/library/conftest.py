@@ -6,6 +6,9 @@ import pytest
 
 from . import building
 
+# A program that the checks run.
+collect_ignore = ["lines.py"]
+
 
 @pytest.fixture(scope="session", autouse=True)
 def library(built):

@@ -1,4 +1,4 @@
-"""The suites of the languages, as their own tools run them: `go test`, `node --test`, `cargo test`, JUnit, pytest for the client.
+"""The suites of the clients, as the tools of their languages run them: `go test`, `node --test`, `cargo test`, JUnit, pytest for the client.
 
 What is tested is found by its files: a package of Go with a `_test.go`, whichever it is.
 """
@@ -15,11 +15,8 @@ import pytest
 from program.bench import PROGRAM, TESTS
 
 ROOT = TESTS.parent
-NODE, CLIENTS = ROOT / "node/src/rbac-node", ROOT / "clients"
+CLIENTS = ROOT / "clients"
 JARS = Path("/usr/share/java")
-FLAGS = ["-tags=etcd,jose,sqlite,netgo,osusergo"]
-
-PACKAGES = sorted({path.parent for path in NODE.rglob("*_test.go")})
 MODULES = sorted({path.parent for path in (CLIENTS / "go").rglob("*_test.go")})
 
 
@@ -41,12 +38,6 @@ def go_test(bench, folder, flags, **more):
     bench.judge(name_of(folder), [] if status == 0 else [text[-3000:]])
     bench.same("tests that were skipped", [line["Test"] for line in tests if line["Action"] == "skip"], [])
     bench.passed += sum(line["Action"] == "pass" for line in tests)
-
-
-@pytest.mark.needs("go", "gcc", "sqlite-go", "crypto-go", "jose-go", "etcd-go")
-@pytest.mark.parametrize("folder", PACKAGES, ids=name_of)
-def check_go_of_server(bench, folder):
-    go_test(bench, folder, FLAGS, GO111MODULE="off", GOFLAGS="", GOPATH=f"{ROOT}/node:/usr/share/gocode")
 
 
 @pytest.mark.needs("go", "gcc")

@@ -53,16 +53,16 @@ def check_length(bench):
 
 
 def check_two_commands(bench):
-    """Of the two commands the first prints what is written down beside its input, and the gate is the second with `--proofs`."""
+    """Of the two commands the first prints what is written down beside its input, and the gate begins with the second."""
     first, second = re.findall(r"^    (bin/.*)$", markdown.section(PAGE, "## Two commands"), re.M)
     (bench.folder / "examples").symlink_to(ROOT / "examples")
     (path,) = re.findall(r"< (\S+)\.jsonl$", first)
     bench.same("the page names the answers", f"{path}.answers" in PAGE, True)
     with Shell(bench) as reader:
         reader.shows(first, (ROOT / f"{path}.answers").read_text(encoding="utf-8"))
-    gate = (ROOT / ".ci/run").read_text(encoding="utf-8").splitlines()[-1]
-    bench.same("the gate runs the second command", gate.endswith(f"exec {second} --proofs"), True)
-    bench.same("the page names the gate", f"`{second} --proofs`" in PAGE, True)
+    gate = (ROOT / ".ci/run").read_text(encoding="utf-8")
+    bench.same("the gate runs the second command, then the proofs", f"\n{second} --gate && bin/prove || exit 1\n" in gate, True)
+    bench.same("the page names the proofs", "`bin/prove`" in PAGE, True)
     setup = (ROOT / "bin/setup").read_text(encoding="utf-8")
     said = "as root, or as a user with `sudo` without a password" in markdown.in_one_line(PAGE)
     bench.same("who can install what is missing", ("neither root nor sudo" in setup, said), (True, True))

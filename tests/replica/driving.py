@@ -27,7 +27,6 @@ from library import building
 from program.bench import SECONDS, TESTS
 
 DRIVERS = TESTS / "replica/drivers"
-LONG = "RBAC_REPLICA_LONG"
 
 # Go's own packages call no C then: otherwise they would be built again for each folder in which the library is.
 GO_TAGS = "-tags=netgo,osusergo"

@@ -10,6 +10,7 @@ import (
 	"os/exec"
 	"path/filepath"
 	"strings"
+	"sync"
 	"testing"
 	"time"
 
@@ -23,7 +24,31 @@ import (
 type bench struct {
 	*testing.T
 	*Record
-	log bytes.Buffer
+	log journal
+}
+
+// A journal is a log that is read while others write it.
+type journal struct {
+	mutex sync.Mutex
+	text  bytes.Buffer
+}
+
+func (j *journal) Write(p []byte) (int, error) {
+	j.mutex.Lock()
+	defer j.mutex.Unlock()
+	return j.text.Write(p)
+}
+
+func (j *journal) String() string {
+	j.mutex.Lock()
+	defer j.mutex.Unlock()
+	return j.text.String()
+}
+
+func (j *journal) Reset() {
+	j.mutex.Lock()
+	defer j.mutex.Unlock()
+	j.text.Reset()
 }
 
 func open(t *testing.T) *bench {

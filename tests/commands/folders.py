@@ -1,30 +1,22 @@
-#!/usr/bin/env python3
-"""Checks `bin/release folder` and bin/verify: a folder for a release, in which each change of a file, of a sum, of a list or of the
+"""`bin/release folder` and bin/verify: a folder for a release, in which each change of a file, of a sum, of a list or of the
 signature is refused.
 
-    releases.py [--times] [WORD]
-
-With WORD, only the checks with WORD in their names run; `--times` prints how long each took. The folder is made once, with the
-program and the library that are checked. What needs a missing program is left out, and a line reports it.
+The folder is made once, with the program and the library that are checked.
 """
 
 import os
 import shutil
 import subprocess
-import sys
-import tempfile
 from hashlib import sha256
 from pathlib import Path
 
+import pytest
+
 from program.bench import PROGRAM, TESTS
-from stopped.running import LeftOut, run_all
 
 ROOT = TESTS.parent
-NEEDED = ["dpkg-deb", "cc", "readelf", "minisign"]
+NEEDED = pytest.mark.needs("cc", "readelf", "minisign", "dpkg-buildpackage", "dh", "dh_installsysusers")
 CONTACT = "security@release.example, key 0123 4567"
-
-# Where the folder and the keys are, for the processes that check them.
-MADE = "RBAC_RELEASE_FOLDER"
 
 
 def run(words, **settings):
@@ -55,36 +47,39 @@ def record(folder):
 
 
 def make(folder):
-    """Makes a signed folder. Returns what went wrong, or nothing."""
+    """Makes a signed folder."""
     _, secret = new_key(folder, "ours")
     new_key(folder, "theirs")
     words = ["folder", "--key", secret, folder / "made"]
     status, said = run([ROOT / "bin/release", *words], RELEASE=record(folder / "release"), RELEASE_CONTACT=CONTACT)
-    return "" if status == 0 else said
+    if status:
+        raise ValueError(said)
 
 
-def made():
-    """The folder in which the release and the keys are."""
-    return Path(os.environ[MADE])
+class Signed:
+    """The folder of the release, and the keys beside it."""
+
+    def __init__(self, bench, place):
+        self.bench, self.place, self.made = bench, place, place / "made"
+
+    def copy(self, name):
+        """A copy of the release that may be changed."""
+        return shutil.copytree(self.made, self.bench.folder / name)
+
+    def verify(self, folder, key="ours.pub"):
+        """The status of bin/verify, and what it prints; without a key if none is given."""
+        return run([ROOT / "bin/verify", folder, *([self.place / key] if key else [])])
+
+    def refuses(self, what, folder, words, key="ours.pub"):
+        """Counts whether a folder is refused with a line that has some words."""
+        status, said = self.verify(folder, key)
+        is_line = said.startswith("verify: ") and said.count("\n") == 1 and words in said
+        self.bench.judge(f"{what} is refused", [] if (status, is_line) == (1, True) else [f"status {status}: {said}"])
 
 
-def copy(bench, name):
-    """A copy of the release that may be changed."""
-    place = bench.folder / name
-    shutil.copytree(made() / "made", place)
-    return place
-
-
-def verify(folder, key="ours.pub"):
-    """The status of bin/verify, and what it prints; without a key if none is given."""
-    return run([ROOT / "bin/verify", folder, *([made() / key] if key else [])])
-
-
-def refused(bench, what, folder, words, key="ours.pub"):
-    """Counts whether a folder is refused with a line that has some words."""
-    status, said = verify(folder, key)
-    is_line = said.startswith("verify: ") and said.count("\n") == 1 and words in said
-    bench.judge(f"{what} is refused", [] if (status, is_line) == (1, True) else [f"status {status}: {said}"])
+@pytest.fixture
+def release(bench, built):
+    return Signed(bench, built("release", make))
 
 
 def flip(path, place):
@@ -101,14 +96,10 @@ def sum_again(folder):
     (folder / "SHA256SUMS").write_text("".join(lines), encoding="ascii")
 
 
-def check_made(bench, fault):
-    """The folder is made."""
-    bench.judge("whether the folder is made", [fault] if fault else [])
-
-
-def check_accepted(bench):
+@NEEDED
+def check_accepted(bench, release):
     """The folder has the packages, the manifests, the lists and the contact, and is accepted with its key, as a file or as a text."""
-    folder = made() / "made"
+    folder = release.made
     names = {path.name for path in folder.iterdir()}
     packages = {name for name in names if name.endswith(".deb")}
     others = {"CONTACT", "SHA256SUMS", "SHA256SUMS.minisig", "libraries", "library.manifest", "manifest"}
@@ -122,93 +113,97 @@ def check_accepted(bench):
     in_program = {line[2] for line in lines if line[1] == "rbac" and line[4] == "in it"}
     bench.same("libraries of the program", {"sqlite", "serde_json", "httparse", "clap", "csv", "std"} - in_program, set())
     said = f"{folder}: every file is the one that was signed\n"
-    text = (made() / "ours.pub").read_text(encoding="ascii").splitlines()[1]
-    bench.same("with the key in a file", verify(folder), (0, said))
+    text = (release.place / "ours.pub").read_text(encoding="ascii").splitlines()[1]
+    bench.same("with the key in a file", release.verify(folder), (0, said))
     bench.same("with the key as a text", run([ROOT / "bin/verify", folder, text]), (0, said))
-    status, said = verify(folder, "")
+    status, said = release.verify(folder, "")
     bench.same("without a key", (status, "nothing shows who made them" in said), (0, True))
     bench.same("the status without arguments", run([ROOT / "bin/verify"])[0], 2)
     bench.same("a folder that isn't there", run([ROOT / "bin/verify", folder / "none"])[0], 1)
 
 
-def check_files(bench):
+@NEEDED
+def check_files(bench, release):
     """One byte of any file, a file that is missing, one more, and a link in its place are refused, with the key and without."""
-    for path in sorted((made() / "made").iterdir()):
+    for path in sorted(release.made.iterdir()):
         if path.name.startswith("SHA256SUMS"):
             continue
         for key in ("ours.pub", ""):
-            folder = copy(bench, f"{path.name}-{key or 'no'}-changed")
+            folder = release.copy(f"{path.name}-{key or 'no'}-changed")
             flip(folder / path.name, path.stat().st_size // 2)
-            refused(bench, f"{path.name} with another byte, {key}", folder, f"{path.name} was changed", key)
+            release.refuses(f"{path.name} with another byte, {key}", folder, f"{path.name} was changed", key)
             (folder / path.name).unlink()
-            refused(bench, f"a folder without {path.name}, {key}", folder, f"{path.name} is missing", key)
+            release.refuses(f"a folder without {path.name}, {key}", folder, f"{path.name} is missing", key)
             (folder / path.name).symlink_to(path)
-            refused(bench, f"a link in place of {path.name}, {key}", folder, f"{path.name} is missing", key)
-    folder = copy(bench, "more")
+            release.refuses(f"a link in place of {path.name}, {key}", folder, f"{path.name} is missing", key)
+    folder = release.copy("more")
     (folder / "another_1_amd64.deb").write_bytes(b"")
-    refused(bench, "one more file", folder, "another_1_amd64.deb is not listed")
-    refused(bench, "one more file, without a key", folder, "another_1_amd64.deb is not listed", "")
+    release.refuses("one more file", folder, "another_1_amd64.deb is not listed")
+    release.refuses("one more file, without a key", folder, "another_1_amd64.deb is not listed", "")
 
 
-def check_sums(bench):
+@NEEDED
+def check_sums(bench, release):
     """Each sum with another digit, a line that is missing or twice, and a name in another folder are refused."""
-    lines = (made() / "made/SHA256SUMS").read_text(encoding="ascii").splitlines(True)
+    lines = (release.made / "SHA256SUMS").read_text(encoding="ascii").splitlines(True)
     for number, line in enumerate(lines):
-        folder, name = copy(bench, f"sum-{number}"), line.split()[1]
+        folder, name = release.copy(f"sum-{number}"), line.split()[1]
         flip(folder / "SHA256SUMS", sum(map(len, lines[:number])) + 5)
-        refused(bench, f"another sum of {name}", folder, "no signature of SHA256SUMS")
-        refused(bench, f"another sum of {name}, without a key", folder, f"{name} was changed", "")
+        release.refuses(f"another sum of {name}", folder, "no signature of SHA256SUMS")
+        release.refuses(f"another sum of {name}, without a key", folder, f"{name} was changed", "")
     for what, changed, words in (
         ("a line that is missing", lines[1:], "CONTACT"),
         ("a line twice", [*lines, lines[0]], "names a file twice"),
         ("a name in another folder", [*lines, f"{'0' * 64}  ../x\n"], "a line that is not a sum and a name"),
         ("an empty list", [], "doesn't list manifest"),
     ):
-        folder = copy(bench, what)
+        folder = release.copy(what)
         (folder / "SHA256SUMS").write_text("".join(changed), encoding="ascii")
-        refused(bench, what, folder, "no signature of SHA256SUMS")
-        refused(bench, f"{what}, without a key", folder, words, "")
+        release.refuses(what, folder, "no signature of SHA256SUMS")
+        release.refuses(f"{what}, without a key", folder, words, "")
 
 
-def check_signature(bench):
+@NEEDED
+def check_signature(bench, release):
     """A signature with another byte in any of its lines, none, or one by another key is refused."""
-    lines = (made() / "made/SHA256SUMS.minisig").read_bytes().splitlines(True)
+    lines = (release.made / "SHA256SUMS.minisig").read_bytes().splitlines(True)
     for number, line in enumerate(lines):
         if number > 0:
-            folder = copy(bench, f"signature-{number}")
+            folder = release.copy(f"signature-{number}")
             flip(folder / "SHA256SUMS.minisig", sum(map(len, lines[:number])) + min(40, len(line) // 2))
-            refused(bench, f"a signature with another line {number + 1}", folder, "no signature of SHA256SUMS")
-    folder = copy(bench, "none")
+            release.refuses(f"a signature with another line {number + 1}", folder, "no signature of SHA256SUMS")
+    folder = release.copy("none")
     (folder / "SHA256SUMS.minisig").unlink()
-    refused(bench, "a folder without a signature", folder, "the folder is not signed")
-    refused(bench, "a signature by another key", made() / "made", "no signature of SHA256SUMS", "theirs.pub")
+    release.refuses("a folder without a signature", folder, "the folder is not signed")
+    release.refuses("a signature by another key", release.made, "no signature of SHA256SUMS", "theirs.pub")
 
 
-def check_forged(bench):
+@NEEDED
+def check_forged(bench, release):
     """Somebody who makes all sums anew is refused with the key, also after signing by another one; and if parts don't belong together
     without a key too."""
-    folder = copy(bench, "forged")
+    folder = release.copy("forged")
     (folder / "CONTACT").write_text("somebody else\n", encoding="ascii")
     sum_again(folder)
-    bench.same("without a key nothing shows that", verify(folder, "")[0], 0)
-    refused(bench, "other sums", folder, "no signature of SHA256SUMS")
-    run(["minisign", "-S", "-s", made() / "theirs.key", "-m", folder / "SHA256SUMS"])
-    refused(bench, "other sums, signed by another key", folder, "no signature of SHA256SUMS")
+    bench.same("without a key nothing shows that", release.verify(folder, "")[0], 0)
+    release.refuses("other sums", folder, "no signature of SHA256SUMS")
+    run(["minisign", "-S", "-s", release.place / "theirs.key", "-m", folder / "SHA256SUMS"])
+    release.refuses("other sums, signed by another key", folder, "no signature of SHA256SUMS")
     for name, words in (
         ("manifest", "the manifest was changed by hand"),
         ("libraries", "the list of libraries has nothing of"),
     ):
-        folder = copy(bench, f"other-{name}")
+        folder = release.copy(f"other-{name}")
         text = (folder / name).read_text(encoding="utf-8")
         (folder / name).write_text(text.replace("sources ", "sources 0") if name == "manifest" else "", encoding="utf-8")
         sum_again(folder)
-        refused(bench, f"another {name} with its sum", folder, words, "")
-    folder = copy(bench, "other-program")
+        release.refuses(f"another {name} with its sum", folder, words, "")
+    folder = release.copy("other-program")
     other = bench.write("program", b"#!/bin/sh\n")
     run([ROOT / "bin/release", "--record", other, "0" * 64, bench.folder / "record"])
     shutil.copy(bench.folder / "record/manifest", folder / "manifest")
     sum_again(folder)
-    refused(bench, "the manifest of another program", folder, "is not that of the manifest", "")
+    release.refuses("the manifest of another program", folder, "is not that of the manifest", "")
 
 
 def check_contact(bench):
@@ -225,25 +220,3 @@ def check_contact(bench):
         bench.same(f"the status of {words}", status, 2)
     page = " ".join((ROOT / "SECURITY.md").read_text(encoding="utf-8").split())
     bench.same("SECURITY.md says that a release names a contact", "Each release names a contact" in page, True)
-
-
-CHECKS = [check_accepted, check_files, check_sums, check_signature, check_forged]
-
-
-def leave_out(_, program):
-    """Says that the folder can't be made here."""
-    raise LeftOut(f"there is no {program}")
-
-
-def main(words):
-    missing = [program for program in NEEDED if not shutil.which(program)]
-    if missing:
-        return run_all([(leave_out, missing[0]), (check_contact,)], words)
-    with tempfile.TemporaryDirectory(prefix="rbac-release-") as folder:
-        fault = make(Path(folder))
-        os.environ[MADE] = folder
-        return run_all([(check_made, fault), (check_contact,), *([] if fault else [(check,) for check in CHECKS])], words)
-
-
-if __name__ == "__main__":
-    sys.exit(main(sys.argv[1:]))

@@ -1,27 +1,20 @@
-#!/usr/bin/env python3
-"""Checks bin/package: the Debian package has the program and the files that belong to it, and they work from there.
+"""bin/package: the Debian package has the program and the files that belong to it, and they work from there.
 
-    package.py [--times] [WORD]
-
-tests/installed.py has it installed, with the package of the front. With WORD, only the checks with WORD in their names run;
-`--times` prints how long each took. The package is made with the program that is checked. What needs a missing program is left
-out and not counted, and a line reports it.
+The package is made once, with the program that is checked. tests/installed installs it, with the package of the front.
 """
 
 import gzip
 import hashlib
 import os
 import re
-import shutil
 import subprocess
-import sys
-import tempfile
 import time
 from pathlib import Path
 
-from pages import command_line, markdown, sources
+import pytest
+
+from pages import markdown, sources
 from program.bench import PROGRAM
-from stopped.running import run_all
 
 ROOT = sources.ROOT
 VERSION = (ROOT / "VERSION").read_text(encoding="ascii").strip()
@@ -48,23 +41,7 @@ MOVED = {
 # The pages of man of the package.
 MANUALS = ["rbac.1", "rbac-backup.8", "rbac-health.1", "rbac-why.1"]
 
-# The options beside the commands: of each command the first, and of the program all.
-HELP, VERSION_OPTIONS = {"-h", "--help"}, set(command_line.VERSION_OPTION.split(", "))
-
-# Functions in place of those of zsh, which print their arguments.
-OF_ZSH = """
-compdef() { :; }
-_arguments() { if [[ $1 == -C ]]; then state=$wanted; fi; if [[ $1 != -C || $wanted == options ]]; then print -rl -- "$@"; fi; }
-_describe() { print -rl -- "${(@P)@[-1]}"; }
-"""
-
-
-def there_is(*programs):
-    """Returns whether these programs can be found. Prints a line for each that can't."""
-    missing = [program for program in programs if not shutil.which(program)]
-    for program in missing:
-        print(f"left out: what needs {program}, which can't be found")
-    return not missing
+pytestmark = pytest.mark.needs("dpkg-buildpackage", "dh", "dh_installsysusers")
 
 
 def run(words, folder=None, **settings):
@@ -80,9 +57,7 @@ class Packages:
 
     def __init__(self, folder):
         self.folder = folder
-        _, digest, _ = run([ROOT / "bin/release", "--digest"])
-        self.release = self.record("release", digest.strip())
-        self.root = folder / "root"
+        self.release, self.root = folder / "release", folder / "root"
 
     def __str__(self):
         return DEB
@@ -105,13 +80,16 @@ class Packages:
         """The path of the package in a folder."""
         return self.folder / out / DEB
 
-    def unpack(self):
-        """Makes the package, and unpacks it into the folder root. Returns what is wrong, or nothing."""
+    def begin(self):
+        """Makes the package, and unpacks it into the folder root."""
+        _, digest, _ = run([ROOT / "bin/release", "--digest"])
+        self.record("release", digest.strip())
         made = self.make("out")
         if made != (0, f"out/{DEB}\n", ""):
-            return f"bin/package ends with {made}"
+            raise ValueError(f"bin/package ends with {made}")
         _, _, said = run(["dpkg-deb", "-x", self.deb("out"), self.root])
-        return said
+        if said:
+            raise ValueError(said)
 
     def fields(self):
         """The fields that describe the package."""
@@ -119,6 +97,12 @@ class Packages:
         return dict(re.findall(r"^(\S+): (.*)$", said, re.M))
 
 
+@pytest.fixture
+def packages(built):
+    return Packages(built("package", lambda folder: Packages(folder).begin()))
+
+
+@pytest.mark.gate
 def check_same_bytes(bench, packages):
     """Made again with another time, mask and language, and in another folder, the package has the same bytes."""
     time.sleep(1.1 - time.time() % 1)
@@ -155,13 +139,14 @@ def check_refused(bench, packages):
     bench.same("another argument", packages.make("changed", "--force")[0], 2)
 
 
+@pytest.mark.needs("lintian")
 def check_lint(bench, packages):
     """lintian finds no error, and warns of nothing."""
-    if there_is("lintian"):
-        allow = ["--allow-root"] if os.geteuid() == 0 else []
-        bench.same("what lintian finds", run(["lintian", *allow, packages.deb("out")])[:2], (0, ""))
+    allow = ["--allow-root"] if os.geteuid() == 0 else []
+    bench.same("what lintian finds", run(["lintian", *allow, packages.deb("out")])[:2], (0, ""))
 
 
+@pytest.mark.needs("git", "readelf")
 def check_fields(bench, packages):
     """The fields are those of the repository and of the program: version, author, the C library that it needs."""
     fields = packages.fields()
@@ -173,12 +158,12 @@ def check_fields(bench, packages):
     bench.same("what else it depends on", [one.split()[0] for one in depends[1:]], ["python3", "systemd"])
     bench.same("the Python", "python3 (>= 3.9)" in depends, True)
     bench.same("what it suggests", fields["Suggests"], f"rbac-node (= {VERSION}), sqlite3, graphviz, psmisc")
-    status, authors, _ = run(["git", "log", "--format=%an <%ae>"], ROOT) if shutil.which("git") else (1, "", "")
+    status, authors, _ = run(["git", "log", "--format=%an <%ae>"], ROOT)
+    # A copy of the repository without its history has no authors.
     if status == 0:
         bench.same("whether the maintainer has made a commit", fields["Maintainer"] in authors.splitlines(), True)
-    if there_is("readelf"):
-        _, said, _ = run(["readelf", "-d", packages.root / "usr/bin/rbac"], LC_ALL="C")
-        bench.same("the libraries", re.findall(r"\(NEEDED\).*\[(.*)\]", said), ["libc.so.6"])
+    _, said, _ = run(["readelf", "-d", packages.root / "usr/bin/rbac"], LC_ALL="C")
+    bench.same("the libraries", re.findall(r"\(NEEDED\).*\[(.*)\]", said), ["libc.so.6"])
 
 
 def check_versions(bench, packages):
@@ -191,10 +176,9 @@ def check_versions(bench, packages):
     items = " ".join(re.sub(r"^ +\*?", "", line) for line in said.splitlines())
     for item in re.findall(r"^- (.*?)(?=^- |^#|\Z)", text, re.M | re.S):
         bench.same(f"the changelog has {item[:30]}", " ".join(item.split()) in " ".join(items.split()), True)
-    if there_is("dpkg-parsechangelog"):
-        (packages.folder / "changelog").write_text(said, encoding="utf-8")
-        listed = run(["dpkg-parsechangelog", "-l", packages.folder / "changelog", "-S", "Version"])
-        bench.same("the version as Debian reads it", listed, (0, f"{VERSION}\n", ""))
+    (packages.folder / "changelog").write_text(said, encoding="utf-8")
+    listed = run(["dpkg-parsechangelog", "-l", packages.folder / "changelog", "-S", "Version"])
+    bench.same("the version as Debian reads it", listed, (0, f"{VERSION}\n", ""))
 
 
 def kept_files():
@@ -271,6 +255,7 @@ def check_places(bench, packages):
         bench.same(f"paths of {page.name} that are missing", missing, [])
 
 
+@pytest.mark.needs("sqlite3")
 def check_example(bench, packages):
     """The first command of README.md prints its answers in the folder of the package, and the tools find the program."""
     folder = packages.root / SHARE
@@ -278,136 +263,30 @@ def check_example(bench, packages):
     command = re.findall(r"^    (bin/rbac .*)$", markdown.section(text, "## Two commands"), re.M)[0]
     answers = (folder / "examples/first.answers").read_text(encoding="utf-8")
     bench.same(f"what {command} prints", run(["sh", "-c", command], folder), (0, answers, ""))
-    if there_is("sqlite3"):
-        office, evidence = packages.folder / "office", packages.folder / "evidence"
-        made = run([packages.root / "usr/bin/rbac", "init", office])
-        bench.same("an office is made", made, (0, "", ""))
-        settings = {key: value for key, value in os.environ.items() if key != "RBAC_PROGRAM"}
-        command = [folder / "tools/evidence.py", "2026-01-01", office, evidence]
-        done = subprocess.run(command, capture_output=True, env=settings, check=False)
-        bench.same("the end of evidence.py", (done.returncode, done.stderr), (0, b""))
-        said = (evidence / "evidence.txt").read_text(encoding="utf-8")
-        bench.same("the digest of the program", hashlib.sha256(Path(PROGRAM).read_bytes()).hexdigest() in said, True)
+    office, evidence = packages.folder / "office", packages.folder / "evidence"
+    made = run([packages.root / "usr/bin/rbac", "init", office])
+    bench.same("an office is made", made, (0, "", ""))
+    settings = {key: value for key, value in os.environ.items() if key != "RBAC_PROGRAM"}
+    command = [folder / "tools/evidence.py", "2026-01-01", office, evidence]
+    done = subprocess.run(command, capture_output=True, env=settings, check=False)
+    bench.same("the end of evidence.py", (done.returncode, done.stderr), (0, b""))
+    said = (evidence / "evidence.txt").read_text(encoding="utf-8")
+    bench.same("the digest of the program", hashlib.sha256(Path(PROGRAM).read_bytes()).hexdigest() in said, True)
 
 
+@pytest.mark.needs("man")
 def check_man_page(bench, packages):
     """man finds the pages of the package by their names."""
-    for name in MANUALS if there_is("man") else ():
+    for name in MANUALS:
         command = ["man", "-M", packages.root / "usr/share/man", name[:-2]]
         status, said, err = run(command, LC_ALL="C.UTF-8", MANWIDTH="80")
         title = name[:-2].upper()
         bench.same(f"the page {name}", (status, said.split("(")[0], f"Bitzolanu {VERSION}" in said, err), (0, title, True, ""))
 
 
-def known_commands():
-    """The commands of the program, each with its options and the number of its files, as the sources have them."""
-    known = {}
-    for form in command_line.forms():
-        command, *words = form.split()
-        options, files = known.get(command, (set(), 0))
-        files += sum(word.isupper() and not before.startswith("--") for before, word in zip([command, *words], words))
-        known[command] = (options | {word for word in words if word.startswith("--")}, files)
-    return known
-
-
-def by_bash(path, words):
-    """What bash offers for the last of the words, and whether it offers files."""
-    text = 'source "$1"; shift; compopt() { files=yes; }; COMP_WORDS=("$@"); COMP_CWORD=$(($# - 1)); _rbac'
-    _, said, err = run(["bash", "-c", f'{text}; printf "%s\\n" "${{COMPREPLY[@]}}"; echo "$files"', "bash", path, *words])
-    *offered, files = said.splitlines() or [""]
-    if err:
-        raise ValueError(err)
-    return set(offered) - {""}, bool(files)
-
-
-def by_fish(path, line, folder):
-    """What fish offers at the end of a line, with its descriptions."""
-    words = ["fish", "--no-config", "-c", f"source {path}; complete -C '{line}'"]
-    _, said, err = run(words, folder, HOME=str(folder), XDG_CONFIG_HOME=str(folder), XDG_DATA_HOME=str(folder))
-    if err:
-        raise ValueError(err)
-    return {line.partition("\t")[0]: line.partition("\t")[2] for line in said.splitlines()}
-
-
-def by_zsh(path, state, words):
-    """Returns what the completion offers to zsh for the words after the program. `state` is what zsh is about to complete."""
-    text = f"{OF_ZSH}\nwanted={state}; words=({' '.join(words)}); source {path}; _rbac"
-    _, said, err = run(["zsh", "-f", "-c", text])
-    if err:
-        raise ValueError(err)
-    return said.splitlines()
-
-
-def check_bash(bench):
-    """bash offers the commands, the options of each and files for its files, and nothing for a number."""
-    path, known = ROOT / "deploy/completions/rbac.bash", known_commands()
-    if not there_is("bash"):
-        return
-    bench.same("the commands by bash", by_bash(path, ["rbac", ""]), ({*known, "help"} | HELP | VERSION_OPTIONS, False))
-    bench.same("the commands after help by bash", by_bash(path, ["rbac", "help", ""]), ({*known, "help"}, False))
-    for command, (options, files) in known.items():
-        wanted = ({*options, "--help"}, False)
-        bench.same(f"the options of {command} by bash", by_bash(path, ["rbac", command, "--"]), wanted)
-        bench.same(f"the files of {command} by bash", by_bash(path, ["rbac", command, ""]), (set(), files > 0))
-    for option in command_line.ranges():
-        for words in ([f"--{option}", ""], [f"--{option}", "=", "8"]):
-            bench.same(f"what bash offers for {words}", by_bash(path, ["rbac", "serve", *words]), (set(), False))
-
-
-def check_zsh(bench):
-    """zsh gets the commands, the options of each, and as many files as it has."""
-    path, known = ROOT / "deploy/completions/_rbac", known_commands()
-    if not there_is("zsh"):
-        return
-    *listed, last = by_zsh(path, "command", [])
-    bench.same("the commands by zsh", listed, [f"{name}:{use}" for name, use, _ in command_line.commands()])
-    bench.same("the last command by zsh", last.partition(":")[0], "help")
-    listed = re.findall(r"^(?:\(.*?\))?(-[\w-]+)\[", "\n".join(by_zsh(path, "options", [])), re.M)
-    bench.same("the options by zsh", set(listed), HELP | VERSION_OPTIONS)
-    bench.same("the commands after help by zsh", by_zsh(path, "argument", ["help"]), by_zsh(path, "command", []))
-    for command, (options, files) in known.items():
-        listed = by_zsh(path, "argument", [command])
-        offered = {option for line in listed for option in re.findall(r"^(?:\(.*?\))?(--\w+)", line)}
-        bench.same(f"the options of {command} by zsh", offered, {*options, "--help"})
-        bench.same(f"the files of {command} by zsh", sum(line.endswith(":_files") for line in listed), files)
-
-
-def check_fish(bench):
-    """fish offers the commands, the options of each and files for its files, and describes the commands as zsh does."""
-    path, known = ROOT / "deploy/completions/rbac.fish", known_commands()
-    if not there_is("fish"):
-        return
-    folder = bench.folder / "fish"
-    folder.mkdir()
-    (folder / "office").touch()
-    commands = by_fish(path, "rbac ", folder)
-    bench.same("the commands by fish", set(commands), {*known, "help"})
-    bench.same("the commands after help by fish", set(by_fish(path, "rbac help ", folder)), {*known, "help"})
-    uses = {name: use for name, use, _ in command_line.commands()}
-    bench.same("the descriptions of the commands by fish", {**commands, **uses}, commands)
-    bench.same("the options by fish", set(by_fish(path, "rbac --", folder)), {"--help", "--version"})
-    for command, (options, files) in known.items():
-        bench.same(f"the options of {command} by fish", set(by_fish(path, f"rbac {command} --", folder)), {*options, "--help"})
-        offered = set(by_fish(path, f"rbac {command} o", folder))
-        bench.same(f"the files of {command} by fish", offered, {"office"} if files else set())
-    for option in command_line.ranges():
-        bench.same(f"what fish offers for {option}", by_fish(path, f"rbac serve --{option} ", folder), {})
-    if there_is("zsh"):
-        of_zsh = by_zsh(ROOT / "deploy/completions/_rbac", "command", [])
-        bench.same("the descriptions of the commands", commands, dict(line.split(":", 1) for line in of_zsh))
-
-
-def check_made(bench, fault):
-    """The package is made and unpacked."""
-    bench.judge("whether the package is made", [fault] if fault else [])
-
-
 def check_library(bench, packages):
     """A program is built over the packages of the library, and runs; the same files produce the same bytes."""
     archive = os.environ.get("RBAC_ARCHIVE", ROOT / "release/librbac_c.a")
-    if not os.path.isfile(archive):
-        print("left out: the packages of the library, of which there is no archive")
-        return
     _, digest, _ = run([ROOT / "bin/release", "library", "--digest"])
     release = packages.folder / "release-library"
     run([ROOT / "bin/release", "library", "--record", archive, digest.strip(), release])
@@ -427,27 +306,3 @@ def check_library(bench, packages):
         command = ["cc", f"-I{root}/usr/include", source, f"-L{libraries}", *words, "-o", packages.folder / "use"]
         bench.same(f"a program with {words[0]} is built", run(command), (0, "", ""))
         bench.same(f"a program with {words[0]} runs", run([packages.folder / "use"], LD_LIBRARY_PATH=str(libraries)), (0, "", ""))
-
-
-# The checks of a package, which is made once.
-OF_PACKAGE = [check_fields, check_versions, check_files, check_sums, check_places, check_example, check_man_page]
-OF_PACKAGE += [check_same_bytes, check_refused, check_lint, check_library]
-
-
-def jobs_in(folder):
-    """The checks: those of the completions, and those of a package that is made in a folder."""
-    yield from ((check,) for check in (check_bash, check_zsh, check_fish))
-    if there_is("dpkg-buildpackage", "dh", "dh_installsysusers"):
-        packages = Packages(folder)
-        fault = packages.unpack()
-        yield (check_made, fault)
-        yield from () if fault else ((check, packages) for check in OF_PACKAGE)
-
-
-def main(words):
-    with tempfile.TemporaryDirectory() as folder:
-        return run_all(list(jobs_in(Path(folder))), words)
-
-
-if __name__ == "__main__":
-    sys.exit(main(sys.argv[1:]))
