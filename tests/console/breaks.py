@@ -64,13 +64,13 @@ BREAKS = {
         SITE + "objects.js", "!isLocked.has(one) && usable", "usable", "hierarchy.check_locked", "dave",
     ),
     "users who may do what no session can": (
-        SITE + "objects.js", "roles.filter((each) => !violated(each))", "roles", "hierarchy.check_objects", "who may not",
+        SITE + "objects.js", "roles.filter((each) => !violated(each))", "roles", "hierarchy.check_objects", "who may: ",
     ),
     "senior roles that a set bars and nobody names": (
         SITE + "hierarchy.js", "for (const role of reached(this.seniors, member))", "for (const role of [member])", "hierarchy.check_users", "barred",
     ),
     "a notice that stays when an action begins": (
-        SITE + "parts.js", "    last = control;\n    hush();", "    last = control;", "notices.check_gone", "gone by the next action",
+        SITE + "parts.js", "    last = control;\n    hush();", "    last = control;", "notices.check_gone", "not in 12.0 seconds: the notice is gone by the next action",
     ),
     "a notice above the page": (
         SITE + "style.css", "#notice > div { border-top", "#notice > div { position: fixed; bottom: 0; width: 100%; border-top", "notices.check_covers", "covered at",

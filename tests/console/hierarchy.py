@@ -165,7 +165,5 @@ def check_locked(bench):
     with bank(bench) as front, Browser(bench, front) as page:
         page.open("objects", "drawer")
         page.click("Who may do it, and why")
-        page.until(
-            lambda: "who may not do it" in page.text() or "Nobody" in page.text() or "1 user" in page.text(), "who may do it"
-        )
+        page.until(lambda: "dave" in page.text(), "who may do it")
         judge(bench, "dave", page.text(), "Nobody may do it.", "who may not do it: 1", "dave\tlocked")

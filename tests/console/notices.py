@@ -2,7 +2,7 @@
 
 from selenium.webdriver.common.keys import Keys
 
-from .browser import Browser, bank
+from .browser import SECONDS, Browser, bank
 from .lost import LOST, UNREAD, start_again
 from .reviews import begin, decide
 from .trying import line
@@ -45,7 +45,7 @@ def check_gone(bench):
                 page.run("document.querySelector('main').insertAdjacentHTML('beforeend', '<a href=\"#/users/ann\">ann</a>')")
             bench.same("a refusal", refused(page), TAKEN)
             leave()
-            page.until(lambda: not page.said(), f"the notice is gone by {what}")
+            page.until(lambda: not page.said(), f"the notice is gone by {what}", SECONDS / 10)
             bench.same(f"gone by {what}", page.said(), "")
         page.go("what-if")
         page.run("document.getElementById('commands').value = 'nothing'")
