@@ -174,7 +174,13 @@ def asked(front, path, text):
 def check_trials(bench):
     """What if and Explain over a full office: they are answered, and say how long that took."""
     revoked = [
-        {"fn": "revokePermission", "object": f"object {n:04}", "operation": "read", "role": f"role {n:04}"} for n in range(100)
+        {
+            "fn": "revokePermission",
+            "object": f"object {n:04}",
+            "operation": "read",
+            "role": f"role {granted_to(n * len(OPERATIONS), 1):04}",
+        }
+        for n in range(100)
     ]
     decision = {"operation": "read", "object": "object 0000"}
     with full_front(bench) as front:
