@@ -1,6 +1,7 @@
 /** The console: who is logged in, and which page is shown. A page is chosen by the fragment of the address. */
 
 import { login, logout, Lost, may, maySome, Refused, setReason, who } from "./api.js";
+import { isVisit, visit } from "./address.js";
 import { forgetPlaces } from "./browse.js";
 import { hush, hushOthers, say, UNREAD } from "./notice.js";
 import { button, fail, field, form, lastPressed, section } from "./parts.js";
@@ -38,9 +39,9 @@ const COMMANDS = ["addUser", "deleteUser", "lockUserAccount", "unlockUserAccount
 const main = () => document.getElementById("main");
 const scroller = () => document.getElementById("page");
 let isIn = false;
-// How far each page was scrolled, by the entry of the browser's history, and the entry that is shown.
+// How far each page was scrolled, by its address, and the address of the one that is shown.
 const scrolled = new Map();
-let entry = null;
+let address = "";
 // Counts what is shown: a page that was asked for earlier isn't shown any more.
 let shown = 0;
 // The first page leaves the focus where the browser has it, so that the tab key begins at the top.
@@ -77,14 +78,6 @@ function title(text) {
     document.title = `${text} – Office console`;
 }
 
-/** Returns the entry of the browser's history: each page that is shown has one of its own, also the same page once more. */
-function currentEntry() {
-    if (!history.state?.entry) {
-        history.replaceState({ entry: performance.timeOrigin + performance.now() }, "");
-    }
-    return history.state.entry;
-}
-
 /**
  * Shows the page of the address. Its heading gets the focus, unless the page is only shown anew: then the control has it that was
  * pressed last, or the one in its place.
@@ -97,8 +90,12 @@ async function show(isAnew = false) {
     const mine = shown;
     const { segments, query } = addressOf(location.hash);
     const page = PAGES.find(([segment, , isShown]) => segment === segments[0] && isShown());
-    scrolled.set(entry, scroller().scrollTop);
-    entry = currentEntry();
+    scrolled.set(address, scroller().scrollTop);
+    address = location.hash;
+    if (!isAnew && isVisit()) {
+        scrolled.delete(address);
+        forgetPlaces(address);
+    }
     // A link that is marked before the page is there would be drawn by itself.
     const marking = setTimeout(() => markPage(page?.[0]), 100);
     let nodes;
@@ -112,7 +109,7 @@ async function show(isAnew = false) {
         return;
     }
     markPage(page?.[0]);
-    const place = isAnew ? scroller().scrollTop : scrolled.get(entry) ?? 0;
+    const place = isAnew ? scroller().scrollTop : scrolled.get(address) ?? 0;
     const again = isAnew ? controlAgain(lastPressed()) : () => null;
     main().replaceChildren(...nodes.flat(Infinity).filter(Boolean));
     const heading = main().querySelector("h1");
@@ -238,10 +235,9 @@ document.addEventListener("click", (event) => {
     const link = event.target.closest("a[href^='#/']");
     const isPlain = event.button === 0 && !event.ctrlKey && !event.metaKey && !event.shiftKey && !event.altKey;
     if (link && isPlain) {
+        event.preventDefault();
         hush();
-        if (isIn && link.hash === location.hash) {
-            show(); // The browser does nothing for the address that is shown.
-        }
+        visit(link.hash);
     }
 });
 document.addEventListener("keydown", (event) => {

@@ -6,21 +6,21 @@ import { h } from "./text.js";
 /** How many rows a part has, unless a page says it. */
 export const SHOWN = 100;
 
-// Which part is shown, and the text that chooses rows, by the entry of the browser's history and the table: a page that is made
-// anew, or to which somebody goes back, shows the same part.
+// Which part is shown, and the text that chooses rows, by the address and the table: a page that is made anew, or to which somebody
+// goes back, shows the same part.
 const places = new Map();
 
 function placeOf(name) {
-    const key = `${history.state?.entry} ${name}`;
+    const key = `${location.hash} ${name}`;
     if (!places.has(key)) {
         places.set(key, { first: 0, text: "" });
     }
     return places.get(key);
 }
 
-/** Forgets which parts were shown. */
-export function forgetPlaces() {
-    places.clear();
+/** Forgets which parts of a page were shown, or of all pages. */
+export function forgetPlaces(hash = "") {
+    [...places.keys()].filter((key) => hash === "" || key.startsWith(`${hash} `)).forEach((key) => places.delete(key));
 }
 
 /**

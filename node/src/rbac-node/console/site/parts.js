@@ -1,6 +1,7 @@
 /** Parts that several pages have: sections, tables, forms, pictures. */
 
 import { Lost, maySome, order, picture, Refused } from "./api.js";
+import { visit } from "./address.js";
 import { hush, LOST, say, UNREAD } from "./notice.js";
 import { done, refusal, suggestions, why } from "./words.js";
 import { h, hashOf, listed, plain, some } from "./text.js";
@@ -54,7 +55,7 @@ export async function command(fn, values, after) {
     }
     if (typeof after === "string") {
         say("done", done(fn, values), after);
-        location.hash = after;
+        visit(after);
     } else {
         say("done", done(fn, values));
         await after?.();
@@ -123,7 +124,7 @@ async function pressed(control, element, perform) {
 /** Returns a form that shows the names of a page that have a text in them. */
 export function searchForm(segment, contains) {
     return form(`Search ${segment}`, [field("Name contains", "contains", { value: contains, type: "search" })], "Search",
-        (values) => { location.hash = `${hashOf([segment])}?${new URLSearchParams(values)}`; }, { class: "search" });
+        (values) => visit(`${hashOf([segment])}?${new URLSearchParams(values)}`), { class: "search" });
 }
 
 /** Returns what a form's fields have. */

@@ -1,5 +1,6 @@
 /** The record: who asked for which command, when and why, and what the office answered. */
 
+import { visit } from "./address.js";
 import { record, Refused } from "./api.js";
 import { field, form, section, table } from "./parts.js";
 import { h, hashOf, name, time } from "./text.js";
@@ -93,6 +94,6 @@ function filterForm(query) {
     ];
     return form("Filter the record", inputs, "Filter", (values) => {
         const given = Object.entries(values).filter(([, value]) => value !== "" && value !== false);
-        location.hash = `${hashOf(["record"])}?${new URLSearchParams(given)}`;
+        visit(`${hashOf(["record"])}?${new URLSearchParams(given)}`);
     }, { class: "search" });
 }

@@ -4,7 +4,7 @@ import { ask, everything, lists, may, maySome, picture } from "./api.js";
 import { browse } from "./browse.js";
 import { Hierarchy } from "./hierarchy.js";
 import { action, awhile, button, command, deliberate, drawn, early, field, form, later, searchForm, section, table } from "./parts.js";
-import { brief, counted, few, h, hashOf, link, listed, name, object, role, set, some, user } from "./text.js";
+import { brief, counted, few, h, hashOf, link, name, object, role, set, some, user } from "./text.js";
 
 // The most roles at the top of the hierarchy of which the lower ones are shown too.
 const MOST_OPEN = 100;
@@ -78,7 +78,7 @@ export async function rolePage([text], { anew }) {
     const juniors = inheritances.filter(({ asc }) => asc === text);
     const met = setsMet(new Hierarchy(inheritances), text, fixed, dynamic);
     return [
-        h("h1", {}, "Role ", name(text)), met.filter((one) => one.isTooMany).map((one) => h("p", { class: "warning" }, impossible(one))),
+        h("h1", {}, "Role ", name(text)), impossible(met.filter((one) => one.isTooMany)),
         may("deleteRole", values) ? h("div", { class: "actions" }, deliberate("Delete", `Delete the role ${text}`,
             "Delete the role with all of its assignments and grants?", () => command("deleteRole", values, hashOf(["roles"])))) : null,
         h("div", { class: "columns" },
@@ -138,10 +138,15 @@ function setsMet(hierarchy, text, fixed, dynamic) {
     })).sort((a, b) => b.isTooMany - a.isTooMany);
 }
 
-/** "No session can have this role: it includes cashier and cash supervisor, and cash allows one of cash supervisor, cashier." */
-function impossible({ kind, one, members }) {
-    return [kind === "static" ? "Nobody can be authorized for this role: it includes " : "No session can have this role: it includes ", listed(members.map(role)),
-        ", and ", set(kind, one.set), ` (${kind}) allows ${few(one.cardinality - 1)} of `, some(one.roles, role), "."];
+/** "No session can have this role: it includes cashier and cash supervisor, and cash (dynamic) allows one of cashier and cash supervisor." */
+function impossible(violated) {
+    if (violated.length === 0) {
+        return null;
+    }
+    const [{ kind, one, members }] = violated;
+    return h("p", { class: "warning" }, kind === "static" ? "Nobody can be authorized for this role: it includes " : "No session can have this role: it includes ",
+        some(members, role), ", and ", set(kind, one.set), ` (${kind}) allows ${few(one.cardinality - 1)} of `, some(one.roles, role), ".",
+        violated.length > 1 ? ` It includes too many roles of ${counted(violated.length - 1, "more set")}.` : null);
 }
 
 function setsOf(met) {
