@@ -93,6 +93,8 @@ def pytest_collection_modifyitems(config, items):
     for item in items:
         if gone := lacking(name for mark in item.iter_markers("needs") for name in mark.args):
             item.add_marker(pytest.mark.skip(reason=reason_of(gone)))
+        if is_long and not item.get_closest_marker("timeout"):
+            item.add_marker(pytest.mark.timeout(0))
     items.sort(key=lambda item: item.get_closest_marker("slow") is None)
 
 

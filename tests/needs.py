@@ -44,11 +44,14 @@ def is_root() -> bool:
     return os.geteuid() == 0
 
 
+def can_run(*words: str) -> bool:
+    return shutil.which(words[0]) is not None and subprocess.run(words, capture_output=True, check=False).returncode == 0
+
+
 @lru_cache
 def can_mount() -> bool:
     """Whether this process may mount a file system that nobody else sees."""
-    words = ["unshare", "--mount", "mount", "-t", "tmpfs", "tmpfs", "/mnt"]
-    return shutil.which("unshare") is not None and subprocess.run(words, capture_output=True, check=False).returncode == 0
+    return can_run("unshare", "--mount", "mount", "-t", "tmpfs", "tmpfs", "/mnt")
 
 
 # The programs, by the package that brings each.
@@ -61,7 +64,8 @@ PROGRAMS = {
     "chromium": "chromium", "chromium-driver": "chromedriver", "poppler-utils": "pdftotext",
     "openssl": "openssl", "strace": "strace", "psmisc": "fuser", "util-linux": "setpriv unshare findmnt", "mount": "mount", "iproute2": "ip",
     "nginx-light": "nginx", "haproxy": "haproxy", "logrotate": "logrotate", "rsync": "rsync", "restic": "restic",
-    "minisign": "minisign", "btrfs-progs": "mkfs.btrfs", "e2fsprogs": "mkfs.ext4 chattr", "procps": "pgrep", "man-db": "man", "systemd": "systemd-analyze", "systemd-container": "systemd-nspawn",
+    "minisign": "minisign", "btrfs-progs": "mkfs.btrfs", "e2fsprogs": "mkfs.ext4 chattr", "procps": "pgrep", "man-db": "man mandb apropos",
+    "groff": "groff", "mandoc": "mandoc", "systemd": "systemd-analyze", "systemd-container": "systemd-nspawn",
     "dpkg-dev": "dpkg-buildpackage", "debhelper": "dh dh_installsysusers", "lintian": "lintian", "fish": "fish", "zsh": "zsh",
     "binutils": "readelf strip", "buildah": "buildah", "podman": "podman", "bubblewrap": "bwrap",
 }  # fmt: skip
@@ -77,6 +81,9 @@ NEEDS = {name: Need(program(name), package) for package, names in PROGRAMS.items
     "junit": Need(Path("/usr/share/java/junit-jupiter-api.jar").exists, "junit5"),
     "python-headers": Need(lambda: Path(sysconfig.get_paths()["include"], "Python.h").is_file(), "python3-dev"),
     "libc-of-arm64": Need(Path("/usr/aarch64-linux-gnu/include/stdio.h").exists, "libc6-dev-arm64-cross"),
+    "jsonschema": Need(module("jsonschema"), "python3-jsonschema"),
+    "openapi-specification": Need(Path("/usr/share/openapi-specification").is_dir, "openapi-specification python3-jsonschema"),
+    "OpenAPI::Client": Need(lambda: can_run("perl", "-MOpenAPI::Client", "-e", "1"), "libopenapi-client-perl"),
     "selenium": Need(module("selenium"), "python3-selenium"),
     # Rights, and what no package brings.
     "root": Need(is_root),

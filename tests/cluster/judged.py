@@ -104,45 +104,19 @@ def judge_faults(bench, folder, node, count, between, seed):
         bench.judge("as many kills and pauses as wanted", [] if kills >= 0.75 * count else [f"only {kills}"])
 
 
-# Wrong nodes, each by an edit of the sources, and the faults of machines that reveal it.
+# By its fault, of which the sources of the node have the lines: what reveals it.
 WRONG = {
     # It appends under another name again.
-    "twice": ([Faults.pause_member], "ledger/ledger.go", "return t.If(clientv3.Compare", """defer func() { key += "x" }()
-return t.If(clientv3.Compare"""),
+    "twice": [Faults.pause_member],
     # It answers questions from its own state at once.
-    "stale": ([Faults.pause_node], "node/requests.go", "n.touch(b.Calls)\n", """if b.Kind == api.Question {
-b.Kind = api.Local
-}
-n.touch(b.Calls)
-"""),
+    "stale": [Faults.pause_node],
     # It answers before the log has the command.
-    "early": ([Faults.pause_member], "node/requests.go", "r := &request{within.Done(), b, make(chan reply, 1)}", """
-r := &request{ctx.Done(), b, make(chan reply, 1)}
-if b.Kind == api.Command {
-n.asked[b.Kind] <- r
-texts := make([][]byte, len(b.Calls))
-for i := range texts {
-texts[i] = []byte(`{"ok":true}`)
-}
-return api.Answers{Texts: texts, Point: api.Point{Revision: n.applied.Load().revision + 1}}, nil
-}"""),
+    "early": [Faults.pause_member],
     # It takes an answer to be as new as its question was.
-    "aged": ([Faults.pause_replay], "node/node.go", """		for i, call := range q.batch.Calls {
-			i := i
-			n.ask(call, func(text []byte) {
-				if texts[i] = text; i == len(texts)-1 {
-					at := api.Point{Revision: revision, Newest: n.newest(), Policy""", """		newest, posed := n.newest(), time.Now()
-		for i, call := range q.batch.Calls {
-			i := i
-			n.ask(call, func(text []byte) {
-				if texts[i] = text; i == len(texts)-1 {
-					at := api.Point{Revision: revision, Newest: newest.Add(time.Since(posed)), Policy"""),
+    "aged": [Faults.pause_replay],
     # It keeps running after its replay has ended.
-    "endless": ([Faults.kill_busy_replay], "node/node.go", """if err := n.replay.Close(); err != nil {
-				return err
-			}
-			return errReplayEnded""", "n.replay, n.err = n.open()"),
-}  # fmt: skip
+    "endless": [Faults.kill_busy_replay],
+}
 
 
 def faults_of(folder, node, kinds, seed):
@@ -160,10 +134,9 @@ def faults_of(folder, node, kinds, seed):
 @pytest.mark.parametrize("wrong", WRONG)
 def check_wrong_nodes(bench, wrong):
     """The wrong node is caught, and by answers alone. It may show its fault at the second or third try only."""
-    kinds, *edit = WRONG[wrong]
     sources = bench.folder / "sources"
     sources.mkdir()
-    node = build_wrong(sources, *edit)
-    found = next((it for it in (faults_of(bench.folder / str(seed), node, kinds, seed) for seed in (1, 2, 3)) if it), [])
+    node = build_wrong(sources, wrong)
+    found = next((it for it in (faults_of(bench.folder / str(seed), node, WRONG[wrong], seed) for seed in (1, 2, 3)) if it), [])
     print(f"{len(found)} faults, such as {found[0][:300] if found else None}")
     bench.judge("it is caught", [] if found else ["no fault was found"])

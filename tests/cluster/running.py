@@ -1,6 +1,7 @@
-"""Builds rbac-node, also with an edit of its sources."""
+"""Builds rbac-node, also with a fault."""
 
 import os
+import re
 import shutil
 import subprocess
 import sys
@@ -21,13 +22,17 @@ def build(folder, root=None):
     return path
 
 
-def build_wrong(folder, file, old, new):
-    """Builds rbac-node with an edit of its sources into a folder, and returns its path."""
+def build_wrong(folder, fault):
+    """Builds rbac-node with a fault into a folder, and returns its path. A fault is a word, and its lines of the sources begin with
+    `// fault WORD: `: what follows that becomes code."""
     for part in ("bin", "node"):
         shutil.copytree(TESTS.parent / part, folder / part)
-    source = folder / "node/src/rbac-node" / file
-    text = source.read_text(encoding="utf-8")
-    if text.count(old) != 1:
-        raise ValueError(f"{file} has {text.count(old)} times {old}")
-    source.write_text(text.replace(old, new), encoding="utf-8")
+    count = 0
+    for source in (folder / "node/src/rbac-node").rglob("*.go"):
+        text, here = re.subn(rf"// fault {fault}: ", "", source.read_text(encoding="utf-8"))
+        if here:
+            source.write_text(text, encoding="utf-8")
+        count += here
+    if not count:
+        raise ValueError(f"no source has a line of the fault {fault}")
     return build(folder, folder)

@@ -1,4 +1,4 @@
-"""Nodes that are wrong by an edit of the sources: the checks of the record and of conditions have to notice each."""
+"""Nodes with a fault: the checks of the record and of conditions have to notice each."""
 
 import traceback
 from functools import partial
@@ -13,31 +13,16 @@ from .running import build_wrong
 # The seed with which the record is checked.
 SEED = 1
 
-# By what a node does wrong: the check that has to fail, what it has to say, the file of the sources, and its edit.
+# By its fault, of which the sources of the node have the lines: the check that has to fail, and what it has to say.
 WRONG = {
-    "it judges a condition when it writes the entry": (
-        stated.check_conditions, "and the policy had", "node/requests.go", "	n.touch(b.Calls)\n", """
-	if b.Kind == api.Command && b.Rule.Policy > 0 {
-		if b.Rule.Policy != n.state.Numbers().Policy {
-			return api.Answers{}, api.Outdated
-		}
-		b.Rule.Policy = 0
-	}
-	n.touch(b.Calls)
-""",
-    ),
-    "node 1 leaves a caller out of its record": (
-        partial(records.check_records, seed=SEED), "different entries of one number", "node/record.go", "	record.Room()\n", """	record.Room()
-	if n.options.Name == "n1" && unit.Caller == "token:desk" {
-		unit.Caller = ""
-	}
-""",
-    ),
-    # The nodes notice this one themselves: their snapshots have different revisions of the policy.
-    "each node makes the number of the first command by itself": (
-        stated.check_conditions, '"error":"Diverged"', "node/recovery.go", "n.shared.First(ctx)", "n.start.UnixNano(), error(nil)",
-    ),
-}  # fmt: skip
+    # It judges a condition when it writes the entry.
+    "judged": (stated.check_conditions, "and the policy had"),
+    # Node 1 leaves a caller out of its record.
+    "unnamed": (partial(records.check_records, seed=SEED), "different entries of one number"),
+    # Each node makes the number of the first command by itself. The nodes notice this one themselves: their snapshots have different
+    # revisions of the policy.
+    "alone": (stated.check_conditions, '"error":"Diverged"'),
+}
 
 
 def faults_of(check, folder, node):
@@ -55,10 +40,10 @@ def faults_of(check, folder, node):
 @pytest.mark.parametrize("wrong", WRONG)
 def check_wrong(bench, wrong):
     """The wrong node is caught."""
-    check, says, *edit = WRONG[wrong]
+    check, says = WRONG[wrong]
     sources, folder = bench.folder / "sources", bench.folder / "cluster"
     sources.mkdir()
     folder.mkdir()
-    found = [fault for fault in faults_of(check, folder, build_wrong(sources, *edit)) if says in fault]
+    found = [fault for fault in faults_of(check, folder, build_wrong(sources, wrong)) if says in fault]
     print(f"{len(found)} faults, such as {found[0][-300:] if found else None}", flush=True)
     bench.judge("this is caught", [] if found else [f"nothing says {says!r}"])

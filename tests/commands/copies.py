@@ -127,7 +127,7 @@ def adds_little(bench, copy, when):
     bench.judge(f"what bin/rbac adds {when}", [] if ours - alone <= MOST_ADDED else [f"{ours - alone:.0f} ms"])
 
 
-def check_runs(bench, copy):
+def check_passing_on(bench, copy):
     """Arguments, streams and status are passed on, whether or not something can be kept beside the sources."""
     copy.passes_on(FIRST, ANSWERS, 0, "replay", "--memory")
     copy.passes_on(LONG_LINE, LONG_LINE.with_suffix(".answers"), 1, "replay", "--memory")

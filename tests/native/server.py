@@ -52,20 +52,26 @@ def go_test(bench, *words, folder=SOURCES):
 
 @pytest.mark.parametrize("folder", PACKAGES, ids=name_of)
 def check_package(bench, folder):
-    """The tests of a package pass, with all features, and no two goroutines race."""
-    go_test(bench, "-race", "-tags", ALL, ".", folder=folder)
+    """The tests of a package pass, with all features. It was compiled already as the program was."""
+    go_test(bench, "-trimpath", "-tags", ALL, ".", folder=folder)
+
+
+@pytest.mark.gate
+def check_races(bench):
+    """No two goroutines race in them."""
+    go_test(bench, "-race", "-tags", ALL, "./...")
 
 
 @pytest.mark.gate
 @pytest.mark.parametrize("tags", [OF_IMAGE, ALONE])
 def check_features(bench, tags):
     """All tests pass with fewer features too."""
-    go_test(bench, "-tags", tags, "./...")
+    go_test(bench, "-trimpath", "-tags", tags, "./...")
 
 
 @pytest.mark.parametrize("tags", [ALL, *(pytest.param(tags, marks=pytest.mark.gate) for tags in (OF_IMAGE, ALONE))])
 def check_form(bench, tags):
     """gofmt would change nothing, and `go vet` finds nothing."""
     bench.same("what gofmt would change", go("gofmt", "-l", SOURCES, LOAD), ("", 0))
-    bench.same("what go vet finds", go("go", "vet", "-tags", tags, "./..."), ("", 0))
-    bench.same("what go vet finds in bench/load", go("go", "vet", "-tags", tags, ".", folder=LOAD), ("", 0))
+    bench.same("what go vet finds", go("go", "vet", "-trimpath", "-tags", tags, "./..."), ("", 0))
+    bench.same("what go vet finds in bench/load", go("go", "vet", "-trimpath", "-tags", tags, ".", folder=LOAD), ("", 0))

@@ -229,6 +229,7 @@ func (l *Ledger) Append(ctx context.Context, id string, units []Unit) (entry Ent
 		}
 		key := keyOf(tried) + id
 		reply, err := l.commit(ctx, "append", func(t clientv3.Txn) clientv3.Txn {
+			// fault twice: defer func() { key += "x" }()
 			return t.If(clientv3.Compare(clientv3.Version(key), "=", 0), isAt("floor", tried), isAt(formKey, raised)).Then(
 				clientv3.OpGet("head"), clientv3.OpPut(key, text), clientv3.OpPut("head", ""),
 			).Else(clientv3.OpGet("floor"), clientv3.OpGet(key, clientv3.WithKeysOnly()), clientv3.OpGet(formKey))

@@ -40,6 +40,7 @@ func (n *Node) recording(unit ledger.Unit, call *api.Call) func(answer []byte) {
 		return func([]byte) {}
 	}
 	record.Room()
+	// fault unnamed: if n.options.Name == "n1" && unit.Caller == "token:desk" { unit.Caller = "" }
 	return func(answer []byte) { record.Add(unit.Caller, unit.At, unit.Reason, call, answer) }
 }
 

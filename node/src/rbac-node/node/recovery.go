@@ -26,6 +26,7 @@ func (n *Node) recoverOffice(ctx context.Context) error {
 		return err
 	}
 	first, err := n.shared.First(ctx)
+	// fault alone: first, err = n.start.UnixNano(), nil
 	if err != nil {
 		return err
 	}

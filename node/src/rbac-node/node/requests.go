@@ -57,10 +57,22 @@ func (n *Node) Do(ctx context.Context, b api.Batch) (api.Answers, error) {
 	if err := n.admit(b); err != nil {
 		return api.Answers{}, err
 	}
+	// fault stale: if b.Kind == api.Question { b.Kind = api.Local }
+	// fault judged: if b.Kind == api.Command && b.Rule.Policy > 0 {
+	// fault judged: 	if b.Rule.Policy != n.state.Numbers().Policy { return api.Answers{}, api.Outdated }
+	// fault judged: 	b.Rule.Policy = 0
+	// fault judged: }
 	n.touch(b.Calls)
 	within, cancel := context.WithTimeout(ctx, n.options.AnswerTimeout)
 	defer cancel()
 	r := &request{within.Done(), b, make(chan reply, 1)}
+	// fault early: if b.Kind == api.Command {
+	// fault early: 	r.over = ctx.Done()
+	// fault early: 	n.asked[b.Kind] <- r
+	// fault early: 	texts := make([][]byte, len(b.Calls))
+	// fault early: 	for i := range texts { texts[i] = []byte(`{"ok":true}`) }
+	// fault early: 	return api.Answers{Texts: texts, Point: api.Point{Revision: n.applied.Load().revision + 1}}, nil
+	// fault early: }
 	select {
 	case n.asked[b.Kind] <- r:
 	case <-within.Done():
