@@ -351,7 +351,7 @@ def check_filters(bench):
             bench.same(query, (said in page.text(), "There is no such entry." in page.text()), (True, False))
             bench.same("it can be mended", page.run(f"return document.querySelector('[data-key={key}]').value"), text)
         page.go("record", query="?function=assign")
-        bench.same("no such function", "there is no function assign" in page.text(), True)
+        bench.same("no such function", 'there is no function "assign"' in page.text(), True)
 
 
 def check_overview(bench):

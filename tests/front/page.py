@@ -54,7 +54,7 @@ def check_callers(bench):
         print("left out: the commands of docs/CALLERS.md, since curl is not installed")
         return
     with Shell(bench) as reader:
-        (bench.folder / "deploy").symlink_to(TESTS.parent / "deploy")
+        (bench.folder / "examples").symlink_to(TESTS.parent / "examples")
         (bench.folder / "bin/rbac-node").symlink_to(os.environ[PROGRAM])
         type_all(bench, reader, CALLERS)
 

@@ -337,7 +337,7 @@ def check_refusals(bench):
 def check_refusals_of_front(bench):
     """The page of the front lists its refusals with the statuses, codes and names that its sources have."""
     text = SOURCE.read_text(encoding="utf-8")
-    found = re.findall(r'Refusal\{http\.Status(\w+), (\d+), "(\w+)"\}', text)
+    found = re.findall(r'Refusal\{Status: http\.Status(\w+), Code: (\d+), Name: "(\w+)"\}', text)
     wanted = {(status, f"{code} {name}") for status, code, name in found if int(code) not in sources.refusals()}
     bench.same("the refusals of the front", {(status[4:].replace(" ", ""), code) for status, code in OF_FRONT}, wanted)
 

@@ -16,11 +16,12 @@ func (e *Endpoints) batch(r *request) (int, error) {
 	if err != nil {
 		return 0, err
 	}
-	body, err := api.ReadBody(r.Request, api.MaxBatchBytes)
-	if err != nil {
-		return 0, err
-	}
-	calls, err := api.ParseBatch(body)
+	var calls []*api.Call
+	leave, err := e.readLarge(r, func(body []byte) (err error) {
+		calls, err = api.ParseBatch(body)
+		return err
+	})
+	defer leave()
 	var at *api.LineError
 	if errors.As(err, &at) {
 		r.w.Header().Set("Office-Line", strconv.Itoa(at.Number))
@@ -83,6 +84,9 @@ func (e *Endpoints) do(r *request, rule api.Rule, lines []*api.Call) ([][]byte, 
 				return nil, err
 			}
 			answers, found = append(answers, decided.text()), found[askedOfUser:]
+		}
+		if lines[i].Function == "checkAccess" || queries[i] != nil {
+			e.Decided(string(answers[i]) == api.Allowed)
 		}
 		if rule.IsStopped && !api.IsAccepted(answers[i]) {
 			break

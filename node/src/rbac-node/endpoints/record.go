@@ -3,9 +3,6 @@ package endpoints
 import (
 	"context"
 	"encoding/json"
-	"errors"
-	"fmt"
-	"net/http"
 	"net/url"
 	"strconv"
 
@@ -40,10 +37,6 @@ func (e *Endpoints) record(r *request) (int, error) {
 		return 0, errNoState
 	}
 	query, err := readRecordQuery(r.URL.RawQuery)
-	var wrong wrongFilter
-	if errors.As(err, &wrong) {
-		return r.reply(http.StatusBadRequest, wrong.text()), nil
-	}
 	if err != nil {
 		return 0, err
 	}
@@ -81,15 +74,11 @@ func (r *request) replyRecord(page recorded.Page) (int, error) {
 	return r.replyValue(value)
 }
 
-// A wrongFilter is a filter of the record that chooses nothing as it is written.
-type wrongFilter string
-
-func (w wrongFilter) Error() string { return string(w) }
-
-// text returns the answer to a request with the filter.
-func (w wrongFilter) text() []byte {
-	text := fmt.Appendf(nil, `{"code":%d,"error":%q,"message":`, errNotRead.Code, errNotRead.Name)
-	return append(api.AppendQuoted(text, string(w)), '}')
+// wrongFilter returns the refusal of a filter that chooses nothing as it is written.
+func wrongFilter(why string) error {
+	refused := errNotRead
+	refused.Why = why
+	return refused
 }
 
 // readRecordQuery reads which entries are wanted.
@@ -101,7 +90,7 @@ func readRecordQuery(text string) (query recorded.Query, err error) {
 	query.Limit = usualRows
 	for key, given := range values {
 		if len(given) != 1 {
-			return query, wrongFilter(key + " is there more than once")
+			return query, wrongFilter(strconv.QuoteToASCII(key) + " is there more than once")
 		}
 		if err := setFilter(&query, key, given[0]); err != nil {
 			return query, err
@@ -120,7 +109,7 @@ func setFilter(query *recorded.Query, key, text string) (err error) {
 	case texts[key] != nil:
 		*texts[key] = text
 		if _, isKnown := api.KindOf(text); key == "function" && text != "" && !isKnown {
-			return wrongFilter("there is no function " + text)
+			return wrongFilter("there is no function " + strconv.QuoteToASCII(text))
 		}
 	case times[key] != nil:
 		if *times[key], err = recorded.ParseTime(text); err != nil {
@@ -142,7 +131,7 @@ func setFilter(query *recorded.Query, key, text string) (err error) {
 			return wrongFilter("before is the number of an entry")
 		}
 	default:
-		return wrongFilter("the record has no filter " + key)
+		return wrongFilter("the record has no filter " + strconv.QuoteToASCII(key))
 	}
 	return nil
 }

@@ -53,6 +53,13 @@ func (r *Registry) Counter(name, help string, labels ...string) *Counter {
 	return c
 }
 
+// newGauge returns a gauge whose values stay as they were added.
+func (r *Registry) newGauge(name, help string, labels ...string) *Counter {
+	c := &Counter{name: name, labels: labels, values: map[string]float64{}}
+	r.add(series{name, help, "gauge", c.samples})
+	return c
+}
+
 // Add counts one event.
 func (c *Counter) Add(values ...string) {
 	key := labelsOf(c.labels, values)

@@ -20,35 +20,35 @@ import (
 	"rbac-node/programtest"
 )
 
-// A bench is an office with its record, and no front.
-type bench struct {
-	*testing.T
-	*Record
-	log journal
-}
-
-// A journal is a log that is read while others write it.
-type journal struct {
+// A heard log is written by goroutines of a record while a test reads it.
+type heard struct {
 	mutex sync.Mutex
 	text  bytes.Buffer
 }
 
-func (j *journal) Write(p []byte) (int, error) {
-	j.mutex.Lock()
-	defer j.mutex.Unlock()
-	return j.text.Write(p)
+func (h *heard) Write(text []byte) (int, error) {
+	h.mutex.Lock()
+	defer h.mutex.Unlock()
+	return h.text.Write(text)
 }
 
-func (j *journal) String() string {
-	j.mutex.Lock()
-	defer j.mutex.Unlock()
-	return j.text.String()
+func (h *heard) String() string {
+	h.mutex.Lock()
+	defer h.mutex.Unlock()
+	return h.text.String()
 }
 
-func (j *journal) Reset() {
-	j.mutex.Lock()
-	defer j.mutex.Unlock()
-	j.text.Reset()
+func (h *heard) Reset() {
+	h.mutex.Lock()
+	defer h.mutex.Unlock()
+	h.text.Reset()
+}
+
+// A bench is an office with its record, and no front.
+type bench struct {
+	*testing.T
+	*Record
+	log heard
 }
 
 func open(t *testing.T) *bench {

@@ -8,8 +8,8 @@ let reason = "";
 export class Refused extends Error {
     constructor(status, answer) {
         super(answer.error ?? `status ${status}`);
-        const { code = 0, set, kind, line, lines, message: said } = answer;
-        Object.assign(this, { status, code, set, kind, line, lines, said });
+        const { code = 0, set, kind, line, lines, why } = answer;
+        Object.assign(this, { status, code, set, kind, line, lines, why });
     }
 }
 
@@ -44,7 +44,7 @@ async function send(method, path, body, { isChange = false, ...headers } = {}) {
         throw new Lost("the front says that the office doesn't answer", isChange);
     }
     if (!reply.ok) {
-        throw new Refused(reply.status, { ...parsed(text), line: reply.headers.get("Office-Line") });
+        throw new Refused(reply.status, { ...parsed(text), line: reply.headers.get("Office-Line"), why: reply.headers.get("Office-Why") });
     }
     return text;
 }
