@@ -122,7 +122,7 @@ class Browser:
 
     def __init__(self, bench, front, *, width=1280, height=900):
         self.driver = self.chromium.driver(width, height)
-        self.front, self.clicks = front, 0
+        self.front, self.clicks, self.is_dark = front, 0, False
         self.url = f"http://{HOST}:{front.port}/console/"
 
     def __enter__(self):
@@ -190,11 +190,15 @@ class Browser:
         """The text of a part of the page as it is shown."""
         return self.run("return document.querySelector(arguments[0])?.innerText ?? ''", within)
 
+    def said(self):
+        """What the notice says, or an empty text."""
+        return self.text("#notice p")
+
     def notice(self):
         """Waits for a notice, and returns it."""
-        self.until(lambda: self.text("#notice"), "a notice")
+        self.until(self.said, "a notice")
         self.until(lambda: self.run("return !document.querySelector('main button:disabled')"), "the end of an action")
-        return self.text("#notice")
+        return self.said()
 
     def find(self, name, within=None):
         """What can be pressed and has this name, or None."""
@@ -236,10 +240,11 @@ class Browser:
         self.until_loaded(lambda: self.run(FIELD, "Token", "Log in"), "the form to log in").send_keys(token)
         self.mark()
         self.keys(Keys.ENTER)
-        self.until(lambda: self.text("#notice") or self.run(SETTLED), "an answer to the token")
+        self.until(lambda: self.said() or self.run(SETTLED), "an answer to the token")
 
     def resize(self, width, height=900, dark=False, media=""):
         """Gives the page a width, and a scheme of colours."""
+        self.is_dark = dark
         metrics = {"width": width, "height": height, "deviceScaleFactor": 1, "mobile": False}
         self.driver.execute_cdp_cmd("Emulation.setDeviceMetricsOverride", metrics)
         features = [{"name": "prefers-color-scheme", "value": "dark" if dark else "light"}]
@@ -247,10 +252,13 @@ class Browser:
 
     def picture(self, path):
         """Writes a picture of the whole page."""
-        size = self.run("return [innerWidth, Math.min(document.documentElement.scrollHeight, 2400)]")
-        clip = {"x": 0, "y": 0, "width": size[0], "height": size[1], "scale": 0.75}
-        words = {"format": "png", "captureBeyondViewport": True, "clip": clip, "optimizeForSpeed": False}
+        width, height = self.run("return [innerWidth, innerHeight]")
+        whole = self.run("const page = document.getElementById('page'); return page.scrollHeight + innerHeight - page.clientHeight")
+        self.resize(width, max(height, min(whole, 2400)), self.is_dark)
+        clip = {"x": 0, "y": 0, "width": width, "height": max(height, min(whole, 2400)), "scale": 0.75}
+        words = {"format": "png", "clip": clip, "optimizeForSpeed": False}
         shot = self.driver.execute_cdp_cmd("Page.captureScreenshot", words)
+        self.resize(width, height, self.is_dark)
         with open(path, "wb") as file:
             file.write(base64.b64decode(shot["data"]))
 
