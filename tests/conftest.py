@@ -27,7 +27,6 @@ import pytest
 TESTS = Path(__file__).resolve().parent
 sys.path.insert(0, str(TESTS))
 
-import jobs_adapter  # noqa: E402
 from counted import Counted  # noqa: E402
 from needs import NEEDS, avoidable, lacking, reason_of  # noqa: E402
 from program.bench import PROGRAM, Bench, folder_of  # noqa: E402
@@ -64,8 +63,7 @@ class Checks(pytest.Module):
     """A module with its checks; a function that it imports is a check of the other module."""
 
     def collect(self):
-        yield from (item for item in super().collect() if item.function.__module__ == self.obj.__name__)
-        yield from jobs_adapter.items_of(self)
+        return [item for item in super().collect() if item.function.__module__ == self.obj.__name__]
 
 
 def pytest_pycollect_makemodule(module_path, parent):
@@ -104,8 +102,7 @@ def pytest_collection_modifyitems(config, items):
 @pytest.fixture
 def bench(request):
     """A folder to work in, and comparisons that are counted and don't end the check."""
-    function = getattr(request.function, "of", request.function)
-    with tempfile.TemporaryDirectory(dir=folder_of(function)) as outside:
+    with tempfile.TemporaryDirectory(dir=folder_of(request.function)) as outside:
         bench = Bench(Path(outside).resolve() / "files")
         bench.folder.mkdir()
         bench.is_long, bench.is_gate = request.config.getoption("--long"), request.config.getoption("--gate")
@@ -251,7 +248,6 @@ def missing_program(fault):
 def pytest_runtest_makereport(item, call):
     """Where all packages are installed, a skip that one of them would have made needless is a failure."""
     report = (yield).get_result()
-    jobs_adapter.read_left_out(item, report)
     if report.skipped and item.config.getoption("--installed"):
         reason = report.longrepr[2].removeprefix("Skipped: ")
         if fault := avoidable(reason):

@@ -22,3 +22,15 @@ def pytest_collection_modifyitems(items):
 @pytest.fixture(scope="session", autouse=True)
 def node(built):
     os.environ[running.NODE] = str(built("front", running.build) / "rbac-node")
+
+
+@pytest.fixture
+def faulty(built, monkeypatch):
+    """Returns a function that returns a node with a fault."""
+    node = str(built("faulty", running.build_faulty) / "rbac-node")
+
+    def node_with(name):
+        monkeypatch.setenv(running.FAULT, running.fault_of(name))
+        return node
+
+    return node_with

@@ -17,7 +17,7 @@ from .records import faults_of as recorded_wrongly
 from .rights import faults_of as refused_wrongly
 from .rights import options, token
 from .rows import offices, rows_of, snapshots_of, sorted_rows
-from .running import build, build_wrong
+from .running import build
 
 CLIENTS = 9
 
@@ -104,18 +104,13 @@ def judge_faults(bench, folder, node, count, between, seed):
         bench.judge("as many kills and pauses as wanted", [] if kills >= 0.75 * count else [f"only {kills}"])
 
 
-# By its fault, of which the sources of the node have the lines: what reveals it.
+# By its fault: what reveals it.
 WRONG = {
-    # It appends under another name again.
-    "twice": [Faults.pause_member],
-    # It answers questions from its own state at once.
-    "stale": [Faults.pause_node],
-    # It answers before the log has the command.
-    "early": [Faults.pause_member],
-    # It takes an answer to be as new as its question was.
-    "aged": [Faults.pause_replay],
-    # It keeps running after its replay has ended.
-    "endless": [Faults.kill_busy_replay],
+    "AppendsTwice": [Faults.pause_member],
+    "AnswersByItself": [Faults.pause_node],
+    "AnswersBeforeLog": [Faults.pause_member],
+    "TakesAnswersForNew": [Faults.pause_replay],
+    "OutlivesReplay": [Faults.kill_busy_replay],
 }
 
 
@@ -132,11 +127,9 @@ def faults_of(folder, node, kinds, seed):
 
 @pytest.mark.gate
 @pytest.mark.parametrize("wrong", WRONG)
-def check_wrong_nodes(bench, wrong):
+def check_wrong_nodes(bench, faulty, wrong):
     """The wrong node is caught, and by answers alone. It may show its fault at the second or third try only."""
-    sources = bench.folder / "sources"
-    sources.mkdir()
-    node = build_wrong(sources, wrong)
+    node = faulty(wrong)
     found = next((it for it in (faults_of(bench.folder / str(seed), node, WRONG[wrong], seed) for seed in (1, 2, 3)) if it), [])
     print(f"{len(found)} faults, such as {found[0][:300] if found else None}")
     bench.judge("it is caught", [] if found else ["no fault was found"])

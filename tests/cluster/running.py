@@ -2,14 +2,13 @@
 
 import os
 import re
-import shutil
 import subprocess
 import sys
 
 from program.bench import TESTS
 
-# The variable that names the built node.
-NODE = "RBAC_NODE"
+# The variables that name the built node, and the fault of a node that can have one.
+NODE, FAULT = "RBAC_NODE", "RBAC_NODE_FAULT"
 
 
 def build(folder, root=None):
@@ -22,17 +21,14 @@ def build(folder, root=None):
     return path
 
 
-def build_wrong(folder, fault):
-    """Builds rbac-node with a fault into a folder, and returns its path. A fault is a word, and its lines of the sources begin with
-    `// fault WORD: `: what follows that becomes code."""
-    for part in ("bin", "node"):
-        shutil.copytree(TESTS.parent / part, folder / part)
-    count = 0
-    for source in (folder / "node/src/rbac-node").rglob("*.go"):
-        text, here = re.subn(rf"// fault {fault}: ", "", source.read_text(encoding="utf-8"))
-        if here:
-            source.write_text(text, encoding="utf-8")
-        count += here
-    if not count:
-        raise ValueError(f"no source has a line of the fault {fault}")
-    return build(folder, folder)
+def build_faulty(folder):
+    """Builds rbac-node with the tag by which it can have a fault into a folder. The variable FAULT then names one."""
+    done = subprocess.run([TESTS.parent / "bin/node", "--features"], capture_output=True, text=True, check=True)
+    settings = {**os.environ, "NODE_FEATURES": f"{done.stdout.strip()},faults"}
+    subprocess.run([TESTS.parent / "bin/node", "--build", folder / "rbac-node"], env=settings, check=True, stdout=sys.stderr)
+
+
+def fault_of(name):
+    """How the variable names a fault of the sources."""
+    text = (TESTS.parent / "node/src/rbac-node/faults/nodes.go").read_text(encoding="utf-8")
+    return re.findall(rf'^\t{name} = "(.+)"$', text, re.M)[0]

@@ -8,20 +8,16 @@ import pytest
 from program.bench import Bench
 
 from . import records, stated
-from .running import build_wrong
 
 # The seed with which the record is checked.
 SEED = 1
 
-# By its fault, of which the sources of the node have the lines: the check that has to fail, and what it has to say.
+# By its fault: the check that has to fail, and what it has to say.
 WRONG = {
-    # It judges a condition when it writes the entry.
-    "judged": (stated.check_conditions, "and the policy had"),
-    # Node 1 leaves a caller out of its record.
-    "unnamed": (partial(records.check_records, seed=SEED), "different entries of one number"),
-    # Each node makes the number of the first command by itself. The nodes notice this one themselves: their snapshots have different
-    # revisions of the policy.
-    "alone": (stated.check_conditions, '"error":"Diverged"'),
+    "JudgesBeforeLog": (stated.check_conditions, "and the policy had"),
+    "ForgetsCaller": (partial(records.check_records, seed=SEED), "different entries of one number"),
+    # The nodes notice this one themselves: their snapshots have different revisions of the policy.
+    "NumbersByItself": (stated.check_conditions, '"error":"Diverged"'),
 }
 
 
@@ -38,12 +34,11 @@ def faults_of(check, folder, node):
 
 @pytest.mark.gate
 @pytest.mark.parametrize("wrong", WRONG)
-def check_wrong(bench, wrong):
+def check_wrong(bench, faulty, wrong):
     """The wrong node is caught."""
     check, says = WRONG[wrong]
-    sources, folder = bench.folder / "sources", bench.folder / "cluster"
-    sources.mkdir()
+    folder = bench.folder / "cluster"
     folder.mkdir()
-    found = [fault for fault in faults_of(check, folder, build_wrong(sources, wrong)) if says in fault]
+    found = [fault for fault in faults_of(check, folder, faulty(wrong)) if says in fault]
     print(f"{len(found)} faults, such as {found[0][-300:] if found else None}", flush=True)
     bench.judge("this is caught", [] if found else [f"nothing says {says!r}"])

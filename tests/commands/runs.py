@@ -12,7 +12,7 @@ from needs import NEEDS
 from program.bench import PROGRAM, TESTS
 
 # What a run of checks needs of this folder.
-COPIED = ("conftest.py", "counted.py", "jobs_adapter.py", "needs.py", "program/bench.py")
+COPIED = ("conftest.py", "counted.py", "needs.py", "program/bench.py")
 
 PLANTED = '''
 import subprocess

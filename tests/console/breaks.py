@@ -11,12 +11,12 @@ from importlib import import_module
 
 import pytest
 
-from front.running import build
-from front.wrongfronts import ROOT, tried_with
-from program.bench import Bench
+from front.running import PROGRAM, build
+from program.bench import TESTS, Bench
 
 from .running import LONG
 
+ROOT = TESTS.parent
 SITE = "console/site/"
 
 # The edits: a file, a text that occurs in it once, the text that replaces it, the check, and how the message of the check begins.
@@ -120,13 +120,14 @@ def faults_of(folder, check):
 
 
 @pytest.mark.parametrize("name", BREAKS)
-def check_break(bench, name):
+def check_break(bench, name, monkeypatch):
     """A broken console is found by its check."""
     root = broken(bench, name)
     if os.environ.get(LONG):
         *_, check, said = BREAKS[name]
         program = build(bench.folder, root)
-        found = tried_with(program, lambda: faults_of(bench.folder / "tried", check))
+        monkeypatch.setenv(PROGRAM, program)
+        found = faults_of(bench.folder / "tried", check)
         bench.judge(f"{check} finds {name}", [] if any(one.startswith(said) for one in found) else [f"it finds {found}"])
 
 

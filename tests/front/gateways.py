@@ -8,6 +8,8 @@ import subprocess
 import threading
 from http.server import BaseHTTPRequestHandler, ThreadingHTTPServer
 
+import pytest
+
 from program.bench import SECONDS
 from program.web import free_port
 
@@ -139,12 +141,10 @@ def through(port, method="GET", **fields):
     return found
 
 
+@pytest.mark.needs("nginx")
 def check_nginx(bench):
     """nginx asks the front by auth_request, and lets through only what it allows."""
-    nginx = shutil.which("nginx", path=f"{os.environ['PATH']}:/usr/sbin")
-    if not nginx:
-        print("left out: nginx's auth_request, since nginx is not installed")
-        return
+    nginx = shutil.which("nginx")
     rights = {**RIGHTS, "token:desk": [("checkAccess", "object till:")]}
     with secured(bench, rights=rights) as front, ThreadingHTTPServer((HOST, 0), Site) as site:
         filled(bench, front, **bearer("another"))

@@ -11,6 +11,8 @@ import ssl
 import subprocess
 import time
 
+import pytest
+
 from program.bench import PROGRAM as RBAC
 from program.bench import TESTS
 
@@ -225,11 +227,9 @@ def jwt(bench, claims, head=None, key="jwt.key"):
     return f"{signed}.{encoded(openssl(bench, f'openssl dgst -sha256 -sign {key}', signed.encode()))}"
 
 
+@pytest.mark.needs("jose-go", "openssl")
 def check_jwts(bench):
     """A JWT shows who asks; what is wrong with one is tried in Go, and here once with a signature of openssl."""
-    if "jose" not in features():
-        print("left out: JWTs, since the library go-jose is not installed")
-        return
     openssl(bench, "for key in jwt other; do openssl genrsa -out $key.key 2048; done")
     modulus = openssl(bench, "openssl rsa -in jwt.key -noout -modulus").decode().strip().partition("=")[2]
     keys = {

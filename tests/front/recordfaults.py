@@ -8,6 +8,7 @@ import subprocess
 import time
 from collections import Counter
 
+from needs import skip
 import pytest
 from program.bench import TESTS
 
@@ -66,8 +67,7 @@ def check_full_disk(bench):
     front = Front(bench)
     with Mounted(f"{front.office}.record", "600k") as disk:
         if not disk.is_mounted:
-            print("left out: a full disk, since this process may not mount one")
-            return
+            skip("mounts", "a full disk")
         front.prefix = disk.words()
         with front:
             connection, done = front.connection(), 0
@@ -101,8 +101,7 @@ def check_alarm(bench, size):
     front = Front(bench)
     with Mounted(f"{front.office}.record", size) as disk:
         if not disk.is_mounted:
-            print("left out: a full disk, since this process may not mount one")
-            return
+            skip("mounts", "a full disk")
         front.prefix = disk.words()
         with front:
 

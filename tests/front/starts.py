@@ -12,6 +12,8 @@ import subprocess
 import threading
 import time
 
+import pytest
+
 from program.bench import PROGRAM as RBAC
 from program.bench import TESTS
 from program.web import listening
@@ -173,8 +175,6 @@ def check_without_libraries(bench):
         bench.same("no record was made", os.path.exists(bench.path("office.record")), False)
     finally:
         os.environ["RBAC_FRONT"] = old
-    if "etcd" not in features():
-        print("left out: a program for several machines, since the libraries of etcd are not installed")
 
 
 def check_first_start(bench):
@@ -370,11 +370,9 @@ def check_no_memory_of_old_replay(bench):
         bench.same("the first one answers", front.ask("assignedRoles", {"user": "ann"})[0], 200)
 
 
+@pytest.mark.needs("curl")
 def check_socket_is_asked(bench):
     """curl can ask over the socket, as the page says."""
-    if not shutil.which("curl"):
-        print("left out: curl, which is not installed")
-        return
     path = bench.path("run/socket")
     with Front(bench, listen=f"unix:{path}") as front:
         words = ["curl", "-s", "--unix-socket", path, "-d", '{"user":"ann"}', "http://localhost/v1/addUser"]

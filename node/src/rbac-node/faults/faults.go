@@ -1,8 +1,8 @@
-// Package faults has faults that a front for tests can have, to show that the tests find them. Only a program that is built with the tag
+// Package faults has faults that a front or a node for tests can have, to show that the tests find them. Only a program that is built with the tag
 // faults has any, and then the one that the variable RBAC_NODE_FAULT names.
 package faults
 
-// The faults.
+// The faults of fronts.
 const (
 	// SendsEarly sends commands to the replay before they are recorded.
 	SendsEarly = "sends before it records"

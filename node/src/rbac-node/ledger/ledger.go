@@ -27,6 +27,7 @@ import (
 	"go.etcd.io/etcd/etcdserver/etcdserverpb"
 	"go.etcd.io/etcd/mvcc/mvccpb"
 
+	"rbac-node/faults"
 	"rbac-node/logs"
 	"rbac-node/office"
 	"rbac-node/state"
@@ -230,7 +231,9 @@ func (l *Ledger) Append(ctx context.Context, id string, units []Unit) (entry Ent
 		}
 		key := keyOf(tried) + id
 		reply, err := l.commit(ctx, "append", func(t clientv3.Txn) clientv3.Txn {
-			// fault twice: defer func() { key += "x" }()
+			if faults.Has(faults.AppendsTwice) {
+				defer func() { key += "x" }()
+			}
 			return t.If(clientv3.Compare(clientv3.Version(key), "=", 0), isAt("floor", tried), isAt(formKey, raised)).Then(
 				clientv3.OpGet("head"), clientv3.OpPut(key, text), clientv3.OpPut("head", ""),
 			).Else(clientv3.OpGet("floor"), clientv3.OpGet(key, clientv3.WithKeysOnly()), clientv3.OpGet(formKey))
