@@ -63,7 +63,7 @@ def shell(bench, what, commands, wanted, folder, *before):
     bench.same(what, (done.returncode, done.stdout, done.stderr), (0, wanted, ""))
 
 
-@pytest.mark.needs("pkg-config", "mount", "root")
+@pytest.mark.needs("pkg-config", "mounts", "root")
 def check_installed(bench):
     """The library is installed by the commands of the page, and a program is built and run where the repository isn't there any more."""
     (bench.folder / "app").mkdir()
