@@ -57,6 +57,9 @@ SINGLE = ["/explain", "/sessions", "/v1/decideByUser", "/access/v1/evaluation", 
 SEVERAL = ["/v1/batch", "/access/v1/evaluations"]
 ONE_THING, MANY_THINGS = 65_536, 2_097_152
 
+# How many bytes are read before it is known whether the caller may do anything of that kind.
+SMALL = 4_096
+
 
 def head(path, length, *fields):
     """The head of a request by POST that says how long its body is."""
@@ -70,13 +73,13 @@ def status_of(text):
 
 @pytest.mark.parametrize("path", [*SINGLE, *SEVERAL])
 def check_right_first(bench, path):
-    """A caller without any right to what a path does gets 403 before a byte of the body has come; one with a right is read."""
+    """A caller without any right to what a path does gets 403 before a byte of a body that isn't small has come; one with a right is read."""
     every = ["checkAccess", "decideByUser", "createSession", "addUser"]
     rights = {"token:desk": [("lists", "office"), ("assignUser", "role clerk")] if path != "/explain" and path != "/v1/batch" else [("lists", "office")],
               "token:admin": [(name, "office") for name in every]}  # fmt: skip
     with secured(bench, rights=rights) as front:
         most = ONE_THING if path in SINGLE else MANY_THINGS
-        for length in (1, most):
+        for length in (SMALL + 1, most):
             given = front.raw(head(path, length, "Authorization: Bearer secret"))
             bench.same(f"{length} bytes that don't come", (status_of(given), given.endswith(FORBIDDEN[1].encode())), (403, True))
             given = front.raw(head(path, length, "Authorization: Bearer another"))

@@ -128,8 +128,8 @@ type Handler struct {
 	office  Office
 	answers *metrics.Counter
 	seconds *metrics.Histogram
-	// decisions counts what was allowed and what was denied.
-	decisions *metrics.Counter
+	// decisions counts what was denied and what was allowed.
+	decisions *metrics.Tally
 }
 
 // NewHandler returns a handler. It answers until the context ends, also if the client has ended its side of the connection, as
@@ -143,13 +143,13 @@ func NewHandler(ctx context.Context, office Office, registry *metrics.Registry) 
 		ctx: ctx, office: office,
 		answers:   registry.Counter("rbac_node_answers_total", "Requests that were answered.", "kind", "status"),
 		seconds:   registry.Histogram("rbac_node_answer_seconds", "How long requests took.", "kind", bounds),
-		decisions: registry.Counter("rbac_node_decisions_total", "Decisions about access.", "decision"),
+		decisions: registry.Tally("rbac_node_decisions_total", "Decisions about access.", "decision", "denied", "allowed"),
 	}
 }
 
 // A Judge decides what may be done. An error refuses it.
 type Judge interface {
-	// MayAny refuses a request for a function, before its body is read, if no call of the function may be done.
+	// MayAny refuses a request for a function, before a body that isn't small is read, if no call of the function may be done.
 	MayAny(ctx context.Context, function string) error
 	// May refuses a call.
 	May(ctx context.Context, call *Call) error
@@ -174,7 +174,11 @@ func (h *Handler) Serve(w http.ResponseWriter, r *http.Request, judge Judge, don
 	done()
 	status := respond(w, answers, err)
 	if err == nil && call.Function == checkAccess {
-		h.Decided(string(answers.Texts[0]) == Allowed)
+		allowed := 0
+		if string(answers.Texts[0]) == Allowed {
+			allowed = 1
+		}
+		h.Decided(allowed, 1-allowed)
 	}
 	h.answers.Add(string(kind), strconv.Itoa(status))
 	h.seconds.Observe(string(kind), time.Since(start).Seconds())
@@ -183,13 +187,10 @@ func (h *Handler) Serve(w http.ResponseWriter, r *http.Request, judge Judge, don
 // checkAccess is the function that decides, and Allowed what it answers if it allows something.
 const checkAccess, Allowed = "checkAccess", `{"ok":true,"value":true}`
 
-// Decided counts a decision. One that the office refuses to make denies.
-func (h *Handler) Decided(isAllowed bool) {
-	if isAllowed {
-		h.decisions.Add("allowed")
-	} else {
-		h.decisions.Add("denied")
-	}
+// Decided counts decisions: how many were allowed and how many denied. One that the office refuses to make denies.
+func (h *Handler) Decided(allowed, denied int) {
+	h.decisions.Add(0, uint64(denied))
+	h.decisions.Add(1, uint64(allowed))
 }
 
 // respond writes the answer to a call or an error, and returns its status.
@@ -252,8 +253,11 @@ func StatusOf(answer []byte) int {
 	return http.StatusConflict
 }
 
-// read judges the head of a request in the order of `rbac serve`, reads the body if the function may be asked for, and makes a call of
-// the two.
+// SmallBody is how many bytes of a body are read before it is known whether the caller may do anything of that kind.
+const SmallBody = 4096
+
+// read judges the head of a request in the order of `rbac serve`, reads the body if it is small or the function may be asked for, and
+// makes a call of the two.
 func read(r *http.Request, may func(function string) error) (Kind, *Call, error) {
 	// A ServeMux would redirect paths that it would write differently.
 	name := strings.TrimPrefix(r.RequestURI, "/v1/")
@@ -269,8 +273,10 @@ func read(r *http.Request, may func(function string) error) (Kind, *Call, error)
 	if kind == Question {
 		kind = kindOf(r)
 	}
-	if err := may(name); err != nil {
-		return kind, nil, err
+	if r.ContentLength > SmallBody {
+		if err := may(name); err != nil {
+			return kind, nil, err
+		}
 	}
 	body, err := io.ReadAll(r.Body)
 	if err != nil {

@@ -75,6 +75,7 @@ func (e *Endpoints) do(r *request, rule api.Rule, lines []*api.Call) ([][]byte, 
 		return nil, err
 	}
 	var answers [][]byte
+	allowed, denied := 0, 0
 	for i := 0; len(found) > 0; i++ {
 		if queries[i] == nil {
 			answers, found = append(answers, found[0]), found[1:]
@@ -85,13 +86,17 @@ func (e *Endpoints) do(r *request, rule api.Rule, lines []*api.Call) ([][]byte, 
 			}
 			answers, found = append(answers, decided.text()), found[askedOfUser:]
 		}
-		if lines[i].Function == "checkAccess" || queries[i] != nil {
-			e.Decided(string(answers[i]) == api.Allowed)
+		switch isDecision := lines[i].Function == checkAccess || queries[i] != nil; {
+		case isDecision && string(answers[i]) == api.Allowed:
+			allowed++
+		case isDecision:
+			denied++
 		}
 		if rule.IsStopped && !api.IsAccepted(answers[i]) {
 			break
 		}
 	}
+	e.Decided(allowed, denied)
 	return answers, nil
 }
 

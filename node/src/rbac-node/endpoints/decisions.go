@@ -18,12 +18,15 @@ type decision struct {
 // A query is what is to be decided: may a session, or a user in some session, do an operation on an object? One of the two is empty.
 type query struct{ session, user, operation, object string }
 
+// checkAccess is the function that decides about a session.
+const checkAccess = "checkAccess"
+
 // call returns the call that has to be allowed to the visitor.
 func (q query) call() (*api.Call, error) {
 	if q.user != "" {
 		return api.NewOther(api.DecideByUser, "user", q.user, "operation", q.operation, "object", q.object), nil
 	}
-	return api.NewCall("checkAccess", "session", q.session, "operation", q.operation, "object", q.object)
+	return api.NewCall(checkAccess, "session", q.session, "operation", q.operation, "object", q.object)
 }
 
 // readQuery reads a query about what is at one of some keys, of which one has to be there.
@@ -75,9 +78,13 @@ func (e *Endpoints) decideAll(r *request, rule api.Rule, queries []query) ([]dec
 		return nil, err
 	}
 	decisions, err := decisionsOf(queries, answers, views)
+	allowed := 0
 	for _, one := range decisions {
-		e.Decided(one.allowed)
+		if one.allowed {
+			allowed++
+		}
 	}
+	e.Decided(allowed, len(decisions)-allowed)
 	return decisions, err
 }
 

@@ -45,8 +45,8 @@ type Options struct {
 	PublicURL string
 	// Note is called after each answer, with its kind and status, and when the request began.
 	Note func(kind api.Kind, status int, start time.Time)
-	// Decided is called with each decision about access.
-	Decided func(isAllowed bool)
+	// Decided is called with how many decisions about access have allowed something and how many have denied it.
+	Decided func(allowed, denied int)
 	// Sign writes on a command who asks for it and why, or refuses it.
 	Sign func(r *http.Request, visitor Visitor, call *api.Call) error
 	// Denied is called if a caller may not do something.
@@ -85,7 +85,8 @@ type request struct {
 }
 
 // An endpoint is what is at a path: how a request is counted, its methods, and what answers it and returns the status, or an error
-// that is answered. A caller needs one of the operations before its body is read, if there are any: what the body names is judged later.
+// that is answered. A caller needs one of the operations before a body that isn't small is read, if there are any: what the body names
+// is judged later.
 type endpoint struct {
 	kind       api.Kind
 	methods    []string
@@ -95,7 +96,7 @@ type endpoint struct {
 
 // What needs some right to what a body may name.
 var (
-	deciding   = []string{"checkAccess", api.DecideByUser}
+	deciding   = []string{checkAccess, api.DecideByUser}
 	explaining = append(state.SeparatingFunctions(), deciding...)
 	batching   = append(api.Functions(), api.DecideByUser)
 )
@@ -213,9 +214,9 @@ func (e *Endpoints) ask(r *request, rule api.Rule, calls ...*api.Call) ([][]byte
 	return answers.Texts, nil
 }
 
-// mayAny refuses the request of a visitor that has none of some operations, if there are any.
+// mayAny refuses the request of a visitor that has none of some operations, if there are any, unless its body is small.
 func (r *request) mayAny(operations []string) error {
-	if r.visitor == nil || operations == nil {
+	if r.visitor == nil || operations == nil || r.ContentLength <= api.SmallBody {
 		return nil
 	}
 	return r.visitor.MayAny(r.ctx, operations...)

@@ -13,8 +13,9 @@ const (
 	// mostLarge is how many requests for large answers there may be at once, and mostLargeOfOne how many of one caller. So many may have
 	// large bodies, too.
 	mostLarge, mostLargeOfOne = 64, 16
-	// mostMaking is how many large answers are made at once, and makingTimeout how long one waits for its turn.
-	mostMaking, makingTimeout = 2, 10 * time.Second
+	// mostMaking is how many large answers are made at once, and makingTimeout how long one waits for its turn. mostSnapshots is how many
+	// snapshots are made for one caller or written to it at once, since they are the largest.
+	mostMaking, makingTimeout, mostSnapshots = 2, 10 * time.Second, 2
 )
 
 // Slots bound how many large answers or bodies there are at once, so that those who ask for them hold up nobody else.
@@ -22,29 +23,62 @@ type slots struct {
 	making chan struct{}
 	mutex  sync.Mutex
 	count  int
-	of     map[string]int
+	of     map[string]*slotsOfOne
 }
 
-func newSlots() *slots { return &slots{making: make(chan struct{}, mostMaking), of: map[string]int{}} }
+// A slotsOfOne is what one caller has of the slots, and of the snapshots at once.
+type slotsOfOne struct {
+	count     int
+	snapshots chan struct{}
+}
+
+func newSlots() *slots {
+	return &slots{making: make(chan struct{}, mostMaking), of: map[string]*slotsOfOne{}}
+}
 
 // enter takes a slot for a caller, from before an answer is made until it is written. There is one unless the caller or all callers have
 // too many.
 func (s *slots) enter(caller string) (leave func(), err error) {
 	s.mutex.Lock()
 	defer s.mutex.Unlock()
-	if s.count == mostLarge || s.of[caller] == mostLargeOfOne {
+	own := s.of[caller]
+	if own == nil {
+		own = &slotsOfOne{snapshots: make(chan struct{}, mostSnapshots)}
+	}
+	if s.count == mostLarge || own.count == mostLargeOfOne {
 		return nil, api.TooManyRequests
 	}
 	s.count++
-	s.of[caller]++
+	own.count++
+	s.of[caller] = own
 	return func() {
 		s.mutex.Lock()
 		defer s.mutex.Unlock()
 		s.count--
-		if s.of[caller]--; s.of[caller] == 0 {
+		if own.count--; own.count == 0 {
 			delete(s.of, caller)
 		}
 	}, nil
+}
+
+// enterSnapshot takes a slot for a caller, and waits until few enough of its snapshots are made or written.
+func (s *slots) enterSnapshot(ctx context.Context, caller string) (leave func(), err error) {
+	leaveSlot, err := s.enter(caller)
+	if err != nil {
+		return nil, err
+	}
+	s.mutex.Lock()
+	turns := s.of[caller].snapshots
+	s.mutex.Unlock()
+	within, cancel := context.WithTimeout(ctx, makingTimeout)
+	defer cancel()
+	select {
+	case turns <- struct{}{}:
+		return func() { <-turns; leaveSlot() }, nil
+	case <-within.Done():
+		leaveSlot()
+		return nil, api.TooManyRequests
+	}
 }
 
 // make calls a function that makes a large answer, when not too many others are being made.

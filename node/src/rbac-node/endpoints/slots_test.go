@@ -38,6 +38,45 @@ func TestSlots(t *testing.T) {
 	}
 }
 
+// A caller has few snapshots at once: others of it wait, and those of another caller don't.
+func TestSnapshotSlots(t *testing.T) {
+	s, ctx := newSlots(), context.Background()
+	ended, cancel := context.WithCancel(ctx)
+	cancel()
+	var leave []func()
+	for i := 0; i < mostSnapshots; i++ {
+		one, err := s.enterSnapshot(ctx, "a")
+		if err != nil {
+			t.Fatal(err)
+		}
+		leave = append(leave, one)
+	}
+	if _, err := s.enterSnapshot(ended, "a"); err != api.TooManyRequests {
+		t.Errorf("one more: %v", err)
+	}
+	other, err := s.enterSnapshot(ctx, "b")
+	if err != nil {
+		t.Fatal(err)
+	}
+	waiting := make(chan error, 1)
+	go func() {
+		one, err := s.enterSnapshot(ctx, "a")
+		if err == nil {
+			one()
+		}
+		waiting <- err
+	}()
+	leave[0]()
+	if err := <-waiting; err != nil {
+		t.Error(err)
+	}
+	leave[1]()
+	other()
+	if s.count != 0 || len(s.of) != 0 {
+		t.Errorf("%d are left, of %v", s.count, s.of)
+	}
+}
+
 // No more than some are made at once, and one who waits for a turn in vain is refused.
 func TestMaking(t *testing.T) {
 	s := newSlots()

@@ -36,7 +36,7 @@ func (e *Endpoints) snapshot(r *request) (int, error) {
 	if err != nil {
 		return 0, err
 	}
-	leave, err := e.slot(r)
+	leave, err := e.slots.enterSnapshot(r.ctx, r.caller())
 	if err != nil {
 		return 0, err
 	}

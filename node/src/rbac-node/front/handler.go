@@ -18,7 +18,7 @@ import (
 )
 
 // requestField is the field in which a client of AuthZEN numbers its requests.
-const requestField = "X-Request-ID"
+const requestField = "X-Request-Id"
 
 // ServeHTTP answers a request, unless it comes from a foreign page or nobody knows who asks.
 func (f *Front) ServeHTTP(w http.ResponseWriter, r *http.Request) {
@@ -27,8 +27,8 @@ func (f *Front) ServeHTTP(w http.ResponseWriter, r *http.Request) {
 		api.Refuse(w, api.BadRequest(http.StatusNotImplemented))
 		return
 	}
-	if id := r.Header.Get(requestField); id != "" && strings.HasPrefix(r.URL.Path, "/access/") {
-		w.Header().Set(requestField, id) // As AuthZEN wants it, whatever is answered.
+	if id := r.Header[requestField]; len(id) > 0 && strings.HasPrefix(r.URL.Path, "/access/") {
+		w.Header()[requestField] = id[:1] // As AuthZEN wants it, whatever is answered.
 	}
 	if !f.isServing.Load() {
 		f.serveStart(w, r)
