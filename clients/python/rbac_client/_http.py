@@ -16,6 +16,8 @@ _HEAD = re.compile(
 _LENGTH = re.compile(rb"(?i)\ncontent-length[ \t]*:[ \t]*([^\r\n]*)\r")
 _OTHERS = re.compile(rb"(?i)\n(?:(transfer-encoding)|connection:[^\r\n]*(close))")
 
+_NUMBERS = {name: re.compile(rb"(?i)\n%s:[ \t]*([^\r\n]*)\r" % name) for name in (b"Office-Number", b"Policy-Revision")}
+
 # A token, or what returns the present one.
 Token = Union[str, Callable[[], str]]
 
@@ -70,7 +72,7 @@ def request(address: Address, target: str, body: Optional[bytes], token: Optiona
 
 def number_of(head: bytes, name: bytes) -> Optional[int]:
     """The number that a field of the head of an answer states, such as `Policy-Revision`, or None."""
-    found = re.findall(rb"(?i)\n%s:[ \t]*([^\r\n]*)\r" % name, head)
+    found = _NUMBERS[name].findall(head)
     return int(found[0]) if len(found) == 1 and re.fullmatch(rb"[0-9]{1,18}", found[0]) else None
 
 
