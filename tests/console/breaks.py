@@ -11,12 +11,12 @@ from importlib import import_module
 
 import pytest
 
-from front.running import build
-from front.wrongfronts import ROOT, tried_with
-from program.bench import Bench
+from front.running import PROGRAM, build
+from program.bench import TESTS, Bench
 
 from .running import LONG
 
+ROOT = TESTS.parent
 SITE = "console/site/"
 
 # The edits: a file, a text that occurs in it once, the text that replaces it, the check, and how the message of the check begins.
@@ -107,15 +107,18 @@ def broken(bench, name):
     return root
 
 
-def faults_of(folder, check):
-    """What a check finds: what it compares, or that it does not come to its end."""
+def faults_of(folder, check, program):
+    """What a check finds with another program: what it compares, or that it does not come to its end."""
     folder.mkdir()
     inner = Bench(folder)
     module, function = check.split(".")
+    usual, os.environ[PROGRAM] = os.environ[PROGRAM], program
     try:
         getattr(import_module(f"console.{module}"), function)(inner)
     except TimeoutError as error:
         inner.faults.append(f"{error}")
+    finally:
+        os.environ[PROGRAM] = usual
     return inner.faults
 
 
@@ -126,7 +129,7 @@ def check_break(bench, name):
     if os.environ.get(LONG):
         *_, check, said = BREAKS[name]
         program = build(bench.folder, root)
-        found = tried_with(program, lambda: faults_of(bench.folder / "tried", check))
+        found = faults_of(bench.folder / "tried", check, program)
         bench.judge(f"{check} finds {name}", [] if any(one.startswith(said) for one in found) else [f"it finds {found}"])
 
 
