@@ -107,27 +107,29 @@ def broken(bench, name):
     return root
 
 
-def faults_of(folder, check):
-    """What a check finds: what it compares, or that it does not come to its end."""
+def faults_of(folder, check, program):
+    """What a check finds with another program: what it compares, or that it does not come to its end."""
     folder.mkdir()
     inner = Bench(folder)
     module, function = check.split(".")
+    usual, os.environ[PROGRAM] = os.environ[PROGRAM], program
     try:
         getattr(import_module(f"console.{module}"), function)(inner)
     except TimeoutError as error:
         inner.faults.append(f"{error}")
+    finally:
+        os.environ[PROGRAM] = usual
     return inner.faults
 
 
 @pytest.mark.parametrize("name", BREAKS)
-def check_break(bench, name, monkeypatch):
+def check_break(bench, name):
     """A broken console is found by its check."""
     root = broken(bench, name)
     if os.environ.get(LONG):
         *_, check, said = BREAKS[name]
         program = build(bench.folder, root)
-        monkeypatch.setenv(PROGRAM, program)
-        found = faults_of(bench.folder / "tried", check)
+        found = faults_of(bench.folder / "tried", check, program)
         bench.judge(f"{check} finds {name}", [] if any(one.startswith(said) for one in found) else [f"it finds {found}"])
 
 

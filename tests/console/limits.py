@@ -92,6 +92,8 @@ look();
     % SETTLED
 )
 TIMES = 7
+# Seconds between rounds: Chromium ignores a change of the address if there were 200 within ten seconds.
+PAUSE = 0.3
 TRIALS = 3
 
 
@@ -112,6 +114,7 @@ def measured(page, segments, query):
     """
     found = []
     for _ in range(TIMES):
+        time.sleep(PAUSE)
         row = []
         for wanted in (page.hash_of(["nothing"]), page.hash_of(segments) + query):
             page.go("other")
