@@ -96,6 +96,8 @@ NEEDS = {name: Need(program(name), package) for package, names in PROGRAMS.items
     "layers": Need(can_mount),
     "boots": Need(can_mount),
     "containers": Need(lambda: True),
+    # Files of an image belong to other users.
+    "users of images": Need(lambda: is_root() or can_run("buildah", "unshare", "true")),
     "unchangeable files": Need(lambda: True),
     "units of etcd": Need(Path("/usr/lib/systemd/system/etcd.service").exists, "etcd-server"),
     "history": Need(lambda: True),
