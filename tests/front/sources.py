@@ -47,7 +47,7 @@ OTHERS = {"build", "features", "unix-socket", "cacert", "system", "home-dir", "s
 def check_metrics(bench):
     """The page lists each metric of the front, and no other one."""
     sources = text_of("api/api.go", "front/front.go", "one.go", "settings.go", "record/head.go", "metrics/process.go")
-    known = set(re.findall(r'(?:Counter|Gauge|Histogram)\(\s*"(rbac_\w+)"', sources))
+    known = set(re.findall(r'(?:Counter|Gauge|Histogram|Tally)\(\s*"(rbac_\w+)"', sources))
     bench.same("metrics of the page", sorted(set(re.findall(r"rbac_node_\w+", PAGE))), sorted(known))
 
 

@@ -85,8 +85,10 @@ def check_no_office(bench):
     with sqlite3.connect(bench.path("database")) as other:
         other.execute("CREATE TABLE x (a)")
     other.close()
+    os.mkdir(bench.path("folder"))
+    os.mkfifo(bench.path("pipe"))
     before = bench.contents()
-    for name, says in [("text", "it isn't a file of SQLite"), ("database", '"error":"NotAnOffice"')]:
+    for name, says in [("text", "it isn't a file of SQLite"), ("database", '"error":"NotAnOffice"'), ("folder", "it isn't a file"), ("pipe", "it isn't a file")]:
         for more in ([], ["--no-record"], ["--callers", bench.path("callers.jsonl")]):
             status, out, said = refused_start("serve", "--program", RBAC, "--office", bench.path(name), *more)
             bench.same(f"{name} {more}", (status, out, f"{bench.path(name)} is no office" in said, says in said), (1, "", True, True))

@@ -22,10 +22,16 @@ func CheckFile(ctx context.Context, program, path string) error {
 			return nil
 		}
 	}
-	file, err := os.Open(path)
-	if errors.Is(err, os.ErrNotExist) {
+	about, err := os.Stat(path)
+	switch {
+	case errors.Is(err, os.ErrNotExist):
 		return nil // It is made.
+	case err == nil && !about.Mode().IsRegular():
+		return fmt.Errorf("%s is no office: it isn't a file", path)
+	case err != nil:
+		return fmt.Errorf("office: %w", err)
 	}
+	file, err := os.Open(path)
 	if err != nil {
 		return fmt.Errorf("office: %w", err)
 	}

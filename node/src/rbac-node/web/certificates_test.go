@@ -171,6 +171,9 @@ func TestVerifyClients(t *testing.T) {
 		for _, version := range []uint16{tls.VersionTLS12, tls.VersionTLS13} {
 			server := &tls.Config{Certificates: []tls.Certificate{{Certificate: [][]byte{leaf}, PrivateKey: key}}, CipherSuites: suites}
 			VerifyClients(server, m.pool(), test.isAsked)
+			if !server.SessionTicketsDisabled {
+				t.Error("a session that is resumed isn't verified")
+			}
 			client := &tls.Config{ServerName: "localhost", RootCAs: m.pool(), MinVersion: version, MaxVersion: version}
 			if test.chain != nil {
 				shown := &tls.Certificate{Certificate: test.chain, PrivateKey: test.key}
