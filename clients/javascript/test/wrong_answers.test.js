@@ -1,5 +1,5 @@
 // What no client may take for a permission, and what it says about it: clients/conformance/wrong_answers.json. `npm test`, or
-// `node --test test`.
+// `node --test`.
 
 import assert from "node:assert/strict";
 import { after, before, test } from "node:test";
