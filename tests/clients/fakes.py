@@ -150,8 +150,12 @@ def slowly(answer, seconds):
     return [piece for byte in answer for piece in (bytes([byte]), seconds)]
 
 
-# What all clients have to do alike: their own tests read the same file.
-CONFORMANCE = json.loads((TESTS.parent / "clients/conformance/wrong_answers.json").read_text(encoding="utf-8"))
+def shared(name):
+    """A file of what all clients have to do alike: their own tests read it too."""
+    return json.loads((TESTS.parent / "clients/conformance" / name).read_text(encoding="utf-8"))
+
+
+CONFORMANCE = shared("wrong_answers.json")
 
 
 def answered(status, body, *fields):

@@ -10,7 +10,7 @@ import pytest
 
 from .client import HASTY, PATIENT
 from .driving import NAMES, WITH_SOCKETS, Driven
-from .fakes import ALLOWED, DENIED, RIGHT, Fake, Kept, answered, slow_answers, with_status, wrong_answers
+from .fakes import ALLOWED, DENIED, RIGHT, Fake, Kept, answered, shared, slow_answers, with_status, wrong_answers
 
 
 @pytest.mark.parametrize("name", NAMES)
@@ -102,28 +102,17 @@ def check_kept_connections(bench, name):
 @pytest.mark.parametrize("name", NAMES)
 def check_connections_after_wrong_answers(bench, name):
     """A question's connection is kept after an answer of the server, and closed after another one, whatever comes on it later."""
-    page = answered(502, b"<html></html>").replace(b"Connection: close\r\n", b"")
-    for what, answer, reason, is_kept in [
-        ("the right answer", RIGHT, "allowed", True),
-        ("a refusal", reply(409, b'{"code":26,"error":"NoSession"}'), "ended_session", True),
-        ("a refusal of a server that has failed", reply(500, b'{"code":41,"error":"Store"}'), "unavailable", True),
-        ("a page of a proxy", page, "unavailable", False),
-        (
-            "a page with a status of rbac",
-            answered(403, b"<html></html>").replace(b"Connection: close\r\n", b""),
-            "forbidden",
-            False,
-        ),
-        ("another body", reply(200, b"true"), "unexpected", False),
-        ("a refusal with another status", reply(400, b'{"code":26,"error":"NoSession"}'), "unexpected", False),
-    ]:
+    for case in shared("connections.json"):
+        what, answer = case["name"], case["answer"].encode()
         with Fake([Kept(answer), Kept(DENIED), Kept(RIGHT)]) as fake, Driven(bench, name, timeout=PATIENT) as driver:
             driver.open(fake.address)
-            bench.same(what, driver.check(), reason)
+            bench.same(what, driver.check(), case["reason"])
             bench.same(f"the next question after {what}", [driver.check(), driver.check()], ["denied", "allowed"])
-            bench.same(f"connections after {what}", len(fake.threads) - 1, 1 if is_kept else 2)
+            bench.same(f"connections after {what}", len(fake.threads) - 1, 1 if case["keeps"] else 2)
     # The late second answer to a question isn't that to the next one.
-    with Fake([Kept(page, 0.1, RIGHT), DENIED]) as fake, Driven(bench, name, timeout=PATIENT) as driver:
+    with Fake([Kept(answered(502, b"<html></html>"), 0.1, RIGHT), DENIED]) as fake, Driven(
+        bench, name, timeout=PATIENT
+    ) as driver:
         driver.open(fake.address)
         bench.same("a page, and an answer later", [driver.check(), driver.check()], ["unavailable", "denied"])
 

@@ -51,7 +51,7 @@ def check_go_of_clients(bench, folder, words, librbac):
 
 @pytest.mark.needs("node")
 def check_javascript(bench):
-    status, said = run(["node", "--test", "test"], CLIENTS / "javascript")
+    status, said = run(["node", "--test"], CLIENTS / "javascript")
     bench.judge("node --test", [] if status == 0 else [said[-3000:]])
     bench.passed += int(re.findall(r"^# pass (\d+)$", said, re.M)[-1])
     bench.same("skipped", re.findall(r"^# skipped (\d+)$", said, re.M)[-1:], ["0"])

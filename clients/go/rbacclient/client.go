@@ -60,7 +60,7 @@ type Client struct {
 	// createsUntil is until when sessions are made by createSession, in nanoseconds, since the server opens none.
 	createsUntil atomic.Int64
 
-	lines  Lines
+	lines  LogLines
 	mu     sync.Mutex
 	counts map[Reason]uint64
 }

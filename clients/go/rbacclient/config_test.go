@@ -94,7 +94,7 @@ func TestLines(t *testing.T) {
 	shared(t, "log_lines.json", &cases)
 	for _, test := range cases {
 		t.Run(test.Name, func(t *testing.T) {
-			var lines Lines
+			var lines LogLines
 			began := time.Now()
 			for i, step := range test.Steps {
 				now := began.Add(time.Duration(step[0].(float64)*1000+0.5) * time.Millisecond)
@@ -115,7 +115,7 @@ func TestLines(t *testing.T) {
 // TestLine writes one line of printable ASCII.
 func TestLine(t *testing.T) {
 	var said bytes.Buffer
-	var lines Lines
+	var lines LogLines
 	decision := Decision{Reason: Unanswered, Detail: "it took too long"}
 	lines.Report(log.New(&said, "", 0), decision, "open\n\x1b[31m\u2028", strings.Repeat("safe", 1_000))
 	lines.Report(log.New(&said, "", 0), decision, "open", "safe")

@@ -16,9 +16,9 @@ const (
 	mostOfName, mostOfText = 80, 200
 )
 
-// Lines decides which lines about failures are written: each change of the reason, and otherwise one a second, which counts the others.
+// LogLines decides which lines about failures are written: each change of the reason, and otherwise one a second, which counts the others.
 // Its zero value is ready.
-type Lines struct {
+type LogLines struct {
 	mu          sync.Mutex
 	reason      Reason
 	leftOut     int
@@ -27,7 +27,7 @@ type Lines struct {
 }
 
 // Due reports whether a line about this reason is to be written now, and what it ends with.
-func (l *Lines) Due(now time.Time, reason Reason) (end string, isDue bool) {
+func (l *LogLines) Due(now time.Time, reason Reason) (end string, isDue bool) {
 	l.mu.Lock()
 	defer l.mu.Unlock()
 	if now.Sub(l.start) >= lineInterval {
@@ -51,7 +51,7 @@ func (l *Lines) Due(now time.Time, reason Reason) (end string, isDue bool) {
 }
 
 // Report logs a decision that the office hasn't made. The log has no names of sessions.
-func (l *Lines) Report(to *log.Logger, decision Decision, operation, object string) {
+func (l *LogLines) Report(to *log.Logger, decision Decision, operation, object string) {
 	if decision.IsDecided() {
 		return
 	}

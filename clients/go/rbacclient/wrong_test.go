@@ -79,31 +79,29 @@ func TestWrongAnswers(t *testing.T) {
 	}
 }
 
-// TestConnections keeps a connection after an answer of the server, and closes it after another one.
+// TestConnections keeps a connection after an answer of the server, and closes it after another one: clients/conformance/connections.json.
 func TestConnections(t *testing.T) {
+	var cases []struct {
+		Name, Answer, Reason string
+		Keeps                bool
+	}
+	shared(t, "connections.json", &cases)
 	s := serve(t)
 	s.mu.Lock()
 	s.keep = true
 	s.mu.Unlock()
-	for _, test := range []struct {
-		answer      string
-		connections int
-	}{
-		{right, 1},
-		{"HTTP/1.1 409 A\r\nContent-Length: 31\r\n\r\n{\"code\":26,\"error\":\"NoSession\"}", 1},
-		{"HTTP/1.1 502 A\r\nContent-Length: 13\r\n\r\n<html></html>", 2},
-		{"HTTP/1.1 200 A\r\nContent-Length: 4\r\n\r\ntrue", 2},
-	} {
-		office, err := New(Config{Addresses: []string{s.address()}, Log: log.New(&bytes.Buffer{}, "", 0)})
+	for _, test := range cases {
+		office, err := New(Config{Addresses: []string{s.address()}, Log: log.New(io.Discard, "", 0)})
 		if err != nil {
 			t.Fatal(err)
 		}
-		s.set(test.answer, false)
-		office.May(context.Background(), "s1", "open", "safe")
+		s.set(test.Answer, false)
+		decision := office.Check(context.Background(), "s1", "open", "safe")
 		_, first := s.set(right, false)
 		isAllowed := office.May(context.Background(), "s1", "open", "safe")
-		if _, second := s.set(right, false); first+second != test.connections || !isAllowed {
-			t.Errorf("%d connections after %q, %t", first+second, test.answer, isAllowed)
+		_, second := s.set(right, false)
+		if string(decision.Reason) != test.Reason || first+second != map[bool]int{true: 1, false: 2}[test.Keeps] || !isAllowed {
+			t.Errorf("%s: %s, %d connections, %t", test.Name, decision.Reason, first+second, isAllowed)
 		}
 		office.Close()
 	}

@@ -72,7 +72,7 @@ type Replica struct {
 	stop   context.CancelFunc
 	ended  chan struct{}
 	names  digests
-	lines  rbacclient.Lines
+	lines  rbacclient.LogLines
 
 	mu       sync.Mutex
 	office   *rbacoffice.Office // nil if there is no copy
@@ -82,7 +82,7 @@ type Replica struct {
 	fresh    moment
 	young    map[string]time.Time // when sessions came that may not have all of their roles yet
 	trouble  *rbacclient.Error
-	cutOff   rbacclient.Lines
+	cutOff   rbacclient.LogLines
 	isTold   bool // whether the log has a line that it is cut off, and none after it
 	failures int
 	changed  chan struct{} // closed at the next change, if somebody waits for it

@@ -4,7 +4,7 @@ import { ENDS, bodyOf } from "./answers.js";
 import { Course } from "./course.js";
 import { Decision, OfficeError, undecided } from "./decision.js";
 import { Functions } from "./functions.js";
-import { Lines, shown } from "./log.js";
+import { LogLines, shown } from "./log.js";
 import { Session } from "./session.js";
 import { Address } from "./transport.js";
 
@@ -36,7 +36,7 @@ export class Client extends Functions {
   #log;
   /** @type {Map<import("./decision.js").Reason, number>} */
   #counts = new Map();
-  #lines = new Lines();
+  #lines = new LogLines();
   /**
    * Until then sessions are made by createSession, since the server opens none.
    *

@@ -11,7 +11,7 @@ const MOST_OF_A_NAME = 80;
 const MOST_OF_A_TEXT = 200;
 
 /** Which lines about failures are written: each change of the reason, and otherwise one a second, which counts the others. */
-export class Lines {
+export class LogLines {
   /** @param {() => number} clock the milliseconds of a clock that nobody sets */
   constructor(clock = now) {
     this.clock = clock;

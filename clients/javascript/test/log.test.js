@@ -3,13 +3,13 @@
 import assert from "node:assert/strict";
 import { test } from "node:test";
 import { Client } from "../src/index.js";
-import { Lines } from "../src/log.js";
+import { LogLines } from "../src/log.js";
 import { shared } from "../testing/fake.js";
 
 for (const { name, steps } of shared("log_lines.json")) {
   test(name, () => {
     let now = 0;
-    const lines = new Lines(() => now);
+    const lines = new LogLines(() => now);
     steps.forEach(([seconds, reason, leftOut], number) => {
       now = 1_000_000 + Math.round(seconds * 1_000);
       const end = leftOut ? ` (and ${leftOut} more since the last line)` : "";

@@ -1,5 +1,5 @@
 // What no client may take for a permission, and what it says about it: clients/conformance/wrong_answers.json. `npm test`, or
-// `node --test test`.
+// `node --test`.
 
 import assert from "node:assert/strict";
 import { after, before, test } from "node:test";
@@ -56,25 +56,20 @@ test("the right answer allows", async () => {
   office.close();
 });
 
-test("a connection is kept after an answer of the server, and closed after another one", async () => {
-  server.keeps = true;
-  for (const [answer, connections] of [
-    [RIGHT, 1],
-    ['HTTP/1.1 409 A\r\nContent-Length: 31\r\n\r\n{"code":26,"error":"NoSession"}', 1],
-    ["HTTP/1.1 502 A\r\nContent-Length: 13\r\n\r\n<html></html>", 2],
-    ["HTTP/1.1 200 A\r\nContent-Length: 4\r\n\r\ntrue", 2],
-  ]) {
+for (const { name, answer, reason, keeps } of shared("connections.json")) {
+  test(`a connection after ${name} is ${keeps ? "kept" : "closed"}`, async () => {
     const office = new Client({ addresses: server.address, log: () => {} });
+    server.keeps = true;
     server.connections = 0;
-    for (const next of [answer, RIGHT]) {
-      server.answer = next;
-      await office.check("s1", "open", "safe");
-    }
-    assert.equal(server.connections, connections, answer);
+    server.answer = answer;
+    assert.equal((await office.check("s1", "open", "safe")).reason, reason);
+    server.answer = RIGHT;
+    assert.equal(await office.may("s1", "open", "safe"), true);
+    assert.equal(server.connections, keeps ? 1 : 2);
     office.close();
-  }
-  server.keeps = false;
-});
+    server.keeps = false;
+  });
+}
 
 test("the digest of a session is the beginning of SHA3-256", () => {
   assert.equal(sessionDigest("00112233445566778899aabbccddeeff"), "05079ffa5a3024b9424595e8940b640e");

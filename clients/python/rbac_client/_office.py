@@ -17,7 +17,7 @@ _INTERVAL, _MOST_LINES = 1.0, 10
 _MOST_SHOWN = 80
 
 
-class Lines:
+class LogLines:
     """Which lines about failures are written: each change of the reason, and otherwise one a second, which counts the others."""
 
     def __init__(self, clock: Callable[[], float] = time.monotonic) -> None:
@@ -47,7 +47,7 @@ class Decisions:
     def __init__(self) -> None:
         self._lock = threading.Lock()
         self._counts: "Counter[Reason]" = Counter()
-        self._lines = Lines()
+        self._lines = LogLines()
 
     @property
     def counts(self) -> Dict[Reason, int]:

@@ -22,7 +22,7 @@ import rbac_office
 from ._client import Client, Office
 from ._decision import REASONS, Decision, Error, Reason, Refused, Unexpected
 from ._following import OUTDATED, Event, Watch, now
-from ._office import Lines, decided, undecided
+from ._office import LogLines, decided, undecided
 from ._rows import answer_to, office_of
 from ._values import session_digest
 
@@ -121,7 +121,7 @@ class Replica(Office):
         self._young: Dict[str, float] = {}
         self._trouble: Optional[Error] = Unexpected("nothing was loaded yet", Reason.UNAVAILABLE)
         self._failures = 0
-        self._lines, self._is_told = Lines(), True
+        self._lines, self._is_told = LogLines(), True
         # How many decisions `may` has made by itself: those that deny, and those that allow.
         self._made = [0, 0]
         self._watch: Optional[Watch] = None

@@ -22,13 +22,13 @@ def bytes_of(pieces, port):
 
 
 class Server:
-    """Sends `answer` after each request, and closes the connection. With None it resets the connection."""
+    """Sends `answer` after each request, and closes the connection unless it `keeps` it. With None it resets the connection."""
 
     def __init__(self):
         self.listener = socket.create_server(("127.0.0.1", 0))
         self.port = self.listener.getsockname()[1]
         self.address = f"http://127.0.0.1:{self.port}"
-        self.answer, self.requests = RIGHT, []
+        self.answer, self.requests, self.keeps, self.connections = RIGHT, [], False, 0
         threading.Thread(target=self.run, daemon=True).start()
 
     def run(self):
@@ -37,25 +37,44 @@ class Server:
                 client, _ = self.listener.accept()
             except OSError:
                 return
-            with client:
-                request = b""
-                while b"\r\n\r\n" not in request or len(request.partition(b"\r\n\r\n")[2]) < length(request):
-                    piece = client.recv(65_536)
-                    if not piece:
-                        break
-                    request += piece
+            self.connections += 1
+            if self.keeps:
+                threading.Thread(target=self.converse, args=(client,), daemon=True).start()
+            else:
+                self.converse(client)
+
+    def converse(self, client):
+        """Answers the request of a connection, or all of them if it is kept."""
+        with client:
+            while request := whole_request(client):
                 self.requests.append(request)
                 if self.answer is None:
                     client.setsockopt(socket.SOL_SOCKET, socket.SO_LINGER, struct.pack("ii", 1, 0))
-                    continue
+                    return
                 try:
                     client.sendall(self.answer)
                 except OSError:
-                    pass
+                    return
+                if not self.keeps:
+                    return
 
     def close(self):
         self.listener.shutdown(socket.SHUT_RDWR)
         self.listener.close()
+
+
+def whole_request(client):
+    """The next request, or nothing if the connection has ended."""
+    request = b""
+    while b"\r\n\r\n" not in request or len(request.partition(b"\r\n\r\n")[2]) < length(request):
+        try:
+            piece = client.recv(65_536)
+        except OSError:
+            return b""
+        if not piece:
+            return b""
+        request += piece
+    return request
 
 
 def length(request):

@@ -3,7 +3,7 @@
 import pytest
 
 from rbac_client import Decision, Reason
-from rbac_client._office import Decisions, Lines
+from rbac_client._office import Decisions, LogLines
 
 from fake import shared
 
@@ -13,7 +13,7 @@ CASES = shared("log_lines.json")
 @pytest.mark.parametrize("case", CASES, ids=[case["name"] for case in CASES])
 def test_lines(case):
     now = 1_000.0
-    lines = Lines(lambda: now)
+    lines = LogLines(lambda: now)
     for number, (seconds, reason, left_out) in enumerate(case["steps"]):
         now = 1_000.0 + seconds
         wanted = {None: None, 0: ""}.get(left_out, f" (and {left_out} more since the last line)")

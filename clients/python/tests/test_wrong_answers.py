@@ -43,3 +43,18 @@ def test_right_answer(server, office, caplog):
     assert office.check(DATA["session"], "open", "safe").allowed is True
     assert caplog.records == []
     assert f"Bearer {DATA['token']}".encode() in server.requests[0]
+
+
+CONNECTIONS = shared("connections.json")
+
+
+@pytest.mark.parametrize("case", CONNECTIONS, ids=[case["name"] for case in CONNECTIONS])
+def test_connection_is_kept(server, made, case):
+    """clients/conformance/connections.json."""
+    office = made(server.address)
+    server.keeps, server.answer = True, case["answer"].encode()
+    assert office.check("s1", "open", "safe").reason.value == case["reason"]
+    server.answer = RIGHT
+    assert office.may("s1", "open", "safe") is True
+    assert server.connections == (1 if case["keeps"] else 2)
+    office.close()

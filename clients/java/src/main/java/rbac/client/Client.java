@@ -30,7 +30,7 @@ public final class Client extends Functions implements AutoCloseable {
     private final Duration pause;
     private final boolean repeats;
     private final Map<Reason, Long> counts = new EnumMap<>(Reason.class);
-    private final Lines lines = new Lines(System::nanoTime);
+    private final LogLines lines = new LogLines(System::nanoTime);
 
     /** Until then sessions are made by createSession, since the server opens none: by the nanoseconds of System. */
     volatile long createsUntil = System.nanoTime();
@@ -200,7 +200,7 @@ public final class Client extends Functions implements AutoCloseable {
         }
         var end = decision.isDecided() ? null : lines.due(decision.reason());
         if (end != null) {
-            var about = Lines.shown(String.valueOf(operation)) + " on " + Lines.shown(String.valueOf(object));
+            var about = LogLines.shown(String.valueOf(operation)) + " on " + LogLines.shown(String.valueOf(object));
             LOGGER.log(System.Logger.Level.WARNING, "no decision about " + about + ": " + decision + end);
         }
         return decision;

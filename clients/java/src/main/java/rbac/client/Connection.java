@@ -137,7 +137,7 @@ final class Connection {
         if (Thread.currentThread().isInterrupted()) {
             return "the thread was interrupted";
         }
-        return limit - System.nanoTime() <= 0 ? "the time was over" : Lines.inOneLine(String.valueOf(error.getMessage()));
+        return limit - System.nanoTime() <= 0 ? "the time was over" : LogLines.inOneLine(String.valueOf(error.getMessage()));
     }
 
     /** Whether it is open, and nothing has come that no request has asked for. */

@@ -86,7 +86,7 @@ class ClientTest {
             var test = (Map<?, ?>) one;
             tests.add(DynamicTest.dynamicTest((String) test.get("name"), () -> {
                 var now = new AtomicLong();
-                var lines = new Lines(now::get);
+                var lines = new LogLines(now::get);
                 for (var step : (List<?>) test.get("steps")) {
                     var words = (List<?>) step;
                     now.set(Math.round((Double) words.get(0) * 1e9));

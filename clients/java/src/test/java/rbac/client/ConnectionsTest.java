@@ -5,30 +5,36 @@ import static org.junit.jupiter.api.Assertions.assertThrows;
 import static org.junit.jupiter.api.Assertions.assertTrue;
 
 import java.io.IOException;
+import java.util.ArrayList;
 import java.util.Collections;
+import java.util.List;
 import java.util.Map;
 import java.util.concurrent.Callable;
 import java.util.concurrent.Executors;
 import java.util.concurrent.Future;
+import org.junit.jupiter.api.DynamicTest;
 import org.junit.jupiter.api.Test;
+import org.junit.jupiter.api.TestFactory;
 
 /** Which connections are kept, and which requests go over them. */
 class ConnectionsTest {
-    @Test
-    void isKeptAfterAnAnswerOfTheServer() throws IOException {
-        var answers = Map.of(
-            FakeServer.RIGHT, 1, "HTTP/1.1 409 A\r\nContent-Length: 31\r\n\r\n{\"code\":26,\"error\":\"NoSession\"}", 1,
-            "HTTP/1.1 502 A\r\nContent-Length: 13\r\n\r\n<html></html>", 2, "HTTP/1.1 200 A\r\nContent-Length: 4\r\n\r\ntrue", 2);
-        for (var test : answers.entrySet()) {
-            try (var server = new FakeServer(); var logged = new Logged(); var office = Client.of(server.address()).build()) {
-                server.keeps = true;
-                server.answers(test.getKey());
-                office.check("s1", "open", "safe");
-                server.answers(FakeServer.RIGHT);
-                assertTrue(office.may("s1", "open", "safe"), () -> logged.lines.toString());
-                assertEquals(test.getValue(), server.connections.get(), test.getKey());
-            }
+    @TestFactory
+    List<DynamicTest> isKeptAfterAnAnswerOfTheServer() throws IOException {
+        var tests = new ArrayList<DynamicTest>();
+        for (var one : (List<?>) Values.shared("connections.json")) {
+            var test = (Map<?, ?>) one;
+            tests.add(DynamicTest.dynamicTest((String) test.get("name"), () -> {
+                try (var server = new FakeServer(); var logged = new Logged(); var office = Client.of(server.address()).build()) {
+                    server.keeps = true;
+                    server.answers((String) test.get("answer"));
+                    assertEquals(test.get("reason"), office.check("s1", "open", "safe").reason().toString());
+                    server.answers(FakeServer.RIGHT);
+                    assertTrue(office.may("s1", "open", "safe"), () -> logged.lines.toString());
+                    assertEquals(test.get("keeps").equals(true) ? 1 : 2, server.connections.get());
+                }
+            }));
         }
+        return tests;
     }
 
     @Test

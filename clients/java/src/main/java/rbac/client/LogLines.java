@@ -3,7 +3,7 @@ package rbac.client;
 import java.util.function.LongSupplier;
 
 /** Which lines about failures are written: each change of the reason, and otherwise one a second, which counts the others. */
-final class Lines {
+final class LogLines {
     /** How many nanoseconds pass between two lines of the same reason, and how many lines there are in as many at most. */
     private static final long INTERVAL = 1_000_000_000L;
 
@@ -21,7 +21,7 @@ final class Lines {
     private long last;
     private long start;
 
-    Lines(LongSupplier clock) {
+    LogLines(LongSupplier clock) {
         this.clock = clock;
         this.last = this.start = clock.getAsLong() - INTERVAL;
     }
