@@ -99,6 +99,9 @@ def check_role(bench):
         found = [f"{ASSIGNED}: 1 to 25 of 100, chosen from 1,300", users[1200:1225]]
         page.until(lambda: shown(page, ASSIGNED) == found, "what the field chooses")
         bench.same("what the field chooses", shown(page, ASSIGNED), found)
+        page.click("Remove the assignment of u1200")
+        page.until(lambda: shown(page, ASSIGNED)[0] == f"{ASSIGNED}: 1 to 25 of 99, chosen from 1,299", "one less, chosen as before")
+        bench.same("the text is there still", page.run("return document.querySelector('label.choose input').value"), "U12")
 
 
 def check_inherited(bench):
