@@ -3,10 +3,11 @@
 import json
 import subprocess
 
+from front.batches import batch
 from front.program import Front
 from program.bench import PROGRAM as RBAC
 
-from .browser import Browser
+from .browser import Browser, bank
 
 USERS, GRANTS, OBJECTS = 1_300, 1_200, 1_100
 # The captions of the tables.
@@ -98,6 +99,9 @@ def check_role(bench):
         found = [f"{ASSIGNED}: 1 to 25 of 100, chosen from 1,300", users[1200:1225]]
         page.until(lambda: shown(page, ASSIGNED) == found, "what the field chooses")
         bench.same("what the field chooses", shown(page, ASSIGNED), found)
+        page.click("Remove the assignment of u1200")
+        page.until(lambda: shown(page, ASSIGNED)[0] == f"{ASSIGNED}: 1 to 25 of 99, chosen from 1,299", "one less, chosen as before")
+        bench.same("the text is there still", page.run("return document.querySelector('label.choose input').value"), "U12")
 
 
 def check_inherited(bench):
@@ -148,3 +152,23 @@ def check_who(bench):
         page.click(f"Last: {caption}")
         page.until(lambda: shown(page, caption)[0] == f"{caption}: 1,201 to 1,299 of 1,299", "the last ones")
         page.until(lambda: len(shown(page, caption)[1]) == 99, "the last users")
+
+
+def check_operations(bench):
+    """An object with more operations than a page has: all are in a list, each with a page of its own."""
+    with bank(bench) as front, Browser(bench, front) as page:
+        operations = [f"do {number:02}" for number in range(60)]
+        permissions = [{"object": "vault", "operation": operation} for operation in operations]
+        lines = [{"fn": "addPermission", **one} for one in permissions]
+        bench.same("the office", {*batch(front, lines)[1]}, {'{"ok":true}'})
+        page.open("objects", "vault")
+        bench.same("the list", shown(page, "Operations"), ["Operations: 62", ["count", *operations, "open"]])
+        page.follow("open")
+        bench.same("one of them", ("Operation open" in page.text(), "branch manager" in page.text()), (True, True))
+        bench.same("and no other", "Operation count" in page.text(), False)
+        page.submit("Grant", "Grant open", Grant_to_the_role="auditor")
+        page.until(lambda: page.find("Revoke open from auditor"), "it is granted")
+        page.follow("vault", "main h1")
+        bench.same("the list again", shown(page, "Operations")[0], "Operations: 62")
+        page.go("objects", "vault", "burn")
+        bench.same("no such operation", "There is no such operation." in page.text(), True)

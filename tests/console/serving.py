@@ -2,14 +2,17 @@
 
 import http.client
 import json
+import os
 import shutil
 import sqlite3
+import subprocess
 import urllib.parse
 from xml.etree import ElementTree
 
 from front.batches import batch
 from front.identities import bearer, secured
 from front.program import HOST, Front
+from front.running import PROGRAM
 
 from .sources import SITE
 
@@ -227,3 +230,9 @@ def check_filters(bench):
         bench.same("until its own time", len(value_of(front, f"/record?until={at}&function=addUser")[1]["entries"]), 0)
         minute = f"{at[:16]}Z"
         bench.same("since its minute", len(value_of(front, f"/record?since={minute}&function=addUser")[1]["entries"]), 1)
+        for option in ("since", "until"):
+            done = subprocess.run(
+                [os.environ[PROGRAM], "record", "show", "--office", front.office, f"--{option}", "yesterday"],
+                capture_output=True, text=True, check=False,
+            )  # fmt: skip
+            bench.same(f"--{option} of the command line", (done.returncode, form in done.stderr, done.stdout), (1, True, ""))

@@ -1,6 +1,6 @@
 /** Tables of many rows: a part of them at a time, with how many there are. */
 
-import { button, table } from "./parts.js";
+import { button, fail, table } from "./parts.js";
 import { h } from "./text.js";
 
 /** How many rows a part has, unless a page says it. */
@@ -31,12 +31,18 @@ export function forgetPlaces(hash = "") {
 export async function browse(caption, heads, rows, cells, { empty, size = SHOWN, names = null, of = "" } = {}) {
     const place = placeOf(`${caption} ${of}`);
     const holder = h("div", {});
+    let drawn = 0;
     const draw = async (pressed) => {
+        drawn += 1;
+        const mine = drawn;
         const text = place.text.toLowerCase();
         const chosen = text ? rows.filter((row) => names(row).some((name) => name.toLowerCase().includes(text))) : rows;
         place.first = Math.max(0, Math.min(place.first, Math.floor((chosen.length - 1) / size) * size));
         const part = chosen.slice(place.first, place.first + size);
         const found = await cells(part);
+        if (mine !== drawn) {
+            return; // Another part is wanted meanwhile.
+        }
         holder.replaceChildren(table(captionOf(caption, place, part, chosen, rows), heads, found, text ? "None has this text." : empty),
             ...turns(caption, place, chosen.length, size, draw));
         if (pressed) {
@@ -44,7 +50,7 @@ export async function browse(caption, heads, rows, cells, { empty, size = SHOWN,
         }
     };
     await draw();
-    return [names && rows.length > size ? chooser(caption, place, draw) : null, holder];
+    return [names && (rows.length > size || place.text) ? chooser(caption, place, draw) : null, holder];
 }
 
 const find = (holder, text) => [...holder.querySelectorAll(".turns button")].find((one) => one.textContent === text);
@@ -75,7 +81,7 @@ function chooser(caption, place, draw) {
     const input = h("input", { type: "search", autocomplete: "off", spellcheck: "false", value: place.text });
     input.addEventListener("input", () => {
         Object.assign(place, { text: input.value, first: 0 });
-        draw();
+        draw().catch((error) => fail(error));
     });
     return h("label", { class: "choose screen" }, h("span", {}, `Find in: ${caption}`), input);
 }

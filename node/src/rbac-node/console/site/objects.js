@@ -4,7 +4,10 @@ import { askAll, everything, lists, may, maySome } from "./api.js";
 import { browse } from "./browse.js";
 import { Hierarchy } from "./hierarchy.js";
 import { action, button, command, deliberate, field, form, later, searchForm, section, table } from "./parts.js";
-import { h, hashOf, link, listed, name, object, plain, role, set, user } from "./text.js";
+import { brief, h, hashOf, link, listed, name, object, plain, role, set, user } from "./text.js";
+
+/** The most operations of an object that are shown on its page; of more there is a list. */
+const MOST_OPERATIONS = 50;
 
 export async function objectsPage({ query, anew }) {
     const { contains = "" } = query;
@@ -19,25 +22,31 @@ export async function objectsPage({ query, anew }) {
     return nodes;
 }
 
-export async function objectPage([text], { anew }) {
+/** The page of an object, or of one of its operations. */
+export async function objectPage([text, only], { anew }) {
     const [known, permissions, inheritances, dynamic] = await lists(["objects", { object: text }], ["permissions", { object: text }],
         ["inheritances"], ["dynamicSets"]);
     if (known.length === 0) {
         return [h("h1", {}, "Object ", name(text)), h("p", {}, "There is no such object.")];
     }
     const values = { object: text };
-    const mayAsk = may("permissionRoles", values);
-    const granted = mayAsk ? await askAll(permissions.map((row) => ({ fn: "permissionRoles", ...row }))).then((all) => all.map((one) => one.value ?? [])) : null;
+    const isMany = only === undefined && permissions.length > MOST_OPERATIONS;
+    const shown = isMany ? [] : permissions.filter(({ operation }) => only === undefined || operation === only);
+    const granted = may("permissionRoles", values) ? await askAll(shown.map((row) => ({ fn: "permissionRoles", ...row }))).then((all) => all.map((one) => one.value ?? [])) : null;
     const nodes = [
-        h("h1", {}, "Object ", name(text)),
+        h("h1", {}, "Object ", only === undefined ? name(text) : object(text)),
         may("deletePermObj", values) ? h("div", { class: "actions" }, deliberate("Delete", `Delete the object ${text}`, "Delete the object?",
             () => command("deletePermObj", values, hashOf(["objects"])))) : null,
     ];
     const hierarchy = new Hierarchy(inheritances);
     const violated = (one) => hierarchy.violated(dynamic, one);
-    permissions.forEach(({ operation }, i) => nodes.push(operationSection(text, operation, granted?.[i], violated, anew)));
-    if (permissions.length === 0) {
-        nodes.push(section("Operations", h("p", { class: "quiet" }, "The object has no operations.")));
+    if (isMany) {
+        nodes.push(section("Operations", await browse("Operations", ["Operation"], permissions,
+            (part) => part.map(({ operation }) => [link(["objects", text, operation], brief(operation))]), { names: ({ operation }) => [operation] })));
+    }
+    shown.forEach(({ operation }, i) => nodes.push(operationSection(text, operation, granted?.[i], violated, anew)));
+    if (shown.length === 0 && !isMany) {
+        nodes.push(section("Operations", h("p", { class: "quiet" }, only === undefined ? "The object has no operations." : "There is no such operation.")));
     }
     if (may("addPermission", values)) {
         nodes.push(section("Add an operation", form("Add an operation", [field("Operation", "operation", { from: "operations", required: true })], "Add",
