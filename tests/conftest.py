@@ -96,6 +96,31 @@ def pytest_collection_modifyitems(config, items):
     items.sort(key=lambda item: item.get_closest_marker("slow") is None)
 
 
+@pytest.hookimpl(optionalhook=True)
+def pytest_xdist_make_scheduler(config, log):
+    """Hands out checks one by one, and groups of them together."""
+    if config.getoption("dist") != "loadgroup":
+        return None
+    from xdist.scheduler import LoadGroupScheduling
+
+    class Scheduling(LoadGroupScheduling):
+        """That of xdist 3.1 hands out again what a process that has crashed had finished, and waits for it without an end."""
+
+        def remove_node(self, node):
+            units = self.assigned_work.pop(node)
+            left = [(scope, name) for scope, unit in units.items() for name, is_done in unit.items() if not is_done]
+            if not left:
+                return None
+            (_, crashed), *others = left
+            for scope, name in others:
+                self.workqueue.setdefault(scope, {})[name] = False
+            for other in self.assigned_work:
+                self._reschedule(other)
+            return crashed
+
+    return Scheduling(config, log)
+
+
 # ---- What checks get --------------------------------------------------------------------------------------------------------
 
 

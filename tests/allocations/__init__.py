@@ -1,0 +1,1 @@
+"""Allocations that fail, each in turn."""

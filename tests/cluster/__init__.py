@@ -1,1 +1,1 @@
-"""What tests/cluster.py checks: an office on several machines."""
+"""An office on several machines: three members of etcd and three nodes."""

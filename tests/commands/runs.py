@@ -121,7 +121,7 @@ def run(folder, *words):
     for name in [name for name in settings if name.startswith("PYTEST_")]:
         del settings[name]
     command = [sys.executable, "-m", "pytest", "-rA", "-q", f"--basetemp={folder / 'built'}", *words]
-    done = subprocess.run(command, cwd=folder, env=settings, capture_output=True, text=True, check=False)
+    done = subprocess.run(command, cwd=folder, env=settings, capture_output=True, text=True, timeout=120, check=False)
     # An error is a failure before the check has begun.
     found = re.findall(r"^(PASSED|FAILED|ERROR) tests/planted/checks\.py::check_(.+?)(?: - .*)?$", done.stdout, re.M)
     skipped = re.findall(r"^SKIPPED \[1\] \S+: (.*)$", done.stdout, re.M)
@@ -158,9 +158,14 @@ def check_installed(bench, planted):
 
 
 def check_end_of_process(bench, planted):
-    """A check that ends its process has failed, and the others run."""
-    status, found, _, said = run(planted, "-n", "1", "-k", "end_of_process or good")
-    bench.same("status and outcomes", (status, found.get("good")), (1, "PASSED"))
+    """A check that ends its process has failed, and the others run, each of them once."""
+    checks = planted / "tests/planted/checks.py"
+    many = '\n\n@pytest.mark.parametrize("number", range(40))\ndef check_many(bench, number):\n    bench.same("one", 1, 1)\n'
+    checks.write_text(PLANTED + many, encoding="utf-8")
+    status, found, _, said = run(planted, "-n", "2", "--dist", "loadgroup", "-k", "end_of_process or good or many")
+    wanted = {"good", *(f"many[{number}]" for number in range(40))}
+    bench.same("status and outcomes", (status, {name for name in found if found[name] == "PASSED"}), (1, wanted))
+    bench.same("how many ran", re.findall(r"^(\d+) failed, (\d+) passed", said, re.M), [("1", "41")])
     bench.same("the end", "crashed while running 'tests/planted/checks.py::check_end_of_process'" in said, True)
 
 

@@ -89,11 +89,11 @@ def check_commands(bench):
 
 
 def check_blocks(bench):
-    """Each block of the page is of a language that is run or compared, here or by tests/installed.py."""
+    """Each block of the page is of a language that is run or compared, here or by tests/installed."""
     bench.same("the languages", set(re.findall(r"^```(\w+)$", PAGE, re.M)), {"console", "sh", "sql"})
     bench.same("blocks without a language", PAGE.count("```"), 2 * len(re.findall(r"^```\w+$", PAGE, re.M)))
     here = ["--limit 1000\n", "rsync "]
-    # By tests/installed.py.
+    # By tests/installed.
     elsewhere = ["apt install ./rbac_*.deb ./rbac-node_*.deb\nsystemctl enable", "addUser", "chown -R", "systemctl start rbac-backup@"]
     elsewhere += ["systemctl disable --now rbac\n"]
     bench.same("blocks that are not run", len(commands_for("sh")), len({block_with(words) for words in here + elsewhere}))

@@ -12,6 +12,8 @@ or 1 an office is one file with nothing beside it, and a refusal leaves the file
     damaged     offices whose rows were changed, each with the check that fails
     migration   offices of version 1, and how they become offices of version 2
     words       the command line
+    usage       its help and its version, arguments that are refused, and standard streams that are closed or full
+    cases       parameters of checks
     streams     standard streams that are closed or full
     kills       what is in the file after the program was killed
     web         a server of an office, and clients of it

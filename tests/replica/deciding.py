@@ -7,6 +7,7 @@ import pytest
 from front.identities import CERTIFICATES, bearer, openssl, reload, rules, secured, tls_words
 from front.program import Front, until
 from front.sessions import digest_of
+from front.watching import snapshot
 from program.bench import TESTS
 from program.offices import Office
 
@@ -146,8 +147,9 @@ def check_addresses(bench, language):
             other.ask("addUser", {"user": f"new {number}"})
         driver.open([f"http://127.0.0.1:{one.port}" for one in (front, other)], oldest=600)
         ready(bench, driver)
-        first = driver.do("status")
+        wanted = snapshot(other)[1]
+        bench.same("another number before", driver.do("status")["number"] != wanted, True)
         front.kill()
-        until(lambda: driver.do("status")["number"] == first["number"] + 5, "it follows the other one")
+        until(lambda: driver.do("status")["number"] == wanted, "it follows the other one")
         until(lambda: driver.do("status")["reason"] == "", "it is fresh")
         bench.same("a decision", driver.reason(*asked), "allowed")

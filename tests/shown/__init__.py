@@ -1,0 +1,1 @@
+"""The examples of the folder examples/, and its page."""

@@ -1,6 +1,5 @@
 """What becomes of an office if a call on its files fails, the disk is full, or process or machine stop at a call.
 
-    running     jobs run side by side, each in a folder of its own, and the count of what came of them
     stories     runs of the program beside the plain model: what they may print, and what may be found afterwards
     shim        stop.c, loaded into the program: which call it stops, and how
     calls       each call on the files of an office is stopped in turn

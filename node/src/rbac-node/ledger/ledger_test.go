@@ -230,3 +230,23 @@ func TestAdopt(t *testing.T) {
 		t.Error("a second office was adopted")
 	}
 }
+
+// All nodes get the same first number, and one whose key was deleted, as after etcd was restored, is another one.
+func TestFirst(t *testing.T) {
+	l, ctx := newLedger(t), context.Background()
+	var found [3]int64
+	for i := range found {
+		if i == 2 {
+			if _, err := l.kv.Delete(ctx, firstKey); err != nil {
+				t.Fatal(err)
+			}
+		}
+		var err error
+		if found[i], err = l.First(ctx); err != nil {
+			t.Fatal(err)
+		}
+	}
+	if found[0] != found[1] || found[2] == found[0] || found[0] < 1<<50 {
+		t.Errorf("%v", found)
+	}
+}
