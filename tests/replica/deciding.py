@@ -1,5 +1,7 @@
 """What a replica does if its copy may not decide: revisions, sessions, rights, silence, another address, and its end."""
 
+import http.client
+import ssl
 import time
 
 import pytest
@@ -8,7 +10,7 @@ from front.identities import CERTIFICATES, bearer, openssl, reload, rules, secur
 from front.program import Front, until
 from front.sessions import digest_of
 from front.watching import snapshot
-from program.bench import TESTS
+from program.bench import SECONDS, TESTS
 from program.offices import Office
 
 from .driving import LANGUAGES, Driven
@@ -99,7 +101,11 @@ def check_rights(bench, language):
                 bench.same("with its rights", driver.reason(*asked), "allowed")
                 bench.write("callers.jsonl", rules({**RIGHTS, "token:desk": [("checkAccess", "office")]}).encode())
                 reload(front, "the callers are in force")
-                front.ask("addUser", {"user": f"new {otherwise}"}, **bearer("another"))
+                context = ssl.create_default_context(cafile=bench.path("ca.crt"))
+                other = http.client.HTTPSConnection("127.0.0.1", front.port, context=context, timeout=SECONDS)
+                status = front.ask("addUser", {"user": f"new {otherwise}"}, other, **bearer("another"))[0]
+                other.close()
+                bench.same("a command of another caller", status, 200)
                 until(lambda: driver.reason(*asked) == "forbidden", "it has lost its rights")
                 bench.same("its copy", driver.do("status")["number"], 0)
                 time.sleep(1)
