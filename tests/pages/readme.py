@@ -18,7 +18,7 @@ MOST_BYTES = 11_500
 MOST_FIRST = 5
 
 # The pages that the first page has to lead to.
-PAGES = "CHANGELOG.md SECURITY.md CONTRIBUTING.md " + " ".join(
+PAGES = "CHANGELOG.md SECURITY.md " + " ".join(
     f"docs/{name}.md" for name in "FRONT CALLERS OPERATING IMAGE CONSOLE AUDITING INTEGRATING EMBEDDING API CONTRACTS CLUSTER".split()
 )
 
