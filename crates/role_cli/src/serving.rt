@@ -140,6 +140,7 @@ pub(crate) fn answered<S: Alter, R: Source, W: Sink>(
     sink: &mut W,
 ) -> Option<Answered>
     ensures over { IsServedOver (state S.Store) (HasRisen (R.failed source.old) (R.failed source.new))
+        (HasFailed (W.failed sink.old) (W.failed sink.new) (W.idle sink.old) (W.idle sink.new))
         (R.remaining source.old) (R.remaining source.new) (W.written sink.old) (W.written sink.new) office.old (status_in result) office.new }
     ensures somehow { IsServedSomehow (state S.Store) office.old (status_in result) office.new }
     ensures closes { IfSome result (λ it. it.is_closed ≡ (it.status == 500)) }
