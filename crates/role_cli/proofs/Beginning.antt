@@ -1,5 +1,5 @@
 -- How the work of a subcommand begins.
-use Rattle.std.proofs.Common.{Global, String, ◌≡◌, ◌⊎◌, [], refl, inl, inr, subst, sym}
+use Rattle.std.proofs.Common.{Global, List, ℕ, String, ◌≡◌, ◌⊎◌, [], refl, inl, inr, subst, sym}
 use Rattle.std.specs.Prelude.{Bool, true, false, IsTrue}
 use Rattle.std.proofs.lemmas.Bool.{true≢false}
 use Rattle.sqlite.specs.Held.{Held, state}
@@ -62,6 +62,11 @@ pub refusal_fails : (chosen : Choice) (refusal : Refusal) → ((x : String Globa
 refusal_fails (choice.Init x) refusal never is = absurd (never x refl)
 refusal_fails _ refusal never is = (refusal, refl, is)
 
+-- 41 Store is
+pub store_fails : (chosen : Choice) (failure : Failure) → failure ≡ Refused Store → IsOpeningFailure chosen failure
+store_fails (choice.Init x) failure is = is
+store_fails _ failure is = (Store, is, refl)
+
 -- nothing begins over rows that an opening refuses
 pub none_begins : {C : Type 0} → RefusedHaveNoState → (shown : Held C → State) → NoneBeginsOverRefused shown
 none_begins none shown (choice.Init x) old office refusal opens other refuses begins = absurd (true≢false opens)
@@ -79,11 +84,12 @@ pub of_memory : (in_memory : Ghosts MemoryFile) {F : Type 0} (g : Ghosts F) (ima
 of_memory in_memory g image chosen from to became is done = subst (λ b. IsDoneIn b in_memory g image chosen from to became) (sym is) done
 
 -- what failed over an office in a file, failed
-pub fails_in_file : (in_memory : Ghosts MemoryFile) {F : Type 0} (g : Ghosts F) (image : Image) (chosen : Choice) (failure : Failure) (untouched cannot : Type 0) (from to : Environment) (became : StoreAfter F g)
-    → is_memory_replay chosen ≡ false → FailsOrFindsNoOffice (state (over_files {g = g})) chosen failure untouched from to → FailsOnStore g image chosen failure untouched cannot from to became
-    → FailsBy in_memory g image chosen failure untouched cannot from to became
-fails_in_file in_memory g image chosen failure untouched cannot from to became is_not over fails =
-    subst (λ b. FailsIn b in_memory g image chosen failure untouched cannot from to became) (sym is_not) (over, fails)
+pub fails_in_file : (in_memory : Ghosts MemoryFile) {F : Type 0} (g : Ghosts F) (image : Image) (chosen : Choice) (failure : Failure) (untouched : Type 0) (cannot : List ℕ → Type 0) (from to : Environment) (became : StoreAfter F g)
+    (path at : List ℕ) → is_memory_replay chosen ≡ false → path ≡ at → FailsOrFindsNoOffice (state (over_files {g = g})) chosen failure untouched from to
+    → FailsOnStore g image chosen failure untouched (cannot path) from to became → FailsBy in_memory g image chosen failure untouched (cannot at) from to became
+fails_in_file in_memory g image chosen failure untouched cannot from to became path at is_not same over fails =
+    subst (λ b. FailsIn b in_memory g image chosen failure untouched (cannot at) from to became) (sym is_not)
+    (over, subst (λ p. FailsOnStore g image chosen failure untouched (cannot p) from to became) same fails)
 
 less_in_memory : (in_memory : Ghosts MemoryFile) (failure : Failure) (kept untouched : Type 0) (from to : Environment) → (kept → untouched)
     → FailsInMemory in_memory failure kept from.remaining to.remaining from.written to.written → FailsInMemory in_memory failure untouched from.remaining to.remaining from.written to.written
@@ -123,10 +129,10 @@ less_on_files g image chosen failure kept untouched from to conn keeps works = r
 less_on_store : {F : Type 0} (g : Ghosts F) (image : Image) (chosen : Choice) (failure : Failure) (kept untouched cannot never : Type 0) (from to : Environment) (became : StoreAfter F g)
     → (kept → untouched) → (cannot → never) → FailsOnStore g image chosen failure kept cannot from to became → FailsOnStore g image chosen failure untouched never from to became
 less_on_store g image chosen failure kept untouched cannot never from to after.Untouched keeps step (same, why) = (keeps same, step why)
-less_on_store g image chosen failure kept untouched cannot never from to (after.Closed files) keeps step fails clean =
-    let (conn, works, closes) = fails clean in (conn, less_on_files g image chosen failure kept untouched from to conn keeps works, closes)
-less_on_store g image chosen failure kept untouched cannot never from to (after.Left store) keeps step fails clean =
-    let (conn, works, left) = fails clean in (conn, less_on_files g image chosen failure kept untouched from to conn keeps works, left)
+less_on_store g image chosen failure kept untouched cannot never from to (after.Closed files) keeps step fails = λ clean.
+    (let (conn, works, closes) = fails clean in (conn, less_on_files g image chosen failure kept untouched from to conn keeps works, closes))
+less_on_store g image chosen failure kept untouched cannot never from to (after.Left store) keeps step fails = λ clean.
+    (let (conn, works, left) = fails clean in (conn, less_on_files g image chosen failure kept untouched from to conn keeps works, left))
 
 less_in : (b : Bool) (in_memory : Ghosts MemoryFile) {F : Type 0} (g : Ghosts F) (image : Image) (chosen : Choice) (failure : Failure) (kept untouched cannot never : Type 0) (from to : Environment) (became : StoreAfter F g)
     → (kept → untouched) → (cannot → never) → FailsIn b in_memory g image chosen failure kept cannot from to became → FailsIn b in_memory g image chosen failure untouched never from to became

@@ -60,8 +60,8 @@ clean_before conn store closed clean = omega (arith, clean, closed.quiet.clean)
 pub works_on : {D : Type 0} {g : Ghosts D} (image : Image) (Work : State → Held (FileStore D g) → Type 0) (conn : Held (FileStore D g)) (became : StoreAfter D g)
     → ClosesConnection g conn became → HoldsCommit (file_state conn) → (HasCleanDisk (file_state conn) → WorksOnFiles g image (λ before. Work before conn)) → WorksOnStore g image Work became
 works_on image Work conn after.Untouched closes settled works = closes
-works_on image Work conn (after.Closed files) closes settled works clean = let copied = closes clean in (conn, works copied.was_clean, closes_over conn files copied settled)
-works_on image Work conn (after.Left store) left settled works clean = (conn, works (clean_before conn store left.closed clean), left)
+works_on image Work conn (after.Closed files) closes settled works = λ clean. (let copied = closes clean in (conn, works copied.was_clean, closes_over conn files copied settled))
+works_on image Work conn (after.Left store) left settled works = λ clean. (conn, works (clean_before conn store left.closed clean), left)
 
 -- and so it failed
 pub fails_on : {D : Type 0} {g : Ghosts D} (image : Image) (chosen : Choice) (failure : Failure) (untouched cannot_begin : Type 0) (from to : Environment) (conn : Held (FileStore D g)) (became : StoreAfter D g)

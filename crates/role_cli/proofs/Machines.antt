@@ -1,5 +1,5 @@
 -- What was met on the machine that the program runs on.
-use Rattle.std.proofs.Common.{◌≡◌, ℕ, Option, None, subst}
+use Rattle.std.proofs.Common.{◌≡◌, ℕ, None, subst}
 use Rattle.rbac_sets.specs.declared.sink.Sink as sink
 use Rattle.rbac_sets.specs.declared.source.Source as source
 use Rattle.role_cli.specs.Environment.{Environment}
@@ -11,7 +11,7 @@ use Rattle.role_cli.specs.declared.machine.Machine.{Machine}
 pub on_machine : {R W : Type 0} (input : source.Ghosts R) (output : sink.Ghosts W) (Holds : Environment → Environment → Type 0) (source now_source : R) (out now_out : W) (machine now : Machine)
     → clients_on_machine machine ≡ known_clients None 0 0 → failed_on_machine machine ≡ 0
     → Holds (record (environment_on_machine input output source out None 0 0 0) { clients = clients_on_machine machine; failed_csv = failed_on_machine machine })
-        (environment_on_machine input output now_source now_out now.port now.accepted now.failed now.failed_csv)
+    (environment_on_machine input output now_source now_out now.port now.accepted now.failed now.failed_csv)
     → OnMachine input output Holds source out now_source now_out
 on_machine input output Holds source now_source out now_out machine now nobody nothing holds =
     let to = environment_on_machine input output now_source now_out now.port now.accepted now.failed now.failed_csv in

@@ -1,14 +1,15 @@
 -- What is at the path of an office before the work, and what is removed after it.
-use Rattle.std.proofs.Common.{◌≡◌, ◌∙◌, ◌<◌, ◌≤◌, ℕ, Bool, true, false, List, [], ◌∷◌, ◌++◌, Option, Some, None, inl, inr, refl, sym, ap, subst, arith}
-use Rattle.std.specs.Prelude.{◌⊎◌, ◌||◌, IfSome, codes}
+use Rattle.std.proofs.Common.{◌≡◌, ◌∙◌, ◌≤◌, ℕ, Bool, true, false, List, [], ◌∷◌, ◌++◌, Option, Some, None, inl, inr, refl, sym, ap, subst, arith}
+use Rattle.std.specs.Prelude.{◌||◌, ◌⊎◌, IfSome, codes, if◌then◌else◌}
 use Rattle.std.specs.List.{list_any}
 use Rattle.std.specs.Str.{bytes_eq}
 use Rattle.std.proofs.lemmas.Bool.{true≢false}
 use Rattle.std.proofs.lemmas.List.Folds.{list_any-append}
 use Rattle.rbac_sets.specs.Stream.{HasRisen}
 use Rattle.sqlite_disk.specs.declared.Disk.{Ghosts}
-use Rattle.role_cli.specs.Leftovers.{HasByte, IsBegun, IsLogWithoutPage, LeavesClosed, RemovesEmpty, RemovesSiblings, Restores, leftovers, siblings, without_leftover, without_siblings}
+use Rattle.role_cli.specs.Leftovers.{IsBefore, IsBegun, IsLogWithoutPage, LeavesClosed, LeavesPaths, RemovesEmpty, RemovesSiblings, Restores, leftovers, siblings, without_leftover, without_siblings}
 use Rattle.role_cli.specs.Paths.{Changes, ChangesKnown, ChangesOnly, Paths, index_of, length_in, log_of, only, with_entry, without}
+use Rattle.role_cli.specs.declared.choice.Choice.{Choice}
 use Rattle.role_cli.specs.declared.folder.Entry.{Entry}
 use Rattle.role_cli.specs.declared.folder.Entry.TheVariants as entry
 use Rattle.role_cli.specs.declared.leftovers.PathState.{PathState}
@@ -57,6 +58,27 @@ closed_later before path (after.Closed files) e f old now step (between, restore
 closed_later before path (after.Left store) e f old now step restores = restores_later before path e f old now step restores
 closed_later before path after.Untouched e f old now step none = none
 
+-- what was removed after an opening that failed, which itself had changed no path
+pub unopened_left : (before : PathState) (path : List ℕ) (first mid last : ℕ) (old then_paths now : Option Paths) → then_paths ≡ old → first ≤ mid
+    → Restores before path (HasRisen mid last) then_paths now ⊎ RemovesEmpty before path (HasRisen mid last) then_paths now
+    → Restores before path (HasRisen first last) old now ⊎ RemovesEmpty before path (HasRisen first last) old now
+unopened_left before path first mid last old then_paths now same up (inl restores) =
+    inl (restores_later before path (HasRisen mid last) (HasRisen first last) old now (risen_later first mid last up) (subst (λ p. Restores before path (HasRisen mid last) p now) same restores))
+unopened_left before path first mid last old then_paths now same up (inr removes) =
+    inr (removes_empty_later before path (HasRisen mid last) (HasRisen first last) old now (risen_later first mid last up) (subst (λ p. RemovesEmpty before path (HasRisen mid last) p now) same removes))
+
+-- what was removed after a close
+module _ {F : Type 0} {g : Ghosts F} (chosen : Choice) (path : List ℕ) (has_failed : Bool) (before restored : PathState) (first mid last : ℕ) (old then_paths now : Option Paths)
+    (was : IfSome old (IsBefore chosen path before)) (is : restored ≡ (if has_failed then before else Bytes)) (same : then_paths ≡ old) (up : first ≤ mid) where
+  closed_then : (became : StoreAfter F g) → LeavesClosed restored path became (HasRisen mid last) then_paths now → LeavesClosed (if has_failed then before else Bytes) path became (HasRisen first last) old now
+  closed_then became leaves = closed_later (if has_failed then before else Bytes) path became (HasRisen mid last) (HasRisen first last) old now (risen_later first mid last up)
+      (subst (λ p. LeavesClosed (if has_failed then before else Bytes) path became (HasRisen mid last) p now) same (subst (λ r. LeavesClosed r path became (HasRisen mid last) then_paths now) is leaves))
+
+  pub closed_left : (became : StoreAfter F g) → LeavesClosed restored path became (HasRisen mid last) then_paths now → LeavesPaths chosen path has_failed became (HasRisen first last) old now
+  closed_left after.Untouched leaves = absurd leaves
+  closed_left (after.Closed files) leaves = (before, was, closed_then (after.Closed files) leaves)
+  closed_left (after.Left store) leaves = (before, was, closed_then (after.Left store) leaves)
+
 -- ---- one change after another
 
 or_false : (a b : Bool) → (a || b) ≡ false → (a ≡ false) × (b ≡ false)
@@ -69,8 +91,11 @@ changes_then : (one two : List (List ℕ)) (old mid wanted : Paths) (change : Pa
 changes_then one two old mid wanted change e f g now (beside, at) first (new, is, (beside_then, at_then), second) step step_then = (
   new,
   is,
-  (beside_then ∙ beside, λ path other. (let (not_one, not_two) = or_false (list_any (bytes_eq path) one) (list_any (bytes_eq path) two) (sym (list_any-append (bytes_eq path) one two) ∙ other) in
-      at_then path not_two ∙ at path not_one)),
+  (
+    beside_then ∙ beside,
+    λ path other. (let (not_one, not_two) = or_false (list_any (bytes_eq path) one) (list_any (bytes_eq path) two) (sym (list_any-append (bytes_eq path) one two) ∙ other) in
+        at_then path not_two ∙ at path not_one),
+  ),
   ended first second,
 )
   where
@@ -93,7 +118,7 @@ both_beside : (path : List ℕ) (e f g : Type 0) (old : Paths) (mid now : Option
     → Changes (siblings path old) (without_siblings path old) g old now
 both_beside path e f g old mid now (new, is, same, done) later step step_then =
     let then_it : Changes (index_of path new ∷ []) (without (index_of path new) new) f new now =
-        subst (λ m. ChangesKnown (λ known. index_of path known ∷ []) (λ known. without (index_of path known) known) f m now) is later in
+    subst (λ m. ChangesKnown (λ known. index_of path known ∷ []) (λ known. without (index_of path known) known) f m now) is later in
     changes_then (log_of path old ∷ []) (index_of path old ∷ []) old new (without (log_of path old) old) (without (index_of path old)) e f g now same done
     (one_beside path (codes "-shm") old new f now same.0 then_it) step step_then
 
@@ -108,7 +133,7 @@ siblings_removed path e f g (Some old) mid now first later step step_then = both
 -- the file of a name was removed, which is that of the ending beside the path
 pub beside_removed : (path ending name : List ℕ) (f : Type 0) (old now : Option Paths) → IfSome old (λ known. name ≡ known.beside path ending)
     → ChangesKnown (only name) (without name) f old now → ChangesKnown (λ known. known.beside path ending ∷ []) (λ known. without (known.beside path ending) known) f old now
-beside_removed path ending name f None now named is = is
+beside_removed path ending name f None now named = λ is. is
 beside_removed path ending name f (Some old) now named = subst (λ path. Changes (path ∷ []) (without path old) f old now) named
 
 -- nothing was removed, since a call failed
@@ -166,3 +191,31 @@ pub file_removed : (path : List ℕ) (file log : Option ℕ) (e f g : Type 0) (o
 file_removed path file log e f g None mid now lengths is first later step step_then = subst (λ m. ChangesKnown (only path) (without path) f m now) first later
 file_removed path file log e f g (Some known) mid now (file_is, log_is) is first later step step_then =
     inl (begun file log _ _ file_is log_is is, all_changed path entry.Nothing e f g known mid now first later step step_then)
+
+-- the entries at the path and at its log have these lengths
+pub lengths_of : (path name : List ℕ) (file_entry log_entry : Entry) (file log : Option ℕ) (paths : Option Paths) → IfSome paths (λ known. file_entry ≡ known.at path)
+    → IfSome paths (λ known. log_entry ≡ known.at name) → IfSome paths (λ known. name ≡ log_of path known) → file ≡ length_in file_entry → log ≡ length_in log_entry → HasLengths path file log paths
+lengths_of path name file_entry log_entry file log None file_at log_at named file_is log_is = tt
+lengths_of path name file_entry log_entry file log (Some known) file_at log_at named file_is log_is =
+    (file_is ∙ ap length_in file_at, log_is ∙ ap length_in (log_at ∙ ap known.at named))
+
+-- ---- what `restore` has done
+
+module _ (path : List ℕ) (file log : Option ℕ) (first looked between last : ℕ) (old looked_at mid now : Option Paths) (same : looked_at ≡ old) (up : first ≤ looked) (up_then : looked ≤ between) (up_last : between ≤ last)
+    (lengths : HasLengths path file log old) (removed : RemovesSiblings path (HasRisen looked between) looked_at mid) where
+  removed_first : RemovesSiblings path (HasRisen looked between) old mid
+  removed_first = subst (λ p. RemovesSiblings path (HasRisen looked between) p mid) same removed
+
+  still : HasRisen looked between → HasRisen first last
+  still risen = risen_later first looked last up (risen_still looked between last up_last risen)
+
+  since : HasRisen between last → HasRisen first last
+  since risen = risen_later first between last (omega (arith, up, up_then)) risen
+
+  pub file_restored : (before : PathState) → (before ≡ Nothing) × IsBegun file log → ChangesKnown (only path) (without path) (HasRisen between last) mid now → Restores before path (HasRisen first last) old now
+  file_restored before (is, begun) gone = subst (λ b. Restores b path (HasRisen first last) old now) (sym is)
+      (file_removed path file log (HasRisen looked between) (HasRisen between last) (HasRisen first last) old mid now lengths begun removed_first gone still since)
+
+  pub content_restored : (before : PathState) → (before ≡ EmptyFile) × IsBegun file log → ChangesKnown (only path) (with_entry path (entry.File 0)) (HasRisen between last) mid now → Restores before path (HasRisen first last) old now
+  content_restored before (is, begun) emptied = subst (λ b. Restores b path (HasRisen first last) old now) (sym is)
+      (content_removed path file log (HasRisen looked between) (HasRisen between last) (HasRisen first last) old mid now lengths begun removed_first emptied still since)

@@ -13,6 +13,11 @@ pub on_ok-then : {T E : Type 0} (r : Result T E) (P Q : Type 0) → OnOk r P →
 on_ok-then (Ok t) P Q holds step = step holds
 on_ok-then (Err e) P Q holds step = tt
 
+-- two facts together
+pub on_ok-join : {T E : Type 0} (r : Result T E) (P Q Z : Type 0) → OnOk r P → OnOk r Q → (P → Q → Z) → OnOk r Z
+on_ok-join (Ok t) P Q Z one other step = step one other
+on_ok-join (Err e) P Q Z one other step = tt
+
 pub on_ok-holds : {T E : Type 0} (r : Result T E) (P : Type 0) → IsOk r → OnOk r P → P
 on_ok-holds (Ok t) P is_ok holds = holds
 on_ok-holds (Err e) P is_ok holds = absurd (true≢false (sym is_ok))

@@ -1,6 +1,6 @@
 -- Connections one after another.
 use Rattle.std.proofs.Common.{◌≡◌, ◌+◌, ◌-◌, ◌^◌, ◌<◌, ℕ, arith, inl, inr, Bool, false, true, List, [], ◌∷◌, ◌++◌, Option, Some, None, refl, sym, ap, subst, ◌∙◌}
-use Rattle.std.specs.Prelude.{◌⊎◌, ◌||◌, if◌then◌else◌, map, min, nat_lt, ◌≤◌}
+use Rattle.std.specs.Prelude.{◌||◌, if◌then◌else◌, map, min, nat_lt, ◌≤◌}
 use Rattle.std.proofs.lemmas.List.{map-append}
 use Rattle.std.specs.List.{list_any}
 use Rattle.std.proofs.lemmas.Bool.{cases_Bool, eqb-true, lt-ltb, ltb-false, ltb-true, true≢false}
@@ -136,7 +136,7 @@ module _ {S : Type 0} (shown : Held S → State) where
       → now.port ≡ before.port → now.accepted ≡ one_more before.accepted → now.failed ≡ before.failed
       → before.waiting.items ≡ source ∷ now.waiting.items → now.replies.items ≡ before.replies.items ++ filled ∷ [] → sent_in_memory empty ≡ record { bytes = []; failed_writes = 0 }
       → IsServedOver shown (HasRisen 0 0) (HasFailed (failed_in_memory empty) (failed_in_memory filled) 0 0) (Some (left_in_memory source)) (Some (left_in_memory left))
-          (Some (written_in_memory empty)) (Some (written_in_memory filled)) old status new
+      (Some (written_in_memory empty)) (Some (written_in_memory filled)) old status new
       → IsNextServed shown (clients_in_memory before) (clients_in_memory now) old status new
   next_in_memory before now source left empty filled old new status port counted none_failed takes adds none served = record {
     sent = Some (left_in_memory source);
@@ -190,7 +190,7 @@ module _ {S : Type 0} (shown : Held S → State) where
 
   served_continues : (may_fail : Type 0) (sent left : Option (List ℕ)) (reply : Option SentReply) (old new : OfficeModel S) (status : Option ℕ) → IsServed shown may_fail sent left reply old status new → Continues shown old new
   served_continues may_fail sent left reply old new (Some status) (taken, consumes, no_further, (body, tells, text)) = tells_continues old new _ status body tells
-  served_continues may_fail sent left reply old new None (why, (taken, consumes, no_further, stops), _) = stop_continues why old new _ (nothing_of (bytes_of reply)) (bytes_of reply) stops
+  served_continues may_fail sent left reply old new None (why, (taken, consumes, no_further, stops), _, _) = stop_continues why old new _ (nothing_of (bytes_of reply)) (bytes_of reply) stops
 
   all_continue : (before now : Clients) (old new : OfficeModel S) (statuses : List (Option ℕ)) → AreServed shown before now old statuses new → Continues shown old new
   all_continue before now old new [] (_, same) = same_continues old new same

@@ -7,6 +7,7 @@ use Rattle.rbac_sets.specs.declared.sink.Sink as sink
 use Rattle.rbac_sets.specs.declared.source.Source as source
 use Rattle.role_cli.specs.Environment.{CsvTexts, Environment}
 use Rattle.role_cli.specs.ServedConnections.{Clients, SentReply}
+use Rattle.role_cli.specs.declared.folder.MachineFolder.{MachineFolder}
 use Rattle.role_cli.specs.declared.machine.Machine.{Machine}
 use Rattle.role_cli.specs.declared.memory_host.MemoryHost.{MemoryHost}
 
@@ -21,6 +22,10 @@ clients_on_machine machine = known_clients machine.port machine.accepted machine
 -- how often it could not open or read a CSV file
 abbrev pub failed_on_machine : Machine → ℕ
 failed_on_machine machine = machine.failed_csv
+
+-- how often a call of the machine's folders failed
+abbrev pub failed_in_folder : MachineFolder → ℕ
+failed_in_folder folder = folder.failed
 
 -- there is a text at this path, and none elsewhere
 abbrev pub text_at : List ℕ → List ℕ → CsvTexts

@@ -1,5 +1,5 @@
 -- What is at the path of an office before the work, and what is removed if no office could be opened or created.
-use Rattle.std.specs.Prelude.{⊤, ◌≡◌, ◌⊎◌, ◌≤◌, ◌<◌, ◌+◌, ℕ, Bool, true, false, List, [], ◌∷◌, Option, Some, None, IfSome, if◌then◌else◌}
+use Rattle.std.specs.Prelude.{⊤, ◌≡◌, ◌⊎◌, ◌≤◌, ◌<◌, ◌+◌, ℕ, Bool, false, List, [], ◌∷◌, Option, Some, None, IfSome, if◌then◌else◌}
 use Rattle.rbac_sets.specs.declared.refusal.Refusal.TheVariants.{Memory, NotAnOffice, Store}
 use Rattle.sqlite_disk.specs.declared.Disk.{Ghosts}
 use Rattle.role_cli.specs.Paths.{Changes, ChangesKnown, Paths, index_of, length_in, log_of, with_empty, without}

@@ -1,5 +1,5 @@
 //! Offices in files: how they are opened, created and closed, and what is restored if that fails.
-ghost use Rattle.std.specs.Prelude.{◌≡◌, ◌⊎◌, ◌≤◌, ◌+◌, false, is_err, IfErr, IfNone, IfOk, IfSome, OnErr, OnOk};
+ghost use Rattle.std.specs.Prelude.{◌≡◌, ◌⊎◌, ◌≤◌, ◌+◌, false, is_err, if◌then◌else◌, IfErr, IfNone, IfOk, IfSome, OnErr, OnOk};
 ghost use Rattle.sqlite.specs.Files.{IsOpened, file_state, over_files};
 ghost use Rattle.sqlite.specs.Held.{state};
 ghost use Rattle.sqlite.specs.Start.{FindsIn};
@@ -50,8 +50,10 @@ pub fn run_on_path<D: Start, F: Folder, H: Accept + CsvFiles, R: Source, W: Sink
         (λ before. DoesOnConnection (state (over_files {g = ⟦<FileFrom<D> as Disk>⟧})) choice.now before
         (around R.Source W.Sink H.CsvFiles H.Accept source.old out.old host.old)
         (around R.Source W.Sink H.CsvFiles H.Accept source.new out.new host.new) worked.1))) }
-    ensures failed { IfOk result (λ worked. HasCleanDisk (file_state worked.1) → IfErr worked.0 (λ failure. WorksOnFiles ⟦<FileFrom<D> as Disk>⟧ (image_at D.Start)
-        (λ before. FailsOnConnection (state (over_files {g = ⟦<FileFrom<D> as Disk>⟧})) choice.now before failure (IsUntouched source.old source.new out.old out.new host.old host.new)
+    ensures failed { IfOk result
+        (λ worked. HasCleanDisk (file_state worked.1) → IfErr worked.0 (λ failure. WorksOnFiles ⟦<FileFrom<D> as Disk>⟧ (image_at D.Start)
+        (λ before. FailsOnConnection (state (over_files {g = ⟦<FileFrom<D> as Disk>⟧})) choice.now before failure
+        (IsUntouched source.old source.new out.old out.new host.old host.new)
         (around R.Source W.Sink H.CsvFiles H.Accept source.old out.old host.old)
         (around R.Source W.Sink H.CsvFiles H.Accept source.new out.new host.new) worked.1))) }
 
@@ -59,14 +61,19 @@ pub fn run_on_path<D: Start, F: Folder, H: Accept + CsvFiles, R: Source, W: Sink
     ensures some { IfOk result (λ worked. OnOk worked.0 (DoesOverSomeState (state (over_files {g = ⟦<FileFrom<D> as Disk>⟧})) choice.now
         (around R.Source W.Sink H.CsvFiles H.Accept source.old out.old host.old)
         (around R.Source W.Sink H.CsvFiles H.Accept source.new out.new host.new))) }
-    ensures some_failed { IfOk result (λ worked. IfErr worked.0 (λ failure. FailsOrFindsNoOffice (state (over_files {g = ⟦<FileFrom<D> as Disk>⟧})) choice.now failure (IsUntouched source.old source.new out.old out.new host.old host.new)
+    ensures some_failed { IfOk result
+        (λ worked. IfErr worked.0
+        (λ failure. FailsOrFindsNoOffice (state (over_files {g = ⟦<FileFrom<D> as Disk>⟧})) choice.now failure
+        (IsUntouched source.old source.new out.old out.new host.old host.new)
         (around R.Source W.Sink H.CsvFiles H.Accept source.old out.old host.old)
         (around R.Source W.Sink H.CsvFiles H.Accept source.new out.new host.new))) }
 
-    ensures unopened { IfErr result (λ failure. (failure ≡ Failure.Refused Refusal.Store) × (IsUntouched source.old source.new out.old out.new host.old host.new)
+    ensures unopened { IfErr result (λ failure. (failure ≡ Failure.Refused Refusal.Store)
+        × (IsUntouched source.old source.new out.old out.new host.old host.new)
         × HasRisen (F.failed_calls folder.old) (F.failed_calls folder.new)) }
     ensures kept { OnOk result (F.paths folder.new ≡ F.paths folder.old) }
-    ensures restored { OnErr result (Restores before path.now (HasRisen (F.failed_calls folder.old) (F.failed_calls folder.new)) (F.paths folder.old) (F.paths folder.new)
+    ensures restored { OnErr result
+        (Restores before path.now (HasRisen (F.failed_calls folder.old) (F.failed_calls folder.new)) (F.paths folder.old) (F.paths folder.new)
         ⊎ RemovesEmpty before path.now (HasRisen (F.failed_calls folder.old) (F.failed_calls folder.new)) (F.paths folder.old) (F.paths folder.new)) }
     ensures count { F.failed_calls folder.old ≤ F.failed_calls folder.new }
     ensures unread { reads_input choice.now ≡ false → source.new ≡ source.old }
@@ -108,7 +115,9 @@ pub fn run_in_file<D: Start, F: Folder, H: Accept + CsvFiles, R: Source, W: Sink
     ensures done { OnOk result.0 (DoesOnStore ⟦<FileFrom<D> as Disk>⟧ (image_at D.Start) choice.now
         (around R.Source W.Sink H.CsvFiles H.Accept source.old out.old host.old)
         (around R.Source W.Sink H.CsvFiles H.Accept source.new out.new host.new) result.1) }
-    ensures failed { IfErr result.0 (λ failure. FailsOnStore ⟦<FileFrom<D> as Disk>⟧ (image_at D.Start) choice.now failure (IsUntouched source.old source.new out.old out.new host.old host.new)
+    ensures failed { IfErr result.0
+        (λ failure. FailsOnStore ⟦<FileFrom<D> as Disk>⟧ (image_at D.Start) choice.now failure
+        (IsUntouched source.old source.new out.old out.new host.old host.new)
         (CannotBegin choice.now path.now failure (F.paths folder.old) (HasRisen (F.failed_calls folder.old) (F.failed_calls folder.new)))
         (around R.Source W.Sink H.CsvFiles H.Accept source.old out.old host.old)
         (around R.Source W.Sink H.CsvFiles H.Accept source.new out.new host.new) result.1) }
@@ -117,7 +126,9 @@ pub fn run_in_file<D: Start, F: Folder, H: Accept + CsvFiles, R: Source, W: Sink
     ensures some { OnOk result.0 (DoesOverSomeState (state (over_files {g = ⟦<FileFrom<D> as Disk>⟧})) choice.now
         (around R.Source W.Sink H.CsvFiles H.Accept source.old out.old host.old)
         (around R.Source W.Sink H.CsvFiles H.Accept source.new out.new host.new)) }
-    ensures some_failed { IfErr result.0 (λ failure. FailsOrFindsNoOffice (state (over_files {g = ⟦<FileFrom<D> as Disk>⟧})) choice.now failure (IsUntouched source.old source.new out.old out.new host.old host.new)
+    ensures some_failed { IfErr result.0
+        (λ failure. FailsOrFindsNoOffice (state (over_files {g = ⟦<FileFrom<D> as Disk>⟧})) choice.now failure
+        (IsUntouched source.old source.new out.old out.new host.old host.new)
         (around R.Source W.Sink H.CsvFiles H.Accept source.old out.old host.old)
         (around R.Source W.Sink H.CsvFiles H.Accept source.new out.new host.new)) }
 
@@ -136,14 +147,21 @@ pub fn run_in_file<D: Start, F: Folder, H: Accept + CsvFiles, R: Source, W: Sink
     ) {
         Ok((done, conn)) => {
             settled(&conn);
-            let undone = if done.is_err() {
-                before
-            } else {
-                PathState::Bytes
-            };
-            (done, close(folder, path, conn, undone))
+            let restored = to_restore(&done, before);
+            (done, close(folder, path, conn, restored))
         }
         Err(failure) => (Err(failure), StoreAfter::Untouched),
+    }
+}
+
+// What is restored after the work: what was there before, if it failed, and otherwise the file, which is an office's now.
+fn to_restore(done: &Result<(), Failure>, before: PathState) -> PathState
+    ensures { result ≡ (if is_err done.now then before else PathState.Bytes) }
+{
+    if done.is_err() {
+        before
+    } else {
+        PathState::Bytes
     }
 }
 
@@ -165,7 +183,8 @@ fn connect<D: Start, F: Folder>(
     ensures found { IfSome result (λ conn. HasCleanDisk (file_state conn) → FindsIn (image_at D.Start) (file_state conn)) }
     ensures kept { IfSome result (λ _. F.paths folder.new ≡ F.paths folder.old) }
     ensures failed { IfNone result (HasRisen (F.failed_calls folder.old) (F.failed_calls folder.new)) }
-    ensures restored { IfNone result (Restores before path.now (HasRisen (F.failed_calls folder.old) (F.failed_calls folder.new)) (F.paths folder.old) (F.paths folder.new)
+    ensures restored { IfNone result
+        (Restores before path.now (HasRisen (F.failed_calls folder.old) (F.failed_calls folder.new)) (F.paths folder.old) (F.paths folder.new)
         ⊎ RemovesEmpty before path.now (HasRisen (F.failed_calls folder.old) (F.failed_calls folder.new)) (F.paths folder.old) (F.paths folder.new)) }
     ensures count { F.failed_calls folder.old ≤ F.failed_calls folder.new }
 {
@@ -193,7 +212,8 @@ fn close<D: Start, F: Folder>(
     before: PathState,
 ) -> StoreAfter<FileFrom<D>>
     ensures closed { ClosesConnection ⟦<FileFrom<D> as Disk>⟧ conn result }
-    ensures left { LeavesClosed before path.now result (HasRisen (F.failed_calls folder.old) (F.failed_calls folder.new)) (F.paths folder.old) (F.paths folder.new) }
+    ensures left { LeavesClosed before path.now result (HasRisen (F.failed_calls folder.old) (F.failed_calls folder.new)) (F.paths folder.old)
+        (F.paths folder.new) }
     ensures count { F.failed_calls folder.old ≤ F.failed_calls folder.new }
 {
     match conn.close_files() {

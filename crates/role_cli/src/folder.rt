@@ -55,12 +55,14 @@ pub trait Folder {
 
     /// Removes the file at a path, if there is one. If that fails, it stays.
     fn remove(&mut self, path: &str)
-        ensures removed { ChangesKnown (only path.now) (without path.now) (HasRisen (failed_calls self.old) (failed_calls self.new)) (paths self.old) (paths self.new) }
+        ensures removed { ChangesKnown (only path.now) (without path.now) (HasRisen (failed_calls self.old) (failed_calls self.new))
+            (paths self.old) (paths self.new) }
         ensures count { failed_calls self.old ≤ failed_calls self.new };
 
     /// Empties the file at a path, or creates an empty one. If that fails, the path stays as it is.
     fn make_empty(&mut self, path: &str)
-        ensures emptied { ChangesKnown (only path.now) (with_empty path.now) (HasRisen (failed_calls self.old) (failed_calls self.new)) (paths self.old) (paths self.new) }
+        ensures emptied { ChangesKnown (only path.now) (with_empty path.now) (HasRisen (failed_calls self.old) (failed_calls self.new))
+            (paths self.old) (paths self.new) }
         ensures count { failed_calls self.old ≤ failed_calls self.new };
 
     /// Opens the files of the office at a path, or creates them. `start` represents what they hold.
@@ -88,8 +90,12 @@ pub struct MachineFolder<'a> {
 }
 
 impl<'a> MachineFolder<'a> {
-    /// The folders of this runtime.
-    pub fn new(rt: &'a HostRuntime) -> MachineFolder<'a> {
+    ghost use Rattle.role_cli.specs.Hosts.{failed_in_folder};
+
+    /// The folders of this runtime. No call has failed.
+    pub fn new(rt: &'a HostRuntime) -> MachineFolder<'a>
+        ensures { failed_in_folder result ≡ 0 }
+    {
         MachineFolder { rt, failed: 0 }
     }
 
@@ -100,23 +106,15 @@ impl<'a> MachineFolder<'a> {
     {
         self.failed = self.failed.saturating_add(1);
     }
-
-    // Counts a call that failed, unless there was nothing to remove.
-    fn count(&mut self, done: io::Result<()>)
-        ensures { self.old.failed ≤ self.new.failed }
-    {
-        if matches!(done, Err(error) if error.kind() != io::ErrorKind::NotFound) {
-            self.fail();
-        }
-    }
 }
 
 impl Folder for MachineFolder<'_> {
     ghost use Rattle.std.specs.Prelude.{None};
+    ghost use Rattle.role_cli.specs.Hosts.{failed_in_folder};
 
     ghost paths = { λ _. None };
 
-    ghost failed_calls = { λ it. it.failed };
+    ghost failed_calls = { failed_in_folder };
 
     fn entry_at(&self, path: &str) -> Entry {
         match fs::metadata(self.rt, path) {
@@ -142,11 +140,18 @@ impl Folder for MachineFolder<'_> {
     }
 
     fn remove(&mut self, path: &str) {
-        self.count(fs::remove_file(self.rt, path));
+        if let Err(error) = fs::remove_file(self.rt, path) {
+            // Where nothing is, nothing has to be removed.
+            if error.kind() != io::ErrorKind::NotFound {
+                self.fail();
+            }
+        }
     }
 
     fn make_empty(&mut self, path: &str) {
-        self.count(fs::File::create(self.rt, path).map(|_| ()));
+        if fs::File::create(self.rt, path).is_err() {
+            self.fail();
+        }
     }
 
     fn open<D: Start>(
@@ -156,9 +161,13 @@ impl Folder for MachineFolder<'_> {
     ) -> Result<Connection<FileStore<FileFrom<D>>>, Option<Files<FileFrom<D>>>> {
         match Connection::open_from(self.rt, path, false, start) {
             Ok(conn) => Ok(conn),
-            Err((_, left)) => {
+            Err((_, Some(left))) => {
                 self.fail();
-                Err(left.map(|left| left.into_files()))
+                Err(Some(left.into_files()))
+            }
+            Err((_, None)) => {
+                self.fail();
+                Err(None)
             }
         }
     }

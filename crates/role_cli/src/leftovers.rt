@@ -71,7 +71,8 @@ pub(crate) fn state_before<F: Folder>(
     choice: &Choice,
 ) -> Result<PathState, Failure>
     ensures before { IfOk result (λ before. IfSome (F.paths folder.old) (IsBefore choice.now path.now before)) }
-    ensures cannot { IfErr result (λ failure. CannotBegin choice.now path.now failure (F.paths folder.old) (HasRisen (F.failed_calls folder.old) (F.failed_calls folder.new))) }
+    ensures cannot { IfErr result
+        (λ failure. CannotBegin choice.now path.now failure (F.paths folder.old) (HasRisen (F.failed_calls folder.old) (F.failed_calls folder.new))) }
     ensures refusal { IfErr result (IsOpeningFailure choice.now) }
     ensures count { F.failed_calls folder.old ≤ F.failed_calls folder.new }
     ensures same { F.paths folder.new ≡ F.paths folder.old }
@@ -107,7 +108,8 @@ fn require_log<F: Folder>(folder: &mut F, path: &str) -> Result<(), Failure>
     ensures ok { OnOk result (IfSome (F.paths folder.old) (λ known. HasByte (length_in (known.at (log_of path.now known))))) }
     ensures new { IfErr result (λ failure. ((failure ≡ Failure.Refused Refusal.NotAnOffice)
         × IfSome (F.paths folder.old) (λ known. ¬ (HasByte (length_in (known.at (log_of path.now known))))))
-        ⊎ (((failure ≡ Failure.Refused Refusal.Memory) ⊎ (failure ≡ Failure.Refused Refusal.Store)) × HasRisen (F.failed_calls folder.old) (F.failed_calls folder.new))) }
+        ⊎ (((failure ≡ Failure.Refused Refusal.Memory) ⊎ (failure ≡ Failure.Refused Refusal.Store))
+        × HasRisen (F.failed_calls folder.old) (F.failed_calls folder.new))) }
     ensures count { F.failed_calls folder.old ≤ F.failed_calls folder.new }
     ensures same { F.paths folder.new ≡ F.paths folder.old }
 {
@@ -134,7 +136,8 @@ fn length_of(entry: Entry) -> Option<u64>
 /// Removes what was begun at a path before an office could not be opened or created, while the file is still locked. If
 /// more than a beginning was written, it stays, and the next opening reads it.
 pub(crate) fn restore<F: Folder>(folder: &mut F, path: &str, before: PathState)
-    ensures restored { Restores before path.now (HasRisen (F.failed_calls folder.old) (F.failed_calls folder.new)) (F.paths folder.old) (F.paths folder.new) }
+    ensures restored { Restores before path.now (HasRisen (F.failed_calls folder.old) (F.failed_calls folder.new)) (F.paths folder.old)
+        (F.paths folder.new) }
     ensures count { F.failed_calls folder.old ≤ F.failed_calls folder.new }
 {
     let Ok(log) = folder.beside(path, LOG) else {
@@ -174,7 +177,8 @@ fn what_to_remove(before: PathState, file: Option<u64>, log: Option<u64>) -> Rem
 
 /// Removes an empty file that was created where there was nothing, and that could not be opened.
 pub(crate) fn remove_empty<F: Folder>(folder: &mut F, path: &str, before: PathState)
-    ensures removed { RemovesEmpty before path.now (HasRisen (F.failed_calls folder.old) (F.failed_calls folder.new)) (F.paths folder.old) (F.paths folder.new) }
+    ensures removed { RemovesEmpty before path.now (HasRisen (F.failed_calls folder.old) (F.failed_calls folder.new)) (F.paths folder.old)
+        (F.paths folder.new) }
     ensures count { F.failed_calls folder.old ≤ F.failed_calls folder.new }
 {
     if before == PathState::Nothing && folder.entry_at(path) == Entry::File(0) {
@@ -184,7 +188,8 @@ pub(crate) fn remove_empty<F: Folder>(folder: &mut F, path: &str, before: PathSt
 
 /// Removes the log and its index.
 pub(crate) fn remove_siblings<F: Folder>(folder: &mut F, path: &str)
-    ensures removed { RemovesSiblings path.now (HasRisen (F.failed_calls folder.old) (F.failed_calls folder.new)) (F.paths folder.old) (F.paths folder.new) }
+    ensures removed { RemovesSiblings path.now (HasRisen (F.failed_calls folder.old) (F.failed_calls folder.new)) (F.paths folder.old)
+        (F.paths folder.new) }
     ensures count { F.failed_calls folder.old ≤ F.failed_calls folder.new }
 {
     remove_beside(folder, path, LOG);
@@ -197,7 +202,8 @@ fn remove_beside<F: Folder>(folder: &mut F, path: &str, ending: &str)
         (HasRisen (F.failed_calls folder.old) (F.failed_calls folder.new)) (F.paths folder.old) (F.paths folder.new) }
     ensures count { F.failed_calls folder.old ≤ F.failed_calls folder.new }
 {
-    if let Ok(other) = folder.beside(path, ending) {
-        folder.remove(other.as_str());
-    }
+    let Ok(other) = folder.beside(path, ending) else {
+        return;
+    };
+    folder.remove(other.as_str());
 }

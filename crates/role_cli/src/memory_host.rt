@@ -40,7 +40,14 @@ impl<'a> MemoryHost<'a> {
         waiting: VecDeque<MemorySource<'a>>,
     ) -> MemoryHost<'a>
         ensures csv { csv_in_memory result ≡ text_at path.now text.now }
-        ensures clients { clients_in_memory result ≡ record { listening = None; accepted = 0; failed = 0; waiting = Some (map left_in_memory waiting.entry.items); replies = Some [] } }
+        ensures clients { clients_in_memory result ≡ record {
+          listening = None;
+          accepted = 0;
+          failed = 0;
+          waiting = Some
+              (map left_in_memory waiting.entry.items);
+          replies = Some [];
+        } }
     {
         MemoryHost {
             path,

@@ -1,5 +1,5 @@
 //! What the program does for its arguments.
-ghost use Rattle.std.specs.Prelude.{◌≡◌, ◌⊎◌, ◌↔◌, ◌≤◌, ◌+◌, ◌==◌, ℕ, map, None, true, false, is_err, IfErr, IsErr, IsOk, OnOk};
+ghost use Rattle.std.specs.Prelude.{◌≡◌, ◌⊎◌, ◌↔◌, ◌≤◌, ◌+◌, ◌==◌, ℕ, map, None, true, false, is_err, IfErr, IfNone, IfSome, IsErr, IsOk, OnOk};
 ghost use Rattle.sqlite.specs.WalFiles.{image_at};
 ghost use Rattle.clap.specs.Words.{kind_of, subcommand_of, takes};
 ghost use Rattle.rbac_sets.specs.Stream.{HasRisen};
@@ -56,21 +56,25 @@ pub fn run<R: Source, W: Sink, E: Sink>(
 
     // Status 0: help was asked for, or the choice in the arguments was done.
     ensures done { result ≡ 0 → (AsksHelp program (map (λ s. s.now) words.entry.now) × (source.new ≡ source.old))
-        ⊎ ((choice : Choice) × Chooses (subcommand_of program (map (λ s. s.now) words.entry.now)) choice × (reads_input choice ≡ false → source.new ≡ source.old)
+        ⊎ ((choice : Choice) × Chooses (subcommand_of program (map (λ s. s.now) words.entry.now)) choice
+        × (reads_input choice ≡ false → source.new ≡ source.old)
         × OnMachine R.Source W.Sink (IsDoneSomehow ⟦<MemoryFile as Disk>⟧ ⟦<File as Disk>⟧ choice) source.old out.old source.new out.new) }
 
     // Status 2: the arguments are no command line of the program, and nothing was read or written but to `err`.
     ensures refused { result ≡ 2 → (source.new ≡ source.old) × (out.new ≡ out.old) }
     ensures unchosen { result ≡ 2 → (takes program (map (λ s. s.now) words.entry.now) ≡ false)
         ⊎ (ReplaysBothOrNeither (subcommand_of program (map (λ s. s.now) words.entry.now))
-        × Says both_or_neither_line (E.written err.old) (E.written err.new) (HasFailed (E.failed err.old) (E.failed err.new) (E.idle err.old) (E.idle err.new))) }
+        × Says both_or_neither_line (E.written err.old) (E.written err.new)
+        (HasFailed (E.failed err.old) (E.failed err.new) (E.idle err.old) (E.idle err.new))) }
 
     // Status 1: an allocation failed before anything was chosen, or the choice failed; one line says why.
     ensures stopped { result ≡ 1 → (failure : Failure) × SaysSome (IsLineOf failure)
         (E.written err.old) (E.written err.new) (HasFailed (E.failed err.old) (E.failed err.new) (E.idle err.old) (E.idle err.new))
         × (((failure ≡ Failure.Refused Refusal.Memory) × (source.new ≡ source.old) × (out.new ≡ out.old))
-        ⊎ ((choice : Choice) × Chooses (subcommand_of program (map (λ s. s.now) words.entry.now)) choice × (reads_input choice ≡ false → source.new ≡ source.old)
-        × OnMachine R.Source W.Sink (FailsSomehow ⟦<MemoryFile as Disk>⟧ ⟦<File as Disk>⟧ choice failure ((source.new ≡ source.old) × (out.new ≡ out.old))
+        ⊎ ((choice : Choice) × Chooses (subcommand_of program (map (λ s. s.now) words.entry.now)) choice
+        × (reads_input choice ≡ false → source.new ≡ source.old)
+        × OnMachine R.Source W.Sink
+        (FailsSomehow ⟦<MemoryFile as Disk>⟧ ⟦<File as Disk>⟧ choice failure ((source.new ≡ source.old) × (out.new ≡ out.old))
         ((calls : ℕ) × CannotBegin choice (path_of choice) failure None (HasRisen 0 calls))) source.old out.old source.new out.new)) }
     ensures silent { result ≡ 0 → err.new ≡ err.old }
     ensures reads { R.reads source.new ≤ R.reads source.old + most_reads }
@@ -120,7 +124,8 @@ pub fn run_with<D: Start, F: Folder, H: Accept + CsvFiles, R: Source, W: Sink, E
     ensures refused { result.0 ≡ 2 → (IsUntouched source.old source.new out.old out.new host.old host.new) × (folder.new ≡ folder.old) }
     ensures unchosen { result.0 ≡ 2 → (takes program (map (λ s. s.now) words.entry.now) ≡ false)
         ⊎ (ReplaysBothOrNeither (subcommand_of program (map (λ s. s.now) words.entry.now))
-        × Says both_or_neither_line (E.written err.old) (E.written err.new) (HasFailed (E.failed err.old) (E.failed err.new) (E.idle err.old) (E.idle err.new))) }
+        × Says both_or_neither_line (E.written err.old) (E.written err.new)
+        (HasFailed (E.failed err.old) (E.failed err.new) (E.idle err.old) (E.idle err.new))) }
 
     // Status 1: an allocation failed before anything was chosen, or the choice failed; one line says why.
     ensures stopped { result.0 ≡ 1 → (failure : Failure) × SaysSome (IsLineOf failure)
@@ -128,7 +133,8 @@ pub fn run_with<D: Start, F: Folder, H: Accept + CsvFiles, R: Source, W: Sink, E
         × (((failure ≡ Failure.Refused Refusal.Memory) × (IsUntouched source.old source.new out.old out.new host.old host.new))
         ⊎ ((choice : Choice) × Chooses (subcommand_of program (map (λ s. s.now) words.entry.now)) choice
         × (reads_input choice ≡ false → source.new ≡ source.old) × (asks_host choice ≡ false → host.new ≡ host.old)
-        × FailsBy ⟦<MemoryFile as Disk>⟧ ⟦<FileFrom<D> as Disk>⟧ (image_at D.Start) choice failure (IsUntouched source.old source.new out.old out.new host.old host.new)
+        × FailsBy ⟦<MemoryFile as Disk>⟧ ⟦<FileFrom<D> as Disk>⟧ (image_at D.Start) choice failure
+        (IsUntouched source.old source.new out.old out.new host.old host.new)
         (CannotBegin choice (path_of choice) failure (F.paths folder.old) (HasRisen (F.failed_calls folder.old) (F.failed_calls folder.new)))
         (around R.Source W.Sink H.CsvFiles H.Accept source.old out.old host.old)
         (around R.Source W.Sink H.CsvFiles H.Accept source.new out.new host.new) result.1)) }
@@ -170,7 +176,9 @@ fn run_choice<D: Start, F: Folder, H: Accept + CsvFiles, R: Source, W: Sink>(
     ensures done { OnOk result.0 (IsDone ⟦<MemoryFile as Disk>⟧ ⟦<FileFrom<D> as Disk>⟧ (image_at D.Start) choice.now
         (around R.Source W.Sink H.CsvFiles H.Accept source.old out.old host.old)
         (around R.Source W.Sink H.CsvFiles H.Accept source.new out.new host.new) result.1) }
-    ensures failed { IfErr result.0 (λ failure. FailsBy ⟦<MemoryFile as Disk>⟧ ⟦<FileFrom<D> as Disk>⟧ (image_at D.Start) choice.now failure (IsUntouched source.old source.new out.old out.new host.old host.new)
+    ensures failed { IfErr result.0
+        (λ failure. FailsBy ⟦<MemoryFile as Disk>⟧ ⟦<FileFrom<D> as Disk>⟧ (image_at D.Start) choice.now failure
+        (IsUntouched source.old source.new out.old out.new host.old host.new)
         (CannotBegin choice.now (path_of choice.now) failure (F.paths folder.old) (HasRisen (F.failed_calls folder.old) (F.failed_calls folder.new)))
         (around R.Source W.Sink H.CsvFiles H.Accept source.old out.old host.old)
         (around R.Source W.Sink H.CsvFiles H.Accept source.new out.new host.new) result.1) }
@@ -180,10 +188,19 @@ fn run_choice<D: Start, F: Folder, H: Accept + CsvFiles, R: Source, W: Sink>(
     ensures unasked { asks_host choice.now ≡ false → host.new ≡ host.old }
     ensures reads { R.reads source.new ≤ R.reads source.old + most_reads }
 {
+    match path_in(choice) {
+        Some(path) => run_in_file(alloc, folder, path, start, choice, host, source, out),
+        None => (replay_memory(alloc, source, out), StoreAfter::Untouched),
+    }
+}
+
+// The path of the office, if it is in a file.
+fn path_in(choice: &Choice) -> Option<&str>
+    ensures some { IfSome result (λ path. (is_memory_replay choice.now ≡ false) × (path.now ≡ path_of choice.now)) }
+    ensures none { IfNone result ((is_memory_replay choice.now ≡ true) × (reads_input choice.now ≡ true)) }
+{
     match choice {
-        Choice::Replay(Place::Memory) => {
-            (replay_memory(alloc, source, out), StoreAfter::Untouched)
-        }
+        Choice::Replay(Place::Memory) => None,
         Choice::Init(file)
         | Choice::Replay(Place::File(file))
         | Choice::Serve(file, _, _)
@@ -191,9 +208,7 @@ fn run_choice<D: Start, F: Folder, H: Accept + CsvFiles, R: Source, W: Sink>(
         | Choice::Export(file)
         | Choice::Report(file)
         | Choice::Check(file)
-        | Choice::Migrate(file) => {
-            run_in_file(alloc, folder, file.as_str(), start, choice, host, source, out)
-        }
+        | Choice::Migrate(file) => Some(file.as_str()),
     }
 }
 

@@ -63,7 +63,8 @@ pub fn run_on_connection<S: Alter, H: Accept + CsvFiles, R: Source, W: Sink>(
         (around R.Source W.Sink H.CsvFiles H.Accept source.old out.old host.old)
         (around R.Source W.Sink H.CsvFiles H.Accept source.new out.new host.new) result.1) }
     ensures failed { HasCleanDisk (state S.Store result.1) → IfErr result.0
-        (λ failure. FailsOnConnection (state S.Store) choice.now (state S.Store conn) failure (IsUntouched source.old source.new out.old out.new host.old host.new)
+        (λ failure. FailsOnConnection (state S.Store) choice.now (state S.Store conn) failure
+        (IsUntouched source.old source.new out.old out.new host.old host.new)
         (around R.Source W.Sink H.CsvFiles H.Accept source.old out.old host.old)
         (around R.Source W.Sink H.CsvFiles H.Accept source.new out.new host.new) result.1) }
 
@@ -99,9 +100,11 @@ fn office_of<S: Alter>(
     ensures made { IfOk result (λ office. StartsWell choice.now office.facts) }
     ensures clean { MatchResult result (λ office. ForgetsNoFault (state S.Store conn) (state S.Store office.conn))
         (λ u. ForgetsNoFault (state S.Store conn) (state S.Store u.conn)) }
-    ensures begins { IfOk result (λ office. HasCleanDisk (state S.Store office.conn) → BeginsRun (state S.Store) choice.now (state S.Store conn) office) }
+    ensures begins { IfOk result
+        (λ office. HasCleanDisk (state S.Store office.conn) → BeginsRun (state S.Store) choice.now (state S.Store conn) office) }
     ensures refusal { IfErr result (λ u. IsOpeningFailure choice.now (Failure.Refused u.refusal)) }
-    ensures unopened { IfErr result (λ u. HasCleanDisk (state S.Store u.conn) → IsUnopened (state S.Store) choice.now (state S.Store conn) u.refusal (state S.Store u.conn)) }
+    ensures unopened { IfErr result
+        (λ u. HasCleanDisk (state S.Store u.conn) → IsUnopened (state S.Store) choice.now (state S.Store conn) u.refusal (state S.Store u.conn)) }
 {
     match choice {
         Choice::Init(_) => create(alloc, conn),
@@ -149,7 +152,8 @@ fn run_on_office<S: Alter, H: Accept + CsvFiles, R: Source, W: Sink>(
 pub(crate) fn say<W: Sink>(out: &mut W, line: &[u8]) -> Result<(), Failure>
     ensures ok { OnOk result (Appends (W.written out.old) (W.written out.new) line.now) }
     ensures part { IfErr result (λ failure. (failure ≡ Failure.Refused Refusal.Store)
-        × HasFailed (W.failed out.old) (W.failed out.new) (W.idle out.old) (W.idle out.new) × WritesPart line.now (W.written out.old) (W.written out.new)) }
+        × HasFailed (W.failed out.old) (W.failed out.new) (W.idle out.old) (W.idle out.new)
+        × WritesPart line.now (W.written out.old) (W.written out.new)) }
 {
     match write_all(out, line) {
         Ok(()) => Ok(()),
@@ -226,7 +230,8 @@ fn imported<S: Alter>(alloc: Global, office: &mut Office<S>, text: &[u8]) -> Res
     ensures ok { IfOk result (λ line. (pairs : List Pair) × (answer : List ℕ) × (assignments text.now ≡ Ok pairs)
         × DoesRequest (state S.Store) office.old (Change (Import pairs)) answer office.new × (string_bytes line ≡ answer ++ (10 ∷ []))) }
     ensures err { IfErr result (λ refusal. (RefusesText text.now refusal × (office.new ≡ office.old))
-        ⊎ ((pairs : List Pair) × (assignments text.now ≡ Ok pairs) × (RefusesRequest (state S.Store) office.old (Change (Import pairs)) refusal office.new
+        ⊎ ((pairs : List Pair) × (assignments text.now ≡ Ok pairs)
+        × (RefusesRequest (state S.Store) office.old (Change (Import pairs)) refusal office.new
         ⊎ ((refusal ≡ Refusal.Memory) × ((answer : List ℕ) × DoesRequest (state S.Store) office.old (Change (Import pairs)) answer office.new))))) }
 {
     let pairs = read_assignments(alloc, text)?;
@@ -246,7 +251,8 @@ fn import_pairs<S: Alter>(
     ensures ok { IfOk result (λ line. (answer : List ℕ) × DoesRequest (state S.Store) office.old (Change (content_of command.now)) answer office.new
         × (string_bytes line ≡ answer ++ (10 ∷ []))) }
     ensures err { IfErr result (λ refusal. RefusesRequest (state S.Store) office.old (Change (content_of command.now)) refusal office.new
-        ⊎ ((refusal ≡ Refusal.Memory) × ((answer : List ℕ) × DoesRequest (state S.Store) office.old (Change (content_of command.now)) answer office.new))) }
+        ⊎ ((refusal ≡ Refusal.Memory)
+        × ((answer : List ℕ) × DoesRequest (state S.Store) office.old (Change (content_of command.now)) answer office.new))) }
 {
     let report = office.apply(alloc, command)?;
     import_line(alloc, report)
